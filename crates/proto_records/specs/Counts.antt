@@ -1,0 +1,76 @@
+-- How many of each numbered kind there are, and which counts a pool can hold.
+use Rattle.std.specs.Prelude.{ℕ, suc, ◌+◌, ◌-◌, ◌^◌, Bool, true, not, ◌&&◌, nat_le, List, [], ◌∷◌, length, if◌then◌else◌}
+use Rattle.std.specs.List.{list_all}
+use Rattle.std.specs.declared.result.Result.{Result}
+use Rattle.std.specs.declared.result.Result.TheVariants.{Ok, Err}
+use Rattle.proto_records.specs.declared.counts.Counts.{Counts}
+use Rattle.proto_records.specs.declared.counts.CountKind.{CountKind}
+use Rattle.proto_records.specs.declared.counts.CountKind.TheVariants.{ListTooLong, Files, Messages, Enums, Services, Extensions}
+use Rattle.proto_records.specs.declared.records.file.FileDescriptorProto.{FileDescriptorProto}
+use Rattle.proto_records.specs.Protos.{Proto, of_file, of_message, of_field}
+use Rattle.proto_records.specs.Shown.{Shown}
+
+abbrev pub no_counts : Counts
+no_counts = record { files = 0; messages = 0; enums = 0; services = 0; extensions = 0 }
+
+abbrev pub plus : Counts → Counts → Counts
+plus a b = record {
+  files = a.files + b.files;
+  messages = a.messages + b.messages;
+  enums = a.enums + b.enums;
+  services = a.services + b.services;
+  extensions = a.extensions + b.extensions;
+}
+
+-- the counts after one more
+abbrev pub counting : Counts → Proto → Counts
+counting c (of_file _) = record c { files = suc c.files }
+counting c (of_message _) = record c { messages = suc c.messages }
+counting c _ = c
+
+-- the counts after all of these
+abbrev pub counted : Counts → List Shown → Counts
+counted c [] = c
+counted c (d ∷ ds) = counted (counting c d.proto) ds
+
+-- the most that a pool holds of each kind, and the most entries of a list
+abbrev pub count_limit : ℕ
+count_limit = 2 ^ 32 - 1
+
+abbrev pub list_limit : ℕ
+list_limit = 2 ^ 31 - 1
+
+abbrev pub fits_list : {X : Type 0} → List X → Bool
+fits_list xs = nat_le (length xs) list_limit
+
+-- whether each list of the record is short enough
+abbrev pub lists_fit : Proto → Bool
+lists_fit (of_file f) = fits_list f.message_type
+lists_fit (of_message m) = fits_list m.field
+lists_fit (of_field _) = true
+
+-- the same of a file and its messages
+abbrev pub has_short_lists : FileDescriptorProto → Bool
+has_short_lists f = fits_list f.message_type && list_all (λ m. fits_list m.field) f.message_type
+
+-- the counts, or the first that is past the limit
+abbrev pub within_limit : Counts → Result Counts CountKind
+within_limit c =
+    if not (nat_le c.files count_limit) then Err Files
+    else (if not (nat_le c.messages count_limit) then Err Messages
+    else (if not (nat_le c.enums count_limit) then Err Enums
+    else (if not (nat_le c.services count_limit) then Err Services
+    else (if not (nat_le c.extensions count_limit) then Err Extensions
+    else Ok c))))
+
+-- the counts of a finished list of declarations, or what there is too much of
+abbrev pub counts_of : List Shown → Result Counts CountKind
+counts_of ds = if list_all (λ d. lists_fit d.proto) ds then within_limit (counted no_counts ds) else Err ListTooLong
+
+abbrev added_to : Counts → Result Counts CountKind → Result Counts CountKind
+added_to base (Ok c) = within_limit (plus base c)
+added_to base (Err kind) = Err kind
+
+-- the counts together with those of declarations; what these alone have too much of comes first
+abbrev pub counts_with : Counts → List Shown → Result Counts CountKind
+counts_with base ds = added_to base (counts_of ds)

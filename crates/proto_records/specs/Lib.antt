@@ -1,0 +1,12 @@
+pub mod formers
+pub mod Names
+pub mod Lists
+pub mod Readers
+pub mod Empty
+pub mod Protos
+pub mod Shown
+pub mod Counts
+pub mod Declarations
+pub mod Contents
+pub mod Labels
+pub mod Texts

@@ -1,0 +1,118 @@
+ghost use Rattle.std.specs.Prelude.{◌≡◌, IfOk, drop};
+ghost use Rattle.std.specs.Str.{IsCharBoundary};
+
+use crate::items::Duplicate;
+use crate::numbers::FileDescriptor;
+use crate::{Items, Text};
+use std::alloc::{AllocError, Global};
+
+/// Where a declaration stands, and its name.
+#[derive(PartialEq, Drop)]
+pub struct Identity {
+    pub file: u32,
+    /// Field numbers and places, from the file to the declaration.
+    pub path: Items<i32>,
+    pub full_name: Text,
+    /// The byte of the full name at which the declared name begins, from 0.
+    pub name_index: usize,
+}
+
+/// What a name means.
+#[derive(PartialEq, Drop)]
+pub struct Definition {
+    pub file: u32,
+    /// The declaration's path, followed by the number of its name.
+    pub path: Items<i32>,
+    pub kind: DefinitionKind,
+}
+
+/// What kind of thing it is, with its own number, or for a part the number of its message, service or enum.
+#[derive(Clone, Copy, PartialEq)]
+pub enum DefinitionKind {
+    Package,
+    Message(u32),
+    Field(u32),
+    Oneof(u32),
+    Service(u32),
+    Method(u32),
+    Enum(u32),
+    EnumValue(u32),
+    Extension(u32),
+}
+
+/// A name and what it means.
+#[derive(PartialEq, Drop)]
+pub struct Entry {
+    pub name: Text,
+    pub definition: Definition,
+}
+
+impl Identity {
+    pub fn full_name(&self) -> &str
+        ensures { result.now ≡ self.now.full_name }
+    {
+        self.full_name.as_str()
+    }
+
+    /// The declared name, without its scope.
+    pub fn name(&self) -> &str
+        ensures { IsCharBoundary self.now.full_name self.now.name_index → result.now ≡ drop self.now.name_index self.now.full_name }
+    {
+        self.full_name().get(self.name_index..).unwrap_or("")
+    }
+
+    pub fn file(&self) -> FileDescriptor
+        ensures { result ≡ record { index = self.now.file } }
+    {
+        FileDescriptor::new(self.file)
+    }
+
+    pub fn path(&self) -> &[i32]
+        ensures { result.now ≡ self.now.path }
+    {
+        self.path.as_slice()
+    }
+
+    /// An equal identity.
+    pub fn clone(&self, alloc: Global) -> Result<Identity, AllocError>
+        ensures { IfOk result (λ copy. copy ≡ self.now) }
+    {
+        Ok(Identity {
+            file: self.file,
+            path: Items::from_slice(alloc, self.path.as_slice())?,
+            full_name: self.full_name.clone(alloc)?,
+            name_index: self.name_index,
+        })
+    }
+}
+
+impl Definition {
+    /// An equal definition.
+    pub fn clone(&self, alloc: Global) -> Result<Definition, AllocError>
+        ensures { IfOk result (λ copy. copy ≡ self.now) }
+    {
+        Ok(Definition {
+            file: self.file,
+            path: Items::from_slice(alloc, self.path.as_slice())?,
+            kind: self.kind,
+        })
+    }
+}
+
+impl Entry {
+    /// An equal entry.
+    pub fn clone(&self, alloc: Global) -> Result<Entry, AllocError>
+        ensures { IfOk result (λ copy. copy ≡ self.now) }
+    {
+        Ok(Entry {
+            name: self.name.clone(alloc)?,
+            definition: self.definition.clone(alloc)?,
+        })
+    }
+}
+
+impl Duplicate for Entry {
+    fn duplicate(&self, alloc: Global) -> Result<Entry, AllocError> {
+        self.clone(alloc)
+    }
+}

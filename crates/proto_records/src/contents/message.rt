@@ -1,0 +1,35 @@
+ghost use Rattle.std.specs.Prelude.{◌≡◌, IfOk};
+
+use super::definition::Identity;
+use super::field::FieldDescriptorInner;
+use crate::Items;
+use crate::items::Duplicate;
+use std::alloc::{AllocError, Global};
+
+/// A message, with its fields in the order of their places.
+#[derive(PartialEq, Drop)]
+pub struct MessageDescriptorInner {
+    pub id: Identity,
+    /// The number of the message around it.
+    pub parent: Option<u32>,
+    pub fields: Items<FieldDescriptorInner>,
+}
+
+impl MessageDescriptorInner {
+    /// An equal message.
+    pub fn clone(&self, alloc: Global) -> Result<MessageDescriptorInner, AllocError>
+        ensures { IfOk result (λ copy. copy ≡ self.now) }
+    {
+        Ok(MessageDescriptorInner {
+            id: self.id.clone(alloc)?,
+            parent: self.parent,
+            fields: self.fields.clone(alloc)?,
+        })
+    }
+}
+
+impl Duplicate for MessageDescriptorInner {
+    fn duplicate(&self, alloc: Global) -> Result<MessageDescriptorInner, AllocError> {
+        self.clone(alloc)
+    }
+}

@@ -1,0 +1,9 @@
+//! The messages of descriptor.proto, with the parts that a linker reads by now.
+
+mod field;
+mod file;
+mod message;
+
+pub use field::{FieldDescriptorProto, FieldLabel, FieldType};
+pub use file::FileDescriptorProto;
+pub use message::DescriptorProto;

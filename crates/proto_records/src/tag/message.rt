@@ -1,0 +1,3 @@
+pub const NAME: i32 = 1;
+
+pub const FIELD: i32 = 2;
