@@ -1,0 +1,4 @@
+pub mod Script
+pub mod Devices
+pub mod Report
+pub mod Runs

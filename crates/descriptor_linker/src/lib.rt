@@ -1,13 +1,10 @@
-// A library with one function.
+//! The linker of file descriptors.
 #![tactic(auto)]
 
-ghost use Rattle.std.specs.Prelude.{◌≡◌};
-ghost use Rattle.descriptor_linker.specs.Echo.{echo_of};
+mod devices;
+mod ending;
+mod script;
 
-// The `ensures` clause is the contract: what `echo` returns is `echo_of` of its argument, a definition
-// in `specs/Echo.antt`, which a caller's clause can cite too.
-pub fn echo(x: usize) -> usize
-    ensures { result ≡ echo_of x }
-{
-    x
-}
+pub use devices::{ReportOutput, ScriptInput};
+pub use ending::Ending;
+pub use script::{Block, Keyword, Script, ScriptFault, Statement};

@@ -1,0 +1,30 @@
+-- How a run of a script ends, and what it has read and written then.
+use Rattle.std.specs.Prelude.{◌≡◌, ◌≢◌, ℕ, ◌<◌, ◌⊎◌, List, [], ◌++◌}
+use Rattle.std.specs.declared.option.Option.TheVariants.{None, Some}
+use Rattle.descriptor_linker.specs.declared.ending.Ending.{Ending}
+use Rattle.descriptor_linker.specs.declared.ending.Ending.TheVariants as ending
+use Rattle.descriptor_linker.specs.Devices.{Source, Sink, Took}
+use Rattle.descriptor_linker.specs.Script.Reading.{script}
+use Rattle.descriptor_linker.specs.Report.Session.{report}
+
+-- the input was read to its end, and the whole report of all its bytes was written
+pub record IsWhole (bytes : List ℕ) (source : Source) (old new : Sink) : Type 0 where
+  pub ended : source.bytes ≡ Some []
+  pub wrote : Took old.bytes (report (script bytes)) new.bytes
+
+-- a read failed, and nothing was written
+pub record HasBrokenIn (old new : Source) (before after : Sink) : Type 0 where
+  pub failed : old.failures < new.failures
+  pub nothing : after.bytes ≡ before.bytes
+
+-- a write failed, or took no byte, and a beginning of the report was written
+pub record HasBrokenOut (bytes : List ℕ) (before after : Sink) : Type 0 where
+  pub stopped : (before.failures < after.failures) ⊎ (before.idle < after.idle)
+  pub began : (front rest : List ℕ) × (report (script bytes) ≡ front ++ rest) × Took before.bytes front after.bytes
+
+-- how a run over these bytes may end
+abbrev pub RunsTo : List ℕ → Source → Source → Sink → Sink → Ending → Type 0
+RunsTo bytes old new before after ending.Whole = IsWhole bytes new before after × ((script bytes).fault ≡ None)
+RunsTo bytes old new before after ending.ScriptFault = IsWhole bytes new before after × ((script bytes).fault ≢ None)
+RunsTo bytes old new before after ending.OutOfMemory = after.bytes ≡ before.bytes
+RunsTo bytes old new before after ending.Device = HasBrokenIn old new before after ⊎ HasBrokenOut bytes before after

@@ -1,0 +1,4 @@
+pub mod Words
+pub mod Keywords
+pub mod Arguments
+pub mod Reading

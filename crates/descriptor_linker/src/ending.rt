@@ -1,0 +1,13 @@
+/// How a run of a script ended, with the exit status of the program.
+#[derive(Clone, Copy, PartialEq, Debug)]
+pub enum Ending {
+    /// 0: the whole report was written.
+    Whole,
+    /// 2: the whole report was written, and ends with the line of the script's fault.
+    ScriptFault,
+    /// 3: memory was refused, and nothing was written.
+    OutOfMemory,
+    /// 4: a read failed and nothing was written, or a write failed or took no byte, and a
+    /// beginning of the report was written.
+    Device,
+}
