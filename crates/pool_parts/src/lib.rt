@@ -1,2 +1,23 @@
-//! The parts of a pool: what a name means, which numbers a field may have, and the list of a batch's faults.
+//! The parts of a pool: what a name means, which numbers a field may have, and a batch's faults.
 #![tactic(auto)]
+
+mod error;
+mod field_number;
+mod files;
+mod filter;
+mod kinds;
+mod names;
+mod resolve;
+
+pub use error::DescriptorError;
+pub use field_number::is_valid_number;
+pub use files::Files;
+pub use filter::ResolveNameFilter;
+pub use kinds::{cardinality_of, named_kind, simple_kind};
+pub use names::definition_named;
+pub use proto_records::{
+    Cardinality, Definition, DefinitionKind, DescriptorErrorKind, Entry, FieldDescriptorInner,
+    FileDescriptor, FileDescriptorInner, Identity, KindIndex, Label, MessageDescriptor,
+    MessageDescriptorInner,
+};
+pub use resolve::{ResolveNameResult, resolve_name};

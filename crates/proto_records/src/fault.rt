@@ -118,6 +118,7 @@ impl fmt::Debug for DescriptorErrorKind {
 impl Error for DescriptorErrorKind {}
 
 /// A fault behind the place that it shows.
+#[derive(Clone, Copy)]
 pub struct Placed<'a>(pub &'a DescriptorErrorKind);
 
 impl fmt::Display for Placed<'_> {

@@ -1,0 +1,92 @@
+ghost use Rattle.std.specs.Prelude.{◌≡◌, ◌≢◌, []};
+ghost use Rattle.std.specs.Option.{option_copied, option_map};
+ghost use Rattle.proto_records.specs.Texts.{first_label};
+
+use proto_records::{DescriptorErrorKind, Items, Label, Placed};
+use std::error::Error;
+use std::fmt;
+
+/// The faults of a batch, of which there is at least one.
+#[derive(Drop)]
+pub struct DescriptorError {
+    pub errors: Items<DescriptorErrorKind>,
+    ghost some: { errors ≢ [] },
+}
+
+impl DescriptorError {
+    /// Faults in their order, which must be some.
+    pub fn new(errors: Vec<DescriptorErrorKind>) -> DescriptorError
+        requires { errors.items ≢ [] }
+        ensures { result.errors ≡ errors.items }
+    {
+        DescriptorError {
+            errors: Items::from_vec(errors),
+        }
+    }
+
+    /// All faults, in order.
+    pub fn errors(&self) -> &[DescriptorErrorKind]
+        ensures { result.now ≡ self.now.errors }
+    {
+        self.errors.as_slice()
+    }
+
+    /// The name of the file that the first fault shows, or none where it shows no place.
+    pub fn file(&self) -> Option<&str>
+        ensures { option_copied result ≡ option_map (λ l. l.file) (first_label self.now.errors) }
+    {
+        match self.first_label() {
+            Some(label) => Some(label.file()),
+            None => None,
+        }
+    }
+
+    /// The path that the first fault shows, or none where it shows no place.
+    pub fn path(&self) -> Option<&[i32]>
+        ensures { option_copied result ≡ option_map (λ l. l.path) (first_label self.now.errors) }
+    {
+        match self.first_label() {
+            Some(label) => Some(label.path()),
+            None => None,
+        }
+    }
+
+    fn first_label(&self) -> Option<&Label>
+        ensures { option_copied result ≡ first_label self.now.errors }
+    {
+        self.errors().first()?.label()
+    }
+}
+
+impl fmt::Display for DescriptorError {
+    ghost use Rattle.std.specs.Prelude.{Some};
+    ghost use Rattle.proto_records.specs.Texts.{first_text};
+
+    ghost output = { λ e. Some (first_text e.errors) };
+
+    fn fmt<W: fmt::Write>(&self, f: &mut fmt::Formatter<W>) -> fmt::Result {
+        match self.errors().first() {
+            Some(first) => write!(f, "{first}"),
+            None => Ok(()),
+        }
+    }
+}
+
+impl fmt::Debug for DescriptorError {
+    ghost use Rattle.std.specs.Prelude.{Some};
+    ghost use Rattle.proto_records.specs.Texts.{first_placed_text};
+
+    ghost debug_output = { λ e. Some (first_placed_text e.errors) };
+
+    fn fmt<W: fmt::Write>(&self, f: &mut fmt::Formatter<W>) -> fmt::Result {
+        match self.errors().first() {
+            Some(first) => {
+                let first = Placed(first);
+                write!(f, "{first}")
+            }
+            None => Ok(()),
+        }
+    }
+}
+
+impl Error for DescriptorError {}
