@@ -1,5 +1,5 @@
 -- What reading and writing do, as a reader and a writer tell it.
-use Rattle.std.specs.Prelude.{◌≡◌, ◌≢◌, ℕ, ◌+◌, ◌^◌, ◌-◌, ◌<◌, ◌≤◌, ◌⊎◌, List, [], ◌++◌, length, take}
+use Rattle.std.specs.Prelude.{◌≡◌, ℕ, ◌+◌, ◌^◌, ◌-◌, ◌<◌, ◌≤◌, List, [], ◌++◌, length, take}
 use Rattle.std.specs.declared.option.Option.{Option}
 use Rattle.std.specs.declared.option.Option.TheVariants.{None, Some}
 use Rattle.std.specs.declared.result.Result.{Result}
@@ -61,6 +61,7 @@ pub record HasWritten (old new : Sink) (bytes : List ℕ) (n : ℕ) : Type 0 whe
   pub failures : new.failures ≡ old.failures
   pub idle : n ≡ 0 → 0 < length bytes → new.idle ≡ old.idle + 1
   pub busy : 0 < n → new.idle ≡ old.idle
+  pub nothing : length bytes ≡ 0 → new.idle ≡ old.idle
 
 -- a write failed, and took nothing
 pub record HasFailedToWrite (old new : Sink) : Type 0 where

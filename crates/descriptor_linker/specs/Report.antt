@@ -1,1 +1,4 @@
+pub mod Answers
+pub mod Building
 pub mod Session
+pub mod Held

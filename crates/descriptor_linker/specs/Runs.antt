@@ -22,6 +22,10 @@ pub record HasBrokenOut (bytes : List ℕ) (before after : Sink) : Type 0 where
   pub stopped : (before.failures < after.failures) ⊎ (before.idle < after.idle)
   pub began : (front rest : List ℕ) × (report (script bytes) ≡ front ++ rest) × Took before.bytes front after.bytes
 
+-- a read failed, or a write failed or took no byte of some
+abbrev pub HasStopped : Source → Source → Sink → Sink → Type 0
+HasStopped old new before after = (old.failures < new.failures) ⊎ ((before.failures < after.failures) ⊎ (before.idle < after.idle))
+
 -- how a run over these bytes may end
 abbrev pub RunsTo : List ℕ → Source → Source → Sink → Sink → Ending → Type 0
 RunsTo bytes old new before after ending.Whole = IsWhole bytes new before after × ((script bytes).fault ≡ None)

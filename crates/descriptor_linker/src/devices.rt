@@ -3,6 +3,19 @@ ghost use Rattle.descriptor_linker.specs.Devices.{Source, Sink, Reads, Writes, f
 
 use std::io;
 
+mod fuse;
+mod memory_input;
+mod memory_output;
+mod reader_input;
+#[cfg(test)]
+mod tests;
+mod writer_output;
+
+pub use memory_input::MemoryInput;
+pub use memory_output::MemoryOutput;
+pub use reader_input::ReaderInput;
+pub use writer_output::WriterOutput;
+
 /// What a script is read from.
 pub trait ScriptInput {
     /// What it tells of itself.

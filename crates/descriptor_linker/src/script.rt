@@ -1,5 +1,11 @@
 //! A script: what its lines say, up to the first fault.
 
+mod arguments;
+mod keyword;
+mod line_error;
+mod reading;
 mod statement;
+mod words;
 
+pub use reading::read_script;
 pub use statement::{Block, Keyword, Script, ScriptFault, Statement};

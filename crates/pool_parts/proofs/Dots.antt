@@ -1,9 +1,9 @@
 -- A reference without a leading dot.
-use Rattle.std.proofs.Common.{◌≡◌, ◌≢◌, arith, ℕ, Bool, true, false, eqb, List, [], ◌∷◌, refl, ap, sym, cond, Option}
+use Rattle.std.proofs.Common.{◌≡◌, ◌≢◌, arith, ℕ, Bool, false, eqb, List, [], ◌∷◌, refl, ap, Option}
 use Rattle.std.proofs.lemmas.Bool.Decides.{nat_tests}
 use Rattle.proto_records.specs.declared.contents.definition.Definition.{Definition}
 use Rattle.pool_parts.specs.declared.filter.ResolveNameFilter.{ResolveNameFilter}
-use Rattle.pool_parts.specs.Resolution.{resolution, relative, look}
+use Rattle.pool_parts.specs.Resolution.{resolution, relative}
 
 -- what it means is what the name means where it stands
 pub resolution_without_dot : (d : List ℕ → Option Definition) (seen : ℕ → Bool) (filter : ResolveNameFilter) (scope name : List ℕ)

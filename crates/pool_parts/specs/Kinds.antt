@@ -48,14 +48,7 @@ cardinality_of label.Optional = cardinality.Optional
 cardinality_of label.Required = cardinality.Required
 cardinality_of label.Repeated = cardinality.Repeated
 
--- what names may stand in
-abbrev pub is_parent : DefinitionKind → Bool
-is_parent definition.Package = true
-is_parent (definition.Message _) = true
-is_parent (definition.Service _) = true
-is_parent (definition.Enum _) = true
-is_parent _ = false
-
+-- whether it is a package
 abbrev pub is_package : DefinitionKind → Bool
 is_package definition.Package = true
 is_package _ = false

@@ -14,7 +14,7 @@ pub use field_number::is_valid_number;
 pub use files::Files;
 pub use filter::ResolveNameFilter;
 pub use kinds::{cardinality_of, named_kind, simple_kind};
-pub use names::definition_named;
+pub use names::first_definition;
 pub use proto_records::{
     Cardinality, Definition, DefinitionKind, DescriptorErrorKind, Entry, FieldDescriptorInner,
     FileDescriptor, FileDescriptorInner, Identity, KindIndex, Label, MessageDescriptor,

@@ -5,7 +5,7 @@ ghost use Rattle.pool_parts.specs.Entries.{first_of};
 use proto_records::{Definition, Entry};
 
 /// What the first entry of a name says, or none where no entry has the name.
-pub fn definition_named<'a>(entries: &'a [Entry], name: &str) -> Option<&'a Definition>
+pub fn first_definition<'a>(entries: &'a [Entry], name: &str) -> Option<&'a Definition>
     ensures { option_copied result ≡ first_of entries.now name.now }
 {
     for entry in entries {

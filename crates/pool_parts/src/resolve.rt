@@ -6,7 +6,7 @@ ghost use Rattle.pool_parts.specs.References.{reference_fault};
 
 use crate::files::Files;
 use crate::filter::ResolveNameFilter;
-use crate::names::definition_named;
+use crate::names::first_definition;
 use proto_records::{Definition, DescriptorErrorKind, Entry, Text};
 use std::alloc::{AllocError, Global};
 
@@ -14,7 +14,10 @@ use std::alloc::{AllocError, Global};
 #[derive(Drop)]
 pub enum ResolveNameResult<'a> {
     /// A full name, and the definition that is wanted.
-    Found { name: Text, def: &'a Definition },
+    Found {
+        name: Text,
+        def: &'a Definition,
+    },
     /// A full name, and its definition, which isn't of a kind that is wanted.
     InvalidType {
         name: Text,
@@ -22,7 +25,10 @@ pub enum ResolveNameResult<'a> {
         filter: ResolveNameFilter,
     },
     /// A full name, and the number of its file, which isn't seen.
-    NotImported { name: Text, file: u32 },
+    NotImported {
+        name: Text,
+        file: u32,
+    },
     /// Nothing has the name.
     NotFound,
 }
@@ -56,7 +62,7 @@ fn look_up<'a>(
 ) -> Result<ResolveNameResult<'a>, AllocError>
     ensures { IfOk result (λ r. resolution_in r ≡ look (first_of names.now) (λ n. file == n) filter full_name.now) }
 {
-    let Some(def) = definition_named(names, full_name) else {
+    let Some(def) = first_definition(names, full_name) else {
         return Ok(ResolveNameResult::NotFound);
     };
     let name = Text::from_str(alloc, full_name)?;

@@ -1,5 +1,5 @@
 -- The counts of declarations, from the lists of the files.
-use Rattle.std.proofs.Common.{◌≡◌, ℕ, ℤ, suc, ◌+◌, Bool, true, false, ◌&&◌, List, [], ◌∷◌, ◌++◌, length, cond, refl, ap, sym, ◌∙◌, arith, min, nat_le, ◌-◌, ◌^◌}
+use Rattle.std.proofs.Common.{◌≡◌, ℕ, ℤ, suc, ◌+◌, Bool, true, false, ◌&&◌, List, [], ◌∷◌, ◌++◌, length, cond, refl, ap, ◌∙◌, arith, min, nat_le, ◌-◌, ◌^◌, ◌<◌, IsOk, rules}
 use Rattle.std.specs.List.{list_all, sum_by}
 use Rattle.proto_records.specs.declared.counts.Counts.{Counts}
 use Rattle.proto_records.specs.declared.records.file.FileDescriptorProto.{FileDescriptorProto}
@@ -11,9 +11,9 @@ use Rattle.proto_records.specs.Shown.{Shown, Surrounding, row}
 use native.Mathlib.Numerals.{unary_clauses}
 use Rattle.std.proofs.lemmas.List.Sums.{sum_by-cons}
 use Rattle.std.proofs.lemmas.Bool.Decides.{nat_tests}
-use Rattle.std.specs.declared.result.Result.TheVariants.{Ok, Err}
+use Rattle.std.specs.declared.result.Result.TheVariants.{Err}
 use Rattle.proto_records.specs.declared.counts.CountKind.TheVariants.{ListTooLong}
-use Rattle.proto_records.specs.Counts.{counted, counting, no_counts, counts_of, within_limit, count_limit, lists_fit, fits_list, has_short_lists}
+use Rattle.proto_records.specs.Counts.{counted, counting, no_counts, counts_of, within_limit, count_limit, counts_with, added_to, lists_fit, fits_list, has_short_lists}
 use Rattle.proto_records.specs.Declarations.{declarations, file_walk, in_file, messages_walk, message_walk}
 
 pub counted-append : (c : Counts) (ds es : List Shown) → counted c (ds ++ es) ≡ counted (counted c ds) es
@@ -102,9 +102,9 @@ all-declarations base (f ∷ fs) =
     ∙ (λ i. (fits_list f.message_type && all-messages (in_file base.files f) MESSAGE_TYPE 0 base f.message_type i) && all-declarations (counted base (file_walk base f)) fs i)
 
 -- what `Counts::of` answers, from the lists of the files
-pub counts_of-declarations : (fs : List FileDescriptorProto) → counts_of (declarations no_counts fs)
+pub counts_of-declarations : (base : Counts) (fs : List FileDescriptorProto) → counts_of (declarations base fs)
     ≡ cond (list_all has_short_lists fs) (within_limit (more no_counts (length fs) (sum_by (λ f. length f.message_type) fs))) (Err ListTooLong)
-counts_of-declarations fs = λ i. cond (all-declarations no_counts fs i) (within_limit (counted-declarations no_counts no_counts fs i)) (Err ListTooLong)
+counts_of-declarations base fs = λ i. cond (all-declarations base fs i) (within_limit (counted-declarations base no_counts fs i)) (Err ListTooLong)
 
 -- a count past the greatest number is too large all the same
 min-fits : (k : ℕ) → nat_le (min k (2 ^ 64 - 1)) count_limit ≡ nat_le k count_limit
@@ -116,3 +116,19 @@ min-fitting k h = grind (arith, nat_tests)
 pub within_limit-min : (n k : ℕ)
     → within_limit (record { files = n; messages = min k (2 ^ 64 - 1); enums = 0; services = 0; extensions = 0 }) ≡ within_limit (more no_counts n k)
 within_limit-min n k = grind (arith, nat_tests, min-fits, min-fitting)
+
+abbrev Fitting : Counts → Counts → Bool → Type 0
+Fitting base c short = (short ≡ true) × (base.files + c.files < 2 ^ 32) × (base.messages + c.messages < 2 ^ 32)
+
+fits-within : (base c : Counts) → IsOk (added_to base (within_limit c)) → Fitting base c true
+fits-within base c h = (refl, grind (arith, nat_tests), grind (arith, nat_tests))
+
+fits-cases : (base c : Counts) (short : Bool) → IsOk (added_to base (cond short (within_limit c) (Err ListTooLong))) → Fitting base c short
+fits-cases base c true h = fits-within base c h
+fits-cases base c false h = absurd (search rules)
+
+-- where the counts fit, each list is short, and the sums are below their limits
+pub fits-parts : (base : Counts) (fs : List FileDescriptorProto) → IsOk (counts_with base (declarations base fs))
+    → Fitting base (more no_counts (length fs) (sum_by (λ f. length f.message_type) fs)) (list_all has_short_lists fs)
+fits-parts base fs h =
+    fits-cases base (more no_counts (length fs) (sum_by (λ f. length f.message_type) fs)) (list_all has_short_lists fs) (rw counts_of-declarations at h)

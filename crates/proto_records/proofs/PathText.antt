@@ -1,5 +1,5 @@
 -- A path prints as the library prints a list of numbers.
-use Rattle.std.proofs.Common.{◌≡◌, ℤ, List, [], ◌∷◌, ◌++◌, refl, ap, Some}
+use Rattle.std.proofs.Common.{◌≡◌, ℤ, List, [], ◌∷◌, refl, Some}
 use Rattle.std.specs.Fmt.{signed_decimal, debug_list, debug_items, comma_space}
 use Rattle.proto_records.specs.Texts.{numbers_text, further_numbers, path_text}
 

@@ -1,5 +1,5 @@
 -- The contents of a pool. Two pools are equal where these are.
-use Rattle.std.specs.Prelude.{ℕ, List, [], length, map as each}
+use Rattle.std.specs.Prelude.{List, [], length, map as each}
 use Rattle.std.specs.Ordering.{nat_cmp}
 use Rattle.std.specs.Cmp.Lexicographic.{slice_cmp}
 use Rattle.std.specs.FinMap as map

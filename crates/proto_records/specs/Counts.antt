@@ -67,7 +67,7 @@ within_limit c =
 abbrev pub counts_of : List Shown → Result Counts CountKind
 counts_of ds = if list_all (λ d. lists_fit d.proto) ds then within_limit (counted no_counts ds) else Err ListTooLong
 
-abbrev added_to : Counts → Result Counts CountKind → Result Counts CountKind
+abbrev pub added_to : Counts → Result Counts CountKind → Result Counts CountKind
 added_to base (Ok c) = within_limit (plus base c)
 added_to base (Err kind) = Err kind
 

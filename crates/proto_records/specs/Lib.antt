@@ -8,5 +8,6 @@ pub mod Shown
 pub mod Counts
 pub mod Declarations
 pub mod Contents
+pub mod ContentsCode
 pub mod Labels
 pub mod Texts

@@ -24,3 +24,7 @@ as_file _ = None
 abbrev pub as_message : Proto → Option DescriptorProto
 as_message (of_message m) = Some m
 as_message _ = None
+
+abbrev pub as_field : Proto → Option FieldDescriptorProto
+as_field (of_field f) = Some f
+as_field _ = None

@@ -52,9 +52,10 @@ row of here tag place number (x ∷ xs) = shown here tag place number (of x) ∷
 abbrev pub parts : {X : Type 0} → (X → Proto) → Surrounding → ℤ → List X → List Shown
 parts of here tag xs = row of here tag 0 0 xs
 
--- a file as it is shown, and anything else
+-- a file as it is shown to a visitor
 abbrev pub file_shown : List ℤ → ℕ → FileDescriptorProto → Shown
 file_shown path number f = record { file = number; parent = None; number = number; path = path; full_name = text_of f.name; proto = of_file f }
 
+-- any other declaration as it is shown to a visitor
 abbrev pub shown_as : List ℤ → List ℕ → ℕ → Option ℕ → ℕ → Proto → Shown
 shown_as path full_name file parent number proto = record { file = file; parent = parent; number = number; path = path; full_name = full_name; proto = proto }

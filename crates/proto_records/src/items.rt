@@ -85,12 +85,20 @@ impl<T: Duplicate> Items<T> {
     pub fn clone(&self, alloc: Global) -> Result<Items<T>, AllocError>
         ensures { IfOk result (λ copy. copy ≡ self.now) }
     {
-        let mut copy = Items::new(alloc);
-        for item in self.as_slice() {
-            copy.push(item.duplicate(alloc)?)?;
-        }
-        Ok(copy)
+        let inner = duplicates(alloc, self.as_slice())?;
+        Ok(Items { inner })
     }
+}
+
+/// A copy of each item, in order.
+pub fn duplicates<T: Duplicate>(alloc: Global, items: &[T]) -> Result<Vec<T>, AllocError>
+    ensures { IfOk result (λ copies. copies.items ≡ items.now) }
+{
+    let mut copies = Vec::new(alloc);
+    for item in items {
+        copies.push(item.duplicate(alloc)?)?;
+    }
+    Ok(copies)
 }
 
 impl<T: PartialEq> PartialEq for Items<T> {

@@ -18,7 +18,7 @@ pub use contents::{
 };
 pub use counts::{CountKind, Counts};
 pub use fault::{DescriptorErrorKind, Placed};
-pub use items::{Duplicate, Items};
+pub use items::{Duplicate, Items, duplicates};
 pub use kinds::{Cardinality, KindIndex};
 pub use label::Label;
 pub use numbers::{FileDescriptor, MessageDescriptor};

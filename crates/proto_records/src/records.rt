@@ -1,4 +1,4 @@
-//! The messages of descriptor.proto, with the parts that a linker reads by now.
+//! The messages of descriptor.proto, with the parts that are carried by now.
 
 mod field;
 mod file;

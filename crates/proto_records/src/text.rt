@@ -67,6 +67,18 @@ impl Text {
     }
 }
 
+impl Text {
+    /// A copy of a text that may be missing.
+    pub fn clone_given(alloc: Global, text: &Option<Text>) -> Result<Option<Text>, AllocError>
+        ensures { IfOk result (λ copy. copy ≡ text.now) }
+    {
+        match text {
+            Some(text) => Ok(Some(text.clone(alloc)?)),
+            None => Ok(None),
+        }
+    }
+}
+
 impl PartialEq for Text {
     ghost use Rattle.std.specs.Cmp.{partial_equiv_from_equiv};
     ghost use Rattle.std.specs.Cmp.Lexicographic.{pointwise, nat_list_eq_equiv};
@@ -88,15 +100,5 @@ pub(crate) fn or_empty(text: &Option<Text>) -> &str
     match text {
         Some(text) => text.as_str(),
         None => "",
-    }
-}
-
-/// A copy of a text that may be missing.
-pub(crate) fn clone_given(alloc: Global, text: &Option<Text>) -> Result<Option<Text>, AllocError>
-    ensures { IfOk result (λ copy. copy ≡ text.now) }
-{
-    match text {
-        Some(text) => Ok(Some(text.clone(alloc)?)),
-        None => Ok(None),
     }
 }

@@ -1,5 +1,5 @@
 -- The words behind a keyword, and what they say.
-use Rattle.std.specs.Prelude.{ℕ, ℤ, pos, neg_ℤ, ◌+◌, ◌-◌, ◌^◌, ◌==◌, ◌&&◌, Bool, true, false, not, List, [], ◌∷◌, codes, int_le, unwrap_or, if◌then◌else◌}
+use Rattle.std.specs.Prelude.{ℕ, ℤ, pos, neg_ℤ, ◌+◌, ◌-◌, ◌^◌, ◌==◌, ◌&&◌, Bool, List, [], ◌∷◌, codes, int_le, if◌then◌else◌}
 use Rattle.std.specs.Char.{is_digit}
 use Rattle.std.specs.List.{position_from, list_all}
 use Rattle.std.specs.Str.{bytes_eq}
@@ -18,7 +18,7 @@ use Rattle.descriptor_linker.specs.declared.script.statement.Statement.TheVarian
 use Rattle.descriptor_linker.specs.declared.script.statement.ScriptFault.{ScriptFault}
 use Rattle.descriptor_linker.specs.declared.script.statement.ScriptFault.TheVariants.{WrongCount, BadNumber, BadWord}
 
-abbrev is_absent : List ℕ → Bool
+abbrev pub is_absent : List ℕ → Bool
 is_absent text = bytes_eq text (codes "~")
 
 -- a text: `~` is none, and two quotes are the empty one
@@ -26,7 +26,7 @@ abbrev pub text_in : List ℕ → Option (List ℕ)
 text_in text = if is_absent text then None else (if bytes_eq text (codes "''") then Some [] else Some text)
 
 -- one or more decimal digits
-abbrev digits : List ℕ → Option ℕ
+abbrev pub digits : List ℕ → Option ℕ
 digits [] = None
 digits (c ∷ cs) = if list_all (λ d. is_digit d 10) (c ∷ cs) then Some (digits_value 10 (c ∷ cs)) else None
 
@@ -38,7 +38,7 @@ signed_digits (c ∷ cs) =
     else (if c == 45 then option_map (λ n. neg_ℤ (pos n)) (digits cs)
     else option_map pos (digits (c ∷ cs)))
 
-abbrev if_int32 : ℤ → Option ℤ
+abbrev pub if_int32 : ℤ → Option ℤ
 if_int32 n = if int_le (neg_ℤ (pos (2 ^ 31))) n && int_le n (pos (2 ^ 31 - 1)) then Some n else None
 
 -- a whole number of 32 bits with a sign

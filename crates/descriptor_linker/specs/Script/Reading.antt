@@ -26,7 +26,7 @@ abbrev known : List Block → List (List ℕ) → Option Keyword → Line
 known blocks rest None = Err UnknownWord
 known blocks rest (Some keyword) = placed keyword rest (may_stand blocks keyword)
 
-abbrev of_words : List Block → List (List ℕ) → Line
+abbrev pub of_words : List Block → List (List ℕ) → Line
 of_words blocks [] = Ok None
 of_words blocks (w ∷ ws) = if says_nothing (w ∷ ws) then Ok None else known blocks ws (keyword_of w)
 
@@ -34,10 +34,10 @@ of_words blocks (w ∷ ws) = if says_nothing (w ∷ ws) then Ok None else known 
 abbrev pub line_said : List Block → List ℕ → Line
 line_said blocks line = if not (is_utf8 line) then Err BadText else of_words blocks (words line)
 
-abbrev after_statement : Statement → Script → Script
+abbrev pub after_statement : Statement → Script → Script
 after_statement s said = record said { statements = s ∷ said.statements }
 
-abbrev faulty : ℕ → ScriptFault → Script
+abbrev pub faulty : ℕ → ScriptFault → Script
 faulty line fault = record { statements = []; fault = Some (line, fault) }
 
 abbrev at_end : ℕ → List Block → Script

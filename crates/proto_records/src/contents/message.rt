@@ -10,7 +10,7 @@ use std::alloc::{AllocError, Global};
 #[derive(PartialEq, Drop)]
 pub struct MessageDescriptorInner {
     pub id: Identity,
-    /// The number of the message around it.
+    /// The number of the message around it; none by now, since nested messages are not read.
     pub parent: Option<u32>,
     pub fields: Items<FieldDescriptorInner>,
 }

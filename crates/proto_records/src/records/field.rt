@@ -19,7 +19,7 @@ pub struct FieldDescriptorProto {
 }
 
 /// How often a field stands in a message.
-#[derive(Clone, Copy, PartialEq)]
+#[derive(Clone, Copy, PartialEq, Debug)]
 pub enum FieldLabel {
     Optional,
     Required,
@@ -27,7 +27,7 @@ pub enum FieldLabel {
 }
 
 /// The type of a field as it is written.
-#[derive(Clone, Copy, PartialEq)]
+#[derive(Clone, Copy, PartialEq, Debug)]
 pub enum FieldType {
     Double,
     Float,
@@ -127,11 +127,11 @@ impl FieldDescriptorProto {
         ensures { IfOk result (λ copy. copy ≡ self.now) }
     {
         Ok(FieldDescriptorProto {
-            name: text::clone_given(alloc, &self.name)?,
+            name: Text::clone_given(alloc, &self.name)?,
             number: self.number,
             label: self.label,
             type_: self.type_,
-            type_name: text::clone_given(alloc, &self.type_name)?,
+            type_name: Text::clone_given(alloc, &self.type_name)?,
             oneof_index: self.oneof_index,
         })
     }

@@ -46,8 +46,8 @@ impl FileDescriptorProto {
         ensures { IfOk result (λ copy. copy ≡ self.now) }
     {
         Ok(FileDescriptorProto {
-            name: text::clone_given(alloc, &self.name)?,
-            package: text::clone_given(alloc, &self.package)?,
+            name: Text::clone_given(alloc, &self.name)?,
+            package: Text::clone_given(alloc, &self.package)?,
             message_type: self.message_type.clone(alloc)?,
         })
     }

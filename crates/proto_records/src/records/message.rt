@@ -37,7 +37,7 @@ impl DescriptorProto {
         ensures { IfOk result (λ copy. copy ≡ self.now) }
     {
         Ok(DescriptorProto {
-            name: text::clone_given(alloc, &self.name)?,
+            name: Text::clone_given(alloc, &self.name)?,
             field: self.field.clone(alloc)?,
         })
     }

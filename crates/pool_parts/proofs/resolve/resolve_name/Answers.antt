@@ -1,7 +1,6 @@
-use Rattle.std.proofs.Common.{◌≡◌, ◌≢◌, ℕ, List, ◌∷◌, None, arith, rules, ◌==◌}
+use Rattle.std.proofs.Common.{◌≢◌, ℕ, List, ◌∷◌, None, arith, rules, ◌==◌}
 use Rattle.std.proofs.lemmas.Str.Pattern.{strip_prefix_char}
 use Rattle.pool_parts.specs.Entries.{first_of}
-use Rattle.pool_parts.specs.Resolution.{resolution, relative}
 use Rattle.pool_parts.proofs.Dots.{resolution_without_dot}
 use Rattle.pool_parts.proofs.resolve.resolve_name.Goals as goal
 

@@ -1,6 +1,6 @@
-use Rattle.std.proofs.Common.{◌≡◌, sym, ◌∙◌, rules, true, false, length, not}
+use Rattle.std.proofs.Common.{◌≡◌, rules, true, false, length}
 use Rattle.std.specs.List.{list_all, sum_by}
-use Rattle.proto_records.specs.Counts.{counts_of, has_short_lists}
+use Rattle.proto_records.specs.Counts.{has_short_lists}
 use Rattle.proto_records.proofs.Counted.{counts_of-declarations, within_limit-min}
 use Rattle.proto_records.proofs.counts.Counts.of.Goals as goal
 

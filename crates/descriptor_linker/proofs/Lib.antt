@@ -1,0 +1,19 @@
+pub mod Leaves
+pub mod Walks
+pub mod Words
+pub mod Numbers
+pub mod Reading
+pub mod Pieces
+pub mod LastMessage
+pub mod Fronts
+pub mod Packages
+pub mod NamesFold
+pub mod ReferencesFold
+pub mod Passed
+pub mod Outline
+pub mod Linking
+pub mod Grown
+pub mod Innermost
+mod Computed
+mod ReportChecks
+pub mod NewFiles

@@ -1,0 +1,103 @@
+-- Worked scripts, computed.
+use Rattle.std.specs.Prelude.{◌≡◌, [], ◌∷◌, refl, codes}
+use Rattle.std.specs.FinMap.{get-insert, get-empty}
+use Rattle.std.specs.Cmp.Lexicographic.{nat_list_cmp_total, slice_cmp}
+use Rattle.std.specs.Ordering.{nat_cmp}
+use Rattle.proto_records.specs.declared.contents.definition.Definition.{Definition}
+use Rattle.descriptor_linker.specs.Script.Reading.{script}
+use Rattle.descriptor_linker.specs.Report.Session.{report}
+use Rattle.descriptor_linker.proofs.Computed.{scripts}
+
+pub nothing : report (script []) ≡ []
+unfolding scripts
+nothing = refl
+
+pub bad_byte : report (script (255 ∷ [])) ≡ codes "line 1: bad text\n"
+unfolding scripts
+bad_byte = refl
+
+pub misspelled : report (script (codes "link\nwhat\n")) ≡ codes "ok 0 0 0 0 0\nline 2: unknown word\n"
+unfolding scripts
+misspelled = refl
+
+pub misplaced_link : report (script (codes "file a.proto\nlink\n")) ≡ codes "line 2: misplaced\n"
+unfolding scripts
+misplaced_link = refl
+
+pub nested_message : report (script (codes "file a.proto\nmessage M\nmessage N\n")) ≡ codes "line 3: misplaced\n"
+unfolding scripts
+nested_message = refl
+
+pub too_few_words : report (script (codes "link\nfind\n")) ≡ codes "ok 0 0 0 0 0\nline 2: wrong count of words\n"
+unfolding scripts
+too_few_words = refl
+
+pub odd_number : report (script (codes "file a.proto\nmessage M\nfield f x optional int32 ~ ~\n")) ≡ codes "line 3: bad number\n"
+unfolding scripts
+odd_number = refl
+
+pub odd_type : report (script (codes "file a.proto\nmessage M\nfield f 1 optional int33 ~ ~\n")) ≡ codes "line 3: bad word\n"
+unfolding scripts
+odd_type = refl
+
+pub missing_end : report (script (codes "file a.proto\n")) ≡ codes "line 2: missing end\n"
+unfolding scripts
+missing_end = refl
+
+pub last_package_counts : report (script (codes "file a.proto\npackage p\npackage q\nmessage M\nfield f 1 optional message .q.M ~\nend\nend\nlink\n")) ≡ codes "ok 1 1 0 0 0\n"
+unfolding scripts
+last_package_counts = refl
+
+pub unknown_type : report (script (codes "file a.proto\nmessage M\nfield f 1 optional message N ~\nend\nend\nlink\n"))
+    ≡ codes "refused 1\na.proto: name 'N' is not defined\n"
+unfolding scripts
+unknown_type = refl
+
+pub message_twice : report (script (codes "file a.proto\npackage p\nmessage M\nend\nmessage M\nend\nend\nlink\n"))
+    ≡ codes "refused 1\na.proto: name 'p.M' is defined twice\n"
+unfolding scripts
+message_twice = refl
+
+pub file_twice : report (script (codes "file a.proto\nend\nfile a.proto\nend\nlink\n"))
+    ≡ codes "refused 1\na different file named 'a.proto' has already been added\n"
+unfolding scripts
+file_twice = refl
+
+pub name_of_another_file : report (script (codes "file a.proto\npackage p\nmessage M\nend\nend\nlink\nfile b.proto\npackage p\nmessage M\nend\nend\nlink\n"))
+    ≡ codes "ok 1 1 0 0 0\nrefused 1\nb.proto: name 'p.M' is already defined in file 'a.proto'\n"
+unfolding scripts
+name_of_another_file = refl
+
+pub missing_type_name : report (script (codes "file a.proto\nmessage M\nfield f 1 optional message ~ ~\nend\nend\nlink\n"))
+    ≡ codes "refused 1\na.proto: missing required field at [4, 0, 2, 0, 6]\n"
+unfolding scripts
+missing_type_name = refl
+
+pub field_is_no_type : report (script (codes "file a.proto\nmessage M\nfield f 1 optional message .M.f ~\nend\nend\nlink\n"))
+    ≡ codes "refused 1\na.proto: 'M.f' is not a message or enum type\n"
+unfolding scripts
+field_is_no_type = refl
+
+pub numbers_at_the_edges : report (script (codes "file a.proto\nmessage M\nfield a 0 optional int32 ~ ~\nfield b 1 optional int32 ~ ~\nfield c 18999 optional int32 ~ ~\nfield d 19000 optional int32 ~ ~\nfield e 19999 optional int32 ~ ~\nfield f 20000 optional int32 ~ ~\nfield g 536870911 optional int32 ~ ~\nfield h 536870912 optional int32 ~ ~\nfield i -1 optional int32 ~ ~\nend\nend\nlink\n"))
+    ≡ codes "refused 5\na.proto: invalid field number '0'\na.proto: invalid field number '19000'\na.proto: invalid field number '19999'\na.proto: invalid field number '536870912'\na.proto: invalid field number '-1'\n"
+unfolding scripts
+numbers_at_the_edges = refl
+
+pub found : report (script (codes "file a.proto\npackage p.q\nmessage M\nfield f 1 optional int32 ~ ~\nfield g 2 optional message .p.q.M ~\nend\nend\nlink\nfind p\nfind p.q\nfind .p.q.M\nfind p.q.M.f\nfind q\n"))
+    ≡ codes "ok 1 1 0 0 0\npackage a.proto [2]\npackage a.proto [2]\nmessage 0 a.proto [4, 0, 1]\nfield 0 a.proto [4, 0, 2, 0, 1]\nnone\n"
+unfolding scripts
+found = simp (get-insert {X = Definition} nat_list_cmp_total, get-empty {X = Definition} (slice_cmp nat_cmp)) refl
+
+pub batch_of_a_known_file : report (script (codes "# three batches\n\nlink\nfile a.proto\nend\nlink\nfile a.proto\nmessage M\nend\nend\nlink\nfind M\n"))
+    ≡ codes "ok 0 0 0 0 0\nok 1 0 0 0 0\nok 1 0 0 0 0\nnone\n"
+unfolding scripts
+batch_of_a_known_file = simp (get-empty {X = Definition} (slice_cmp nat_cmp)) refl
+
+pub refused_whole : report (script (codes "file a.proto\nend\nlink\nfile b.proto\npackage .a\nmessage M\nend\nmessage M\nend\nend\nlink\nfind ''\nfind ..a\n"))
+    ≡ codes "ok 1 0 0 0 0\nrefused 1\nb.proto: name '.a.M' is defined twice\nnone\nnone\n"
+unfolding scripts
+refused_whole = simp (get-empty {X = Definition} (slice_cmp nat_cmp)) refl
+
+pub nameless_file : report (script (codes "file ~\nmessage M\nend\nend\nlink\nfind M\nfind ~\n")) ≡ codes "ok 1 1 0 0 0\nmessage 0 '' [4, 0, 1]\nnone\n"
+unfolding scripts
+nameless_file = simp (get-insert {X = Definition} nat_list_cmp_total, get-empty {X = Definition} (slice_cmp nat_cmp)) refl

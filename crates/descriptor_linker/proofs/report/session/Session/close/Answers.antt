@@ -1,0 +1,9 @@
+use Rattle.std.proofs.Common.{refl, ap, reverse, ◌∙◌}
+use Rattle.descriptor_linker.proofs.Innermost.{innermost_of, reverse-last}
+use Rattle.descriptor_linker.proofs.report.session.Session.close.Goals as goal
+
+pub returns-in_ok-close_in : goal.returns-in_ok-close_in
+returns-in_ok-close_in c =
+    let held = c.pop.new.self in
+    let outer = innermost_of held.items held.len c.in-Some-last_mut.outer.now c.close_in.new.self held.ok.0 (c.in-Some-last_mut.ensures.variant.0 refl) c.in-Some-last_mut.ensures.value in
+    rw (ap reverse c.in-Some.ensures.items ∙ reverse-last held.items c.in-Some.inner, outer.before, outer.after, c.in_ok-close_in.ensures) refl

@@ -1,0 +1,42 @@
+-- The names that declarations enter: a file its package and the packages around it, and any other its full name.
+use Rattle.std.specs.Prelude.{ℕ, List, [], ◌∷◌, ◌++◌, map, unwrap_or}
+use Rattle.std.specs.List.{flat_map}
+use Rattle.proto_records.specs.declared.tag.file.TheConstants as file
+use Rattle.proto_records.specs.declared.tag.message.TheConstants as message
+use Rattle.proto_records.specs.declared.contents.definition.Entry.{Entry}
+use Rattle.proto_records.specs.declared.contents.definition.DefinitionKind.{DefinitionKind}
+use Rattle.proto_records.specs.declared.contents.definition.DefinitionKind.TheVariants as definition
+use Rattle.proto_records.specs.Names.{fronts}
+use Rattle.proto_records.specs.Readers.{text_of}
+use Rattle.proto_records.specs.Protos.{of_file, of_message, of_field}
+use Rattle.proto_records.specs.Shown.{Shown}
+
+-- what a declaration's name means; a field holds the number of its message
+abbrev pub definition_kind : Shown → DefinitionKind
+definition_kind d = elim d.proto [
+  | of_file _ ↦ definition.Package
+  | of_message _ ↦ definition.Message d.number
+  | of_field _ ↦ definition.Field (unwrap_or d.parent 0)
+]
+
+-- a package's name, at the package of its file
+abbrev pub package_entry : ℕ → List ℕ → Entry
+package_entry n name = record { name = name; definition = record { file = n; path = file.PACKAGE ∷ []; kind = definition.Package } }
+
+-- a package and those around it, from the outermost in
+abbrev pub packages : List ℕ → List (List ℕ)
+packages [] = []
+packages (c ∷ cs) = fronts (c ∷ cs) ++ (c ∷ cs) ∷ []
+
+-- a declaration's full name, at the name of its record
+abbrev pub own_entry : Shown → Entry
+own_entry d = record { name = d.full_name; definition = record { file = d.file; path = d.path ++ message.NAME ∷ []; kind = definition_kind d } }
+
+abbrev pub entries_of : Shown → List Entry
+entries_of d = elim d.proto [
+  | of_file f ↦ map (package_entry d.file) (packages (text_of f.«package»))
+  | _ ↦ own_entry d ∷ []
+]
+
+abbrev pub entries : List Shown → List Entry
+entries ds = flat_map entries_of ds

@@ -1,0 +1,87 @@
+-- What the commands of a script answer, each line with its end.
+use Rattle.std.specs.Prelude.{ℕ, List, [], ◌∷◌, ◌++◌, length, codes}
+use Rattle.std.specs.List.{flat_map}
+use Rattle.std.specs.Fmt.{decimal}
+use Rattle.std.specs.Option.{option_map_or}
+use Rattle.proto_records.specs.declared.counts.CountKind.{CountKind}
+use Rattle.proto_records.specs.declared.counts.CountKind.TheVariants as too_many
+use Rattle.proto_records.specs.declared.contents.definition.Definition.{Definition}
+use Rattle.proto_records.specs.declared.contents.definition.DefinitionKind.{DefinitionKind}
+use Rattle.proto_records.specs.declared.contents.definition.DefinitionKind.TheVariants as definition
+use Rattle.proto_records.specs.Contents.{Contents, counts_in, files_of}
+use Rattle.proto_records.specs.Labels.{file_at}
+use Rattle.proto_records.specs.Readers.{text_of}
+use Rattle.proto_records.specs.Texts.{path_text, placed_text}
+use Rattle.descriptor_linker.specs.declared.script.statement.ScriptFault.{ScriptFault}
+use Rattle.descriptor_linker.specs.declared.script.statement.ScriptFault.TheVariants as fault
+use Rattle.descriptor_linker.specs.FirstPass.{Faults}
+use Rattle.descriptor_linker.specs.LookUps.{definition_named}
+
+-- words with a space between each two, and the line's end
+abbrev pub line : List (List ℕ) → List ℕ
+line [] = 10 ∷ []
+line (w ∷ []) = w ++ 10 ∷ []
+line (w ∷ v ∷ ws) = w ++ 32 ∷ line (v ∷ ws)
+
+-- a name printed alone
+abbrev pub alone : List ℕ → List ℕ
+alone [] = codes "''"
+alone (c ∷ cs) = c ∷ cs
+
+-- how many of each kind the pool has
+abbrev pub counts_line : Contents → List ℕ
+counts_line p = let c = counts_in p in line (codes "ok" ∷ decimal c.files ∷ decimal c.messages ∷ decimal c.enums ∷ decimal c.services ∷ decimal c.extensions ∷ [])
+
+-- how many faults there are, and a line for each
+abbrev pub refused_lines : Faults → List ℕ
+refused_lines faults = line (codes "refused" ∷ decimal (length faults) ∷ []) ++ flat_map (λ f. line (placed_text f ∷ [])) faults
+
+-- what there is too much of, in the plural
+abbrev pub count_word : CountKind → List ℕ
+count_word too_many.ListTooLong = codes "lists"
+count_word too_many.Files = codes "files"
+count_word too_many.Messages = codes "messages"
+count_word too_many.Enums = codes "enums"
+count_word too_many.Services = codes "services"
+count_word too_many.Extensions = codes "extensions"
+
+abbrev pub too_many_line : CountKind → List ℕ
+too_many_line kind = line (codes "too" ∷ codes "many" ∷ count_word kind ∷ [])
+
+-- a kind and the number that it holds
+abbrev pub kind_words : DefinitionKind → List ℕ
+kind_words definition.Package = codes "package"
+kind_words (definition.Message m) = codes "message " ++ decimal m
+kind_words (definition.Field m) = codes "field " ++ decimal m
+kind_words (definition.Oneof m) = codes "oneof " ++ decimal m
+kind_words (definition.Service s) = codes "service " ++ decimal s
+kind_words (definition.Method s) = codes "method " ++ decimal s
+kind_words (definition.Enum e) = codes "enum " ++ decimal e
+kind_words (definition.EnumValue e) = codes "value " ++ decimal e
+kind_words (definition.Extension x) = codes "extension " ++ decimal x
+
+-- the answer where nothing has the name
+abbrev pub none_line : List ℕ
+none_line = line (codes "none" ∷ [])
+
+-- a definition's kind, its file and its path
+abbrev pub definition_line : Contents → Definition → List ℕ
+definition_line p def = line (kind_words def.kind ∷ alone (text_of (file_at (files_of p) def.file).name) ∷ path_text def.path ∷ [])
+
+-- what a name means in the pool
+abbrev pub find_answer : Contents → List ℕ → List ℕ
+find_answer p name = option_map_or (definition_line p) (definition_named p name) none_line
+
+-- what is wrong with a line of a script
+abbrev pub fault_words : ScriptFault → List ℕ
+fault_words fault.BadText = codes "bad text"
+fault_words fault.UnknownWord = codes "unknown word"
+fault_words fault.Misplaced = codes "misplaced"
+fault_words fault.WrongCount = codes "wrong count of words"
+fault_words fault.BadNumber = codes "bad number"
+fault_words fault.BadWord = codes "bad word"
+fault_words fault.MissingEnd = codes "missing end"
+
+-- the last line of a report, where the script has a fault
+abbrev pub fault_line : ℕ × ScriptFault → List ℕ
+fault_line f = codes "line " ++ (decimal f.0 ++ (codes ": " ++ line (fault_words f.1 ∷ [])))

@@ -1,0 +1,70 @@
+use super::field::{add_field, add_given, identity, read_field};
+use super::linked::linked_file;
+use super::setting::Setting;
+use super::visit::Visitor;
+use pool_parts::{DescriptorErrorKind, FileDescriptorInner, MessageDescriptorInner};
+use proto_records::{DescriptorProto, FieldDescriptorProto, FileDescriptorProto, Items};
+use std::alloc::{AllocError, Global};
+
+/// The second pass: it makes the items of files, messages and fields, and gathers the faults of
+/// numbers and of references.
+#[derive(Drop)]
+pub(crate) struct ResolveVisitor<'a> {
+    pub(crate) alloc: Global,
+    pub(crate) setting: Setting<'a>,
+    pub(crate) files: Vec<FileDescriptorInner>,
+    pub(crate) messages: Vec<MessageDescriptorInner>,
+    pub(crate) faults: Vec<DescriptorErrorKind>,
+}
+
+impl Visitor for ResolveVisitor<'_> {
+    ghost use Rattle.std.specs.List.{fold};
+    ghost use Rattle.descriptor_linker.specs.Passes.{referred, references_progress};
+    ghost use Rattle.descriptor_linker.specs.Seen.{references_seen};
+
+    ghost after = { λ v ds. references_progress (fold referred (references_seen v) ds) };
+
+    fn visit_file(
+        &mut self,
+        _path: &[i32],
+        index: u32,
+        file: &FileDescriptorProto,
+    ) -> Result<(), AllocError> {
+        let raw = linked_file(self.alloc, self.setting, index, file)?;
+        self.files.push(FileDescriptorInner { raw })?;
+        Ok(())
+    }
+
+    fn visit_message(
+        &mut self,
+        path: &[i32],
+        full_name: &str,
+        file: u32,
+        parent: Option<u32>,
+        _index: u32,
+        message: &DescriptorProto,
+    ) -> Result<(), AllocError> {
+        let id = identity(self.alloc, path, full_name, file, message.name())?;
+        self.messages.push(MessageDescriptorInner {
+            id,
+            parent,
+            fields: Items::new(self.alloc),
+        })?;
+        Ok(())
+    }
+
+    fn visit_field(
+        &mut self,
+        path: &[i32],
+        full_name: &str,
+        file: u32,
+        _parent: u32,
+        _index: u32,
+        field: &FieldDescriptorProto,
+    ) -> Result<(), AllocError> {
+        let read = read_field(self.alloc, self.setting, path, full_name, file, field)?;
+        add_field(&mut self.messages, read.item)?;
+        add_given(&mut self.faults, read.number_fault)?;
+        add_given(&mut self.faults, read.type_fault)
+    }
+}

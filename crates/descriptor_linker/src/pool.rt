@@ -1,0 +1,187 @@
+ghost use Rattle.std.specs.Prelude.{◌≡◌, [], ◌++◌, not, IsOk, IfOk, IfErr, slice_get};
+ghost use Rattle.std.specs.Option.{option_copied};
+ghost use Rattle.std.specs.List.{list_any, filter};
+ghost use Rattle.std.specs.Str.{bytes_eq};
+ghost use Rattle.proto_records.specs.Readers.{text_of};
+ghost use Rattle.descriptor_linker.specs.LookUps.{without_dot};
+
+use crate::build::{Setting, enter_names, make_items};
+use crate::error::BuildError;
+use pool_parts::{
+    Definition, Entry, FileDescriptor, FileDescriptorInner, Files, MessageDescriptor,
+    MessageDescriptorInner, first_definition,
+};
+use proto_records::{CountKind, Counts, Duplicate, FileDescriptorProto, duplicates};
+use std::alloc::{AllocError, Global};
+use std::marker::Model;
+
+/// Linked files and what they declare, each known by a number and by its full name.
+#[derive(Drop)]
+pub struct DescriptorPool {
+    alloc: Global,
+    files: Vec<FileDescriptorInner>,
+    messages: Vec<MessageDescriptorInner>,
+    entries: Vec<Entry>,
+}
+
+impl Model for DescriptorPool {
+    ghost use Rattle.proto_records.specs.Contents.{Contents};
+    ghost use Rattle.proto_records.specs.ContentsCode.{contents_code};
+
+    ghost Value = { Contents };
+
+    ghost coded = { contents_code };
+
+    ghost use Rattle.descriptor_linker.specs.Held.{contents_of, IsHeld};
+
+    ghost view = { contents_of };
+
+    ghost invariant = { IsHeld };
+}
+
+impl DescriptorPool {
+    ghost use Rattle.proto_records.specs.Contents.{no_contents, counts_in};
+    ghost use Rattle.descriptor_linker.specs.LookUps.{definition_named};
+    ghost use Rattle.descriptor_linker.specs.Outcome.{Outcome, IsLinked};
+    ghost use Rattle.descriptor_linker.specs.Passes.{TellsFaults};
+    ghost use Rattle.descriptor_linker.specs.Pool.{new_files, faults, Fits};
+    ghost use Rattle.proto_records.specs.Counts.{counts_with};
+    ghost use Rattle.proto_records.specs.Declarations.{declarations};
+
+    /// A pool without files, which takes no memory.
+    pub fn new(alloc: Global) -> DescriptorPool
+        ensures { result ≡ no_contents }
+    {
+        DescriptorPool {
+            alloc,
+            files: Vec::new(alloc),
+            messages: Vec::new(alloc),
+            entries: Vec::new(alloc),
+        }
+    }
+
+    /// What the pool has under a full name, which may have one leading dot.
+    pub fn get_by_name(&self, name: &str) -> Option<&Definition>
+        ensures { option_copied result ≡ definition_named self.now name.now }
+    {
+        first_definition(&self.entries, without_dot(name))
+    }
+
+    /// The file with a number, or none past the end.
+    pub fn file(&self, file: FileDescriptor) -> Option<&FileDescriptorInner>
+        ensures { option_copied result ≡ slice_get self.now.files file.index }
+    {
+        self.files.get(file.index() as usize)
+    }
+
+    /// The message with a number, or none past the end.
+    pub fn message(&self, message: MessageDescriptor) -> Option<&MessageDescriptorInner>
+        ensures { option_copied result ≡ slice_get self.now.messages message.index }
+    {
+        self.messages.get(message.index() as usize)
+    }
+
+    /// How many files and messages the pool has.
+    pub fn counts(&self) -> Counts
+        ensures { result ≡ counts_in self.now }
+    {
+        Counts {
+            files: self.files.len() as u32,
+            messages: self.messages.len() as u32,
+            enums: 0,
+            services: 0,
+            extensions: 0,
+        }
+    }
+
+    /// Links the files of a batch whose names the pool lacks; the others are passed over unread.
+    /// Where memory is refused, where there is too much of a kind, or where the new files break a
+    /// rule, the pool stays as it was; of broken rules all of the first failing pass are told.
+    pub fn build_files(&mut self, mut files: Vec<FileDescriptorProto>) -> Result<(), BuildError>
+        ensures outcome { Outcome self.old files.items result self.new }
+        ensures nothing_new { new_files self.old files.items ≡ [] → IsOk result }
+    {
+        keep_new(&self.files, &mut files);
+        if files.is_empty() {
+            return Ok(());
+        }
+        if let Err(kind) = self.counts_with(&files) {
+            return Err(BuildError::TooMany(kind));
+        }
+        *self = self.grown(&files)?;
+        Ok(())
+    }
+
+    /// The counts of the pool together with new files, or what there is too much of.
+    fn counts_with(&self, new: &[FileDescriptorProto]) -> Result<Counts, CountKind>
+        ensures { result ≡ counts_with (counts_in self.now) (declarations (counts_in self.now) new.now) }
+    {
+        self.counts().plus(&Counts::of(new)?)
+    }
+
+    /// A copy of the pool with new files linked into it, none of whose names it has.
+    fn grown(&self, new: &[FileDescriptorProto]) -> Result<DescriptorPool, BuildError>
+        requires new { new_files self.now new.now ≡ new.now }
+        requires fits { Fits self.now new.now }
+        ensures ok { IfOk result (IsLinked self.now new.now) }
+        ensures err { IfErr result (λ error. TellsFaults error (faults self.now new.now)) }
+    {
+        let alloc = self.alloc;
+        let base = self.counts();
+        let all = Files::new(&self.files, new);
+        let entries = enter_names(alloc, base, all, &self.entries, new)?;
+        let setting = Setting {
+            files: all,
+            entries: &entries,
+        };
+        let made = make_items(alloc, base, setting, new)?;
+        Ok(DescriptorPool {
+            alloc,
+            files: in_a_row(alloc, &self.files, made.files)?,
+            messages: in_a_row(alloc, &self.messages, made.messages)?,
+            entries,
+        })
+    }
+}
+
+/// Whether one of the files has this name.
+fn has_name(files: &[FileDescriptorInner], name: &str) -> bool
+    ensures { result ≡ list_any (λ f. bytes_eq (text_of f.raw.name) name.now) files.now }
+{
+    for file in files {
+        if file.raw.name() == name {
+            return true;
+        }
+    }
+    false
+}
+
+/// Keeps the files of a batch whose names no linked file has, and takes no memory.
+fn keep_new(linked: &[FileDescriptorInner], batch: &mut Vec<FileDescriptorProto>)
+    ensures { batch.new.items ≡ filter (λ f. not (list_any (λ g. bytes_eq (text_of g.raw.name) (text_of f.name)) linked.now)) batch.old.items }
+{
+    batch.retain(|file| !has_name(linked, file.name()));
+}
+
+/// A name without one leading dot.
+fn without_dot(name: &str) -> &str
+    ensures { result.now ≡ without_dot name.now }
+{
+    match name.strip_prefix('.') {
+        Some(rest) => rest,
+        None => name,
+    }
+}
+
+/// Copies of some items, and others behind them.
+fn in_a_row<T: Duplicate>(
+    alloc: Global,
+    front: &[T],
+    mut back: Vec<T>,
+) -> Result<Vec<T>, AllocError>
+    ensures { IfOk result (λ both. both.items ≡ front.now ++ back.items) }
+{
+    let mut both = duplicates(alloc, front)?;
+    both.append(&mut back)?;
+    Ok(both)
+}

@@ -1,0 +1,154 @@
+//! What the commands of a script answer.
+
+ghost use Rattle.std.specs.Prelude.{◌≡◌, ◌++◌, OnOk, string_bytes};
+ghost use Rattle.proto_records.specs.Contents.{files_of};
+ghost use Rattle.proto_records.specs.Labels.{file_at};
+ghost use Rattle.proto_records.specs.Readers.{text_of};
+ghost use Rattle.descriptor_linker.specs.Report.Answers as spec;
+
+use crate::pool::DescriptorPool;
+use crate::script::ScriptFault;
+use pool_parts::{DefinitionKind, DescriptorErrorKind, FileDescriptor};
+use proto_records::{CountKind, Counts, Placed};
+use std::alloc::AllocError;
+use std::fmt;
+
+/// A name printed alone.
+fn alone(name: &str) -> &str
+    ensures { result.now ≡ spec.alone name.now }
+{
+    if name.is_empty() { "''" } else { name }
+}
+
+impl fmt::Display for ScriptFault {
+    ghost use Rattle.std.specs.Prelude.{Some};
+    ghost use Rattle.descriptor_linker.specs.Report.Answers.{fault_words};
+
+    ghost output = { λ fault. Some (fault_words fault) };
+
+    fn fmt<W: fmt::Write>(&self, f: &mut fmt::Formatter<W>) -> fmt::Result {
+        f.write_str(match self {
+            ScriptFault::BadText => "bad text",
+            ScriptFault::UnknownWord => "unknown word",
+            ScriptFault::Misplaced => "misplaced",
+            ScriptFault::WrongCount => "wrong count of words",
+            ScriptFault::BadNumber => "bad number",
+            ScriptFault::BadWord => "bad word",
+            ScriptFault::MissingEnd => "missing end",
+        })
+    }
+}
+
+/// A kind, with the number that it holds.
+#[derive(Clone, Copy)]
+struct KindWords(DefinitionKind);
+
+impl fmt::Display for KindWords {
+    ghost use Rattle.std.specs.Prelude.{Some};
+    ghost use Rattle.descriptor_linker.specs.Report.Answers.{kind_words};
+
+    ghost output = { λ kind. Some (kind_words kind.0) };
+
+    fn fmt<W: fmt::Write>(&self, f: &mut fmt::Formatter<W>) -> fmt::Result {
+        match self.0 {
+            DefinitionKind::Package => write!(f, "package"),
+            DefinitionKind::Message(number) => write!(f, "message {number}"),
+            DefinitionKind::Field(message) => write!(f, "field {message}"),
+            DefinitionKind::Oneof(message) => write!(f, "oneof {message}"),
+            DefinitionKind::Service(number) => write!(f, "service {number}"),
+            DefinitionKind::Method(service) => write!(f, "method {service}"),
+            DefinitionKind::Enum(number) => write!(f, "enum {number}"),
+            DefinitionKind::EnumValue(number) => write!(f, "value {number}"),
+            DefinitionKind::Extension(number) => write!(f, "extension {number}"),
+        }
+    }
+}
+
+/// The word for what there is too much of.
+fn count_word(kind: CountKind) -> &'static str
+    ensures { result.now ≡ spec.count_word kind }
+{
+    match kind {
+        CountKind::ListTooLong => "lists",
+        CountKind::Files => "files",
+        CountKind::Messages => "messages",
+        CountKind::Enums => "enums",
+        CountKind::Services => "services",
+        CountKind::Extensions => "extensions",
+    }
+}
+
+/// Tells how much a pool has of each kind.
+pub(super) fn tell_counts(told: &mut String, pool: &DescriptorPool) -> Result<(), AllocError>
+    ensures { OnOk result (string_bytes told.new ≡ string_bytes told.old ++ spec.counts_line pool.now) }
+{
+    let Counts {
+        files,
+        messages,
+        enums,
+        services,
+        extensions,
+    } = pool.counts();
+    writeln!(
+        told,
+        "ok {files} {messages} {enums} {services} {extensions}"
+    )
+}
+
+/// Tells what there is too much of.
+pub(super) fn tell_too_many(told: &mut String, kind: CountKind) -> Result<(), AllocError>
+    ensures { OnOk result (string_bytes told.new ≡ string_bytes told.old ++ spec.too_many_line kind) }
+{
+    let word = count_word(kind);
+    writeln!(told, "too many {word}")
+}
+
+/// Tells how many faults there are, and each on a line of its own.
+pub(super) fn tell_refused(
+    told: &mut String,
+    faults: &[DescriptorErrorKind],
+) -> Result<(), AllocError>
+    ensures { OnOk result (string_bytes told.new ≡ string_bytes told.old ++ spec.refused_lines faults.now) }
+{
+    let count = faults.len();
+    writeln!(told, "refused {count}")?;
+    for fault in faults {
+        let fault = Placed(fault);
+        writeln!(told, "{fault}")?;
+    }
+    Ok(())
+}
+
+/// The name of the file with a number, or the empty text where there is none.
+fn file_name(pool: &DescriptorPool, file: u32) -> &str
+    ensures { result.now ≡ text_of (file_at (files_of pool.now) file).name }
+{
+    match pool.file(FileDescriptor::new(file)) {
+        Some(file) => file.raw.name(),
+        None => "",
+    }
+}
+
+/// Tells what a name means in a pool: its kind, its file and its path.
+pub(super) fn tell_found(
+    told: &mut String,
+    pool: &DescriptorPool,
+    name: &str,
+) -> Result<(), AllocError>
+    ensures { OnOk result (string_bytes told.new ≡ string_bytes told.old ++ spec.find_answer pool.now name.now) }
+{
+    let Some(definition) = pool.get_by_name(name) else {
+        return writeln!(told, "none");
+    };
+    let kind = KindWords(definition.kind);
+    let file = alone(file_name(pool, definition.file));
+    let path = definition.path.as_slice();
+    writeln!(told, "{kind} {file} {path:?}")
+}
+
+/// Tells the fault of a script, and its line.
+pub(super) fn tell_fault(told: &mut String, line: u64, fault: ScriptFault) -> Result<(), AllocError>
+    ensures { OnOk result (string_bytes told.new ≡ string_bytes told.old ++ spec.fault_line (line, fault)) }
+{
+    writeln!(told, "line {line}: {fault}")
+}

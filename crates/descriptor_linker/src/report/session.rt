@@ -1,0 +1,116 @@
+//! A script, statement by statement.
+
+ghost use Rattle.std.specs.Prelude.{◌≡◌, OnOk};
+ghost use Rattle.descriptor_linker.specs.declared.script.statement.Statement.TheVariants as say;
+ghost use Rattle.descriptor_linker.specs.Report.Session.{new_session, opening, step};
+
+use super::answers::{tell_counts, tell_found, tell_refused, tell_too_many};
+use super::building::Open;
+use crate::error::BuildError;
+use crate::pool::DescriptorPool;
+use crate::script::Statement;
+use proto_records::{FieldDescriptorProto, FileDescriptorProto, Text};
+use std::alloc::{AllocError, Global};
+use std::mem;
+
+/// What the statements so far have made.
+#[derive(Drop)]
+pub(super) struct Session {
+    alloc: Global,
+    /// The records whose blocks are open, the innermost last.
+    open_records: Vec<Open>,
+    /// The files to be linked next.
+    batch: Vec<FileDescriptorProto>,
+    pool: DescriptorPool,
+    pub(super) told: String,
+}
+
+impl Session {
+    ghost use Rattle.descriptor_linker.specs.Report.Held.{session_in};
+
+    /// A session before the first statement, which takes no memory.
+    pub(super) fn new(alloc: Global) -> Session
+        ensures { session_in result ≡ new_session }
+    {
+        Session {
+            alloc,
+            open_records: Vec::new(alloc),
+            batch: Vec::new(alloc),
+            pool: DescriptorPool::new(alloc),
+            told: String::new(alloc),
+        }
+    }
+
+    /// Does what a statement says.
+    pub(super) fn step(&mut self, statement: Statement) -> Result<(), AllocError>
+        ensures { OnOk result (session_in self.new ≡ step (session_in self.old) statement) }
+    {
+        match statement {
+            Statement::File(name) => self.open(Open::file(self.alloc, name)),
+            Statement::Package(name) => {
+                self.set_package(name);
+                Ok(())
+            }
+            Statement::Message(name) => self.open(Open::message(self.alloc, name)),
+            Statement::Field(field) => self.add_field(field),
+            Statement::End => self.close(),
+            Statement::Link => self.link(),
+            Statement::Find(name) => tell_found(&mut self.told, &self.pool, name.as_str()),
+        }
+    }
+
+    /// Opens a record in the innermost open one.
+    fn open(&mut self, opened: Open) -> Result<(), AllocError>
+        ensures { OnOk result (session_in self.new ≡ opening (session_in self.old) opened) }
+    {
+        self.open_records.push(opened)?;
+        Ok(())
+    }
+
+    /// Names the package of the innermost open record.
+    fn set_package(&mut self, name: Option<Text>)
+        ensures { session_in self.new ≡ step (session_in self.old) (say.Package name) }
+    {
+        if let Some(innermost) = self.open_records.last_mut() {
+            innermost.set_package(name);
+        }
+    }
+
+    /// Puts a field into the innermost open record.
+    fn add_field(&mut self, field: FieldDescriptorProto) -> Result<(), AllocError>
+        ensures { OnOk result (session_in self.new ≡ step (session_in self.old) (say.Field field)) }
+    {
+        if let Some(innermost) = self.open_records.last_mut() {
+            innermost.add_field(field)?;
+        }
+        Ok(())
+    }
+
+    /// Closes the innermost open record: it goes into the one around it, and a file into the batch.
+    fn close(&mut self) -> Result<(), AllocError>
+        ensures { OnOk result (session_in self.new ≡ step (session_in self.old) say.End) }
+    {
+        let Some(inner) = self.open_records.pop() else {
+            return Ok(());
+        };
+        if let Some(outer) = self.open_records.last_mut() {
+            outer.close_in(inner)?;
+        } else if let Open::File(file) = inner {
+            self.batch.push(file)?;
+        }
+        Ok(())
+    }
+
+    /// Links the batch, which is empty then, and tells what has come of it.
+    fn link(&mut self) -> Result<(), AllocError>
+        ensures { OnOk result (session_in self.new ≡ step (session_in self.old) say.Link) }
+    {
+        let batch = mem::replace(&mut self.batch, Vec::new(self.alloc));
+        match self.pool.build_files(batch) {
+            Ok(()) => tell_counts(&mut self.told, &self.pool),
+            Err(BuildError::TooMany(kind)) => tell_too_many(&mut self.told, kind),
+            Err(BuildError::Descriptor(error)) => tell_refused(&mut self.told, error.errors()),
+            Err(BuildError::OutOfMemory) => Err(AllocError),
+        }
+    }
+}
