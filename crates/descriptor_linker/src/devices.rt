@@ -7,8 +7,6 @@ mod fuse;
 mod memory_input;
 mod memory_output;
 mod reader_input;
-#[cfg(test)]
-mod tests;
 mod writer_output;
 
 pub use memory_input::MemoryInput;

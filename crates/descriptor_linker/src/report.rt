@@ -38,31 +38,3 @@ pub fn report_of(alloc: Global, bytes: &[u8]) -> Result<Report, AllocError>
         has_fault: fault.is_some(),
     })
 }
-
-#[cfg(test)]
-mod tests {
-    use super::*;
-    use std::test::Fail;
-
-    #[test]
-    fn tells_what_is_linked_and_found(rt: HostRuntime) -> Result<(), Fail> {
-        let text = "file a.proto\npackage p\nmessage M\nfield f 1 optional int32 ~ ~\nend\nend\n\
-            link\nfind p\nfind .p.M\nfind p.M.f\nfind q\n";
-        let report = report_of(rt.alloc(), text.as_bytes())?;
-        let told = "ok 1 1 0 0 0\npackage a.proto [2]\nmessage 0 a.proto [4, 0, 1]\n\
-            field 0 a.proto [4, 0, 2, 0, 1]\nnone\n";
-        assert_eq!(rt; report.text.as_str(), told);
-        assert!(rt; !report.has_fault);
-        Ok(())
-    }
-
-    #[test]
-    fn tells_the_faults_of_a_batch_and_of_the_script(rt: HostRuntime) -> Result<(), Fail> {
-        let text = "file a.proto\nmessage M\nfield f 1 optional message N ~\nend\nend\nlink\nend\n";
-        let report = report_of(rt.alloc(), text.as_bytes())?;
-        let told = "refused 1\na.proto: name 'N' is not defined\nline 7: misplaced\n";
-        assert_eq!(rt; report.text.as_str(), told);
-        assert!(rt; report.has_fault);
-        Ok(())
-    }
-}

@@ -83,23 +83,3 @@ fn write_all<W: ReportOutput>(output: &mut W, bytes: &[u8]) -> io::Result<()>
     }
     Ok(())
 }
-
-#[cfg(test)]
-mod tests {
-    use super::*;
-    use crate::devices::{MemoryInput, MemoryOutput};
-    use std::test::Fail;
-
-    #[test]
-    fn a_failed_read_ends_the_run(rt: HostRuntime) -> Result<(), Fail> {
-        for fuse in 1..3 {
-            let mut input = MemoryInput::with_fuse(b"link\n", fuse);
-            let mut output = MemoryOutput::new(rt.alloc(), 100)?;
-            let ending = run(rt.alloc(), &mut input, &mut output);
-            assert_eq!(rt; ending, Ending::Device);
-            assert_eq!(rt; input.failures(), 1);
-            assert_eq!(rt; output.written(), b"".as_slice());
-        }
-        Ok(())
-    }
-}

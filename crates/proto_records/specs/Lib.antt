@@ -7,6 +7,7 @@ pub mod Protos
 pub mod Shown
 pub mod Counts
 pub mod Declarations
+pub mod Leads
 pub mod Contents
 pub mod ContentsCode
 pub mod Labels

@@ -1,0 +1,135 @@
+use super::telling::{FIRST_REPORT, FIRST_SCRIPT, compare};
+use descriptor_linker::{Ending, report_of};
+use std::test::Fail;
+
+#[test]
+fn tells_what_is_linked_and_found(rt: HostRuntime) -> Result<(), Fail> {
+    let cases = [
+        (FIRST_SCRIPT, FIRST_REPORT, Ending::Whole),
+        (
+            "link\nfile a.proto\nend\nlink\nfile a.proto\nmessage M\nend\nend\nlink\nfind M\n",
+            "ok 0 0 0 0 0\nok 1 0 0 0 0\nok 1 0 0 0 0\nnone\n",
+            Ending::Whole,
+        ),
+        (
+            "file a.proto\npackage package\nmessage MyMessage\nend\nend\nlink\nfind package.MyMessage\n",
+            "ok 1 1 0 0 0\nmessage 0 a.proto [4, 0, 1]\n",
+            Ending::Whole,
+        ),
+        ("", "", Ending::Whole),
+        ("\n# nothing\n", "", Ending::Whole),
+        (
+            "file ''\nmessage M\nfield f 1 repeated .M ~ ~\n",
+            "line 3: bad word\n",
+            Ending::ScriptFault,
+        ),
+        (
+            "file ''\nmessage M\nfield f 1 repeated ~ .M ~\nend\nend\nlink\nfind M\nfind .M.f",
+            "ok 1 1 0 0 0\nmessage 0 '' [4, 0, 1]\nfield 0 '' [4, 0, 2, 0, 1]\n",
+            Ending::Whole,
+        ),
+        (
+            "file a.proto\npackage p\nmessage A\nend\nend\nfile b.proto\npackage p\nmessage B\nend\nend\n\
+            link\nfind p\nfind p.A\nfind p.B\n",
+            "ok 2 2 0 0 0\npackage a.proto [2]\nmessage 0 a.proto [4, 0, 1]\n\
+            message 1 b.proto [4, 0, 1]\n",
+            Ending::Whole,
+        ),
+        (
+            "file a.proto\npackage p\nend\nlink\nfile b.proto\npackage p.q\nend\nlink\nfind p\nfind p.q\n",
+            "ok 1 0 0 0 0\nok 2 0 0 0 0\npackage a.proto [2]\npackage b.proto [2]\n",
+            Ending::Whole,
+        ),
+    ];
+    compare(&rt, rt.alloc(), &cases)
+}
+
+#[test]
+fn refuses_a_name_that_is_held(rt: HostRuntime) -> Result<(), Fail> {
+    let cases = [
+        (
+            "file a.proto\npackage p\nmessage q\nend\nend\nfile b.proto\npackage p.q\nend\nlink\n",
+            "refused 1\nb.proto: name 'p.q' is already defined in file 'a.proto'\n",
+            Ending::Whole,
+        ),
+        (
+            "file a.proto\npackage p\nmessage M\nend\nmessage M\nend\nend\nlink\n",
+            "refused 1\na.proto: name 'p.M' is defined twice\n",
+            Ending::Whole,
+        ),
+        (
+            "file a.proto\nend\nfile a.proto\nend\nlink\n",
+            "refused 1\na different file named 'a.proto' has already been added\n",
+            Ending::Whole,
+        ),
+        (
+            "file a.proto\nend\nlink\nfile b.proto\npackage .a\nmessage M\nend\nmessage M\nend\nend\n\
+            link\nfind ''\nfind ..a\n",
+            "ok 1 0 0 0 0\nrefused 1\nb.proto: name '.a.M' is defined twice\nnone\nnone\n",
+            Ending::Whole,
+        ),
+        (
+            "file a.proto\nmessage M\nfield f 1 ~ ~ ~ ~\nfield f 2 ~ ~ ~ ~\nend\nmessage M\nend\nend\n\
+            file a.proto\nend\nlink\n",
+            "refused 3\na.proto: name 'M.f' is defined twice\na.proto: name 'M' is defined twice\n\
+            a different file named 'a.proto' has already been added\n",
+            Ending::Whole,
+        ),
+    ];
+    compare(&rt, rt.alloc(), &cases)
+}
+
+#[test]
+fn refuses_a_type_that_is_not_found(rt: HostRuntime) -> Result<(), Fail> {
+    let cases = [
+        (
+            "file a.proto\nmessage M\nfield f 1 optional message N ~\nend\nend\nlink\nfind M\n",
+            "refused 1\na.proto: name 'N' is not defined\nnone\n",
+            Ending::Whole,
+        ),
+        (
+            "file a.proto\npackage p\nmessage M\nfield f 1 optional message .p ~\nend\nend\nlink\n",
+            "refused 1\na.proto: 'p' is not a message or enum type\n",
+            Ending::Whole,
+        ),
+        (
+            "file a.proto\nmessage M\nfield f 1 optional message ~ ~\nend\nend\nlink\n",
+            "refused 1\na.proto: missing required field at [4, 0, 2, 0, 6]\n",
+            Ending::Whole,
+        ),
+        (
+            "file x.proto\npackage foo\nmessage X\nend\nend\nfile y.proto\nmessage Y\n\
+            field f 1 optional ~ .foo.X ~\nend\nend\nlink\n",
+            "refused 1\ny.proto: name 'foo.X' is not defined\n",
+            Ending::Whole,
+        ),
+        (
+            "file a.proto\nmessage M\nfield f 0 optional message N ~\nfield g 0 optional group ~ ~\n\
+            field h 1 optional ~ .M.f ~\nend\nend\nlink\n",
+            "refused 5\na.proto: invalid field number '0'\na.proto: name 'N' is not defined\n\
+            a.proto: invalid field number '0'\n\
+            a.proto: missing required field at [4, 0, 2, 1, 6]\n\
+            a.proto: 'M.f' is not a message or enum type\n",
+            Ending::Whole,
+        ),
+        (
+            "file a.proto\nmessage M\nfield f 0 optional message N ~\nend\nmessage M\nend\nend\nlink\n",
+            "refused 1\na.proto: name 'M' is defined twice\n",
+            Ending::Whole,
+        ),
+    ];
+    compare(&rt, rt.alloc(), &cases)
+}
+
+#[test]
+fn tells_the_faults_of_a_batch_and_of_the_script(rt: HostRuntime) -> Result<(), Fail> {
+    let text = "file a.proto\nmessage M\nfield f 1 optional message N ~\nend\nend\nlink\nend\n";
+    let report = report_of(rt.alloc(), text.as_bytes())?;
+    let told = "refused 1\na.proto: name 'N' is not defined\nline 7: misplaced\n";
+    assert_eq!(rt; report.text.as_str(), told);
+    assert!(rt; report.has_fault);
+    let whole = report_of(rt.alloc(), FIRST_SCRIPT.as_bytes())?;
+    assert_eq!(rt; whole.text.as_str(), FIRST_REPORT);
+    assert!(rt; !whole.has_fault);
+    Ok(())
+}
