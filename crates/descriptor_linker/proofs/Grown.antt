@@ -6,9 +6,8 @@ use Rattle.std.specs.List.{sum_by, list_all}
 use Rattle.proto_records.specs.declared.contents.definition.Entry.{Entry}
 use Rattle.proto_records.specs.declared.records.file.FileDescriptorProto.{FileDescriptorProto}
 use Rattle.proto_records.specs.Contents.{Contents, counts_in, files_of}
-use Rattle.proto_records.specs.Counts.{has_short_lists}
-use Rattle.proto_records.specs.Declarations.{declarations}
-use Rattle.proto_records.proofs.Counted.{fits-parts}
+use Rattle.descriptor_linker.specs.ReadDeclarations.{has_short_lists, read_declarations}
+use Rattle.descriptor_linker.proofs.Fitting.{fits-parts}
 use Rattle.descriptor_linker.specs.Entered.{entries}
 use Rattle.descriptor_linker.specs.FirstPass.{first_pass}
 use Rattle.descriptor_linker.specs.Held.{IsHeld, contents_of}
@@ -43,66 +42,66 @@ bounds p fs fresh fits =
 
 -- what the new files are read against
 abbrev pub ground_setting : Contents → List Entry → List FileDescriptorProto → Setting
-ground_setting p known fs = record { files = files_of p ++ fs; entries = known ++ entries (declarations (counts_in p) fs) }
+ground_setting p known fs = record { files = files_of p ++ fs; entries = known ++ entries (read_declarations (counts_in p) fs) }
 
 module _ (p : Contents) (known : List Entry) (fs : List FileDescriptorProto) (ground : Ground p known fs) where
-  pub names_faults : faults_of_names p fs ≡ first_pass (files_of p ++ fs) known (declarations (counts_in p) fs)
-  names_faults = λ i. first_pass (files_of p ++ ground.fresh i) (sym ground.known_is i) (declarations (counts_in p) (ground.fresh i))
+  pub names_faults : faults_of_names p fs ≡ first_pass (files_of p ++ fs) known (read_declarations (counts_in p) fs)
+  names_faults = λ i. first_pass (files_of p ++ ground.fresh i) (sym ground.known_is i) (read_declarations (counts_in p) (ground.fresh i))
 
   setting_is : setting (files_of p ++ new_files p fs) ≡ ground_setting p known fs
   setting_is = ap (λ gs. setting (files_of p ++ gs)) ground.fresh ∙ sym (setting_behind p known fs ground.messages ground.known_is)
 
-  pub references_faults : faults_of_references p fs ≡ second_pass (ground_setting p known fs) (declarations (counts_in p) fs)
-  references_faults = λ i. second_pass (setting_is i) (declarations (counts_in p) (ground.fresh i))
+  pub references_faults : faults_of_references p fs ≡ second_pass (ground_setting p known fs) (read_declarations (counts_in p) fs)
+  references_faults = λ i. second_pass (setting_is i) (read_declarations (counts_in p) (ground.fresh i))
 
-  pub link_is : link p fs ≡ with_items p (ground_setting p known fs) (declarations (counts_in p) fs)
-  link_is = λ i. with_items p (setting_is i) (declarations (counts_in p) (ground.fresh i))
+  pub link_is : link p fs ≡ with_items p (ground_setting p known fs) (read_declarations (counts_in p) fs)
+  link_is = λ i. with_items p (setting_is i) (read_declarations (counts_in p) (ground.fresh i))
 
   -- the faults where the first pass has some, and where it has none
-  pub first_faults_are : first_pass (files_of p ++ fs) known (declarations (counts_in p) fs) ≢ []
-      → faults p fs ≡ first_pass (files_of p ++ fs) known (declarations (counts_in p) fs)
+  pub first_faults_are : first_pass (files_of p ++ fs) known (read_declarations (counts_in p) fs) ≢ []
+      → faults p fs ≡ first_pass (files_of p ++ fs) known (read_declarations (counts_in p) fs)
   first_faults_are some = ap (λ first. first_of_both first (faults_of_references p fs)) names_faults ∙ first_of_some _ _ some
 
-  pub second_faults_are : first_pass (files_of p ++ fs) known (declarations (counts_in p) fs) ≡ []
-      → faults p fs ≡ second_pass (ground_setting p known fs) (declarations (counts_in p) fs)
+  pub second_faults_are : first_pass (files_of p ++ fs) known (read_declarations (counts_in p) fs) ≡ []
+      → faults p fs ≡ second_pass (ground_setting p known fs) (read_declarations (counts_in p) fs)
   second_faults_are none = ap (λ first. first_of_both first (faults_of_references p fs)) (names_faults ∙ none) ∙ references_faults
 
   -- what tells the faults of a pass that has some tells the faults of the batch
   pub told_first : (files : List FileDescriptorProto) (held : List Entry) (base : Counts) (error : BuildError)
       → files ≡ files_of p ++ fs → held ≡ known → base ≡ counts_in p
-      → TellsFaults error (first_pass files held (declarations base fs)) → TellsFaults error (faults p fs)
+      → TellsFaults error (first_pass files held (read_declarations base fs)) → TellsFaults error (faults p fs)
   told_first files held base OutOfMemory files_are held_is base_is told = tt
   told_first files held base (TooMany kind) files_are held_is base_is told = told
   told_first files held base (Descriptor e) files_are held_is base_is told =
-      let all : e.errors ≡ first_pass (files_of p ++ fs) known (declarations (counts_in p) fs) =
-      told ∙ (λ i. first_pass (files_are i) (held_is i) (declarations (base_is i) fs)) in
+      let all : e.errors ≡ first_pass (files_of p ++ fs) known (read_declarations (counts_in p) fs) =
+      told ∙ (λ i. first_pass (files_are i) (held_is i) (read_declarations (base_is i) fs)) in
       all ∙ sym (first_faults_are (λ none. e.some (all ∙ none)))
 
-  pub told_second : (s : Setting) (base : Counts) (error : BuildError) → first_pass (files_of p ++ fs) known (declarations (counts_in p) fs) ≡ []
+  pub told_second : (s : Setting) (base : Counts) (error : BuildError) → first_pass (files_of p ++ fs) known (read_declarations (counts_in p) fs) ≡ []
       → s ≡ ground_setting p known fs → base ≡ counts_in p
-      → TellsFaults error (second_pass s (declarations base fs)) → TellsFaults error (faults p fs)
+      → TellsFaults error (second_pass s (read_declarations base fs)) → TellsFaults error (faults p fs)
   told_second s base OutOfMemory none same base_is told = tt
   told_second s base (TooMany kind) none same base_is told = told
   told_second s base (Descriptor e) none same base_is told =
-      told ∙ (λ i. second_pass (same i) (declarations (base_is i) fs)) ∙ sym (second_faults_are none)
+      told ∙ (λ i. second_pass (same i) (read_declarations (base_is i) fs)) ∙ sym (second_faults_are none)
 
-  module _ (none : first_pass (files_of p ++ fs) known (declarations (counts_in p) fs) ≡ [])
-      (also_none : second_pass (ground_setting p known fs) (declarations (counts_in p) fs) ≡ []) where
+  module _ (none : first_pass (files_of p ++ fs) known (read_declarations (counts_in p) fs) ≡ [])
+      (also_none : second_pass (ground_setting p known fs) (read_declarations (counts_in p) fs) ≡ []) where
     accepted : Accepts p fs
     accepted = (names_faults ∙ none, references_faults ∙ also_none)
 
-    pub is_linked : (q : Contents) → q ≡ with_items p (ground_setting p known fs) (declarations (counts_in p) fs) → IsLinked p fs q
+    pub is_linked : (q : Contents) → q ≡ with_items p (ground_setting p known fs) (read_declarations (counts_in p) fs) → IsLinked p fs q
     is_linked q is = record { fits = ground.fits; accepted = accepted; is = is ∙ sym link_is }
 
     length-linked : (s : Setting) (n : ℕ) (gs : List FileDescriptorProto) → length (linked_from s n gs) ≡ length gs
     length-linked s n [] = refl
     length-linked s n (g ∷ gs) = ap suc (length-linked s (suc n) gs)
 
-    pub is_held : (new : Inside) → Made p → contents_of new ≡ with_items p (ground_setting p known fs) (declarations (counts_in p) fs)
-        → new.entries.items ≡ known ++ entries (declarations (counts_in p) fs) → IsHeld new
+    pub is_held : (new : Inside) → Made p → contents_of new ≡ with_items p (ground_setting p known fs) (read_declarations (counts_in p) fs)
+        → new.entries.items ≡ known ++ entries (read_declarations (counts_in p) fs) → IsHeld new
     is_held new made is entries_are =
         let s = ground_setting p known fs in
-        let q = with_items p s (declarations (counts_in p) fs) in
+        let q = with_items p s (read_declarations (counts_in p) fs) in
         let within = bounds p fs ground.fresh ground.fits in
         let files_are : files_of q ≡ files_of p ++ linked_from s (length p.files) fs = files_linked p s fs in
         let files_count : length (contents_of new).files ≡ length p.files + length fs =

@@ -1,3 +1,5 @@
+pub mod ReadCounts
+pub mod Fitting
 pub mod Leaves
 pub mod Walks
 pub mod Words

@@ -7,12 +7,9 @@ use Rattle.proto_records.specs.declared.counts.Counts.{Counts}
 use Rattle.proto_records.specs.declared.contents.definition.Entry.{Entry}
 use Rattle.proto_records.specs.declared.records.file.FileDescriptorProto.{FileDescriptorProto}
 use Rattle.proto_records.specs.Contents.{Contents, counts_in, files_of}
-use Rattle.std.specs.declared.result.Result.{Result}
-use Rattle.proto_records.specs.declared.counts.CountKind.{CountKind}
-use Rattle.proto_records.specs.Counts.{no_counts, counted, counts_of, counts_with, added_to}
-use Rattle.proto_records.specs.Declarations.{declarations}
-use Rattle.proto_records.proofs.Appended.{declarations-append}
-use Rattle.proto_records.proofs.Counted.{counted-declarations, counts_of-declarations}
+use Rattle.proto_records.specs.Counts.{no_counts, counted}
+use Rattle.descriptor_linker.specs.ReadDeclarations.{read_declarations}
+use Rattle.descriptor_linker.proofs.ReadCounts.{counted-declarations, declarations-append}
 use Rattle.descriptor_linker.specs.Entered.{entries}
 use Rattle.descriptor_linker.specs.FirstPass.{Faults}
 use Rattle.proto_records.specs.Protos.{as_message}
@@ -26,7 +23,7 @@ size f = length f.message_type
 
 -- the counts of a pool are those of what its files declare
 pub counts_declared : (p : Contents) → length p.messages ≡ sum_by size (files_of p)
-    → counted no_counts (declarations no_counts (files_of p)) ≡ counts_in p
+    → counted no_counts (read_declarations no_counts (files_of p)) ≡ counts_in p
 counts_declared p messages =
     let files_are : 0 + length (files_of p) ≡ length p.files = omega (arith, length-map p.files (λ f. f.raw)) in
     let messages_are : 0 + sum_by size (files_of p) ≡ length p.messages = omega (arith, messages) in
@@ -35,37 +32,37 @@ counts_declared p messages =
 
 -- what the files of a pool and others behind them declare
 declared_behind : (p : Contents) (fs : List FileDescriptorProto) → length p.messages ≡ sum_by size (files_of p)
-    → entries (declarations no_counts (files_of p ++ fs)) ≡ known_names p ++ entries (declarations (counts_in p) fs)
+    → entries (read_declarations no_counts (files_of p ++ fs)) ≡ known_names p ++ entries (read_declarations (counts_in p) fs)
 declared_behind p fs messages =
-    ap entries (declarations-append no_counts (files_of p) fs ∙ ap (λ c. declarations no_counts (files_of p) ++ declarations c fs) (counts_declared p messages))
-    ∙ entries-append (declarations no_counts (files_of p)) (declarations (counts_in p) fs)
+    ap entries (declarations-append no_counts (files_of p) fs ∙ ap (λ c. read_declarations no_counts (files_of p) ++ read_declarations c fs) (counts_declared p messages))
+    ∙ entries-append (read_declarations no_counts (files_of p)) (read_declarations (counts_in p) fs)
 
 -- what new files are read against
 pub setting_behind : (p : Contents) (known : List Entry) (fs : List FileDescriptorProto) → length p.messages ≡ sum_by size (files_of p) → known ≡ known_names p
-    → record { files = files_of p ++ fs; entries = known ++ entries (declarations (counts_in p) fs) } ≡ setting (files_of p ++ fs)
+    → record { files = files_of p ++ fs; entries = known ++ entries (read_declarations (counts_in p) fs) } ≡ setting (files_of p ++ fs)
 setting_behind p known fs messages is = λ i. record {
   files = files_of p ++ fs;
-  entries = (ap (λ es. es ++ entries (declarations (counts_in p) fs)) is ∙ sym (declared_behind p fs messages)) i;
+  entries = (ap (λ es. es ++ entries (read_declarations (counts_in p) fs)) is ∙ sym (declared_behind p fs messages)) i;
 }
 
 pub files_linked : (p : Contents) (s : Setting) (fs : List FileDescriptorProto)
-    → files_of (with_items p s (declarations (counts_in p) fs)) ≡ files_of p ++ linked_from s (length p.files) fs
+    → files_of (with_items p s (read_declarations (counts_in p) fs)) ≡ files_of p ++ linked_from s (length p.files) fs
 files_linked p s fs = map-append (λ f. f.raw) p.files _ ∙ ap (λ gs. files_of p ++ gs) (raw_items s (counts_in p) fs)
 
 -- the names of a pool behind which files were linked
 pub names_linked : (p : Contents) (s : Setting) (known : List Entry) (fs : List FileDescriptorProto) → length p.messages ≡ sum_by size (files_of p) → known ≡ known_names p
-    → known ++ entries (declarations (counts_in p) fs) ≡ known_names (with_items p s (declarations (counts_in p) fs))
+    → known ++ entries (read_declarations (counts_in p) fs) ≡ known_names (with_items p s (read_declarations (counts_in p) fs))
 names_linked p s known fs messages is =
-    ap (λ es. es ++ entries (declarations (counts_in p) fs)) is
+    ap (λ es. es ++ entries (read_declarations (counts_in p) fs)) is
     ∙ ap (λ es. known_names p ++ es) (sym (entries_linked s (length p.files) (counts_in p) fs))
     ∙ sym (declared_behind p (linked_from s (length p.files) fs) messages)
-    ∙ ap (λ gs. entries (declarations no_counts gs)) (sym (files_linked p s fs))
+    ∙ ap (λ gs. entries (read_declarations no_counts gs)) (sym (files_linked p s fs))
 
 -- and the number of its messages
 pub messages_linked : (p : Contents) (s : Setting) (fs : List FileDescriptorProto) → length p.messages ≡ sum_by size (files_of p)
-    → length (with_items p s (declarations (counts_in p) fs)).messages ≡ sum_by size (files_of (with_items p s (declarations (counts_in p) fs)))
+    → length (with_items p s (read_declarations (counts_in p) fs)).messages ≡ sum_by size (files_of (with_items p s (read_declarations (counts_in p) fs)))
 messages_linked p s fs messages =
-    let ds = declarations (counts_in p) fs in
+    let ds = read_declarations (counts_in p) fs in
     length-append p.messages (map (λ e. message_item s e.0 e.1) (of_kind as_message ds))
     ∙ (λ i. messages i + (length-map (of_kind as_message ds) (λ e. message_item s e.0 e.1) ∙ length_messages (counts_in p) fs ∙ sym (sum_linked s (length p.files) fs)) i)
     ∙ sym (sum_by-append size (files_of p) (linked_from s (length p.files) fs))
@@ -75,8 +72,3 @@ messages_linked p s fs messages =
 pub first_of_some : (first second : Faults) → first ≢ [] → first_of_both first second ≡ first
 first_of_some [] second some = absurd (some refl)
 first_of_some (f ∷ fs) second some = refl
-
--- the counts with new files, by those of the new files alone
-pub counts_with-is : (base : Counts) (fs : List FileDescriptorProto) (r : Result Counts CountKind) → r ≡ counts_of (declarations no_counts fs)
-    → counts_with base (declarations base fs) ≡ added_to base r
-counts_with-is base fs r is = ap (added_to base) (counts_of-declarations base fs ∙ sym (counts_of-declarations no_counts fs) ∙ sym is)

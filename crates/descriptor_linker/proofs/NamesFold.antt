@@ -3,7 +3,7 @@ use Rattle.std.proofs.Common.{◌≡◌, ℕ, ℤ, Option, List, [], ◌∷◌, 
 use Rattle.std.proofs.lemmas.Grind.{flat_map-append}
 use Rattle.std.specs.List.{fold, flat_map}
 use Rattle.proto_records.specs.Lists.{after_each}
-use Rattle.proto_records.specs.Protos.{Proto, of_file, of_message, of_field}
+use Rattle.proto_records.specs.Protos.{Proto, of_file, of_message, of_field, of_oneof, of_service, of_method, of_enum, of_value, of_extension}
 use Rattle.proto_records.specs.Readers.{text_of}
 use Rattle.proto_records.specs.Shown.{Shown}
 use Rattle.proto_records.specs.declared.contents.definition.Entry.{Entry}
@@ -41,6 +41,21 @@ grown files known before d faults = λ i. record {
   faults = faults;
 }
 
+-- a declaration that enters its own name alone
+own-step : (files : List FileDescriptorProto) (known : List Entry) (before : List Shown) (faults : Faults) (d : Shown)
+    → entered (seen_after files known before faults) (own_entry d) ≡ record {
+      files = files;
+      entries = (known ++ entries before) ++ own_entry d ∷ [];
+      file_names = file_names before ++ [];
+      faults = faults ++ (clash_faults files (known ++ entries before) (own_entry d) ++ []);
+    }
+own-step files known before faults d = λ i. record {
+  files = files;
+  entries = (known ++ entries before) ++ own_entry d ∷ [];
+  file_names = sym (append-nil (file_names before)) i;
+  faults = faults ++ sym (append-nil (clash_faults files (known ++ entries before) (own_entry d))) i;
+}
+
 step : (files : List FileDescriptorProto) (known : List Entry) (before : List Shown) (faults : Faults)
     (file : ℕ) (parent : Option ℕ) (number : ℕ) (path : List ℤ) (full_name : List ℕ) (p : Proto)
     → let d : Shown = record { file = file; parent = parent; number = number; path = path; full_name = full_name; proto = p } in
@@ -53,15 +68,29 @@ step files known before faults file parent number path full_name (of_file f) =
     ∙ ap (λ all. record { files = files; entries = (known ++ entries before) ++ entries_of d; file_names = file_names before ++ file_names_of d; faults = all }) (append_assoc faults own clashes)
     ∙ grown files known before d (faults ++ first_faults files known before d)
 step files known before faults file parent number path full_name (of_message m) =
-    let d : Shown = record { file = file; parent = parent; number = number; path = path; full_name = full_name; proto = of_message m } in
-    let clashes = clash_faults files (known ++ entries before) (own_entry d) in
-    (λ i. record { files = files; entries = (known ++ entries before) ++ entries_of d; file_names = sym (append-nil (file_names before)) i; faults = faults ++ sym (append-nil clashes) i })
-    ∙ grown files known before d (faults ++ first_faults files known before d)
-step files known before faults file parent number path full_name (of_field g) =
-    let d : Shown = record { file = file; parent = parent; number = number; path = path; full_name = full_name; proto = of_field g } in
-    let clashes = clash_faults files (known ++ entries before) (own_entry d) in
-    (λ i. record { files = files; entries = (known ++ entries before) ++ entries_of d; file_names = sym (append-nil (file_names before)) i; faults = faults ++ sym (append-nil clashes) i })
-    ∙ grown files known before d (faults ++ first_faults files known before d)
+    own-step files known before faults (record { file = file; parent = parent; number = number; path = path; full_name = full_name; proto = of_message m })
+    ∙ grown files known before _ _
+step files known before faults file parent number path full_name (of_field f) =
+    own-step files known before faults (record { file = file; parent = parent; number = number; path = path; full_name = full_name; proto = of_field f })
+    ∙ grown files known before _ _
+step files known before faults file parent number path full_name (of_oneof o) =
+    own-step files known before faults (record { file = file; parent = parent; number = number; path = path; full_name = full_name; proto = of_oneof o })
+    ∙ grown files known before _ _
+step files known before faults file parent number path full_name (of_service s) =
+    own-step files known before faults (record { file = file; parent = parent; number = number; path = path; full_name = full_name; proto = of_service s })
+    ∙ grown files known before _ _
+step files known before faults file parent number path full_name (of_method m) =
+    own-step files known before faults (record { file = file; parent = parent; number = number; path = path; full_name = full_name; proto = of_method m })
+    ∙ grown files known before _ _
+step files known before faults file parent number path full_name (of_enum e) =
+    own-step files known before faults (record { file = file; parent = parent; number = number; path = path; full_name = full_name; proto = of_enum e })
+    ∙ grown files known before _ _
+step files known before faults file parent number path full_name (of_value v) =
+    own-step files known before faults (record { file = file; parent = parent; number = number; path = path; full_name = full_name; proto = of_value v })
+    ∙ grown files known before _ _
+step files known before faults file parent number path full_name (of_extension x) =
+    own-step files known before faults (record { file = file; parent = parent; number = number; path = path; full_name = full_name; proto = of_extension x })
+    ∙ grown files known before _ _
 
 fold-after : (files : List FileDescriptorProto) (known : List Entry) (before : List Shown) (faults : Faults) (ds : List Shown)
     → fold named (seen_after files known before faults) ds

@@ -9,6 +9,7 @@ use Rattle.proto_records.specs.declared.records.file.FileDescriptorProto.{FileDe
 use Rattle.proto_records.specs.Contents.{Contents, counts_in, files_of}
 use Rattle.proto_records.specs.Counts.{counts_with, no_counts}
 use Rattle.proto_records.specs.Declarations.{declarations}
+use Rattle.descriptor_linker.specs.ReadDeclarations.{read_declarations}
 use Rattle.proto_records.specs.Readers.{text_of}
 use Rattle.pool_parts.specs.Entries.{names}
 use Rattle.descriptor_linker.specs.declared.error.BuildError.{BuildError}
@@ -53,17 +54,17 @@ module _ (p : Contents) (a b : Batch) (same : new_files p a ≡ new_files p b) w
   same_fits fits = let P : Batch → Type 0 = λ new. IsOk (counts_with (counts_in p) (declarations (counts_in p) new)) in subst P same fits
 
   pub same_faults : faults p a ≡ faults p b
-  same_faults = λ i. first_of_both (first_pass (files_of p ++ same i) (known_names p) (declarations (counts_in p) (same i)))
-      (second_pass (setting (files_of p ++ same i)) (declarations (counts_in p) (same i)))
+  same_faults = λ i. first_of_both (first_pass (files_of p ++ same i) (known_names p) (read_declarations (counts_in p) (same i)))
+      (second_pass (setting (files_of p ++ same i)) (read_declarations (counts_in p) (same i)))
 
   pub same_linked : (q : Contents) → IsLinked p a q → IsLinked p b q
   same_linked q linked = record {
     fits = same_fits linked.fits;
     accepted = (
-      let P : Batch → Type 0 = λ new. first_pass (files_of p ++ new) (known_names p) (declarations (counts_in p) new) ≡ [] in subst P same linked.accepted.0,
-      let Q : Batch → Type 0 = λ new. second_pass (setting (files_of p ++ new)) (declarations (counts_in p) new) ≡ [] in subst Q same linked.accepted.1,
+      let P : Batch → Type 0 = λ new. first_pass (files_of p ++ new) (known_names p) (read_declarations (counts_in p) new) ≡ [] in subst P same linked.accepted.0,
+      let Q : Batch → Type 0 = λ new. second_pass (setting (files_of p ++ new)) (read_declarations (counts_in p) new) ≡ [] in subst Q same linked.accepted.1,
     );
-    is = linked.is ∙ (λ i. with_items p (setting (files_of p ++ same i)) (declarations (counts_in p) (same i)));
+    is = linked.is ∙ (λ i. with_items p (setting (files_of p ++ same i)) (read_declarations (counts_in p) (same i)));
   }
 
   -- an error that tells the faults is an outcome that leaves the pool as it was
@@ -85,7 +86,7 @@ nothing_linked p batch none held files messages =
       is = λ i. record {
         files = sym (append-nil p.files) i;
         messages = sym (append-nil p.messages) i;
-        names = (held ∙ ap (λ fs. names (entries (declarations no_counts fs))) (sym (append-nil (files_of p)))) i;
+        names = (held ∙ ap (λ fs. names (entries (read_declarations no_counts fs))) (sym (append-nil (files_of p)))) i;
       };
     } in
     same_linked p [] batch (sym none) p start

@@ -4,7 +4,7 @@ use Rattle.std.specs.List.{fold}
 use Rattle.proto_records.specs.declared.counts.Counts.{Counts}
 use Rattle.proto_records.specs.declared.contents.definition.Entry.{Entry}
 use Rattle.proto_records.specs.declared.records.file.FileDescriptorProto.{FileDescriptorProto}
-use Rattle.proto_records.specs.Declarations.{declarations}
+use Rattle.descriptor_linker.specs.ReadDeclarations.{read_declarations}
 use Rattle.proto_records.specs.Protos.{as_file, as_message}
 use Rattle.proto_records.specs.Shown.{Shown}
 use Rattle.pool_parts.specs.AllFiles.{files_in}
@@ -38,12 +38,12 @@ names_passed old new known ds seen entries file_names faults =
     record { entries_are = ap (λ p. p.entries) e; faults_are = ap (λ p. p.faults) e }
 
 pub record ReferencesPassed (new : ResolveVisitor) (s : Setting) (base : Counts) (fs : List FileDescriptorProto) : Type 0 where
-  pub files_are : new.files.items ≡ map (λ e. file_item s e.0 e.1) (of_kind as_file (declarations base fs))
-  pub messages_are : new.messages.items ≡ map (λ e. message_item s e.0 e.1) (of_kind as_message (declarations base fs))
-  pub faults_are : new.faults.items ≡ second_pass s (declarations base fs)
+  pub files_are : new.files.items ≡ map (λ e. file_item s e.0 e.1) (of_kind as_file (read_declarations base fs))
+  pub messages_are : new.messages.items ≡ map (λ e. message_item s e.0 e.1) (of_kind as_message (read_declarations base fs))
+  pub faults_are : new.faults.items ≡ second_pass s (read_declarations base fs)
 
 pub references_passed : (old new : ResolveVisitor) (base : Counts) (fs : List FileDescriptorProto)
-    → HasSeen (λ v ds. references_progress (fold referred (references_seen v) ds)) old new (declarations base fs)
+    → HasSeen (λ v ds. references_progress (fold referred (references_seen v) ds)) old new (read_declarations base fs)
     → old.files.items ≡ [] → old.messages.items ≡ [] → old.faults.items ≡ []
     → ReferencesPassed new (setting_in old.setting) base fs
 references_passed old new base fs seen files messages faults =

@@ -9,13 +9,14 @@ use Rattle.proto_records.specs.declared.counts.Counts.{Counts}
 use Rattle.proto_records.specs.declared.contents.field.FieldDescriptorInner.{FieldDescriptorInner}
 use Rattle.proto_records.specs.declared.contents.message.MessageDescriptorInner.{MessageDescriptorInner}
 use Rattle.proto_records.specs.declared.records.file.FileDescriptorProto.{FileDescriptorProto}
-use Rattle.proto_records.specs.declared.records.message.DescriptorProto.{DescriptorProto}
+use Rattle.proto_records.specs.declared.records.message.DescriptorProto.{DescriptorProto, out-DescriptorProto}
 use Rattle.proto_records.specs.declared.records.field.FieldDescriptorProto.{FieldDescriptorProto}
 use Rattle.proto_records.specs.declared.tag.file.TheConstants.{MESSAGE_TYPE}
 use Rattle.proto_records.specs.declared.tag.message.TheConstants.{FIELD}
 use Rattle.proto_records.specs.Counts.{counted}
-use Rattle.proto_records.specs.Declarations.{declarations, file_walk, messages_walk, message_walk, in_file}
-use Rattle.proto_records.specs.Protos.{Proto, of_file, of_message, of_field, as_file, as_message, as_field}
+use Rattle.proto_records.specs.Declarations.{in_file}
+use Rattle.descriptor_linker.specs.ReadDeclarations.{read_declarations, read_file, read_messages, read_message}
+use Rattle.proto_records.specs.Protos.{Proto, of_file, of_message, of_field, of_oneof, of_service, of_method, of_enum, of_value, of_extension, as_file, as_message, as_field}
 use Rattle.proto_records.specs.Shown.{Shown, Surrounding, row, shown, inside}
 use Rattle.descriptor_linker.specs.Items.{field_item, message_item}
 use Rattle.descriptor_linker.specs.Passes.{ReferencesSeen, referred, bare_message, with_field, references_progress}
@@ -30,6 +31,7 @@ told s ms d = elim d.proto [
   | of_file _ ↦ ms
   | of_message _ ↦ ms ++ bare_message d ∷ []
   | of_field f ↦ with_field (field_item s d f) ms
+  | _ ↦ ms
 ]
 
 abbrev seen : ReferencesSeen → List Shown → ReferencesSeen
@@ -49,6 +51,12 @@ step r file parent number path full_name (of_message m) ds = refl
 step r file parent number path full_name (of_field g) ds =
     let d : Shown = record { file = file; parent = parent; number = number; path = path; full_name = full_name; proto = of_field g } in
     λ i. record (seen r (d ∷ ds)) { faults = append_assoc r.faults (second_faults r.setting d) (second_pass r.setting ds) i }
+step r file parent number path full_name (of_oneof o) ds = refl
+step r file parent number path full_name (of_service s) ds = refl
+step r file parent number path full_name (of_method m) ds = refl
+step r file parent number path full_name (of_enum e) ds = refl
+step r file parent number path full_name (of_value v) ds = refl
+step r file parent number path full_name (of_extension x) ds = refl
 
 fold-seen : (r : ReferencesSeen) (ds : List Shown) → fold referred r ds ≡ seen r ds
 fold-seen r [] = λ i. record r { files = sym (append-nil r.files) i; faults = sym (append-nil r.faults) i }
@@ -79,11 +87,11 @@ items-append s ds es =
     ∙ map-append (λ e. message_item s e.0 e.1) (of_kind as_message ds) (of_kind as_message es)
 
 told-message : (s : Setting) (ms : List MessageDescriptorInner) (here : Surrounding) (tag : ℤ) (place : ℕ) (base : Counts) (m : DescriptorProto)
-    → fold (told s) ms (message_walk here tag place base m) ≡ ms ++ items s (message_walk here tag place base m)
+    → fold (told s) ms (read_message here tag place base m) ≡ ms ++ items s (read_message here tag place base m)
 told-message s ms here tag place base m =
     let d = shown here tag place base.messages (of_message m) in
-    told-row s ms (bare_message d) (inside d) FIELD 0 0 m.field
-    ∙ ap (λ xs. ms ++ message_item s d m ∷ map (λ e. message_item s e.0 e.1) xs) (sym (no_messages (inside d) FIELD 0 0 m.field))
+    told-row s ms (bare_message d) (inside d) FIELD 0 0 (out-DescriptorProto m).field
+    ∙ ap (λ xs. ms ++ message_item s d m ∷ map (λ e. message_item s e.0 e.1) xs) (sym (no_messages (inside d) FIELD 0 0 (out-DescriptorProto m).field))
 
 both : (s : Setting) (ms : List MessageDescriptorInner) (ds es : List Shown)
     → ((xs : List MessageDescriptorInner) → fold (told s) xs ds ≡ xs ++ items s ds)
@@ -97,47 +105,47 @@ both s ms ds es first second =
     ∙ ap (λ xs. ms ++ xs) (sym (items-append s ds es))
 
 told-messages : (s : Setting) (ms : List MessageDescriptorInner) (here : Surrounding) (tag : ℤ) (place : ℕ) (base : Counts) (list : List DescriptorProto)
-    → fold (told s) ms (messages_walk here tag place base list) ≡ ms ++ items s (messages_walk here tag place base list)
+    → fold (told s) ms (read_messages here tag place base list) ≡ ms ++ items s (read_messages here tag place base list)
 told-messages s ms here tag place base [] = sym (append-nil ms)
 told-messages s ms here tag place base (m ∷ list) =
-    let first = message_walk here tag place base m in
-    both s ms first (messages_walk here tag (suc place) (counted base first) list)
+    let first = read_message here tag place base m in
+    both s ms first (read_messages here tag (suc place) (counted base first) list)
     (λ xs. told-message s xs here tag place base m) (λ xs. told-messages s xs here tag (suc place) (counted base first) list)
 
 told-file : (s : Setting) (ms : List MessageDescriptorInner) (base : Counts) (f : FileDescriptorProto)
-    → fold (told s) ms (file_walk base f) ≡ ms ++ items s (file_walk base f)
+    → fold (told s) ms (read_file base f) ≡ ms ++ items s (read_file base f)
 told-file s ms base f = told-messages s ms (in_file base.files f) MESSAGE_TYPE 0 base f.message_type
 
-told-declarations : (s : Setting) (ms : List MessageDescriptorInner) (base : Counts) (fs : List FileDescriptorProto)
-    → fold (told s) ms (declarations base fs) ≡ ms ++ items s (declarations base fs)
-told-declarations s ms base [] = sym (append-nil ms)
-told-declarations s ms base (f ∷ fs) =
-    let first = file_walk base f in
-    both s ms first (declarations (counted base first) fs)
-    (λ xs. told-file s xs base f) (λ xs. told-declarations s xs (counted base first) fs)
+told-read_declarations : (s : Setting) (ms : List MessageDescriptorInner) (base : Counts) (fs : List FileDescriptorProto)
+    → fold (told s) ms (read_declarations base fs) ≡ ms ++ items s (read_declarations base fs)
+told-read_declarations s ms base [] = sym (append-nil ms)
+told-read_declarations s ms base (f ∷ fs) =
+    let first = read_file base f in
+    both s ms first (read_declarations (counted base first) fs)
+    (λ xs. told-file s xs base f) (λ xs. told-read_declarations s xs (counted base first) fs)
 
 -- the whole pass over the declarations of files
 pub fold_referred : (s : Setting) (base : Counts) (fs : List FileDescriptorProto)
-    → fold referred (record { setting = s; files = []; messages = []; faults = [] }) (declarations base fs)
+    → fold referred (record { setting = s; files = []; messages = []; faults = [] }) (read_declarations base fs)
     ≡ record {
       setting = s;
-      files = map (λ e. file_item s e.0 e.1) (of_kind as_file (declarations base fs));
-      messages = map (λ e. message_item s e.0 e.1) (of_kind as_message (declarations base fs));
-      faults = second_pass s (declarations base fs);
+      files = map (λ e. file_item s e.0 e.1) (of_kind as_file (read_declarations base fs));
+      messages = map (λ e. message_item s e.0 e.1) (of_kind as_message (read_declarations base fs));
+      faults = second_pass s (read_declarations base fs);
     }
 fold_referred s base fs =
     let r : ReferencesSeen = record { setting = s; files = []; messages = []; faults = [] } in
-    fold-seen r (declarations base fs)
-    ∙ (λ i. record (seen r (declarations base fs)) { messages = told-declarations s [] base fs i })
+    fold-seen r (read_declarations base fs)
+    ∙ (λ i. record (seen r (read_declarations base fs)) { messages = told-read_declarations s [] base fs i })
 
 -- the same, as progress after a visitor has been shown all
 pub progress_referred : (seen : ReferencesSeen) (s : Setting) (base : Counts) (fs : List FileDescriptorProto)
     → seen ≡ record { setting = s; files = []; messages = []; faults = [] }
-    → references_progress (fold referred seen (declarations base fs ++ [])) ≡ record {
+    → references_progress (fold referred seen (read_declarations base fs ++ [])) ≡ record {
       entries = s.entries;
-      files = map (λ e. file_item s e.0 e.1) (of_kind as_file (declarations base fs));
-      messages = map (λ e. message_item s e.0 e.1) (of_kind as_message (declarations base fs));
-      faults = second_pass s (declarations base fs);
+      files = map (λ e. file_item s e.0 e.1) (of_kind as_file (read_declarations base fs));
+      messages = map (λ e. message_item s e.0 e.1) (of_kind as_message (read_declarations base fs));
+      faults = second_pass s (read_declarations base fs);
     }
 progress_referred seen s base fs is =
-    (λ i. references_progress (fold referred (is i) (append-nil (declarations base fs) i))) ∙ ap references_progress (fold_referred s base fs)
+    (λ i. references_progress (fold referred (is i) (append-nil (read_declarations base fs) i))) ∙ ap references_progress (fold_referred s base fs)

@@ -5,28 +5,28 @@ use Rattle.proto_records.specs.declared.counts.Counts.{Counts}
 use Rattle.proto_records.specs.declared.records.message.DescriptorProto.{DescriptorProto}
 use Rattle.proto_records.specs.Shown.{Surrounding}
 use Rattle.proto_records.specs.declared.records.file.FileDescriptorProto.{FileDescriptorProto}
-use Rattle.proto_records.specs.Declarations.{messages_walk, message_walk, declarations, file_walk}
-use Rattle.proto_records.proofs.Counted.{counted-message, counted-file, more}
+use Rattle.descriptor_linker.specs.ReadDeclarations.{read_messages, read_message, read_declarations, read_file}
+use Rattle.descriptor_linker.proofs.ReadCounts.{counted-message, counted-file, more}
 
 -- the messages from a place on are the one there and those behind it
-pub messages_walk-drop : (here : Surrounding) (tag : ℤ) (base : Counts) (ms : List DescriptorProto) (i : ℕ) (m : DescriptorProto)
+pub read_messages-drop : (here : Surrounding) (tag : ℤ) (base : Counts) (ms : List DescriptorProto) (i : ℕ) (m : DescriptorProto)
     → i < length ms → m ≡ get_or ms i m
-    → messages_walk here tag i (record base { messages = base.messages + i }) (drop i ms)
-    ≡ message_walk here tag i (record base { messages = base.messages + i }) m
-    ++ messages_walk here tag (i + 1) (record base { messages = base.messages + (i + 1) }) (drop (i + 1) ms)
-messages_walk-drop here tag base ms i m below is =
+    → read_messages here tag i (record base { messages = base.messages + i }) (drop i ms)
+    ≡ read_message here tag i (record base { messages = base.messages + i }) m
+    ++ read_messages here tag (i + 1) (record base { messages = base.messages + (i + 1) }) (drop (i + 1) ms)
+read_messages-drop here tag base ms i m below is =
     let here_base : Counts = record base { messages = base.messages + i } in
     let parts : drop i ms ≡ m ∷ drop (i + 1) ms = rw (add-one, drop-cons ms i m below, ← is) refl in
     let number : suc (base.messages + i) ≡ base.messages + (i + 1) = omega arith in
-    ap (messages_walk here tag i here_base) parts
-    ∙ ap (λ c. message_walk here tag i here_base m ++ messages_walk here tag (suc i) c (drop (i + 1) ms)) (counted-message here tag i here_base here_base m)
-    ∙ (λ j. message_walk here tag i here_base m ++ messages_walk here tag (sym (add-one i) j) (record base { messages = number j }) (drop (i + 1) ms))
+    ap (read_messages here tag i here_base) parts
+    ∙ ap (λ c. read_message here tag i here_base m ++ read_messages here tag (suc i) c (drop (i + 1) ms)) (counted-message here tag i here_base here_base m)
+    ∙ (λ j. read_message here tag i here_base m ++ read_messages here tag (sym (add-one i) j) (record base { messages = number j }) (drop (i + 1) ms))
 
 -- the files from a place on are the one there and those behind it
-pub declarations-drop : (base : Counts) (fs : List FileDescriptorProto) (i : ℕ) (f : FileDescriptorProto)
+pub read_declarations-drop : (base : Counts) (fs : List FileDescriptorProto) (i : ℕ) (f : FileDescriptorProto)
     → i < length fs → f ≡ get_or fs i f
-    → declarations base (drop i fs) ≡ file_walk base f ++ declarations (more base 1 (length f.message_type)) (drop (i + 1) fs)
-declarations-drop base fs i f below is =
+    → read_declarations base (drop i fs) ≡ read_file base f ++ read_declarations (more base 1 (length f.message_type)) (drop (i + 1) fs)
+read_declarations-drop base fs i f below is =
     let parts : drop i fs ≡ f ∷ drop (i + 1) fs = rw (add-one, drop-cons fs i f below, ← is) refl in
-    ap (declarations base) parts
-    ∙ ap (λ c. file_walk base f ++ declarations c (drop (i + 1) fs)) (counted-file base base f)
+    ap (read_declarations base) parts
+    ∙ ap (λ c. read_file base f ++ read_declarations c (drop (i + 1) fs)) (counted-file base base f)

@@ -8,15 +8,21 @@ use Rattle.proto_records.specs.declared.contents.definition.DefinitionKind.{Defi
 use Rattle.proto_records.specs.declared.contents.definition.DefinitionKind.TheVariants as definition
 use Rattle.proto_records.specs.Names.{fronts}
 use Rattle.proto_records.specs.Readers.{text_of}
-use Rattle.proto_records.specs.Protos.{of_file, of_message, of_field}
+use Rattle.proto_records.specs.Protos.{of_file, of_message, of_field, of_oneof, of_service, of_method, of_enum, of_value, of_extension}
 use Rattle.proto_records.specs.Shown.{Shown}
 
--- what a declaration's name means; a field holds the number of its message
+-- what a declaration's name means; a part holds the number of its message, service or enum
 abbrev pub definition_kind : Shown → DefinitionKind
 definition_kind d = elim d.proto [
   | of_file _ ↦ definition.Package
   | of_message _ ↦ definition.Message d.number
   | of_field _ ↦ definition.Field (unwrap_or d.parent 0)
+  | of_oneof _ ↦ definition.Oneof (unwrap_or d.parent 0)
+  | of_service _ ↦ definition.Service d.number
+  | of_method _ ↦ definition.Method (unwrap_or d.parent 0)
+  | of_enum _ ↦ definition.Enum d.number
+  | of_value _ ↦ definition.EnumValue (unwrap_or d.parent 0)
+  | of_extension _ ↦ definition.Extension d.number
 ]
 
 -- a package's name, at the package of its file

@@ -6,7 +6,7 @@ use Rattle.proto_records.specs.declared.contents.field.FieldDescriptorInner.{Fie
 use Rattle.proto_records.specs.declared.contents.message.MessageDescriptorInner.{MessageDescriptorInner}
 use Rattle.proto_records.specs.declared.kinds.KindIndex.TheVariants.{Double}
 use Rattle.proto_records.specs.declared.records.field.FieldDescriptorProto.{FieldDescriptorProto}
-use Rattle.proto_records.specs.declared.records.message.DescriptorProto.{DescriptorProto}
+use Rattle.proto_records.specs.declared.records.message.DescriptorProto.{DescriptorProto, out-DescriptorProto}
 use Rattle.proto_records.specs.Readers.{number_of, label_of}
 use Rattle.proto_records.specs.Protos.{name_of, of_field, as_field}
 use Rattle.proto_records.specs.Shown.{Shown, inside, parts}
@@ -36,5 +36,5 @@ abbrev pub message_item : Setting → Shown → DescriptorProto → MessageDescr
 message_item s d m = record {
   id = identity d;
   parent = d.parent;
-  fields = map (λ e. field_item s e.0 e.1) (of_kind as_field (parts of_field (inside d) message.FIELD m.field));
+  fields = map (λ e. field_item s e.0 e.1) (of_kind as_field (parts of_field (inside d) message.FIELD (out-DescriptorProto m).field));
 }

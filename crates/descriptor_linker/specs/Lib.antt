@@ -1,3 +1,4 @@
+pub mod ReadDeclarations
 pub mod Entered
 pub mod Setting
 pub mod FirstPass

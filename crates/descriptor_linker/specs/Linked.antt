@@ -4,7 +4,7 @@ use Rattle.std.specs.Option.{option_map, option_map_or, option_or}
 use Rattle.std.specs.declared.option.Option.{Option}
 use Rattle.std.specs.declared.option.Option.TheVariants.{Some}
 use Rattle.proto_records.specs.declared.records.file.FileDescriptorProto.{FileDescriptorProto}
-use Rattle.proto_records.specs.declared.records.message.DescriptorProto.{DescriptorProto}
+use Rattle.proto_records.specs.declared.records.message.DescriptorProto.{DescriptorProto, out-DescriptorProto, roll-DescriptorProto}
 use Rattle.proto_records.specs.declared.records.field.FieldDescriptorProto.{FieldDescriptorProto}
 use Rattle.proto_records.specs.declared.records.field.FieldType.{FieldType}
 use Rattle.proto_records.specs.declared.records.field.FieldType.TheVariants as written
@@ -42,7 +42,8 @@ linked_field s number scope f = elim (text_of f.type_name) [
 ]
 
 abbrev pub linked_message : Setting → ℕ → List ℕ → DescriptorProto → DescriptorProto
-linked_message s number scope m = record m { field = map (linked_field s number (join scope (text_of m.name))) m.field }
+linked_message s number scope m = let written = out-DescriptorProto m in
+    roll-DescriptorProto (record written { field = map (linked_field s number (join scope (text_of written.name))) written.field })
 
 -- the file with a number
 abbrev pub linked : Setting → ℕ → FileDescriptorProto → FileDescriptorProto

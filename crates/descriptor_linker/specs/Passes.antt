@@ -67,6 +67,7 @@ referred seen d = elim d.proto [
   | of_file f ↦ record seen { files = seen.files ++ file_item seen.setting d f ∷ [] }
   | of_message _ ↦ record seen { messages = seen.messages ++ bare_message d ∷ [] }
   | of_field f ↦ record seen { messages = with_field (field_item seen.setting d f) seen.messages; faults = seen.faults ++ second_faults seen.setting d }
+  | _ ↦ seen
 ]
 
 abbrev pub references_progress : ReferencesSeen → Progress

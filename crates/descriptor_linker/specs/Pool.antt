@@ -11,6 +11,7 @@ use Rattle.proto_records.specs.declared.contents.file.FileDescriptorInner.{FileD
 use Rattle.proto_records.specs.Contents.{Contents, no_contents, counts_in, files_of}
 use Rattle.proto_records.specs.Counts.{no_counts, counts_with}
 use Rattle.proto_records.specs.Declarations.{declarations}
+use Rattle.descriptor_linker.specs.ReadDeclarations.{read_declarations}
 use Rattle.proto_records.specs.Protos.{as_file, as_message}
 use Rattle.proto_records.specs.Readers.{text_of}
 use Rattle.proto_records.specs.Shown.{Shown}
@@ -32,16 +33,16 @@ has_file p name = list_any (λ f. bytes_eq (text_of f.name) name) (files_of p)
 abbrev pub new_files : Contents → Batch → List FileDescriptorProto
 new_files p batch = filter (λ f. not (has_file p (text_of f.name))) batch
 
--- what the new files are read against, and what they declare
+-- what the new files are read against, and what of their declarations is read
 abbrev pub setting_of : Contents → Batch → Setting
 setting_of p batch = setting (files_of p ++ new_files p batch)
 
 abbrev pub new_declarations : Contents → Batch → List Shown
-new_declarations p batch = declarations (counts_in p) (new_files p batch)
+new_declarations p batch = read_declarations (counts_in p) (new_files p batch)
 
 -- the names that the pool's files entered
 abbrev pub known_names : Contents → List Entry
-known_names p = entries (declarations no_counts (files_of p))
+known_names p = entries (read_declarations no_counts (files_of p))
 
 abbrev pub faults_of_names : Contents → Batch → Faults
 faults_of_names p batch = first_pass (files_of p ++ new_files p batch) (known_names p) (new_declarations p batch)
@@ -63,7 +64,7 @@ Accepts p batch = (faults_of_names p batch ≡ []) × (faults_of_references p ba
 
 -- the counts after the batch, or what there is too much of: in the new files alone, else together with the pool
 abbrev pub counts_after : Contents → Batch → Result Counts CountKind
-counts_after p batch = counts_with (counts_in p) (new_declarations p batch)
+counts_after p batch = counts_with (counts_in p) (declarations (counts_in p) (new_files p batch))
 
 abbrev pub Fits : Contents → Batch → Type 0
 Fits p batch = IsOk (counts_after p batch)

@@ -8,7 +8,7 @@ use Rattle.proto_records.specs.declared.records.file.FileDescriptorProto.{FileDe
 use Rattle.proto_records.specs.Protos.{Proto}
 use Rattle.proto_records.specs.Shown.{Shown}
 use Rattle.proto_records.specs.Counts.{no_counts}
-use Rattle.proto_records.specs.Declarations.{declarations}
+use Rattle.descriptor_linker.specs.ReadDeclarations.{read_declarations}
 use Rattle.pool_parts.specs.declared.filter.ResolveNameFilter.{ResolveNameFilter}
 use Rattle.pool_parts.specs.Entries.{first_of}
 use Rattle.pool_parts.specs.Resolution.{Resolution, resolution}
@@ -19,7 +19,7 @@ pub record Setting : Type 0 where
   pub entries : List Entry
 
 abbrev pub setting : List FileDescriptorProto → Setting
-setting files = record { files = files; entries = entries (declarations no_counts files) }
+setting files = record { files = files; entries = entries (read_declarations no_counts files) }
 
 -- what a reference means that is written in a scope of a file, which sees itself alone
 abbrev pub meaning : Setting → ℕ → List ℕ → ResolveNameFilter → List ℕ → Resolution

@@ -2,8 +2,7 @@
 
 ghost use Rattle.std.specs.Prelude.{◌≡◌, ◌+◌, ◌<◌, ◌^◌, ◌++◌, [], ⊤, true, length, map, MatchResult};
 ghost use Rattle.std.specs.List.{list_all, sum_by};
-ghost use Rattle.proto_records.specs.Counts.{has_short_lists};
-ghost use Rattle.proto_records.specs.Declarations.{declarations};
+ghost use Rattle.descriptor_linker.specs.ReadDeclarations.{has_short_lists, read_declarations};
 ghost use Rattle.proto_records.specs.Protos.{as_file, as_message};
 ghost use Rattle.pool_parts.specs.AllFiles.{files_in};
 ghost use Rattle.descriptor_linker.specs.Entered.{entries};
@@ -51,9 +50,9 @@ pub(crate) fn enter_names(
     requires files_fit { base.files + length new.now < 2 ^ 32 }
     requires messages_fit { base.messages + sum_by (λ f. length f.message_type) new.now < 2 ^ 32 }
     requires short { list_all has_short_lists new.now ≡ true }
-    ensures entered { MatchResult result (λ all. all.items ≡ known.now ++ entries (declarations base new.now)) (λ _. ⊤) }
-    ensures faults { MatchResult result (λ _. first_pass (files_in files.entry) known.now (declarations base new.now) ≡ [])
-        (λ error. TellsFaults error (first_pass (files_in files.entry) known.now (declarations base new.now))) }
+    ensures entered { MatchResult result (λ all. all.items ≡ known.now ++ entries (read_declarations base new.now)) (λ _. ⊤) }
+    ensures faults { MatchResult result (λ _. first_pass (files_in files.entry) known.now (read_declarations base new.now) ≡ [])
+        (λ error. TellsFaults error (first_pass (files_in files.entry) known.now (read_declarations base new.now))) }
 {
     let mut visitor = NameVisitor {
         alloc,
@@ -83,11 +82,11 @@ pub(crate) fn make_items(
     requires messages_fit { base.messages + sum_by (λ f. length f.message_type) new.now < 2 ^ 32 }
     requires short { list_all has_short_lists new.now ≡ true }
     ensures files { MatchResult result (λ made. made.files.items
-        ≡ map (λ e. file_item (setting_in setting.entry) e.0 e.1) (of_kind as_file (declarations base new.now))) (λ _. ⊤) }
+        ≡ map (λ e. file_item (setting_in setting.entry) e.0 e.1) (of_kind as_file (read_declarations base new.now))) (λ _. ⊤) }
     ensures messages { MatchResult result (λ made. made.messages.items
-        ≡ map (λ e. message_item (setting_in setting.entry) e.0 e.1) (of_kind as_message (declarations base new.now))) (λ _. ⊤) }
-    ensures faults { MatchResult result (λ _. second_pass (setting_in setting.entry) (declarations base new.now) ≡ [])
-        (λ error. TellsFaults error (second_pass (setting_in setting.entry) (declarations base new.now))) }
+        ≡ map (λ e. message_item (setting_in setting.entry) e.0 e.1) (of_kind as_message (read_declarations base new.now))) (λ _. ⊤) }
+    ensures faults { MatchResult result (λ _. second_pass (setting_in setting.entry) (read_declarations base new.now) ≡ [])
+        (λ error. TellsFaults error (second_pass (setting_in setting.entry) (read_declarations base new.now))) }
 {
     let mut visitor = ResolveVisitor {
         alloc,

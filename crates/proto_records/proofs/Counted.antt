@@ -1,134 +1,116 @@
--- The counts of declarations, from the lists of the files.
-use Rattle.std.proofs.Common.{◌≡◌, ℕ, ℤ, suc, ◌+◌, Bool, true, false, ◌&&◌, List, [], ◌∷◌, ◌++◌, length, cond, refl, ap, ◌∙◌, arith, min, nat_le, ◌-◌, ◌^◌, ◌<◌, IsOk, rules}
-use Rattle.std.specs.List.{list_all, sum_by}
+-- The counts of declarations, of two lists in a row.
+use Rattle.std.proofs.Common.{◌≡◌, ℕ, ◌+◌, Bool, true, false, ◌&&◌, Option, Some, None, List, [], ◌∷◌, ◌++◌, length, take, get_or, ◌<◌, zero, suc, cond, refl, ap, sym, ◌∙◌, arith}
+use Rattle.std.proofs.lemmas.List.{take_more}
+use Rattle.std.specs.List.{list_all}
 use Rattle.proto_records.specs.declared.counts.Counts.{Counts}
-use Rattle.proto_records.specs.declared.records.file.FileDescriptorProto.{FileDescriptorProto}
-use Rattle.proto_records.specs.declared.records.message.DescriptorProto.{DescriptorProto}
-use Rattle.proto_records.specs.declared.records.field.FieldDescriptorProto.{FieldDescriptorProto}
-use Rattle.proto_records.specs.declared.tag.file.TheConstants.{MESSAGE_TYPE}
-use Rattle.proto_records.specs.Protos.{of_field}
-use Rattle.proto_records.specs.Shown.{Shown, Surrounding, row}
-use native.Mathlib.Numerals.{unary_clauses}
-use Rattle.std.proofs.lemmas.List.Sums.{sum_by-cons}
-use Rattle.std.proofs.lemmas.Bool.Decides.{nat_tests}
-use Rattle.std.specs.declared.result.Result.TheVariants.{Err}
-use Rattle.proto_records.specs.declared.counts.CountKind.TheVariants.{ListTooLong}
-use Rattle.proto_records.specs.Counts.{counted, counting, no_counts, counts_of, within_limit, count_limit, counts_with, added_to, lists_fit, fits_list, has_short_lists}
-use Rattle.proto_records.specs.Declarations.{declarations, file_walk, in_file, messages_walk, message_walk}
+use Rattle.proto_records.specs.Protos.{Proto, of_file, of_message, of_field, of_oneof, of_service, of_method, of_enum, of_value, of_extension}
+use Rattle.proto_records.specs.Shown.{Shown}
+use Rattle.proto_records.specs.Counts.{no_counts, counted, counting, plus, lists_fit}
+use Rattle.proto_records.specs.Totals.{tally}
 
 pub counted-append : (c : Counts) (ds es : List Shown) → counted c (ds ++ es) ≡ counted (counted c ds) es
 counted-append c [] es = refl
 counted-append c (d ∷ ds) es = counted-append (counting c d.proto) ds es
 
--- fields are not counted
-pub counted-fields : (c : Counts) (here : Surrounding) (tag : ℤ) (place number : ℕ) (fields : List FieldDescriptorProto)
-    → counted c (row of_field here tag place number fields) ≡ c
-counted-fields c here tag place number [] = refl
-counted-fields c here tag place number (f ∷ fs) = counted-fields c here tag (suc place) (suc number) fs
+-- equal parts make equal counts
+pub counts_are : (a b : Counts) → a.files ≡ b.files → a.messages ≡ b.messages → a.enums ≡ b.enums → a.services ≡ b.services → a.extensions ≡ b.extensions → a ≡ b
+counts_are a b f m e s x = λ i. record { files = f i; messages = m i; enums = e i; services = s i; extensions = x i }
 
--- so many more messages
-abbrev pub more_messages : Counts → ℕ → Counts
-more_messages c n = record c { messages = c.messages + n }
+pub plus-assoc : (a b c : Counts) → plus (plus a b) c ≡ plus a (plus b c)
+plus-assoc a b c = counts_are _ _ (omega arith) (omega arith) (omega arith) (omega arith) (omega arith)
 
-pub counted-message : (here : Surrounding) (tag : ℤ) (place : ℕ) (base c : Counts) (m : DescriptorProto)
-    → counted c (message_walk here tag place base m) ≡ record c { messages = suc c.messages }
-counted-message here tag place base c m = counted-fields _ _ _ 0 0 m.field
+pub plus-comm : (a b : Counts) → plus a b ≡ plus b a
+plus-comm a b = counts_are _ _ (omega arith) (omega arith) (omega arith) (omega arith) (omega arith)
 
-pub counted-messages : (here : Surrounding) (tag : ℤ) (place : ℕ) (base c : Counts) (ms : List DescriptorProto)
-    → counted c (messages_walk here tag place base ms) ≡ more_messages c (length ms)
-counted-messages here tag place base c [] = ap (λ n. record c { messages = n }) (omega arith)
-counted-messages here tag place base c (m ∷ ms) =
-    counted-append c (message_walk here tag place base m) _
-    ∙ ap (λ d. counted d (messages_walk here tag (suc place) (counted base (message_walk here tag place base m)) ms)) (counted-message here tag place base c m)
-    ∙ counted-messages here tag (suc place) (counted base (message_walk here tag place base m)) (record c { messages = suc c.messages }) ms
-    ∙ ap (λ n. record c { messages = n }) (omega arith)
+pub plus-nothing : (c : Counts) → plus no_counts c ≡ c
+plus-nothing c = counts_are _ _ (omega arith) (omega arith) (omega arith) (omega arith) (omega arith)
 
--- so many more files and messages
-abbrev pub more : Counts → ℕ → ℕ → Counts
-more c n k = record c { files = c.files + n; messages = c.messages + k }
+-- one more, as a sum
+counting-plus : (c : Counts) (p : Proto) → counting c p ≡ plus c (counting no_counts p)
+counting-plus c (of_file f) = counts_are _ _ (omega arith) (omega arith) (omega arith) (omega arith) (omega arith)
+counting-plus c (of_message m) = counts_are _ _ (omega arith) (omega arith) (omega arith) (omega arith) (omega arith)
+counting-plus c (of_enum e) = counts_are _ _ (omega arith) (omega arith) (omega arith) (omega arith) (omega arith)
+counting-plus c (of_service s) = counts_are _ _ (omega arith) (omega arith) (omega arith) (omega arith) (omega arith)
+counting-plus c (of_extension x) = counts_are _ _ (omega arith) (omega arith) (omega arith) (omega arith) (omega arith)
+counting-plus c (of_field f) = counts_are _ _ (omega arith) (omega arith) (omega arith) (omega arith) (omega arith)
+counting-plus c (of_oneof o) = counts_are _ _ (omega arith) (omega arith) (omega arith) (omega arith) (omega arith)
+counting-plus c (of_method m) = counts_are _ _ (omega arith) (omega arith) (omega arith) (omega arith) (omega arith)
+counting-plus c (of_value v) = counts_are _ _ (omega arith) (omega arith) (omega arith) (omega arith) (omega arith)
 
-pub counted-file : (base c : Counts) (f : FileDescriptorProto)
-    → counted c (file_walk base f) ≡ more c 1 (length f.message_type)
-counted-file base c f =
-    counted-messages (in_file base.files f) MESSAGE_TYPE 0 base (record c { files = suc c.files }) f.message_type
-    ∙ ap (λ n. record c { files = n; messages = c.messages + length f.message_type }) (omega arith)
+pub counted-plus : (c : Counts) (ds : List Shown) → counted c ds ≡ plus c (counted no_counts ds)
+counted-plus c [] = sym (plus-comm c no_counts ∙ plus-nothing c)
+counted-plus c (d ∷ ds) =
+    counted-plus (counting c d.proto) ds
+    ∙ ap (λ e. plus e (counted no_counts ds)) (counting-plus c d.proto)
+    ∙ plus-assoc c (counting no_counts d.proto) (counted no_counts ds)
+    ∙ ap (plus c) (sym (counted-plus (counting no_counts d.proto) ds))
 
-pub counted-declarations : (base c : Counts) (fs : List FileDescriptorProto)
-    → counted c (declarations base fs) ≡ more c (length fs) (sum_by (λ f. length f.message_type) fs)
-counted-declarations base c [] =
-    let files : c.files ≡ c.files + 0 = omega arith in
-    let messages : c.messages ≡ c.messages + 0 = omega arith in
-    λ i. record c { files = files i; messages = messages i }
-counted-declarations base c (f ∷ fs) =
-    let size : FileDescriptorProto → ℕ = λ g. length g.message_type in
-    let files : c.files + 1 + length fs ≡ c.files + length (f ∷ fs) = simp unary_clauses (omega arith) in
-    let messages : c.messages + size f + sum_by size fs ≡ c.messages + sum_by size (f ∷ fs) = omega (arith, sum_by-cons size f fs) in
-    counted-append c (file_walk base f) _
-    ∙ ap (λ d. counted d (declarations (counted base (file_walk base f)) fs)) (counted-file base c f)
-    ∙ counted-declarations (counted base (file_walk base f)) (more c 1 (length f.message_type)) fs
-    ∙ (λ i. record c { files = files i; messages = messages i })
+-- the sum of two counts, where both are there
+abbrev pub both : Option Counts → Option Counts → Option Counts
+both (Some a) (Some b) = Some (plus a b)
+both (Some _) None = None
+both None _ = None
 
-all-fields : (here : Surrounding) (tag : ℤ) (place number : ℕ) (fields : List FieldDescriptorProto)
-    → list_all (λ d. lists_fit d.proto) (row of_field here tag place number fields) ≡ true
-all-fields here tag place number [] = refl
-all-fields here tag place number (f ∷ fs) = all-fields here tag (suc place) (suc number) fs
+pub both-nothing : (x : Option Counts) → both (Some no_counts) x ≡ x
+both-nothing (Some c) = ap Some (plus-nothing c)
+both-nothing None = refl
 
-all-append : (xs ys : List Shown) → list_all (λ d. lists_fit d.proto) (xs ++ ys) ≡ (list_all (λ d. lists_fit d.proto) xs && list_all (λ d. lists_fit d.proto) ys)
-all-append [] ys = refl
-all-append (x ∷ xs) ys = elim (lists_fit x.proto) as (λ b. (b && list_all (λ d. lists_fit d.proto) (xs ++ ys)) ≡ ((b && list_all (λ d. lists_fit d.proto) xs) && list_all (λ d. lists_fit d.proto) ys))
-    [ true ↦ all-append xs ys | false ↦ refl ]
+pub both-assoc : (x y z : Option Counts) → both (both x y) z ≡ both x (both y z)
+both-assoc (Some a) (Some b) (Some c) = ap Some (plus-assoc a b c)
+both-assoc (Some a) (Some b) None = refl
+both-assoc (Some a) None z = refl
+both-assoc None y z = refl
 
-and-true : (b : Bool) → (b && true) ≡ b
-and-true true = refl
-and-true false = refl
+pub both-comm : (x y : Option Counts) → both x y ≡ both y x
+both-comm (Some a) (Some b) = ap Some (plus-comm a b)
+both-comm (Some a) None = refl
+both-comm None (Some b) = refl
+both-comm None None = refl
 
-all-message : (here : Surrounding) (tag : ℤ) (place : ℕ) (base : Counts) (m : DescriptorProto)
-    → list_all (λ d. lists_fit d.proto) (message_walk here tag place base m) ≡ fits_list m.field
-all-message here tag place base m = ap (λ b. fits_list m.field && b) (all-fields _ _ 0 0 m.field) ∙ and-true (fits_list m.field)
+abbrev each_fits : List Shown → Bool
+each_fits ds = list_all (λ d. lists_fit d.proto) ds
 
-all-messages : (here : Surrounding) (tag : ℤ) (place : ℕ) (base : Counts) (ms : List DescriptorProto)
-    → list_all (λ d. lists_fit d.proto) (messages_walk here tag place base ms) ≡ list_all (λ m. fits_list m.field) ms
-all-messages here tag place base [] = refl
-all-messages here tag place base (m ∷ ms) =
-    all-append (message_walk here tag place base m) _
-    ∙ (λ i. all-message here tag place base m i && all-messages here tag (suc place) (counted base (message_walk here tag place base m)) ms i)
+fits-append : (xs ys : List Shown) → each_fits (xs ++ ys) ≡ (each_fits xs && each_fits ys)
+fits-append [] ys = refl
+fits-append (x ∷ xs) ys = elim (lists_fit x.proto) as (λ b. (b && each_fits (xs ++ ys)) ≡ ((b && each_fits xs) && each_fits ys))
+    [ true ↦ fits-append xs ys | false ↦ refl ]
 
--- each list is short enough
-pub all-declarations : (base : Counts) (fs : List FileDescriptorProto)
-    → list_all (λ d. lists_fit d.proto) (declarations base fs) ≡ list_all has_short_lists fs
-all-declarations base [] = refl
-all-declarations base (f ∷ fs) =
-    all-append (file_walk base f) _
-    ∙ (λ i. (fits_list f.message_type && all-messages (in_file base.files f) MESSAGE_TYPE 0 base f.message_type i) && all-declarations (counted base (file_walk base f)) fs i)
+both-cond : (p q : Bool) (a b : Counts) → cond (p && q) (Some (plus a b)) None ≡ both (cond p (Some a) None) (cond q (Some b) None)
+both-cond true true a b = refl
+both-cond true false a b = refl
+both-cond false q a b = refl
 
--- what `Counts::of` answers, from the lists of the files
-pub counts_of-declarations : (base : Counts) (fs : List FileDescriptorProto) → counts_of (declarations base fs)
-    ≡ cond (list_all has_short_lists fs) (within_limit (more no_counts (length fs) (sum_by (λ f. length f.message_type) fs))) (Err ListTooLong)
-counts_of-declarations base fs = λ i. cond (all-declarations base fs i) (within_limit (counted-declarations base no_counts fs i)) (Err ListTooLong)
+pub tally-append : (xs ys : List Shown) → tally (xs ++ ys) ≡ both (tally xs) (tally ys)
+tally-append xs ys =
+    (λ i. cond (fits-append xs ys i) (Some ((counted-append no_counts xs ys ∙ counted-plus (counted no_counts xs) ys) i)) None)
+    ∙ both-cond (each_fits xs) (each_fits ys) (counted no_counts xs) (counted no_counts ys)
 
--- a count past the greatest number is too large all the same
-min-fits : (k : ℕ) → nat_le (min k (2 ^ 64 - 1)) count_limit ≡ nat_le k count_limit
-min-fits k = grind (arith, nat_tests)
+-- the counts of one declaration, without what stands in it
+abbrev pub one : Proto → Option Counts
+one p = cond (lists_fit p) (Some (counting no_counts p)) None
 
-min-fitting : (k : ℕ) → nat_le k count_limit ≡ true → min k (2 ^ 64 - 1) ≡ k
-min-fitting k h = grind (arith, nat_tests)
+pub tally-cons : (d : Shown) (ds : List Shown) → tally (d ∷ ds) ≡ both (one d.proto) (tally ds)
+tally-cons d ds =
+    ap (λ c. cond (lists_fit d.proto && each_fits ds) (Some c) None) (counted-plus (counting no_counts d.proto) ds)
+    ∙ both-cond (lists_fit d.proto) (each_fits ds) (counting no_counts d.proto) (counted no_counts ds)
 
-pub within_limit-min : (n k : ℕ)
-    → within_limit (record { files = n; messages = min k (2 ^ 64 - 1); enums = 0; services = 0; extensions = 0 }) ≡ within_limit (more no_counts n k)
-within_limit-min n k = grind (arith, nat_tests, min-fits, min-fitting)
+-- the sum over a list
+abbrev pub summed : {X : Type 0} → (X → Option Counts) → List X → Option Counts
+summed f [] = Some no_counts
+summed f (x ∷ xs) = both (f x) (summed f xs)
 
-abbrev Fitting : Counts → Counts → Bool → Type 0
-Fitting base c short = (short ≡ true) × (base.files + c.files < 2 ^ 32) × (base.messages + c.messages < 2 ^ 32)
+summed-append : {X : Type 0} (f : X → Option Counts) (xs ys : List X) → summed f (xs ++ ys) ≡ both (summed f xs) (summed f ys)
+summed-append f [] ys = sym (both-nothing (summed f ys))
+summed-append f (x ∷ xs) ys = ap (both (f x)) (summed-append f xs ys) ∙ sym (both-assoc (f x) (summed f xs) (summed f ys))
 
-fits-within : (base c : Counts) → IsOk (added_to base (within_limit c)) → Fitting base c true
-fits-within base c h = (refl, grind (arith, nat_tests), grind (arith, nat_tests))
+pub summed-next : {X : Type 0} (f : X → Option Counts) (xs : List X) (i : ℕ) (x : X) → i < length xs → x ≡ get_or xs i x
+    → summed f (take (i + 1) xs) ≡ both (summed f (take i xs)) (f x)
+summed-next f xs i x within is =
+    ap (summed f) (take_more xs i x within ∙ ap (λ y. take i xs ++ y ∷ []) (sym is))
+    ∙ summed-append f (take i xs) (x ∷ [])
+    ∙ ap (both (summed f (take i xs))) (both-comm (f x) (Some no_counts) ∙ both-nothing (f x))
 
-fits-cases : (base c : Counts) (short : Bool) → IsOk (added_to base (cond short (within_limit c) (Err ListTooLong))) → Fitting base c short
-fits-cases base c true h = fits-within base c h
-fits-cases base c false h = absurd (search rules)
-
--- where the counts fit, each list is short, and the sums are below their limits
-pub fits-parts : (base : Counts) (fs : List FileDescriptorProto) → IsOk (counts_with base (declarations base fs))
-    → Fitting base (more no_counts (length fs) (sum_by (λ f. length f.message_type) fs)) (list_all has_short_lists fs)
-fits-parts base fs h =
-    fits-cases base (more no_counts (length fs) (sum_by (λ f. length f.message_type) fs)) (list_all has_short_lists fs) (rw counts_of-declarations at h)
+pub summed-none : {X : Type 0} (f : X → Option Counts) (xs : List X) (i : ℕ) (x : X) → i < length xs → x ≡ get_or xs i x → f x ≡ None → summed f xs ≡ None
+summed-none f [] i x within is none = absurd (omega arith)
+summed-none f (y ∷ ys) zero x within is none = ap (λ z. both (f z) (summed f ys)) (sym is) ∙ ap (λ z. both z (summed f ys)) none
+summed-none f (y ∷ ys) (suc i) x within is none = ap (both (f y)) (summed-none f ys i x (omega arith) is none) ∙ both-comm (f y) None

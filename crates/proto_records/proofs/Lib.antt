@@ -1,4 +1,5 @@
 pub mod Counted
-pub mod Leading
+pub mod Tallies
+pub mod Held
+pub mod Finding
 pub mod PathText
-pub mod Appended

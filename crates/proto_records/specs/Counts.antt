@@ -6,8 +6,8 @@ use Rattle.std.specs.declared.result.Result.TheVariants.{Ok, Err}
 use Rattle.proto_records.specs.declared.counts.Counts.{Counts}
 use Rattle.proto_records.specs.declared.counts.CountKind.{CountKind}
 use Rattle.proto_records.specs.declared.counts.CountKind.TheVariants.{ListTooLong, Files, Messages, Enums, Services, Extensions}
-use Rattle.proto_records.specs.declared.records.file.FileDescriptorProto.{FileDescriptorProto}
-use Rattle.proto_records.specs.Protos.{Proto, of_file, of_message, of_field}
+use Rattle.proto_records.specs.declared.records.message.DescriptorProto.{out-DescriptorProto}
+use Rattle.proto_records.specs.Protos.{Proto, of_file, of_message, of_service, of_enum, of_extension}
 use Rattle.proto_records.specs.Shown.{Shown}
 
 abbrev pub no_counts : Counts
@@ -26,6 +26,9 @@ plus a b = record {
 abbrev pub counting : Counts → Proto → Counts
 counting c (of_file _) = record c { files = suc c.files }
 counting c (of_message _) = record c { messages = suc c.messages }
+counting c (of_enum _) = record c { enums = suc c.enums }
+counting c (of_service _) = record c { services = suc c.services }
+counting c (of_extension _) = record c { extensions = suc c.extensions }
 counting c _ = c
 
 -- the counts after all of these
@@ -45,13 +48,13 @@ fits_list xs = nat_le (length xs) list_limit
 
 -- whether each list of the record is short enough
 abbrev pub lists_fit : Proto → Bool
-lists_fit (of_file f) = fits_list f.message_type
-lists_fit (of_message m) = fits_list m.field
-lists_fit (of_field _) = true
-
--- the same of a file and its messages
-abbrev pub has_short_lists : FileDescriptorProto → Bool
-has_short_lists f = fits_list f.message_type && list_all (λ m. fits_list m.field) f.message_type
+lists_fit (of_file f) = fits_list f.dependency && fits_list f.message_type && fits_list f.enum_type && fits_list f.service && fits_list f.extension
+lists_fit (of_message m) = let m = out-DescriptorProto m in
+    fits_list m.field && fits_list m.nested_type && fits_list m.enum_type && fits_list m.extension && fits_list m.oneof_decl
+    && fits_list m.extension_range && fits_list m.reserved_range
+lists_fit (of_enum e) = fits_list e.value && fits_list e.reserved_range
+lists_fit (of_service s) = fits_list s.method
+lists_fit _ = true
 
 -- the counts, or the first that is past the limit
 abbrev pub within_limit : Counts → Result Counts CountKind

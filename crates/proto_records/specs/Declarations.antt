@@ -1,20 +1,64 @@
--- What files declare, in the order of the walk: a file and its messages, each with its fields.
-use Rattle.std.specs.Prelude.{ℕ, suc, ℤ, List, [], ◌∷◌, ◌++◌}
+-- What files declare, in the order of the walk: a file, its messages, enums, services and extensions; a message,
+-- its oneofs, fields, nested messages, enums and extensions; an enum and its values; a service and its methods.
+use Rattle.std.specs.Prelude.{◌≡◌, ℕ, suc, ℤ, List, [], ◌∷◌, ◌++◌}
 use Rattle.std.specs.declared.option.Option.TheVariants.{None}
 use Rattle.proto_records.specs.declared.tag.file.TheConstants as file
 use Rattle.proto_records.specs.declared.tag.message.TheConstants as message
+use Rattle.proto_records.specs.declared.tag.enum_.TheConstants as enumeration
+use Rattle.proto_records.specs.declared.tag.service.TheConstants as service
 use Rattle.proto_records.specs.declared.counts.Counts.{Counts}
 use Rattle.proto_records.specs.declared.records.file.FileDescriptorProto.{FileDescriptorProto}
-use Rattle.proto_records.specs.declared.records.message.DescriptorProto.{DescriptorProto}
+use Rattle.proto_records.specs.declared.records.message.DescriptorProto.{DescriptorProto, out-DescriptorProto, DescriptorProto', Row_of-DescriptorProto, end_of-DescriptorProto, more_of-DescriptorProto}
+use Rattle.proto_records.specs.declared.records.enumeration.EnumDescriptorProto.{EnumDescriptorProto}
+use Rattle.proto_records.specs.declared.records.field.FieldDescriptorProto.{FieldDescriptorProto}
+use Rattle.proto_records.specs.declared.records.message.OneofDescriptorProto.{OneofDescriptorProto}
+use Rattle.proto_records.specs.declared.records.service.ServiceDescriptorProto.{ServiceDescriptorProto}
 use Rattle.proto_records.specs.Readers.{text_of}
-use Rattle.proto_records.specs.Protos.{of_message, of_field}
-use Rattle.proto_records.specs.Shown.{Shown, Surrounding, shown, file_shown, inside, parts}
-use Rattle.proto_records.specs.Counts.{counted}
+use Rattle.proto_records.specs.Protos.{Proto, of_file, of_message, of_field, of_oneof, of_service, of_method, of_enum, of_value, of_extension}
+use Rattle.proto_records.specs.Shown.{Shown, Surrounding, shown, file_shown, inside, beside, row, parts}
+use Rattle.proto_records.specs.Counts.{counted, counting}
 
--- a message and its fields, from counts on
-abbrev pub message_walk : Surrounding → ℤ → ℕ → Counts → DescriptorProto → List Shown
-message_walk here tag place base m =
-    let d = shown here tag place base.messages (of_message m) in d ∷ parts of_field (inside d) message.FIELD m.field
+-- an enum and its values
+abbrev pub enum_walk : Surrounding → ℤ → ℕ → ℕ → EnumDescriptorProto → List Shown
+enum_walk here tag place number e =
+    let d = shown here tag place number (of_enum e) in d ∷ parts of_value (beside here.scope d) enumeration.VALUE e.value
+
+abbrev pub enums_walk : Surrounding → ℤ → ℕ → ℕ → List EnumDescriptorProto → List Shown
+enums_walk here tag place number [] = []
+enums_walk here tag place number (e ∷ es) = enum_walk here tag place number e ++ enums_walk here tag (suc place) (suc number) es
+
+-- a service and its methods
+abbrev pub service_walk : Surrounding → ℕ → ℕ → ServiceDescriptorProto → List Shown
+service_walk here place number s =
+    let d = shown here file.SERVICE place number (of_service s) in d ∷ parts of_method (inside d) service.METHOD s.method
+
+abbrev pub services_walk : Surrounding → ℕ → ℕ → List ServiceDescriptorProto → List Shown
+services_walk here place number [] = []
+services_walk here place number (s ∷ ss) = service_walk here place number s ++ services_walk here (suc place) (suc number) ss
+
+-- what stands before the nested messages of a message, and what follows them, numbered on from counts
+abbrev pub message_front : Surrounding → List OneofDescriptorProto → List FieldDescriptorProto → List Shown
+message_front here oneofs fields = parts of_oneof here message.ONEOF_DECL oneofs ++ parts of_field here message.FIELD fields
+
+abbrev pub message_end : Surrounding → Counts → List EnumDescriptorProto → List FieldDescriptorProto → List Shown
+message_end here after enums extensions =
+    enums_walk here message.ENUM_TYPE 0 after.enums enums ++ row of_extension here message.EXTENSION 0 after.extensions extensions
+
+-- a message and all that stands in it, and the same of its nested messages, from counts on
+abbrev mutual
+  pub message_walk : Surrounding → ℤ → ℕ → Counts → DescriptorProto → List Shown
+  message_walk here tag place base (DescriptorProto' name fields n nested enums ranges extensions options oneofs reserved reserved_names) =
+      let m = DescriptorProto' name fields n nested enums ranges extensions options oneofs reserved reserved_names in
+      let d = shown here tag place base.messages (of_message m) in
+      let deeper = nested_walk (inside d) 0 (counting base (of_message m)) nested in
+      d ∷ (message_front (inside d) oneofs fields ++ deeper
+      ++ message_end (inside d) (counted (counting base (of_message m)) deeper) enums extensions)
+
+  pub nested_walk : {n : _} → Surrounding → ℕ → Counts → Row_of-DescriptorProto n → List Shown
+  nested_walk here place base end_of-DescriptorProto = []
+  nested_walk here place base (more_of-DescriptorProto m rest) =
+      let first = message_walk here message.NESTED_TYPE place base m in
+      first ++ nested_walk here (suc place) (counted base first) rest
 
 abbrev pub messages_walk : Surrounding → ℤ → ℕ → Counts → List DescriptorProto → List Shown
 messages_walk here tag place base [] = []
@@ -22,12 +66,26 @@ messages_walk here tag place base (m ∷ ms) =
     let first = message_walk here tag place base m in
     first ++ messages_walk here tag (suc place) (counted base first) ms
 
+-- law: a message's walk by its parts
+abbrev pub MessageWalkOpens : Type 0
+MessageWalkOpens = (here : Surrounding) (tag : ℤ) (place : ℕ) (base : Counts) (m : DescriptorProto) →
+    let d = shown here tag place base.messages (of_message m) in
+    let deeper = messages_walk (inside d) message.NESTED_TYPE 0 (counting base (of_message m)) (out-DescriptorProto m).nested_type in
+    message_walk here tag place base m
+    ≡ d ∷ (message_front (inside d) (out-DescriptorProto m).oneof_decl (out-DescriptorProto m).field ++ deeper
+    ++ message_end (inside d) (counted (counting base (of_message m)) deeper) (out-DescriptorProto m).enum_type (out-DescriptorProto m).extension)
+
 -- what stands in a file: the scope is its package
 abbrev pub in_file : ℕ → FileDescriptorProto → Surrounding
 in_file number f = record { file = number; path = []; scope = text_of f.«package»; parent = None }
 
 abbrev pub file_walk : Counts → FileDescriptorProto → List Shown
-file_walk base f = file_shown [] base.files f ∷ messages_walk (in_file base.files f) file.MESSAGE_TYPE 0 base f.message_type
+file_walk base f =
+    let here = in_file base.files f in
+    let messages = messages_walk here file.MESSAGE_TYPE 0 base f.message_type in
+    let after = counted base messages in
+    file_shown [] base.files f ∷ (messages ++ enums_walk here file.ENUM_TYPE 0 after.enums f.enum_type ++ services_walk here 0 after.services f.service
+    ++ row of_extension here file.EXTENSION 0 after.extensions f.extension)
 
 -- the declarations of files, numbered on from the counts of a pool
 abbrev pub declarations : Counts → List FileDescriptorProto → List Shown

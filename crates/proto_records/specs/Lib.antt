@@ -8,6 +8,9 @@ pub mod Shown
 pub mod Counts
 pub mod Declarations
 pub mod Leads
+pub mod Computed
+pub mod Records
+pub mod Totals
 pub mod Contents
 pub mod ContentsCode
 pub mod Labels

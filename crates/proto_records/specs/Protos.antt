@@ -4,18 +4,35 @@ use Rattle.std.specs.declared.option.Option.{Option}
 use Rattle.std.specs.declared.option.Option.TheVariants.{None, Some}
 use Rattle.proto_records.specs.Readers.{text_of}
 use Rattle.proto_records.specs.declared.records.file.FileDescriptorProto.{FileDescriptorProto}
-use Rattle.proto_records.specs.declared.records.message.DescriptorProto.{DescriptorProto}
+use Rattle.proto_records.specs.declared.records.message.DescriptorProto.{DescriptorProto, out-DescriptorProto}
+use Rattle.proto_records.specs.declared.records.message.OneofDescriptorProto.{OneofDescriptorProto}
 use Rattle.proto_records.specs.declared.records.field.FieldDescriptorProto.{FieldDescriptorProto}
+use Rattle.proto_records.specs.declared.records.enumeration.EnumDescriptorProto.{EnumDescriptorProto}
+use Rattle.proto_records.specs.declared.records.enumeration.EnumValueDescriptorProto.{EnumValueDescriptorProto}
+use Rattle.proto_records.specs.declared.records.service.ServiceDescriptorProto.{ServiceDescriptorProto}
+use Rattle.proto_records.specs.declared.records.service.MethodDescriptorProto.{MethodDescriptorProto}
 
 pub data Proto : Type 0 where
   of_file : FileDescriptorProto → Proto
   of_message : DescriptorProto → Proto
   of_field : FieldDescriptorProto → Proto
+  of_oneof : OneofDescriptorProto → Proto
+  of_service : ServiceDescriptorProto → Proto
+  of_method : MethodDescriptorProto → Proto
+  of_enum : EnumDescriptorProto → Proto
+  of_value : EnumValueDescriptorProto → Proto
+  of_extension : FieldDescriptorProto → Proto
 
 abbrev pub name_of : Proto → List ℕ
 name_of (of_file f) = text_of f.name
-name_of (of_message m) = text_of m.name
+name_of (of_message m) = text_of (out-DescriptorProto m).name
 name_of (of_field f) = text_of f.name
+name_of (of_oneof o) = text_of o.name
+name_of (of_service s) = text_of s.name
+name_of (of_method m) = text_of m.name
+name_of (of_enum e) = text_of e.name
+name_of (of_value v) = text_of v.name
+name_of (of_extension x) = text_of x.name
 
 abbrev pub as_file : Proto → Option FileDescriptorProto
 as_file (of_file f) = Some f
@@ -25,6 +42,30 @@ abbrev pub as_message : Proto → Option DescriptorProto
 as_message (of_message m) = Some m
 as_message _ = None
 
+abbrev pub as_enum : Proto → Option EnumDescriptorProto
+as_enum (of_enum e) = Some e
+as_enum _ = None
+
 abbrev pub as_field : Proto → Option FieldDescriptorProto
 as_field (of_field f) = Some f
 as_field _ = None
+
+abbrev pub as_extension : Proto → Option FieldDescriptorProto
+as_extension (of_extension x) = Some x
+as_extension _ = None
+
+abbrev pub as_oneof : Proto → Option OneofDescriptorProto
+as_oneof (of_oneof o) = Some o
+as_oneof _ = None
+
+abbrev pub as_value : Proto → Option EnumValueDescriptorProto
+as_value (of_value v) = Some v
+as_value _ = None
+
+abbrev pub as_service : Proto → Option ServiceDescriptorProto
+as_service (of_service s) = Some s
+as_service _ = None
+
+abbrev pub as_method : Proto → Option MethodDescriptorProto
+as_method (of_method m) = Some m
+as_method _ = None

@@ -1,5 +1,5 @@
 -- What a record's parts read as where they are missing or unknown (descriptor.proto's defaults).
-use Rattle.std.specs.Prelude.{ℕ, zero, suc, ℤ, pos, negsuc, List, [], ◌∷◌, slice_get, unwrap_or}
+use Rattle.std.specs.Prelude.{ℕ, zero, suc, ℤ, pos, negsuc, Bool, false, List, [], ◌∷◌, slice_get, unwrap_or}
 use Rattle.std.specs.declared.option.Option.{Option}
 use Rattle.std.specs.declared.option.Option.TheVariants.{None, Some}
 use Rattle.proto_records.specs.declared.records.field.FieldLabel.{FieldLabel}
@@ -12,6 +12,9 @@ text_of part = unwrap_or part []
 
 abbrev pub number_of : Option ℤ → ℤ
 number_of part = unwrap_or part (pos 0)
+
+abbrev pub flag_of : Option Bool → Bool
+flag_of part = unwrap_or part false
 
 -- the labels, from number 1 on
 abbrev labels : List FieldLabel

@@ -7,8 +7,8 @@ use Rattle.proto_records.specs.Protos.{Proto, of_file, name_of}
 use Rattle.proto_records.specs.Readers.{text_of}
 use Rattle.proto_records.specs.declared.records.file.FileDescriptorProto.{FileDescriptorProto}
 
--- A file or message has its number in the pool, and a field its place in its list. The parent is the number of the
--- message around it.
+-- A file, message, enum, service or extension has its number in the pool, and any other its place in its list.
+-- The parent is the number of the innermost message, enum or service around it.
 pub record Shown : Type 0 where
   pub file : ℕ
   pub parent : Option ℕ
@@ -42,6 +42,10 @@ shown here tag place number proto = record {
 -- what stands in a declaration with a scope of its own
 abbrev pub inside : Shown → Surrounding
 inside d = record { file = d.file; path = d.path; scope = d.full_name; parent = Some d.number }
+
+-- what stands beside its values: an enum's scope is the one around it
+abbrev pub beside : List ℕ → Shown → Surrounding
+beside scope d = record { file = d.file; path = d.path; scope = scope; parent = Some d.number }
 
 -- the entries of a list from a place on, numbered from a number on
 abbrev pub row : {X : Type 0} → (X → Proto) → Surrounding → ℤ → ℕ → ℕ → List X → List Shown

@@ -4,6 +4,7 @@
 mod contents;
 mod counts;
 mod fault;
+mod find;
 mod items;
 mod kinds;
 mod label;
@@ -18,11 +19,18 @@ pub use contents::{
 };
 pub use counts::{CountKind, Counts};
 pub use fault::{DescriptorErrorKind, Placed};
+pub use find::{
+    find_enum_proto, find_enum_value_proto, find_field_proto, find_message_proto,
+    find_method_proto, find_oneof_proto, find_service_proto,
+};
 pub use items::{Duplicate, Items, duplicates};
 pub use kinds::{Cardinality, KindIndex};
 pub use label::Label;
 pub use numbers::{FileDescriptor, MessageDescriptor};
 pub use records::{
-    DescriptorProto, FieldDescriptorProto, FieldLabel, FieldType, FileDescriptorProto,
+    DescriptorProto, EnumDescriptorProto, EnumOptions, EnumReservedRange, EnumValueDescriptorProto,
+    ExtensionRange, FieldDescriptorProto, FieldLabel, FieldOptions, FieldType, FileDescriptorProto,
+    FileDescriptorSet, Location, MethodDescriptorProto, OneofDescriptorProto, Options,
+    ReservedRange, ServiceDescriptorProto, SourceCodeInfo, Unread,
 };
 pub use text::Text;

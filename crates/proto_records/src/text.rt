@@ -1,6 +1,7 @@
 ghost use Rattle.std.specs.Prelude.{◌≡◌, [], IfOk, string_bytes};
 ghost use Rattle.proto_records.specs.Readers.{text_of};
 
+use crate::items::Duplicate;
 use std::alloc::{AllocError, Global};
 use std::marker::Model;
 
@@ -76,6 +77,12 @@ impl Text {
             Some(text) => Ok(Some(text.clone(alloc)?)),
             None => Ok(None),
         }
+    }
+}
+
+impl Duplicate for Text {
+    fn duplicate(&self, alloc: Global) -> Result<Text, AllocError> {
+        self.clone(alloc)
     }
 }
 

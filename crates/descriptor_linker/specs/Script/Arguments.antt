@@ -10,6 +10,7 @@ use Rattle.std.specs.declared.option.Option.TheVariants.{None, Some}
 use Rattle.std.specs.declared.result.Result.{Result}
 use Rattle.std.specs.declared.result.Result.TheVariants.{Ok, Err}
 use Rattle.proto_records.specs.Readers.{text_of}
+use Rattle.proto_records.specs.Empty.{no_field}
 use Rattle.proto_records.specs.declared.records.field.FieldDescriptorProto.{FieldDescriptorProto}
 use Rattle.descriptor_linker.specs.declared.script.statement.Keyword.{Keyword}
 use Rattle.descriptor_linker.specs.declared.script.statement.Keyword.TheVariants as word
@@ -79,7 +80,7 @@ and_then (Err fault) next = Err fault
 abbrev pub field_in : List ℕ → List ℕ → List ℕ → List ℕ → List ℕ → List ℕ → Result FieldDescriptorProto ScriptFault
 field_in name number label type type_name oneof =
     and_then (number_in number) (λ number. and_then (named_or_bad labels label) (λ label. and_then (named_or_bad types type) (λ type. and_then (number_in oneof) (λ oneof.
-    Ok (record { name = text_in name; number = number; label = label; type_ = type; type_name = text_in type_name; oneof_index = oneof })))))
+    Ok (record no_field { name = text_in name; number = number; label = label; type_ = type; type_name = text_in type_name; oneof_index = oneof })))))
 
 -- the statement that a keyword and the words behind it make
 abbrev pub statement_in : Keyword → List (List ℕ) → Result Statement ScriptFault

@@ -23,11 +23,9 @@ pub(crate) fn linked_file(
     for message in file.message_type.as_slice() {
         message_type.push(linked_message(alloc, setting, number, file.package(), message)?)?;
     }
-    Ok(FileDescriptorProto {
-        name: Text::clone_given(alloc, &file.name)?,
-        package: Text::clone_given(alloc, &file.package)?,
-        message_type,
-    })
+    let mut linked = file.clone(alloc)?;
+    linked.message_type = message_type;
+    Ok(linked)
 }
 
 fn linked_message(
@@ -44,10 +42,9 @@ fn linked_message(
     for written in message.field.as_slice() {
         field.push(linked_field(alloc, setting, number, &full_name, written)?)?;
     }
-    Ok(DescriptorProto {
-        name: Text::clone_given(alloc, &message.name)?,
-        field,
-    })
+    let mut linked = message.clone(alloc)?;
+    linked.field = field;
+    Ok(linked)
 }
 
 fn linked_field(

@@ -3,8 +3,10 @@ ghost use Rattle.std.specs.List.{list_all, sum_by};
 ghost use Rattle.proto_records.specs.Names.{join};
 ghost use Rattle.proto_records.specs.Protos.{of_message, of_field};
 ghost use Rattle.proto_records.specs.Shown.{Shown, file_shown, shown_as, step, parts};
-ghost use Rattle.proto_records.specs.Counts.{no_counts, has_short_lists, fits_list};
-ghost use Rattle.proto_records.specs.Declarations.{declarations, file_walk, message_walk, in_file};
+ghost use Rattle.proto_records.specs.Counts.{no_counts, fits_list};
+ghost use Rattle.proto_records.specs.Declarations.{in_file};
+ghost use Rattle.proto_records.specs.declared.records.message.DescriptorProto.{out-DescriptorProto};
+ghost use Rattle.descriptor_linker.specs.ReadDeclarations.{has_short_lists, read_declarations, read_file, read_message};
 ghost use Rattle.proto_records.specs.declared.tag.file.TheConstants.{MESSAGE_TYPE};
 ghost use Rattle.proto_records.specs.declared.tag.message.TheConstants.{FIELD};
 ghost use Rattle.descriptor_linker.specs.Progress.{Progress, HasSeen};
@@ -59,7 +61,7 @@ pub(crate) fn visit<V: Visitor>(
     requires files_fit { base.files + length files.now < 2 ^ 32 }
     requires messages_fit { base.messages + sum_by (λ f. length f.message_type) files.now < 2 ^ 32 }
     requires short { list_all has_short_lists files.now ≡ true }
-    ensures { OnOk result (HasSeen V.after visitor.old visitor.new (declarations base files.now)) }
+    ensures { OnOk result (HasSeen V.after visitor.old visitor.new (read_declarations base files.now)) }
 {
     let mut counts = base;
     for file in files {
@@ -78,7 +80,7 @@ fn visit_file<V: Visitor>(
 ) -> Result<(), AllocError>
     requires messages_fit { base.messages + length file.now.message_type < 2 ^ 32 }
     requires short { has_short_lists file.now ≡ true }
-    ensures { OnOk result (HasSeen V.after visitor.old visitor.new (file_walk base file.now)) }
+    ensures { OnOk result (HasSeen V.after visitor.old visitor.new (read_file base file.now)) }
 {
     visitor.visit_file(&[], base.files, file)?;
     let messages = file.message_type.as_slice();
@@ -108,9 +110,9 @@ fn visit_message<V: Visitor>(
     visitor: &mut V,
 ) -> Result<(), AllocError>
     requires place { place < 2 ^ 31 }
-    requires short { fits_list message.now.field ≡ true }
+    requires short { fits_list (out-DescriptorProto message.now).field ≡ true }
     ensures { OnOk result (HasSeen V.after visitor.old visitor.new
-        (message_walk (record { file = file; path = []; scope = scope.now; parent = None }) MESSAGE_TYPE place (record no_counts { messages = number }) message.now)) }
+        (read_message (record { file = file; path = []; scope = scope.now; parent = None }) MESSAGE_TYPE place (record no_counts { messages = number }) message.now)) }
 {
     let path = step(alloc, &[], tag::file::MESSAGE_TYPE, place)?;
     let full_name = join(alloc, scope, message.name())?;
@@ -128,9 +130,9 @@ fn visit_fields<V: Visitor>(
     message: &DescriptorProto,
     visitor: &mut V,
 ) -> Result<(), AllocError>
-    requires { fits_list message.now.field ≡ true }
+    requires { fits_list (out-DescriptorProto message.now).field ≡ true }
     ensures { OnOk result (HasSeen V.after visitor.old visitor.new
-        (parts of_field (record { file = file; path = path.now; scope = scope.now; parent = Some parent }) FIELD message.now.field)) }
+        (parts of_field (record { file = file; path = path.now; scope = scope.now; parent = Some parent }) FIELD (out-DescriptorProto message.now).field)) }
 {
     let fields = message.field.as_slice();
     for (place, field) in fields.iter().enumerate() {

@@ -2,6 +2,7 @@
 
 ghost use Rattle.std.specs.Prelude.{◌≡◌, OnOk};
 ghost use Rattle.proto_records.specs.Empty.{no_file, no_message};
+ghost use Rattle.proto_records.specs.declared.records.message.DescriptorProto.{out-DescriptorProto, roll-DescriptorProto};
 ghost use Rattle.descriptor_linker.specs.declared.script.statement.Statement.TheVariants as say;
 ghost use Rattle.descriptor_linker.specs.declared.report.building.Open.TheVariants as opened;
 ghost use Rattle.descriptor_linker.specs.Report.Building.{stated_in, closed_in};
@@ -28,7 +29,7 @@ impl Open {
 
     /// A message of which nothing but the name is said.
     pub(super) fn message(alloc: Global, name: Option<Text>) -> Open
-        ensures { result ≡ opened.Message (record no_message { name = name }) }
+        ensures { result ≡ opened.Message (roll-DescriptorProto (record (out-DescriptorProto no_message) { name = name })) }
     {
         let mut message = DescriptorProto::empty(alloc);
         message.name = name;

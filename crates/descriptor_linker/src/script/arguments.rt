@@ -124,6 +124,7 @@ fn field(
         type_,
         type_name: text(alloc, type_name)?,
         oneof_index,
+        ..FieldDescriptorProto::empty(alloc)
     })
 }
 

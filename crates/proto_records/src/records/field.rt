@@ -1,21 +1,28 @@
 ghost use Rattle.std.specs.Prelude.{◌≡◌, IfOk};
-ghost use Rattle.proto_records.specs.Readers.{text_of, number_of, label_of, type_of};
+ghost use Rattle.proto_records.specs.Readers.{text_of, number_of, flag_of, label_of, type_of};
 ghost use Rattle.proto_records.specs.Empty.{no_field};
 
+use super::options::{FieldOptions, Options};
 use crate::items::Duplicate;
 use crate::text::{self, Text};
 use std::alloc::{AllocError, Global};
 
-/// A field of a message.
+/// A field of a message, or an extension.
 #[derive(PartialEq, Drop)]
 pub struct FieldDescriptorProto {
     pub name: Option<Text>,
+    /// The name of the message that an extension extends.
+    pub extendee: Option<Text>,
     pub number: Option<i32>,
     pub label: Option<i32>,
     pub type_: Option<i32>,
     pub type_name: Option<Text>,
-    /// Carried, and not read yet.
+    pub default_value: Option<Text>,
+    pub options: Option<Options<FieldOptions>>,
+    /// The place of its oneof in its message, from 0.
     pub oneof_index: Option<i32>,
+    pub json_name: Option<Text>,
+    pub proto3_optional: Option<bool>,
 }
 
 /// How often a field stands in a message.
@@ -56,11 +63,16 @@ impl FieldDescriptorProto {
     {
         FieldDescriptorProto {
             name: None,
+            extendee: None,
             number: None,
             label: None,
             type_: None,
             type_name: None,
+            default_value: None,
+            options: None,
             oneof_index: None,
+            json_name: None,
+            proto3_optional: None,
         }
     }
 
@@ -122,17 +134,43 @@ impl FieldDescriptorProto {
         text::or_empty(&self.type_name)
     }
 
+    /// The name of the message that an extension extends; where it is missing, the empty text.
+    pub fn extendee(&self) -> &str
+        ensures { result.now ≡ text_of self.now.extendee }
+    {
+        text::or_empty(&self.extendee)
+    }
+
+    /// The name in JSON; where it is missing, the empty text.
+    pub fn json_name(&self) -> &str
+        ensures { result.now ≡ text_of self.now.json_name }
+    {
+        text::or_empty(&self.json_name)
+    }
+
+    /// Whether the field is optional by word in proto3; where it is missing, false.
+    pub fn proto3_optional(&self) -> bool
+        ensures { result ≡ flag_of self.now.proto3_optional }
+    {
+        self.proto3_optional.unwrap_or(false)
+    }
+
     /// An equal field.
     pub fn clone(&self, alloc: Global) -> Result<FieldDescriptorProto, AllocError>
         ensures { IfOk result (λ copy. copy ≡ self.now) }
     {
         Ok(FieldDescriptorProto {
             name: Text::clone_given(alloc, &self.name)?,
+            extendee: Text::clone_given(alloc, &self.extendee)?,
             number: self.number,
             label: self.label,
             type_: self.type_,
             type_name: Text::clone_given(alloc, &self.type_name)?,
+            default_value: Text::clone_given(alloc, &self.default_value)?,
+            options: Options::clone_given(alloc, &self.options)?,
             oneof_index: self.oneof_index,
+            json_name: Text::clone_given(alloc, &self.json_name)?,
+            proto3_optional: self.proto3_optional,
         })
     }
 }

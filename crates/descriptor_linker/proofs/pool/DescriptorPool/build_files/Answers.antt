@@ -4,6 +4,7 @@ use Rattle.std.specs.Result.{IsOk}
 use Rattle.proto_records.specs.Contents.{counts_in}
 use Rattle.proto_records.specs.Counts.{counts_with}
 use Rattle.proto_records.specs.Declarations.{declarations}
+use Rattle.descriptor_linker.specs.ReadDeclarations.{read_declarations}
 use Rattle.pool_parts.specs.Entries.{names}
 use Rattle.descriptor_linker.specs.Outcome.{Outcome}
 use Rattle.descriptor_linker.specs.Pool.{Batch, new_files, known_names, Fits, counts_after}

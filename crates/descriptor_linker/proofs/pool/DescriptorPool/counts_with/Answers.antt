@@ -2,7 +2,7 @@ use Rattle.std.proofs.Common.{ap, ◌∙◌, rules, Ok, Err}
 use Rattle.proto_records.specs.Contents.{counts_in}
 use Rattle.proto_records.specs.Counts.{within_limit}
 use Rattle.proto_records.specs.Counts.{plus as sums}
-use Rattle.descriptor_linker.proofs.Linking.{counts_with-is}
+use Rattle.descriptor_linker.proofs.Fitting.{counts_with-is}
 use Rattle.descriptor_linker.proofs.pool.DescriptorPool.counts_with.Goals as goal
 
 pub returns-in_err-of : goal.returns-in_err-of

@@ -3,7 +3,7 @@ use Rattle.std.specs.List.{sum_by}
 use Rattle.proto_records.specs.declared.contents.file.FileDescriptorInner.{FileDescriptorInner}
 use Rattle.proto_records.specs.declared.records.file.FileDescriptorProto.{FileDescriptorProto}
 use Rattle.proto_records.specs.Contents.{Contents, counts_in, files_of}
-use Rattle.proto_records.specs.Declarations.{declarations}
+use Rattle.descriptor_linker.specs.ReadDeclarations.{read_declarations}
 use Rattle.pool_parts.specs.Entries.{names}
 use Rattle.pool_parts.specs.AllFiles.{files_in}
 use Rattle.descriptor_linker.specs.declared.pool.DescriptorPool.TheInside.{Inside}
@@ -76,16 +76,16 @@ returns-in_err-entries-clause-err c =
 
 -- the names with those of the new files
 all_entries : (p : Contents) (known held entered behind : List Entry) (base : Counts) (fs : List FileDescriptorProto)
-    → held ≡ known → base ≡ counts_in p → entered ≡ held ++ entries (declarations base fs) → behind ≡ entered
-    → behind ≡ known ++ entries (declarations (counts_in p) fs)
+    → held ≡ known → base ≡ counts_in p → entered ≡ held ++ entries (read_declarations base fs) → behind ≡ entered
+    → behind ≡ known ++ entries (read_declarations (counts_in p) fs)
 all_entries p known held entered behind base fs held_is base_is entered_is behind_is =
-    behind_is ∙ entered_is ∙ (λ i. held_is i ++ entries (declarations (base_is i) fs))
+    behind_is ∙ entered_is ∙ (λ i. held_is i ++ entries (read_declarations (base_is i) fs))
 
 no_faults : (p : Contents) (known held : List Entry) (files fs : List FileDescriptorProto) (base : Counts)
-    → files ≡ files_of p ++ fs → held ≡ known → base ≡ counts_in p → first_pass files held (declarations base fs) ≡ []
-    → first_pass (files_of p ++ fs) known (declarations (counts_in p) fs) ≡ []
+    → files ≡ files_of p ++ fs → held ≡ known → base ≡ counts_in p → first_pass files held (read_declarations base fs) ≡ []
+    → first_pass (files_of p ++ fs) known (read_declarations (counts_in p) fs) ≡ []
 no_faults p known held files fs base files_are held_is base_is none =
-    sym (λ i. first_pass (files_are i) (held_is i) (declarations (base_is i) fs)) ∙ none
+    sym (λ i. first_pass (files_are i) (held_is i) (read_declarations (base_is i) fs)) ∙ none
 
 pub returns-in_err-made-clause-err : goal.returns-in_err-made-clause-err
 returns-in_err-made-clause-err c =
@@ -105,11 +105,11 @@ returns-in_err-made-clause-err c =
 -- the passes found nothing, and the new pool has the items that they made
 record Grows (c : goal.In_ok-in_a_row-2) : Type 0 where
   base : Ground c.args.self.now c.self.inside.entries.items c.args.new.now
-  none : first_pass (files_of c.args.self.now ++ c.args.new.now) c.self.inside.entries.items (declarations (counts_in c.args.self.now) c.args.new.now) ≡ []
-  also_none : second_pass (ground_setting c.args.self.now c.self.inside.entries.items c.args.new.now) (declarations (counts_in c.args.self.now) c.args.new.now) ≡ []
-  entered : c.in_ok-entries.entries.items ≡ c.self.inside.entries.items ++ entries (declarations (counts_in c.args.self.now) c.args.new.now)
+  none : first_pass (files_of c.args.self.now ++ c.args.new.now) c.self.inside.entries.items (read_declarations (counts_in c.args.self.now) c.args.new.now) ≡ []
+  also_none : second_pass (ground_setting c.args.self.now c.self.inside.entries.items c.args.new.now) (read_declarations (counts_in c.args.self.now) c.args.new.now) ≡ []
+  entered : c.in_ok-entries.entries.items ≡ c.self.inside.entries.items ++ entries (read_declarations (counts_in c.args.self.now) c.args.new.now)
   is : contents_of (record { alloc = c.self.inside.alloc; files = c.in_ok-in_a_row.field-0; messages = c.in_ok-in_a_row-2.field-0; entries = c.in_ok-entries.entries })
-      ≡ with_items c.args.self.now (ground_setting c.args.self.now c.self.inside.entries.items c.args.new.now) (declarations (counts_in c.args.self.now) c.args.new.now)
+      ≡ with_items c.args.self.now (ground_setting c.args.self.now c.self.inside.entries.items c.args.new.now) (read_declarations (counts_in c.args.self.now) c.args.new.now)
 
 grows : (c : goal.In_ok-in_a_row-2) → Grows c
 grows c =
@@ -124,16 +124,16 @@ grows c =
     let s : ◌≡◌ {A = Setting} (record { files = files_in c.new-all.result; entries = c.deref-3.result.now }) (ground_setting p known fs) =
     λ i. record { files = files i; entries = (c.deref-3.ensures.value ∙ entered) i } in
     let counts = c.counts-base.ensures in
-    let new_files : c.in_ok-made.made.files.items ≡ map (λ e. file_item (ground_setting p known fs) e.0 e.1) (of_kind as_file (declarations (counts_in p) fs)) =
-    c.in_ok-made.ensures.files ∙ (λ i. map (λ e. file_item (s i) e.0 e.1) (of_kind as_file (declarations (counts i) fs))) in
-    let new_messages : c.in_ok-made.made.messages.items ≡ map (λ e. message_item (ground_setting p known fs) e.0 e.1) (of_kind as_message (declarations (counts_in p) fs)) =
-    c.in_ok-made.ensures.messages ∙ (λ i. map (λ e. message_item (s i) e.0 e.1) (of_kind as_message (declarations (counts i) fs))) in
+    let new_files : c.in_ok-made.made.files.items ≡ map (λ e. file_item (ground_setting p known fs) e.0 e.1) (of_kind as_file (read_declarations (counts_in p) fs)) =
+    c.in_ok-made.ensures.files ∙ (λ i. map (λ e. file_item (s i) e.0 e.1) (of_kind as_file (read_declarations (counts i) fs))) in
+    let new_messages : c.in_ok-made.made.messages.items ≡ map (λ e. message_item (ground_setting p known fs) e.0 e.1) (of_kind as_message (read_declarations (counts_in p) fs)) =
+    c.in_ok-made.ensures.messages ∙ (λ i. map (λ e. message_item (s i) e.0 e.1) (of_kind as_message (read_declarations (counts i) fs))) in
     let old_files = c.deref-4.ensures.value ∙ ap (λ q. q.files) c.self.view_is in
     let old_messages = c.deref-5.ensures.value ∙ ap (λ q. q.messages) c.self.view_is in
     record {
       base = base;
       none = none;
-      also_none = sym (λ i. second_pass (s i) (declarations (counts i) fs)) ∙ c.in_ok-made.ensures.faults;
+      also_none = sym (λ i. second_pass (s i) (read_declarations (counts i) fs)) ∙ c.in_ok-made.ensures.faults;
       entered = entered;
       is = λ i. record {
         files = (c.in_ok-in_a_row.ensures ∙ (λ j. old_files j ++ new_files j)) i;

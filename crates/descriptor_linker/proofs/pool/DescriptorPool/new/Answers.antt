@@ -1,7 +1,7 @@
 use Rattle.std.proofs.Common.{length, map, ap, sym, ◌∙◌, arith}
 use Rattle.std.specs.List.{sum_by}
 use Rattle.proto_records.specs.Counts.{no_counts}
-use Rattle.proto_records.specs.Declarations.{declarations}
+use Rattle.descriptor_linker.specs.ReadDeclarations.{read_declarations}
 use Rattle.pool_parts.specs.Entries.{names}
 use Rattle.descriptor_linker.specs.Entered.{entries}
 use Rattle.descriptor_linker.specs.Pool.{empty}
@@ -17,7 +17,7 @@ invariant_of-result c =
     let no_messages = ap length messages in
     record {
       made = empty (λ i. record { files = files i; messages = messages i; names = names (known i) });
-      entries = known ∙ ap (λ fs. entries (declarations no_counts (map (λ f. f.raw) fs))) (sym files);
+      entries = known ∙ ap (λ fs. entries (read_declarations no_counts (map (λ f. f.raw) fs))) (sym files);
       messages = no_messages ∙ ap (λ fs. sum_by (λ f. length f.message_type) (map (λ f. f.raw) fs)) (sym files);
       few_files = omega arith;
       few_messages = omega arith;
