@@ -1,3 +1,5 @@
+pub mod Rest
+pub mod NumberLists
 pub mod ReadCounts
 pub mod Fitting
 pub mod Leaves

@@ -24,9 +24,9 @@ pub misplaced_link : report (script (codes "file a.proto\nlink\n")) ≡ codes "l
 unfolding scripts
 misplaced_link = refl
 
-pub nested_message : report (script (codes "file a.proto\nmessage M\nmessage N\n")) ≡ codes "line 3: misplaced\n"
+pub field_in_a_file : report (script (codes "file a.proto\nfield f 1 optional int32 ~ ~\n")) ≡ codes "line 2: misplaced\n"
 unfolding scripts
-nested_message = refl
+field_in_a_file = refl
 
 pub too_few_words : report (script (codes "link\nfind\n")) ≡ codes "ok 0 0 0 0 0\nline 2: wrong count of words\n"
 unfolding scripts

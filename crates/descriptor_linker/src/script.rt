@@ -4,7 +4,10 @@ mod arguments;
 mod keyword;
 mod line_error;
 mod reading;
+mod rest;
+mod standing;
 mod statement;
+mod values;
 mod words;
 
 pub use reading::read_script;

@@ -1,5 +1,5 @@
 -- A script, statement by statement.
-use Rattle.std.specs.Prelude.{ℕ, List, [], ◌∷◌, ◌++◌}
+use Rattle.std.specs.Prelude.{ℕ, Bool, true, false, List, [], ◌∷◌, ◌++◌}
 use Rattle.std.specs.List.{fold}
 use Rattle.std.specs.Option.{option_map_or}
 use Rattle.std.specs.declared.option.Option.{Option}
@@ -19,16 +19,17 @@ use Rattle.descriptor_linker.specs.Pool.{Batch, faults, counts_after, link}
 use Rattle.descriptor_linker.specs.Report.Building.{opened_by, stated_in, closed_in}
 use Rattle.descriptor_linker.specs.Report.Answers.{counts_line, refused_lines, too_many_line, find_answer, fault_line}
 
--- the records that are open, from the innermost out; the batch, the pool, and what is told
+-- the records that are open, from the innermost out; whether an extension was stated last; the batch, the pool, and what is told
 pub record Session : Type 0 where
   pub open_records : List Open
+  pub extends : Bool
   pub batch : Batch
   pub pool : Contents
   pub told : List ℕ
 
 -- before the first statement
 abbrev pub new_session : Session
-new_session = record { open_records = []; batch = []; pool = no_contents; told = [] }
+new_session = record { open_records = []; extends = false; batch = []; pool = no_contents; told = [] }
 
 -- one more text is told
 abbrev pub tell : Session → List ℕ → Session
@@ -58,7 +59,17 @@ close_step s (inner ∷ outer ∷ rest) = record s { open_records = closed_in in
 -- the innermost open record is changed
 abbrev pub state_step : Session → Statement → List Open → Session
 state_step s said [] = s
-state_step s said (o ∷ os) = record s { open_records = stated_in said o ∷ os }
+state_step s said (o ∷ os) = record s { open_records = stated_in s.extends said o ∷ os }
+
+-- whether the last of fields and extensions is an extension
+abbrev pub extends_after : Bool → Statement → Bool
+extends_after before (say.Extend field) = true
+extends_after before (say.Field field) = false
+extends_after before _ = before
+
+-- something is said of the innermost open record
+abbrev pub stating : Session → Statement → Session
+stating s said = record (state_step s said s.open_records) { extends = extends_after s.extends said }
 
 -- one more record is open
 abbrev pub opening : Session → Open → Session
@@ -67,7 +78,7 @@ opening s o = record s { open_records = o ∷ s.open_records }
 -- a record is opened, or else the innermost changed
 abbrev pub open_or_state : Session → Statement → Option Open → Session
 open_or_state s said (Some o) = opening s o
-open_or_state s said None = state_step s said s.open_records
+open_or_state s said None = stating s said
 
 -- the session after one more statement
 abbrev pub step : Session → Statement → Session

@@ -1,13 +1,16 @@
 //! Records as the statements of a script build them.
 
 ghost use Rattle.std.specs.Prelude.{◌≡◌, OnOk};
-ghost use Rattle.proto_records.specs.Empty.{no_file, no_message};
 ghost use Rattle.proto_records.specs.declared.records.message.DescriptorProto.{out-DescriptorProto, roll-DescriptorProto};
 ghost use Rattle.descriptor_linker.specs.declared.script.statement.Statement.TheVariants as say;
-ghost use Rattle.descriptor_linker.specs.declared.report.building.Open.TheVariants as opened;
-ghost use Rattle.descriptor_linker.specs.Report.Building.{stated_in, closed_in};
+ghost use Rattle.descriptor_linker.specs.Report.Building.{change_last, more_said, in_file, in_message, in_enum, in_service};
 
-use proto_records::{DescriptorProto, FieldDescriptorProto, FileDescriptorProto, Text};
+use crate::script::Statement;
+use proto_records::{
+    DescriptorProto, EnumDescriptorProto, EnumOptions, EnumReservedRange, ExtensionRange,
+    FieldDescriptorProto, FieldOptions, FileDescriptorProto, Items, Location, OneofDescriptorProto,
+    Options, ReservedRange, ServiceDescriptorProto, SourceCodeInfo, Text,
+};
 use std::alloc::{AllocError, Global};
 
 /// A record whose block is open.
@@ -15,12 +18,17 @@ use std::alloc::{AllocError, Global};
 pub(super) enum Open {
     File(FileDescriptorProto),
     Message(DescriptorProto),
+    Enum(EnumDescriptorProto),
+    Service(ServiceDescriptorProto),
 }
 
 impl Open {
+    ghost use Rattle.std.specs.Prelude.{Some};
+    ghost use Rattle.descriptor_linker.specs.Report.Building.{opened_by, stated_in, closed_in};
+
     /// A file of which nothing but the name is said.
     pub(super) fn file(alloc: Global, name: Option<Text>) -> Open
-        ensures { result ≡ opened.File (record no_file { name = name }) }
+        ensures { Some result ≡ opened_by (say.File name) }
     {
         let mut file = FileDescriptorProto::empty(alloc);
         file.name = name;
@@ -29,39 +37,219 @@ impl Open {
 
     /// A message of which nothing but the name is said.
     pub(super) fn message(alloc: Global, name: Option<Text>) -> Open
-        ensures { result ≡ opened.Message (roll-DescriptorProto (record (out-DescriptorProto no_message) { name = name })) }
+        ensures { Some result ≡ opened_by (say.Message name) }
     {
         let mut message = DescriptorProto::empty(alloc);
         message.name = name;
         Open::Message(message)
     }
 
-    /// Names the package of a file; the last name counts.
-    pub(super) fn set_package(&mut self, name: Option<Text>)
-        ensures { self.new ≡ stated_in (say.Package name) self.old }
+    /// An enum of which nothing but the name is said.
+    pub(super) fn enumeration(alloc: Global, name: Option<Text>) -> Open
+        ensures { Some result ≡ opened_by (say.Enum name) }
     {
-        if let Open::File(file) = self {
-            file.package = name;
+        let mut opened = EnumDescriptorProto::empty(alloc);
+        opened.name = name;
+        Open::Enum(opened)
+    }
+
+    /// A service of which nothing but the name is said.
+    pub(super) fn service(alloc: Global, name: Option<Text>) -> Open
+        ensures { Some result ≡ opened_by (say.Service name) }
+    {
+        let mut service = ServiceDescriptorProto::empty(alloc);
+        service.name = name;
+        Open::Service(service)
+    }
+
+    /// Does what a statement says of the record. `extends` tells whether an extension was stated
+    /// last, of which more may be said then, or a field.
+    pub(super) fn state(
+        &mut self,
+        alloc: Global,
+        extends: bool,
+        said: Statement,
+    ) -> Result<(), AllocError>
+        ensures { OnOk result (self.new ≡ stated_in extends said self.old) }
+    {
+        match self {
+            Open::File(file) => state_in_file(alloc, file, said),
+            Open::Message(message) => state_in_message(alloc, message, extends, said),
+            Open::Enum(opened) => state_in_enum(alloc, opened, said),
+            Open::Service(service) => state_in_service(service, said),
         }
     }
 
-    /// Puts a field behind those of a message.
-    pub(super) fn add_field(&mut self, field: FieldDescriptorProto) -> Result<(), AllocError>
-        ensures { OnOk result (self.new ≡ stated_in (say.Field field) self.old) }
-    {
-        if let Open::Message(message) = self {
-            message.field.push(field)?;
-        }
-        Ok(())
-    }
-
-    /// Takes in a record whose block has closed: a message stands behind the others of a file.
+    /// Takes in a record whose block has closed: it stands behind the others of its list.
     pub(super) fn close_in(&mut self, inner: Open) -> Result<(), AllocError>
         ensures { OnOk result (self.new ≡ closed_in inner self.old) }
     {
-        if let (Open::File(file), Open::Message(message)) = (self, inner) {
-            file.message_type.push(message)?;
+        match inner {
+            Open::Message(message) => match self {
+                Open::File(file) => file.message_type.push(message)?,
+                Open::Message(outer) => outer.nested_type.push(message)?,
+                _ => {}
+            },
+            Open::Enum(closed) => match self {
+                Open::File(file) => file.enum_type.push(closed)?,
+                Open::Message(outer) => outer.enum_type.push(closed)?,
+                _ => {}
+            },
+            Open::Service(service) => {
+                if let Open::File(file) = self {
+                    file.service.push(service)?;
+                }
+            }
+            Open::File(_) => {}
         }
         Ok(())
+    }
+}
+
+fn state_in_file(
+    alloc: Global,
+    file: &mut FileDescriptorProto,
+    said: Statement,
+) -> Result<(), AllocError>
+    ensures { OnOk result (file.new ≡ in_file said file.old) }
+{
+    match said {
+        Statement::Package(name) => file.package = name,
+        Statement::Syntax(name) => file.syntax = name,
+        Statement::Import(name) => file.dependency.push(name)?,
+        Statement::Public(place) => file.public_dependency.push(place)?,
+        Statement::Weak(place) => file.weak_dependency.push(place)?,
+        Statement::At(location) => add_location(alloc, file, location)?,
+        Statement::Extend(field) => file.extension.push(field)?,
+        more => say_more(alloc, &mut file.extension, more)?,
+    }
+    Ok(())
+}
+
+/// Puts a place behind those that are told of a file.
+fn add_location(
+    alloc: Global,
+    file: &mut FileDescriptorProto,
+    location: Location,
+) -> Result<(), AllocError>
+    ensures { OnOk result (file.new ≡ in_file (say.At location) file.old) }
+{
+    let mut source = match file.source_code_info.take() {
+        Some(source) => source,
+        None => SourceCodeInfo::empty(alloc),
+    };
+    source.location.push(location)?;
+    file.source_code_info = Some(source);
+    Ok(())
+}
+
+fn state_in_message(
+    alloc: Global,
+    message: &mut DescriptorProto,
+    extends: bool,
+    said: Statement,
+) -> Result<(), AllocError>
+    ensures { OnOk result (message.new ≡ roll-DescriptorProto (in_message extends said (out-DescriptorProto message.old))) }
+{
+    match said {
+        Statement::Field(field) => message.field.push(field)?,
+        Statement::Extend(field) => message.extension.push(field)?,
+        Statement::Oneof(name) => {
+            let options = None;
+            message
+                .oneof_decl
+                .push(OneofDescriptorProto { name, options })?;
+        }
+        Statement::Reserved(start, end) => {
+            message.reserved_range.push(ReservedRange { start, end })?;
+        }
+        Statement::Extensions(start, end) => {
+            let options = None;
+            message.extension_range.push(ExtensionRange {
+                start,
+                end,
+                options,
+            })?;
+        }
+        more => {
+            if extends {
+                say_more(alloc, &mut message.extension, more)?;
+            } else {
+                say_more(alloc, &mut message.field, more)?;
+            }
+        }
+    }
+    Ok(())
+}
+
+/// Says more of the last field or extension.
+fn say_more(
+    alloc: Global,
+    fields: &mut Items<FieldDescriptorProto>,
+    more: Statement,
+) -> Result<(), AllocError>
+    ensures { OnOk result (fields.new ≡ change_last (more_said more) fields.old) }
+{
+    if let Some(field) = fields.pop() {
+        fields.push(with_more(alloc, field, more))?;
+    }
+    Ok(())
+}
+
+/// A field or an extension of which more is said.
+fn with_more(
+    alloc: Global,
+    mut field: FieldDescriptorProto,
+    more: Statement,
+) -> FieldDescriptorProto
+    ensures { result ≡ more_said more field }
+{
+    match more {
+        Statement::Json(name) => field.json_name = name,
+        Statement::Packed(packed) => {
+            field.options = Some(Options {
+                encoded: Items::new(alloc),
+                value: FieldOptions {
+                    packed: Some(packed),
+                },
+            });
+        }
+        Statement::Default(text) => field.default_value = Some(text),
+        _ => {}
+    }
+    field
+}
+
+fn state_in_enum(
+    alloc: Global,
+    opened: &mut EnumDescriptorProto,
+    said: Statement,
+) -> Result<(), AllocError>
+    ensures { OnOk result (opened.new ≡ in_enum said opened.old) }
+{
+    match said {
+        Statement::Value(value) => opened.value.push(value),
+        Statement::Reserved(start, end) => {
+            opened.reserved_range.push(EnumReservedRange { start, end })
+        }
+        Statement::Alias => {
+            opened.options = Some(Options {
+                encoded: Items::new(alloc),
+                value: EnumOptions {
+                    allow_alias: Some(true),
+                },
+            });
+            Ok(())
+        }
+        _ => Ok(()),
+    }
+}
+
+fn state_in_service(service: &mut ServiceDescriptorProto, said: Statement) -> Result<(), AllocError>
+    ensures { OnOk result (service.new ≡ in_service said service.old) }
+{
+    match said {
+        Statement::Method(method) => service.method.push(method),
+        _ => Ok(()),
     }
 }

@@ -2,14 +2,14 @@
 
 ghost use Rattle.std.specs.Prelude.{◌≡◌, OnOk};
 ghost use Rattle.descriptor_linker.specs.declared.script.statement.Statement.TheVariants as say;
-ghost use Rattle.descriptor_linker.specs.Report.Session.{new_session, opening, step};
+ghost use Rattle.descriptor_linker.specs.Report.Session.{new_session, opening, stating, step};
 
 use super::answers::{tell_counts, tell_found, tell_refused, tell_too_many};
 use super::building::Open;
 use crate::error::BuildError;
 use crate::pool::DescriptorPool;
 use crate::script::Statement;
-use proto_records::{FieldDescriptorProto, FileDescriptorProto, Text};
+use proto_records::FileDescriptorProto;
 use std::alloc::{AllocError, Global};
 use std::mem;
 
@@ -19,6 +19,8 @@ pub(super) struct Session {
     alloc: Global,
     /// The records whose blocks are open, the innermost last.
     open_records: Vec<Open>,
+    /// Whether the last of fields and extensions is an extension.
+    extends: bool,
     /// The files to be linked next.
     batch: Vec<FileDescriptorProto>,
     pool: DescriptorPool,
@@ -35,6 +37,7 @@ impl Session {
         Session {
             alloc,
             open_records: Vec::new(alloc),
+            extends: false,
             batch: Vec::new(alloc),
             pool: DescriptorPool::new(alloc),
             told: String::new(alloc),
@@ -47,15 +50,13 @@ impl Session {
     {
         match statement {
             Statement::File(name) => self.open(Open::file(self.alloc, name)),
-            Statement::Package(name) => {
-                self.set_package(name);
-                Ok(())
-            }
             Statement::Message(name) => self.open(Open::message(self.alloc, name)),
-            Statement::Field(field) => self.add_field(field),
+            Statement::Enum(name) => self.open(Open::enumeration(self.alloc, name)),
+            Statement::Service(name) => self.open(Open::service(self.alloc, name)),
             Statement::End => self.close(),
             Statement::Link => self.link(),
             Statement::Find(name) => tell_found(&mut self.told, &self.pool, name.as_str()),
+            said => self.state(said),
         }
     }
 
@@ -67,21 +68,18 @@ impl Session {
         Ok(())
     }
 
-    /// Names the package of the innermost open record.
-    fn set_package(&mut self, name: Option<Text>)
-        ensures { session_in self.new ≡ step (session_in self.old) (say.Package name) }
+    /// Does what a statement says of the innermost open record.
+    fn state(&mut self, said: Statement) -> Result<(), AllocError>
+        ensures { OnOk result (session_in self.new ≡ stating (session_in self.old) said) }
     {
-        if let Some(innermost) = self.open_records.last_mut() {
-            innermost.set_package(name);
+        let extends = self.extends;
+        match said {
+            Statement::Extend(_) => self.extends = true,
+            Statement::Field(_) => self.extends = false,
+            _ => {}
         }
-    }
-
-    /// Puts a field into the innermost open record.
-    fn add_field(&mut self, field: FieldDescriptorProto) -> Result<(), AllocError>
-        ensures { OnOk result (session_in self.new ≡ step (session_in self.old) (say.Field field)) }
-    {
         if let Some(innermost) = self.open_records.last_mut() {
-            innermost.add_field(field)?;
+            innermost.state(self.alloc, extends, said)?;
         }
         Ok(())
     }

@@ -1,155 +1,189 @@
-//! What the words behind a keyword give.
+//! The statements that keywords and the words behind them make.
 
-ghost use Rattle.std.specs.Prelude.{◌≡◌, ◌<◌, ◌+◌, List, [], ◌∷◌, map, length, IfOk, IfSome};
+ghost use Rattle.std.specs.Prelude.{map};
 ghost use Rattle.descriptor_linker.specs.Script.Arguments as spec;
 ghost use Rattle.descriptor_linker.specs.Script.Answers.{IsAnswer};
 
 use super::line_error::LineError;
+use super::rest::rest;
 use super::statement::{Keyword, ScriptFault, Statement};
-use proto_records::{FieldDescriptorProto, Text};
-use std::alloc::{AllocError, Global};
+use super::values::{given_number, given_text, label_of, number_of, numbers, text, truth, type_of};
+use proto_records::{
+    EnumValueDescriptorProto, FieldDescriptorProto, Location, MethodDescriptorProto, Text,
+};
+use std::alloc::Global;
 
-/// The labels, in the order of their numbers from 1 on.
-const LABELS: [&str; 3] = ["optional", "required", "repeated"];
-
-/// The types, in the order of their numbers from 1 on.
-const TYPES: [&str; 18] = [
-    "double", "float", "int64", "uint64", "int32", "fixed64", "fixed32", "bool", "string", "group",
-    "message", "bytes", "uint32", "enum", "sfixed32", "sfixed64", "sint32", "sint64",
-];
-
-/// Whether a word stands for a missing value.
-fn is_absent(word: &str) -> bool
-    ensures { result ≡ spec.is_absent word.now }
+/// The statement of a keyword and the words behind it, in a line.
+pub(super) fn statement(
+    alloc: Global,
+    line: &str,
+    keyword: Keyword,
+    words: &[&str],
+) -> Result<Statement, LineError>
+    ensures { IsAnswer (spec.said_in line.now keyword (map (λ word. word.now) words.now)) result }
 {
-    word == "~"
-}
-
-/// A text, which may be missing.
-fn text(alloc: Global, word: &str) -> Result<Option<Text>, AllocError>
-    ensures { IfOk result (λ text. text ≡ spec.text_in word.now) }
-{
-    if is_absent(word) {
-        Ok(None)
-    } else if word == "''" {
-        Ok(Some(Text::new(alloc)))
-    } else {
-        Ok(Some(Text::from_str(alloc, word)?))
+    match keyword {
+        Keyword::Default => Ok(Statement::Default(rest(alloc, line)?)),
+        _ => of_words(alloc, keyword, words),
     }
 }
 
-/// A whole number of 32 bits with a sign.
-fn int32(word: &str) -> Option<i32>
-    ensures { result ≡ spec.int32_in word.now }
+/// The statement of a keyword, by how many words are behind it.
+fn of_words(alloc: Global, keyword: Keyword, words: &[&str]) -> Result<Statement, LineError>
+    ensures { IsAnswer (spec.statement_in keyword (map (λ word. word.now) words.now)) result }
 {
-    word.parse::<i32>().ok()
-}
-
-/// A number, which may be missing.
-fn number_of(word: &str) -> Result<Option<i32>, ScriptFault>
-    ensures { result ≡ spec.number_in word.now }
-{
-    if is_absent(word) {
-        return Ok(None);
-    }
-    match int32(word) {
-        Some(number) => Ok(Some(number)),
-        None => Err(ScriptFault::BadNumber),
-    }
-}
-
-/// The place of a word among names, counted from 1, or else the number that it writes.
-fn named(names: &[&str], word: &str) -> Option<i32>
-    requires { length names.now < 100 }
-    ensures { result ≡ spec.named_in (map (λ name. name.now) names.now) word.now }
-{
-    let mut number = 1;
-    for name in names {
-        if word == *name {
-            return Some(number);
+    match words {
+        [] => of_none(keyword),
+        [word] => of_one(alloc, keyword, word),
+        [first, second] => of_two(alloc, keyword, first, second),
+        [name, input, output] => of_three(alloc, keyword, name, input, output),
+        [name, number, label, type_, type_name, last] => {
+            of_six(alloc, keyword, name, number, label, type_, type_name, last)
         }
-        number += 1;
-    }
-    int32(word)
-}
-
-/// A name's number, which may be missing.
-fn named_or_bad(names: &[&str], word: &str) -> Result<Option<i32>, ScriptFault>
-    requires { length names.now < 100 }
-    ensures { result ≡ spec.named_or_bad (map (λ name. name.now) names.now) word.now }
-{
-    if is_absent(word) {
-        return Ok(None);
-    }
-    match named(names, word) {
-        Some(number) => Ok(Some(number)),
-        None => Err(ScriptFault::BadWord),
+        _ => Err(LineError::Fault(ScriptFault::WrongCount)),
     }
 }
 
-/// A label, by its name or its number.
-fn label_of(word: &str) -> Result<Option<i32>, ScriptFault>
-    ensures { result ≡ spec.named_or_bad spec.labels word.now }
+fn of_none(keyword: Keyword) -> Result<Statement, LineError>
+    ensures { IsAnswer (spec.of_none keyword) result }
 {
-    named_or_bad(&LABELS, word)
+    match keyword {
+        Keyword::Alias => Ok(Statement::Alias),
+        Keyword::End => Ok(Statement::End),
+        Keyword::Link => Ok(Statement::Link),
+        _ => Err(LineError::Fault(ScriptFault::WrongCount)),
+    }
 }
 
-/// A type, by its name or its number.
-fn type_of(word: &str) -> Result<Option<i32>, ScriptFault>
-    ensures { result ≡ spec.named_or_bad spec.types word.now }
+fn of_one(alloc: Global, keyword: Keyword, word: &str) -> Result<Statement, LineError>
+    ensures { IsAnswer (spec.of_one keyword word.now) result }
 {
-    named_or_bad(&TYPES, word)
+    match keyword {
+        Keyword::File => Ok(Statement::File(text(alloc, word)?)),
+        Keyword::Package => Ok(Statement::Package(text(alloc, word)?)),
+        Keyword::Syntax => Ok(Statement::Syntax(text(alloc, word)?)),
+        Keyword::Import => Ok(Statement::Import(given_text(alloc, word)?)),
+        Keyword::Public => Ok(Statement::Public(given_number(word)?)),
+        Keyword::Weak => Ok(Statement::Weak(given_number(word)?)),
+        Keyword::Service => Ok(Statement::Service(text(alloc, word)?)),
+        Keyword::Message => Ok(Statement::Message(text(alloc, word)?)),
+        Keyword::Enum => Ok(Statement::Enum(text(alloc, word)?)),
+        Keyword::Oneof => Ok(Statement::Oneof(text(alloc, word)?)),
+        Keyword::Json => Ok(Statement::Json(text(alloc, word)?)),
+        Keyword::Packed => Ok(Statement::Packed(truth(word)?)),
+        Keyword::Find => {
+            let name = text(alloc, word)?;
+            Ok(Statement::Find(name.unwrap_or(Text::new(alloc))))
+        }
+        _ => Err(LineError::Fault(ScriptFault::WrongCount)),
+    }
 }
 
-/// A field, from its words; the leftmost fault is told.
-fn field(
+fn of_two(
+    alloc: Global,
+    keyword: Keyword,
+    first: &str,
+    second: &str,
+) -> Result<Statement, LineError>
+    ensures { IsAnswer (spec.of_two keyword first.now second.now) result }
+{
+    match keyword {
+        Keyword::At => {
+            let path = numbers(alloc, first)?;
+            let span = numbers(alloc, second)?;
+            Ok(Statement::At(Location {
+                path,
+                span,
+                ..Location::empty(alloc)
+            }))
+        }
+        Keyword::Reserved => {
+            let start = number_of(first)?;
+            Ok(Statement::Reserved(start, number_of(second)?))
+        }
+        Keyword::Extensions => {
+            let start = number_of(first)?;
+            Ok(Statement::Extensions(start, number_of(second)?))
+        }
+        Keyword::Value => {
+            let number = number_of(second)?;
+            Ok(Statement::Value(EnumValueDescriptorProto {
+                name: text(alloc, first)?,
+                number,
+                ..EnumValueDescriptorProto::empty(alloc)
+            }))
+        }
+        _ => Err(LineError::Fault(ScriptFault::WrongCount)),
+    }
+}
+
+fn of_three(
+    alloc: Global,
+    keyword: Keyword,
+    name: &str,
+    input: &str,
+    output: &str,
+) -> Result<Statement, LineError>
+    ensures { IsAnswer (spec.of_three keyword name.now input.now output.now) result }
+{
+    match keyword {
+        Keyword::Method => Ok(Statement::Method(MethodDescriptorProto {
+            name: text(alloc, name)?,
+            input_type: text(alloc, input)?,
+            output_type: text(alloc, output)?,
+            ..MethodDescriptorProto::empty(alloc)
+        })),
+        _ => Err(LineError::Fault(ScriptFault::WrongCount)),
+    }
+}
+
+fn of_six(
+    alloc: Global,
+    keyword: Keyword,
+    name: &str,
+    number: &str,
+    label: &str,
+    type_: &str,
+    type_name: &str,
+    last: &str,
+) -> Result<Statement, LineError>
+    ensures { IsAnswer (spec.of_six keyword name.now number.now label.now type_.now type_name.now last.now) result }
+{
+    match keyword {
+        Keyword::Field => {
+            let mut field = typed(alloc, name, number, label, type_, type_name)?;
+            field.oneof_index = number_of(last)?;
+            Ok(Statement::Field(field))
+        }
+        Keyword::Extend => {
+            let mut field = typed(alloc, name, number, label, type_, type_name)?;
+            field.extendee = text(alloc, last)?;
+            Ok(Statement::Extend(field))
+        }
+        _ => Err(LineError::Fault(ScriptFault::WrongCount)),
+    }
+}
+
+/// What a field and an extension have in common; the leftmost fault is told.
+fn typed(
     alloc: Global,
     name: &str,
     number: &str,
     label: &str,
     type_: &str,
     type_name: &str,
-    oneof: &str,
 ) -> Result<FieldDescriptorProto, LineError>
-    ensures { IsAnswer (spec.field_in name.now number.now label.now type_.now type_name.now oneof.now) result }
+    ensures { IsAnswer (spec.typed_in name.now number.now label.now type_.now type_name.now) result }
 {
     let number = number_of(number)?;
     let label = label_of(label)?;
     let type_ = type_of(type_)?;
-    let oneof_index = number_of(oneof)?;
     Ok(FieldDescriptorProto {
         name: text(alloc, name)?,
         number,
         label,
         type_,
         type_name: text(alloc, type_name)?,
-        oneof_index,
         ..FieldDescriptorProto::empty(alloc)
     })
-}
-
-/// The statement that a keyword and the words behind it make.
-pub(super) fn statement(
-    alloc: Global,
-    keyword: Keyword,
-    words: &[&str],
-) -> Result<Statement, LineError>
-    ensures { IsAnswer (spec.statement_in keyword (map (λ word. word.now) words.now)) result }
-{
-    match (keyword, words) {
-        (Keyword::File, [name]) => Ok(Statement::File(text(alloc, name)?)),
-        (Keyword::Package, [name]) => Ok(Statement::Package(text(alloc, name)?)),
-        (Keyword::Message, [name]) => Ok(Statement::Message(text(alloc, name)?)),
-        (Keyword::Field, [name, number, label, type_, type_name, oneof]) => {
-            let field = field(alloc, name, number, label, type_, type_name, oneof)?;
-            Ok(Statement::Field(field))
-        }
-        (Keyword::End, []) => Ok(Statement::End),
-        (Keyword::Link, []) => Ok(Statement::Link),
-        (Keyword::Find, [name]) => {
-            let name = text(alloc, name)?;
-            Ok(Statement::Find(name.unwrap_or(Text::new(alloc))))
-        }
-        _ => Err(LineError::Fault(ScriptFault::WrongCount)),
-    }
 }

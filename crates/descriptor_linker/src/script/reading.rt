@@ -1,14 +1,15 @@
 //! Reading a script, line by line.
 
-ghost use Rattle.std.specs.Prelude.{◌≡◌, ℕ, List, ◌∷◌, map, reverse, IfOk, IfErr, OnOk};
+ghost use Rattle.std.specs.Prelude.{◌≡◌, ℕ, List, ◌∷◌, map, IfOk, IfErr, OnOk};
 ghost use Rattle.descriptor_linker.specs.Script.Words as spec;
 ghost use Rattle.descriptor_linker.specs.Script.Reading.{script, line_said, of_words};
-ghost use Rattle.descriptor_linker.specs.Script.Answers.{IsAnswer, IsFaultOf, after_line};
+ghost use Rattle.descriptor_linker.specs.Script.Answers.{IsAnswer, IsFaultOf, after_line, standing_in};
 
 use super::arguments::statement;
-use super::keyword::{keyword_of, may_stand, open_or_close};
+use super::keyword::keyword_of;
 use super::line_error::LineError;
-use super::statement::{Block, Keyword, Script, ScriptFault, Statement};
+use super::standing::Standing;
+use super::statement::{Keyword, Script, ScriptFault, Statement};
 use super::words::{lines, words};
 use proto_records::Items;
 use std::alloc::{AllocError, Global};
@@ -20,13 +21,14 @@ fn begins_comment(word: &str) -> bool
     matches!(word.as_bytes(), [] | [b'#', ..])
 }
 
-/// What words say in open blocks.
+/// What the words of a line say behind other statements.
 fn statement_said(
     alloc: Global,
-    blocks: &[Block],
+    here: &Standing,
+    line: &str,
     words: &[&str],
 ) -> Result<Option<(Keyword, Statement)>, LineError>
-    ensures { IsAnswer (of_words (reverse blocks.now) (map (λ word. word.now) words.now)) result }
+    ensures { IsAnswer (of_words (standing_in here.now) line.now (map (λ word. word.now) words.now)) result }
 {
     let Some((first, rest)) = words.split_first() else {
         return Ok(None);
@@ -35,44 +37,44 @@ fn statement_said(
         return Ok(None);
     }
     let keyword = keyword_of(first).ok_or(ScriptFault::UnknownWord)?;
-    if !may_stand(blocks, keyword) {
+    if !here.may_stand(keyword) {
         return Err(LineError::Fault(ScriptFault::Misplaced));
     }
-    Ok(Some((keyword, statement(alloc, keyword, rest)?)))
+    Ok(Some((keyword, statement(alloc, line, keyword, rest)?)))
 }
 
-/// What a line says in open blocks, the innermost of which comes last.
+/// What a line says behind other statements.
 fn line_said(
     alloc: Global,
-    blocks: &[Block],
+    here: &Standing,
     line: &[u8],
 ) -> Result<Option<(Keyword, Statement)>, LineError>
-    ensures { IsAnswer (line_said (reverse blocks.now) line.now) result }
+    ensures { IsAnswer (line_said (standing_in here.now) line.now) result }
 {
     match std::str::from_utf8(line) {
         Ok(text) => {
             let words = words(alloc, text)?;
-            statement_said(alloc, blocks, words.as_slice())
+            statement_said(alloc, here, text, words.as_slice())
         }
         Err(_) => Err(LineError::Fault(ScriptFault::BadText)),
     }
 }
 
-/// Reads a line: its statement is put behind the others, and its block opened or closed.
+/// Reads a line: its statement is put behind the others.
 fn read_line(
     alloc: Global,
     statements: &mut Items<Statement>,
-    blocks: &mut Vec<Block>,
+    here: &mut Standing,
     line: &[u8],
 ) -> Result<(), LineError>
-    ensures ok { OnOk result (after_line (line_said (reverse blocks.old.items) line.now) statements.old (reverse blocks.old.items) ≡ Ok (statements.new, reverse blocks.new.items)) }
-    ensures err { IfErr result (IsFaultOf (line_said (reverse blocks.old.items) line.now) (statements.new ≡ statements.old)) }
+    ensures ok { OnOk result (after_line (line_said (standing_in here.old) line.now) statements.old (standing_in here.old) ≡ Ok (statements.new, standing_in here.new)) }
+    ensures err { IfErr result (IsFaultOf (line_said (standing_in here.old) line.now) (statements.new ≡ statements.old)) }
 {
-    let Some((keyword, statement)) = line_said(alloc, blocks.as_slice(), line)? else {
+    let Some((keyword, statement)) = line_said(alloc, here, line)? else {
         return Ok(());
     };
     statements.push(statement)?;
-    open_or_close(blocks, keyword)?;
+    here.follow(keyword)?;
     Ok(())
 }
 
@@ -82,10 +84,10 @@ pub fn read_script(alloc: Global, bytes: &[u8]) -> Result<Script, AllocError>
 {
     let lines = lines(alloc, bytes)?;
     let mut statements = Items::new(alloc);
-    let mut blocks = Vec::new(alloc);
+    let mut here = Standing::new(alloc);
     let mut number = 1u64;
     for line in &lines {
-        match read_line(alloc, &mut statements, &mut blocks, line) {
+        match read_line(alloc, &mut statements, &mut here, line) {
             Ok(()) => number += 1,
             Err(LineError::Fault(fault)) => {
                 let fault = Some((number, fault));
@@ -97,6 +99,6 @@ pub fn read_script(alloc: Global, bytes: &[u8]) -> Result<Script, AllocError>
     let missing = (number, ScriptFault::MissingEnd);
     Ok(Script {
         statements,
-        fault: (!blocks.is_empty()).then_some(missing),
+        fault: here.is_open().then_some(missing),
     })
 }

@@ -1,12 +1,31 @@
-use proto_records::{FieldDescriptorProto, Items, Text};
+use proto_records::{
+    EnumValueDescriptorProto, FieldDescriptorProto, Items, Location, MethodDescriptorProto, Text,
+};
 
 /// The word that begins a statement.
 #[derive(Clone, Copy, PartialEq)]
 pub enum Keyword {
     File,
     Package,
+    Syntax,
+    Import,
+    Public,
+    Weak,
+    At,
+    Service,
     Message,
+    Enum,
+    Extend,
     Field,
+    Oneof,
+    Reserved,
+    Extensions,
+    Value,
+    Alias,
+    Method,
+    Json,
+    Packed,
+    Default,
     End,
     Link,
     Find,
@@ -17,6 +36,8 @@ pub enum Keyword {
 pub enum Block {
     File,
     Message,
+    Enum,
+    Service,
 }
 
 /// What one line says.
@@ -24,8 +45,25 @@ pub enum Block {
 pub enum Statement {
     File(Option<Text>),
     Package(Option<Text>),
+    Syntax(Option<Text>),
+    Import(Text),
+    Public(i32),
+    Weak(i32),
+    At(Location),
+    Service(Option<Text>),
     Message(Option<Text>),
+    Enum(Option<Text>),
+    Extend(FieldDescriptorProto),
     Field(FieldDescriptorProto),
+    Oneof(Option<Text>),
+    Reserved(Option<i32>, Option<i32>),
+    Extensions(Option<i32>, Option<i32>),
+    Value(EnumValueDescriptorProto),
+    Alias,
+    Method(MethodDescriptorProto),
+    Json(Option<Text>),
+    Packed(bool),
+    Default(Text),
     End,
     Link,
     Find(Text),
@@ -42,9 +80,9 @@ pub enum ScriptFault {
     Misplaced,
     /// It has too few words, or too many.
     WrongCount,
-    /// A word should be a number, and is none.
+    /// A word should be a number or numbers, and is not.
     BadNumber,
-    /// A word should be a label or a type, and is none.
+    /// A word should be a label, a type, a truth value or a given text, and is not.
     BadWord,
     /// The script ends in an open block.
     MissingEnd,

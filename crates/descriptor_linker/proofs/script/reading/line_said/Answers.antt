@@ -1,13 +1,13 @@
-use Rattle.std.proofs.Common.{subst, reverse}
-use Rattle.descriptor_linker.specs.Script.Answers.{IsAnswer}
+use Rattle.std.proofs.Common.{subst}
+use Rattle.descriptor_linker.specs.Script.Answers.{IsAnswer, standing_in}
 use Rattle.descriptor_linker.proofs.Reading.{line_said-text, line_said-broken}
 use Rattle.descriptor_linker.proofs.script.reading.line_said.Goals as goal
 
 pub returns-in_ok-words-in-Ok : goal.returns-in_ok-words-in-Ok
 returns-in_ok-words-in-Ok c =
     subst (λ d. IsAnswer d c.statement_said.result)
-    (line_said-text (reverse c.args.blocks.now) c.args.line.now _ _ _ c.in-Ok.ensures.cases c.as_slice.ensures.value c.in_ok-words-in-Ok.ensures)
+    (line_said-text (standing_in c.args.here.now) c.args.line.now _ _ _ c.in-Ok.ensures.cases c.as_slice.ensures.value c.in_ok-words-in-Ok.ensures)
     c.statement_said.ensures
 
 pub returns-in-Err : goal.returns-in-Err
-returns-in-Err c = line_said-broken (reverse c.args.blocks.now) c.args.line.now c.in-Err.ensures.cases.0
+returns-in-Err c = line_said-broken (standing_in c.args.here.now) c.args.line.now c.in-Err.ensures.cases.0
