@@ -13,7 +13,7 @@ use Rattle.proto_records.specs.Protos.{of_message, of_file}
 use Rattle.proto_records.specs.Totals.{saturated, sums, both_sums, totals_of_message, totals_of_file, totals_of_enums, totals_of_services, totals_of_messages, nowhere}
 use Rattle.proto_records.specs.declared.tag.file.TheConstants.{MESSAGE_TYPE, ENUM_TYPE}
 use Rattle.proto_records.proofs.Counted.{both, both-comm, both-assoc, one, summed, summed-next, summed-none}
-use Rattle.proto_records.proofs.Tallies.{message_tally, messages_tally, enums_tally, services_tally, enum_fits, service_fits, file_tally, so_many_extensions, so_many_enums, so_many_services, message-tally, messages-tally, message-parts, enums-tally, services-tally, file-tally}
+use Rattle.proto_records.proofs.Tallies.{messages_tally, enums_tally, services_tally, enum_fits, service_fits, so_many_extensions, so_many_enums, so_many_services, message-tally, messages-tally, message-parts, enums-tally, services-tally, file-tally}
 
 pub totals_are : (a b : Totals) → a.files ≡ b.files → a.messages ≡ b.messages → a.enums ≡ b.enums → a.services ≡ b.services → a.extensions ≡ b.extensions → a ≡ b
 totals_are a b f m e s x = λ i. record { files = f i; messages = m i; enums = e i; services = s i; extensions = x i }

@@ -3,3 +3,4 @@ pub mod Tallies
 pub mod Held
 pub mod Finding
 pub mod PathText
+pub mod Leading

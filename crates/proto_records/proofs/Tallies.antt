@@ -1,5 +1,5 @@
 -- The counts of what messages, enums, services and files declare.
-use Rattle.std.proofs.Common.{◌≡◌, ℕ, suc, ℤ, Bool, true, false, ◌&&◌, ◌+◌, Option, Some, None, List, [], ◌∷◌, ◌++◌, length, cond, refl, ap, sym, ◌∙◌, arith}
+use Rattle.std.proofs.Common.{◌≡◌, ℕ, suc, ℤ, Bool, true, false, ◌&&◌, Option, Some, None, List, [], ◌∷◌, ◌++◌, length, cond, refl, ap, sym, ◌∙◌, arith}
 use Rattle.std.specs.List.{list_all}
 use Rattle.proto_records.specs.Computed.{literals}
 use Rattle.proto_records.specs.declared.counts.Counts.{Counts}
@@ -14,8 +14,8 @@ use Rattle.proto_records.specs.declared.tag.message.TheConstants as message
 use Rattle.proto_records.specs.declared.tag.enum_.TheConstants as enumeration
 use Rattle.proto_records.specs.declared.tag.service.TheConstants as service
 use Rattle.proto_records.specs.Protos.{Proto, of_file, of_message, of_field, of_oneof, of_service, of_method, of_enum, of_value, of_extension}
-use Rattle.proto_records.specs.Shown.{Shown, Surrounding, shown, file_shown, row, parts, inside, beside}
-use Rattle.proto_records.specs.Counts.{no_counts, counted, counting, plus, lists_fit}
+use Rattle.proto_records.specs.Shown.{Surrounding, shown, file_shown, row, parts, inside, beside}
+use Rattle.proto_records.specs.Counts.{no_counts, counted, counting, lists_fit}
 use Rattle.proto_records.specs.Declarations.{enum_walk, enums_walk, service_walk, services_walk, message_walk, nested_walk, messages_walk, message_front, message_end, file_walk, in_file, declarations}
 use Rattle.proto_records.specs.Totals.{tally}
 use Rattle.proto_records.proofs.Counted.{both, both-nothing, one, summed, tally-append, tally-cons, counts_are}

@@ -14,7 +14,7 @@ use Rattle.proto_records.specs.declared.records.field.FieldDescriptorProto.{Fiel
 use Rattle.proto_records.specs.declared.records.message.OneofDescriptorProto.{OneofDescriptorProto}
 use Rattle.proto_records.specs.declared.records.service.ServiceDescriptorProto.{ServiceDescriptorProto}
 use Rattle.proto_records.specs.Readers.{text_of}
-use Rattle.proto_records.specs.Protos.{Proto, of_file, of_message, of_field, of_oneof, of_service, of_method, of_enum, of_value, of_extension}
+use Rattle.proto_records.specs.Protos.{of_message, of_field, of_oneof, of_service, of_method, of_enum, of_value, of_extension}
 use Rattle.proto_records.specs.Shown.{Shown, Surrounding, shown, file_shown, inside, beside, row, parts}
 use Rattle.proto_records.specs.Counts.{counted, counting}
 

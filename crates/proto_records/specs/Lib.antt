@@ -15,3 +15,5 @@ pub mod Contents
 pub mod ContentsCode
 pub mod Labels
 pub mod Texts
+pub mod Exact
+pub mod Equality

@@ -3,6 +3,7 @@
 
 mod contents;
 mod counts;
+mod exact;
 mod fault;
 mod find;
 mod items;
@@ -18,6 +19,7 @@ pub use contents::{
     MessageDescriptorInner,
 };
 pub use counts::{CountKind, Counts};
+pub use exact::{ExactEq, same};
 pub use fault::{DescriptorErrorKind, Placed};
 pub use find::{
     find_enum_proto, find_enum_value_proto, find_field_proto, find_message_proto,

@@ -4,7 +4,7 @@ use Rattle.proto_records.specs.declared.records.message.DescriptorProto.{out-Des
 use Rattle.proto_records.specs.declared.tag.file.TheConstants.{MESSAGE_TYPE}
 use Rattle.proto_records.specs.Counts.{no_counts, lists_fit}
 use Rattle.proto_records.specs.Protos.{of_message}
-use Rattle.proto_records.specs.Totals.{nowhere, both_sums, totals_of_message, totals_of_enums}
+use Rattle.proto_records.specs.Totals.{nowhere, both_sums, totals_of_enums}
 use Rattle.proto_records.proofs.Tallies.{message_tally, messages_tally, message-tally}
 use Rattle.proto_records.proofs.Held.{in_64, own_message, message-held, message-none, held-next, held-none, both_sums-assoc}
 use Rattle.proto_records.proofs.counts.totals.Totals.+of_message.Goals as goal

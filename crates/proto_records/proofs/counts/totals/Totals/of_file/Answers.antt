@@ -1,8 +1,5 @@
-use Rattle.std.proofs.Common.{rules, ◌≡◌, true, false, None, ap, sym, ◌∙◌, arith}
-use Rattle.proto_records.specs.Totals.{both_sums}
-use Rattle.proto_records.specs.Counts.{lists_fit}
-use Rattle.proto_records.specs.Protos.{of_file}
-use Rattle.proto_records.proofs.Held.{file-held, file-none}
+use Rattle.std.proofs.Common.{rules}
+use Rattle.proto_records.proofs.Held.{file-held}
 use Rattle.proto_records.proofs.counts.totals.Totals.of_file.Goals as goal
 
 pub returns-in_err-messages : goal.returns-in_err-messages

@@ -1,4 +1,4 @@
-use Rattle.std.proofs.Common.{rules, ◌≡◌, ℤ, pos, Some, slice_index_or, sym, ◌∙◌}
+use Rattle.std.proofs.Common.{rules, ◌≡◌, pos, Some, slice_index_or, sym, ◌∙◌}
 use Rattle.proto_records.specs.declared.records.message.DescriptorProto.{out-DescriptorProto}
 use Rattle.proto_records.specs.declared.tag.message.TheConstants as message
 use Rattle.proto_records.specs.Lists.{at}
