@@ -40,7 +40,9 @@ fn of_words(alloc: Global, keyword: Keyword, words: &[&str]) -> Result<Statement
         [name, number, label, type_, type_name, last] => {
             of_six(alloc, keyword, name, number, label, type_, type_name, last)
         }
-        _ => Err(LineError::Fault(ScriptFault::WrongCount)),
+        [_, _, _, _] => Err(LineError::Fault(ScriptFault::WrongCount)),
+        [_, _, _, _, _] => Err(LineError::Fault(ScriptFault::WrongCount)),
+        [_, _, _, _, _, _, _, ..] => Err(LineError::Fault(ScriptFault::WrongCount)),
     }
 }
 
