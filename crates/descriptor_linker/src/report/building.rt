@@ -25,6 +25,7 @@ pub(super) enum Open {
 impl Open {
     ghost use Rattle.std.specs.Prelude.{Some};
     ghost use Rattle.descriptor_linker.specs.Report.Building.{opened_by, stated_in, closed_in};
+    ghost use Rattle.descriptor_linker.specs.declared.report.building.Open.TheVariants as opened;
 
     /// A file of which nothing but the name is said.
     pub(super) fn file(alloc: Global, name: Option<Text>) -> Open
@@ -85,24 +86,40 @@ impl Open {
         ensures { OnOk result (self.new ≡ closed_in inner self.old) }
     {
         match inner {
-            Open::Message(message) => match self {
-                Open::File(file) => file.message_type.push(message)?,
-                Open::Message(outer) => outer.nested_type.push(message)?,
-                _ => {}
-            },
-            Open::Enum(closed) => match self {
-                Open::File(file) => file.enum_type.push(closed)?,
-                Open::Message(outer) => outer.enum_type.push(closed)?,
-                _ => {}
-            },
-            Open::Service(service) => {
-                if let Open::File(file) = self {
-                    file.service.push(service)?;
-                }
-            }
-            Open::File(_) => {}
+            Open::Message(message) => self.close_message(message),
+            Open::Enum(closed) => self.close_enum(closed),
+            Open::Service(service) => self.close_service(service),
+            Open::File(_file) => Ok(()),
         }
-        Ok(())
+    }
+
+    fn close_message(&mut self, message: DescriptorProto) -> Result<(), AllocError>
+        ensures { OnOk result (self.new ≡ closed_in (opened.Message message) self.old) }
+    {
+        match self {
+            Open::File(file) => file.message_type.push(message),
+            Open::Message(outer) => outer.nested_type.push(message),
+            _ => Ok(()),
+        }
+    }
+
+    fn close_enum(&mut self, closed: EnumDescriptorProto) -> Result<(), AllocError>
+        ensures { OnOk result (self.new ≡ closed_in (opened.Enum closed) self.old) }
+    {
+        match self {
+            Open::File(file) => file.enum_type.push(closed),
+            Open::Message(outer) => outer.enum_type.push(closed),
+            _ => Ok(()),
+        }
+    }
+
+    fn close_service(&mut self, service: ServiceDescriptorProto) -> Result<(), AllocError>
+        ensures { OnOk result (self.new ≡ closed_in (opened.Service service) self.old) }
+    {
+        match self {
+            Open::File(file) => file.service.push(service),
+            _ => Ok(()),
+        }
     }
 }
 
@@ -183,6 +200,7 @@ fn state_in_message(
 }
 
 /// Says more of the last field or extension.
+#[tactic(auto, using(crate::proofs::LastMessage::change_last_end))]
 fn say_more(
     alloc: Global,
     fields: &mut Items<FieldDescriptorProto>,
@@ -215,7 +233,7 @@ fn with_more(
             });
         }
         Statement::Default(text) => field.default_value = Some(text),
-        _ => {}
+        _other => {}
     }
     field
 }

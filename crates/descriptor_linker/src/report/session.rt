@@ -2,7 +2,7 @@
 
 ghost use Rattle.std.specs.Prelude.{◌≡◌, OnOk};
 ghost use Rattle.descriptor_linker.specs.declared.script.statement.Statement.TheVariants as say;
-ghost use Rattle.descriptor_linker.specs.Report.Session.{new_session, opening, stating, step};
+ghost use Rattle.descriptor_linker.specs.Report.Session.{new_session, opening, stating, extends_after, step};
 
 use super::answers::{tell_counts, tell_found, tell_refused, tell_too_many};
 use super::building::Open;
@@ -73,11 +73,7 @@ impl Session {
         ensures { OnOk result (session_in self.new ≡ stating (session_in self.old) said) }
     {
         let extends = self.extends;
-        match said {
-            Statement::Extend(_) => self.extends = true,
-            Statement::Field(_) => self.extends = false,
-            _ => {}
-        }
+        self.extends = extends_after(extends, &said);
         if let Some(innermost) = self.open_records.last_mut() {
             innermost.state(self.alloc, extends, said)?;
         }
@@ -110,5 +106,16 @@ impl Session {
             Err(BuildError::Descriptor(error)) => tell_refused(&mut self.told, error.errors()),
             Err(BuildError::OutOfMemory) => Err(AllocError),
         }
+    }
+}
+
+/// Whether the last of fields and extensions is an extension, behind a statement.
+fn extends_after(before: bool, said: &Statement) -> bool
+    ensures { result ≡ extends_after before said.now }
+{
+    match said {
+        Statement::Extend(_) => true,
+        Statement::Field(_) => false,
+        _ => before,
     }
 }
