@@ -1,13 +1,18 @@
 //! What no contract says: whether calls succeed, printed text, worked examples and devices that fail.
 
+mod copies;
 mod devices;
 mod errors;
+mod finders;
 mod large;
 mod made;
 mod numbers;
 mod pools;
+mod readers;
 mod reading;
 mod records;
 mod script_faults;
 mod scripts;
+mod statements;
 mod telling;
+mod whole;

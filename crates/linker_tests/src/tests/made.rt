@@ -31,10 +31,10 @@ pub(super) fn message(
     name: &str,
     fields: Vec<FieldDescriptorProto>,
 ) -> Result<DescriptorProto, AllocError> {
-    Ok(DescriptorProto {
-        name: Some(Text::from_str(alloc, name)?),
-        field: Items::from_vec(fields),
-    })
+    let mut message = DescriptorProto::empty(alloc);
+    message.name = Some(Text::from_str(alloc, name)?);
+    message.field = Items::from_vec(fields);
+    Ok(message)
 }
 
 /// A file with messages, in a package.
@@ -44,11 +44,11 @@ pub(super) fn file(
     package: &str,
     messages: Vec<DescriptorProto>,
 ) -> Result<FileDescriptorProto, AllocError> {
-    Ok(FileDescriptorProto {
-        name: Some(Text::from_str(alloc, name)?),
-        package: Some(Text::from_str(alloc, package)?),
-        message_type: Items::from_vec(messages),
-    })
+    let mut file = FileDescriptorProto::empty(alloc);
+    file.name = Some(Text::from_str(alloc, name)?);
+    file.package = Some(Text::from_str(alloc, package)?);
+    file.message_type = Items::from_vec(messages);
+    Ok(file)
 }
 
 /// The file of the first script: a package `p.q`, with a message `M` that has fields `f` and `g`.

@@ -11,10 +11,6 @@ fn tells_the_first_fault_of_a_script(rt: HostRuntime) -> Result<(), Fail> {
         ("link now\n", "line 1: wrong count of words\n"),
         ("file a.proto\nlink\n", "line 2: misplaced\n"),
         (
-            "file a.proto\nmessage M\nmessage N\n",
-            "line 3: misplaced\n",
-        ),
-        (
             "file a.proto\nmessage M\nfield f x optional int32 ~ ~\n",
             "line 3: bad number\n",
         ),
@@ -33,6 +29,114 @@ fn tells_the_first_fault_of_a_script(rt: HostRuntime) -> Result<(), Fail> {
             "link\nfind M\nnope\nlink\n",
             "ok 0 0 0 0 0\nnone\nline 3: unknown word\n",
         ),
+    ];
+    let cases = cases.map(|(script, report)| (script, report, Ending::ScriptFault));
+    compare(&rt, rt.alloc(), &cases)
+}
+
+#[test]
+fn tells_words_that_do_not_say_what_they_should(rt: HostRuntime) -> Result<(), Fail> {
+    let cases = [
+        ("file a\nimport ~\n", "line 2: bad word\n"),
+        ("file a\npublic ~\n", "line 2: bad number\n"),
+        ("file a\nweak x\n", "line 2: bad number\n"),
+        ("file a\nat 3,,0 1\n", "line 2: bad number\n"),
+        ("file a\nat ~ 1\n", "line 2: bad number\n"),
+        ("file a\nat '' 1,x\n", "line 2: bad number\n"),
+        ("file a\nextend e x maybe odd ~ ~\n", "line 2: bad number\n"),
+        ("file a\nextend e 1 maybe odd ~ ~\n", "line 2: bad word\n"),
+        ("file a\nextend e 1 ~ odd ~ ~\n", "line 2: bad word\n"),
+        (
+            "file a\nextend e 1 ~ ~ ~ ~\npacked yes\n",
+            "line 3: bad word\n",
+        ),
+        ("file a\nmessage M\nreserved 1 x\n", "line 3: bad number\n"),
+        (
+            "file a\nmessage M\nextensions x 1\n",
+            "line 3: bad number\n",
+        ),
+        (
+            "file a\nmessage M\nfield f 1 ~ ~ ~ x\n",
+            "line 3: bad number\n",
+        ),
+        ("file a\nenum E\nvalue V x\n", "line 3: bad number\n"),
+        ("file a\nenum E\nreserved x x\n", "line 3: bad number\n"),
+    ];
+    let cases = cases.map(|(script, report)| (script, report, Ending::ScriptFault));
+    compare(&rt, rt.alloc(), &cases)
+}
+
+#[test]
+fn tells_statements_that_stand_in_the_wrong_place(rt: HostRuntime) -> Result<(), Fail> {
+    let cases = [
+        ("field f 1 ~ ~ ~ ~\n", "line 1: misplaced\n"),
+        ("package\n", "line 1: misplaced\n"),
+        ("file a\noneof o\n", "line 2: misplaced\n"),
+        ("file a\nvalue V 1\n", "line 2: misplaced\n"),
+        ("file a\njson x\n", "line 2: misplaced\n"),
+        ("file a\nmessage M\nimport b\n", "line 3: misplaced\n"),
+        ("file a\nmessage M\nservice S\n", "line 3: misplaced\n"),
+        ("file a\nmessage M\nfind M\n", "line 3: misplaced\n"),
+        (
+            "file a\nmessage M\nfield f 1 ~ ~ ~ ~\noneof o\njson x\n",
+            "line 5: misplaced\n",
+        ),
+        (
+            "file a\nextend e 1 ~ ~ ~ ~\nend\npacked true\n",
+            "line 4: misplaced\n",
+        ),
+        ("file a\nenum E\nextensions 1 2\n", "line 3: misplaced\n"),
+        ("file a\nenum E\ndefault x\n", "line 3: misplaced\n"),
+        ("file a\nservice S\nmessage M\n", "line 3: misplaced\n"),
+        ("file a\nwalk\n", "line 2: unknown word\n"),
+        ("refs a\n", "line 1: unknown word\n"),
+        ("relink\n", "line 1: unknown word\n"),
+        ("ext M 1\n", "line 1: unknown word\n"),
+    ];
+    let cases = cases.map(|(script, report)| (script, report, Ending::ScriptFault));
+    compare(&rt, rt.alloc(), &cases)
+}
+
+#[test]
+fn tells_a_wrong_count_of_words(rt: HostRuntime) -> Result<(), Fail> {
+    let cases = [
+        ("file a\nsyntax\n", "line 2: wrong count of words\n"),
+        ("file a\nimport b c\n", "line 2: wrong count of words\n"),
+        ("file a\nat 1\n", "line 2: wrong count of words\n"),
+        (
+            "file a\nextend e 1 ~ ~ ~\n",
+            "line 2: wrong count of words\n",
+        ),
+        ("file a\nend x\n", "line 2: wrong count of words\n"),
+        (
+            "file a\nservice S\nmethod m .M\n",
+            "line 3: wrong count of words\n",
+        ),
+        (
+            "file a\nenum E\nalias x\n",
+            "line 3: wrong count of words\n",
+        ),
+        (
+            "file a\nenum E\nvalue V 1 2\n",
+            "line 3: wrong count of words\n",
+        ),
+        (
+            "file a\nmessage M\nreserved 1\n",
+            "line 3: wrong count of words\n",
+        ),
+        (
+            "file a\nextend e 1 ~ ~ ~ ~\ndefault\n",
+            "line 3: wrong count of words\n",
+        ),
+        (
+            "file a\nextend e 1 ~ ~ ~ ~\n default \n",
+            "line 3: wrong count of words\n",
+        ),
+        (
+            "file a\nextend e 1 ~ ~ ~ ~\njson a b\n",
+            "line 3: wrong count of words\n",
+        ),
+        ("file a\nenum E\nend\nservice S\n", "line 5: missing end\n"),
     ];
     let cases = cases.map(|(script, report)| (script, report, Ending::ScriptFault));
     compare(&rt, rt.alloc(), &cases)

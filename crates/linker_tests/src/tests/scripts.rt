@@ -45,6 +45,30 @@ fn tells_what_is_linked_and_found(rt: HostRuntime) -> Result<(), Fail> {
 }
 
 #[test]
+fn links_a_file_with_every_statement(rt: HostRuntime) -> Result<(), Fail> {
+    let cases = [
+        (
+            "file a.proto\npackage p\nsyntax proto2\nimport b.proto\npublic 0\nweak 0\n\
+            at 4,0 1,2,3\nmessage M\nfield f 1 optional int32 ~ 0\njson g\noneof o\n\
+            message N\nend\nenum E\nvalue V 0\nreserved 5 6\nalias\nend\nreserved 7 8\n\
+            extensions 100 200\nextend e 100 optional int32 ~ M\ndefault 5\nend\n\
+            enum F\nend\nservice S\nmethod m .p.M .p.M\nend\n\
+            extend x 101 optional int32 ~ .p.M\npacked false\nend\nlink\n\
+            find p.M.f\nfind p.M.N\nfind p.S\n",
+            "ok 1 1 0 0 0\nfield 0 a.proto [4, 0, 2, 0, 1]\nnone\nnone\n",
+            Ending::Whole,
+        ),
+        (
+            "file a.proto\nmessage M\nfield f 1 optional int32 ~ ~\n\n# more of it\n  \n\
+            json x\n\n#\npacked true\ndefault  7\nend\nend\nlink\n",
+            "ok 1 1 0 0 0\n",
+            Ending::Whole,
+        ),
+    ];
+    compare(&rt, rt.alloc(), &cases)
+}
+
+#[test]
 fn refuses_a_name_that_is_held(rt: HostRuntime) -> Result<(), Fail> {
     let cases = [
         (
