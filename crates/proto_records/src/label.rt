@@ -1,7 +1,6 @@
 ghost use Rattle.std.specs.Prelude.{◌≡◌, ◌<◌, IfOk, length, map};
 ghost use Rattle.proto_records.specs.Labels.{label, label_in};
 
-use crate::items::Duplicate;
 use crate::{FileDescriptorInner, FileDescriptorProto, Items, Text};
 use std::alloc::{AllocError, Global};
 

@@ -12,109 +12,110 @@ use proto_records::{
     OneofDescriptorProto, Options, ReservedRange, ServiceDescriptorProto, SourceCodeInfo, Unread,
     same,
 };
-use std::alloc::Global;
-use std::process::Abort;
+use std::alloc::{AllocError, Global};
 use std::test::Fail;
 
-/// A record equals its copy, and not another record.
-fn compare<T: Duplicate + ExactEq>(
-    rt: &impl Abort,
+/// Whether a record equals its copy, and not another record.
+fn is_copied<T: Duplicate + ExactEq>(
     alloc: Global,
     record: &T,
     other: &T,
-) -> Result<(), Fail> {
+) -> Result<bool, AllocError> {
     let copy = record.duplicate(alloc)?;
-    assert!(rt; *record == copy);
-    assert!(rt; same(record, &copy));
-    assert!(rt; !same(record, other));
-    Ok(())
+    Ok(*record == copy && same(record, &copy) && !same(record, other))
 }
 
 #[test]
 fn messages_and_their_parts_equal_their_copies(rt: HostRuntime) -> Result<(), Fail> {
     let alloc = rt.alloc();
-    compare(
-        &rt,
-        alloc,
-        &whole_message(alloc)?,
-        &DescriptorProto::empty(alloc),
-    )?;
-    compare(
-        &rt,
-        alloc,
-        &whole_field(alloc)?,
-        &FieldDescriptorProto::empty(alloc),
-    )?;
-    compare(
-        &rt,
-        alloc,
-        &whole_oneof(alloc)?,
-        &OneofDescriptorProto::empty(alloc),
-    )?;
-    compare(
-        &rt,
-        alloc,
-        &whole_range(alloc)?,
-        &ExtensionRange::empty(alloc),
-    )?;
+    assert!(rt;
+        is_copied(
+            alloc,
+            &whole_message(alloc)?,
+            &DescriptorProto::empty(alloc)
+        )?
+    );
+    assert!(rt;
+        is_copied(
+            alloc,
+            &whole_field(alloc)?,
+            &FieldDescriptorProto::empty(alloc)
+        )?
+    );
+    assert!(rt;
+        is_copied(
+            alloc,
+            &whole_oneof(alloc)?,
+            &OneofDescriptorProto::empty(alloc)
+        )?
+    );
+    assert!(rt; is_copied(alloc, &whole_range(alloc)?, &ExtensionRange::empty(alloc))?);
     let range = ReservedRange {
         start: None,
         end: Some(2),
     };
-    compare(&rt, alloc, &range, &ReservedRange::empty(alloc))
+    assert!(rt; is_copied(alloc, &range, &ReservedRange::empty(alloc))?);
+    Ok(())
 }
 
 #[test]
 fn enums_and_services_equal_their_copies(rt: HostRuntime) -> Result<(), Fail> {
     let alloc = rt.alloc();
-    compare(
-        &rt,
-        alloc,
-        &whole_enum(alloc)?,
-        &EnumDescriptorProto::empty(alloc),
-    )?;
-    compare(
-        &rt,
-        alloc,
-        &whole_value(alloc)?,
-        &EnumValueDescriptorProto::empty(alloc),
-    )?;
+    assert!(rt;
+        is_copied(
+            alloc,
+            &whole_enum(alloc)?,
+            &EnumDescriptorProto::empty(alloc)
+        )?
+    );
+    assert!(rt;
+        is_copied(
+            alloc,
+            &whole_value(alloc)?,
+            &EnumValueDescriptorProto::empty(alloc)
+        )?
+    );
     let range = EnumReservedRange {
         start: Some(0),
         end: None,
     };
-    compare(&rt, alloc, &range, &EnumReservedRange::empty(alloc))?;
-    compare(
-        &rt,
-        alloc,
-        &whole_service(alloc)?,
-        &ServiceDescriptorProto::empty(alloc),
-    )?;
-    compare(
-        &rt,
-        alloc,
-        &whole_method(alloc)?,
-        &MethodDescriptorProto::empty(alloc),
-    )
+    assert!(rt; is_copied(alloc, &range, &EnumReservedRange::empty(alloc))?);
+    assert!(rt;
+        is_copied(
+            alloc,
+            &whole_service(alloc)?,
+            &ServiceDescriptorProto::empty(alloc)
+        )?
+    );
+    assert!(rt;
+        is_copied(
+            alloc,
+            &whole_method(alloc)?,
+            &MethodDescriptorProto::empty(alloc)
+        )?
+    );
+    Ok(())
 }
 
 #[test]
 fn files_equal_their_copies(rt: HostRuntime) -> Result<(), Fail> {
     let alloc = rt.alloc();
-    compare(
-        &rt,
-        alloc,
-        &whole_file(alloc)?,
-        &FileDescriptorProto::empty(alloc),
-    )?;
-    compare(&rt, alloc, &whole_location(alloc)?, &Location::empty(alloc))?;
+    assert!(rt;
+        is_copied(
+            alloc,
+            &whole_file(alloc)?,
+            &FileDescriptorProto::empty(alloc)
+        )?
+    );
+    assert!(rt; is_copied(alloc, &whole_location(alloc)?, &Location::empty(alloc))?);
     let held = FileDescriptorInner {
         raw: whole_file(alloc)?,
     };
     let other = FileDescriptorInner {
         raw: first_file(alloc)?,
     };
-    compare(&rt, alloc, &held, &other)
+    assert!(rt; is_copied(alloc, &held, &other)?);
+    Ok(())
 }
 
 #[test]

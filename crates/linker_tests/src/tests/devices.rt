@@ -59,11 +59,22 @@ fn memory_is_written_as_far_as_there_is_room(rt: HostRuntime) -> Result<(), Fail
     let mut output = MemoryOutput::new(rt.alloc(), 5)?;
     assert_eq!(rt; output.write(b"abc")?, 3);
     assert_eq!(rt; output.write(b"def")?, 2);
+    assert_eq!(rt; output.written(), b"abcde".as_slice());
+    Ok(())
+}
+
+#[test]
+fn a_write_without_room_is_idle(rt: HostRuntime) -> Result<(), Fail> {
+    let mut output = MemoryOutput::new(rt.alloc(), 0)?;
     assert_eq!(rt; output.write(b"")?, 0);
     assert_eq!(rt; output.idle(), 0);
     assert_eq!(rt; output.write(b"f")?, 0);
     assert_eq!(rt; output.idle(), 1);
-    assert_eq!(rt; output.written(), b"abcde".as_slice());
+    Ok(())
+}
+
+#[test]
+fn memory_is_written_around_a_burnt_fuse(rt: HostRuntime) -> Result<(), Fail> {
     assert!(rt; MemoryOutput::new(rt.alloc(), usize::MAX).is_err());
     let mut output = MemoryOutput::with_fuse(rt.alloc(), 9, 1)?;
     assert!(rt; output.write(b"abc").is_err());
@@ -74,7 +85,7 @@ fn memory_is_written_as_far_as_there_is_room(rt: HostRuntime) -> Result<(), Fail
 }
 
 #[test]
-fn streams_are_read_and_written(rt: HostRuntime) -> Result<(), Fail> {
+fn a_stream_is_read(rt: HostRuntime) -> Result<(), Fail> {
     let mut input = ReaderInput::new(b"abc".as_slice());
     let mut buffer = [0u8; 2];
     assert_eq!(rt; input.read(&mut buffer)?, 2);
@@ -83,6 +94,11 @@ fn streams_are_read_and_written(rt: HostRuntime) -> Result<(), Fail> {
     assert_eq!(rt; buffer, [99, 98]);
     assert_eq!(rt; input.read(&mut buffer)?, 0);
     assert_eq!(rt; input.failures(), 0);
+    Ok(())
+}
+
+#[test]
+fn a_stream_is_written(rt: HostRuntime) -> Result<(), Fail> {
     let mut held = Vec::new(rt.alloc());
     let mut output = WriterOutput::new(&mut held);
     assert_eq!(rt; output.write(b"abc")?, 3);
@@ -137,7 +153,7 @@ fn streams_are_read_and_written_in_parts(rt: HostRuntime) -> Result<(), Fail> {
 }
 
 #[test]
-fn broken_streams_end_the_run(rt: HostRuntime) -> Result<(), Fail> {
+fn a_broken_reader_ends_the_run(rt: HostRuntime) -> Result<(), Fail> {
     let mut held = Vec::new(rt.alloc());
     let mut input = ReaderInput::new(FIRST_SCRIPT.as_bytes().chain(Broken));
     let mut output = WriterOutput::new(&mut held);
@@ -145,6 +161,11 @@ fn broken_streams_end_the_run(rt: HostRuntime) -> Result<(), Fail> {
     assert_eq!(rt; input.failures(), 1);
     drop(output);
     assert_eq!(rt; held.as_slice(), b"".as_slice());
+    Ok(())
+}
+
+#[test]
+fn a_broken_writer_ends_the_run(rt: HostRuntime) -> Result<(), Fail> {
     let mut input = ReaderInput::new(FIRST_SCRIPT.as_bytes());
     let taken = Vec::new(rt.alloc());
     let mut narrow = Narrow { taken, room: 7 };
