@@ -64,6 +64,16 @@ fn links_a_file_with_every_statement(rt: HostRuntime) -> Result<(), Fail> {
             "ok 1 1 0 0 0\n",
             Ending::Whole,
         ),
+        (
+            "file a.proto\npackage p\nsyntax proto2\nimport b.proto\nmessage M\n\
+            field id 1 optional int32 ~ ~\nextensions 100 200\nend\nenum E\nvalue ZERO 0\n\
+            value ONE 1\nend\nservice S\nmethod get .p.M .p.M\nend\n\
+            extend tags 100 repeated int32 ~ .p.M\njson allTags\npacked true\n\
+            extend note 101 optional string ~ .p.M\ndefault  two words\nend\nlink\n\
+            find p.M.id\nfind p.E\nfind p.S\nfind p.tags\n",
+            "ok 1 1 0 0 0\nfield 0 a.proto [4, 0, 2, 0, 1]\nnone\nnone\nnone\n",
+            Ending::Whole,
+        ),
     ];
     compare(&rt, rt.alloc(), &cases)
 }
