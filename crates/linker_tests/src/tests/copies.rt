@@ -18,80 +18,68 @@ use std::test::Fail;
 /// Whether a record equals its copy, and not another record.
 fn is_copied<T: Duplicate + ExactEq>(
     alloc: Global,
-    record: &T,
-    other: &T,
+    record: T,
+    other: T,
 ) -> Result<bool, AllocError> {
     let copy = record.duplicate(alloc)?;
-    Ok(*record == copy && same(record, &copy) && !same(record, other))
+    Ok(record == copy && same(&record, &copy) && !same(&record, &other))
 }
 
 #[test]
 fn messages_and_their_parts_equal_their_copies(rt: HostRuntime) -> Result<(), Fail> {
     let alloc = rt.alloc();
+    assert!(rt; is_copied(alloc, whole_message(alloc)?, DescriptorProto::empty(alloc))?);
     assert!(rt;
         is_copied(
             alloc,
-            &whole_message(alloc)?,
-            &DescriptorProto::empty(alloc)
+            whole_field(alloc)?,
+            FieldDescriptorProto::empty(alloc)
         )?
     );
     assert!(rt;
         is_copied(
             alloc,
-            &whole_field(alloc)?,
-            &FieldDescriptorProto::empty(alloc)
+            whole_oneof(alloc)?,
+            OneofDescriptorProto::empty(alloc)
         )?
     );
-    assert!(rt;
-        is_copied(
-            alloc,
-            &whole_oneof(alloc)?,
-            &OneofDescriptorProto::empty(alloc)
-        )?
-    );
-    assert!(rt; is_copied(alloc, &whole_range(alloc)?, &ExtensionRange::empty(alloc))?);
+    assert!(rt; is_copied(alloc, whole_range(alloc)?, ExtensionRange::empty(alloc))?);
     let range = ReservedRange {
         start: None,
         end: Some(2),
     };
-    assert!(rt; is_copied(alloc, &range, &ReservedRange::empty(alloc))?);
+    assert!(rt; is_copied(alloc, range, ReservedRange::empty(alloc))?);
     Ok(())
 }
 
 #[test]
 fn enums_and_services_equal_their_copies(rt: HostRuntime) -> Result<(), Fail> {
     let alloc = rt.alloc();
+    assert!(rt; is_copied(alloc, whole_enum(alloc)?, EnumDescriptorProto::empty(alloc))?);
     assert!(rt;
         is_copied(
             alloc,
-            &whole_enum(alloc)?,
-            &EnumDescriptorProto::empty(alloc)
-        )?
-    );
-    assert!(rt;
-        is_copied(
-            alloc,
-            &whole_value(alloc)?,
-            &EnumValueDescriptorProto::empty(alloc)
+            whole_value(alloc)?,
+            EnumValueDescriptorProto::empty(alloc)
         )?
     );
     let range = EnumReservedRange {
         start: Some(0),
         end: None,
     };
-    assert!(rt; is_copied(alloc, &range, &EnumReservedRange::empty(alloc))?);
+    assert!(rt; is_copied(alloc, range, EnumReservedRange::empty(alloc))?);
     assert!(rt;
         is_copied(
             alloc,
-            &whole_service(alloc)?,
-            &ServiceDescriptorProto::empty(alloc)
+            whole_service(alloc)?,
+            ServiceDescriptorProto::empty(alloc)
         )?
     );
     assert!(rt;
         is_copied(
             alloc,
-            &whole_method(alloc)?,
-            &MethodDescriptorProto::empty(alloc)
+            whole_method(alloc)?,
+            MethodDescriptorProto::empty(alloc)
         )?
     );
     Ok(())
@@ -100,21 +88,15 @@ fn enums_and_services_equal_their_copies(rt: HostRuntime) -> Result<(), Fail> {
 #[test]
 fn files_equal_their_copies(rt: HostRuntime) -> Result<(), Fail> {
     let alloc = rt.alloc();
-    assert!(rt;
-        is_copied(
-            alloc,
-            &whole_file(alloc)?,
-            &FileDescriptorProto::empty(alloc)
-        )?
-    );
-    assert!(rt; is_copied(alloc, &whole_location(alloc)?, &Location::empty(alloc))?);
+    assert!(rt; is_copied(alloc, whole_file(alloc)?, FileDescriptorProto::empty(alloc))?);
+    assert!(rt; is_copied(alloc, whole_location(alloc)?, Location::empty(alloc))?);
     let held = FileDescriptorInner {
         raw: whole_file(alloc)?,
     };
     let other = FileDescriptorInner {
         raw: first_file(alloc)?,
     };
-    assert!(rt; is_copied(alloc, &held, &other)?);
+    assert!(rt; is_copied(alloc, held, other)?);
     Ok(())
 }
 
