@@ -109,14 +109,14 @@ impl ExtensionRange {
         }
     }
 
-    /// The first number; where it is missing, 0.
+    /// The first number that extensions may have; where it is missing, 0.
     pub fn start(&self) -> i32
         ensures { result ≡ number_of self.now.start }
     {
         self.start.unwrap_or(0)
     }
 
-    /// The number behind the last; where it is missing, 0.
+    /// The number behind the last that extensions may have; where it is missing, 0.
     pub fn end(&self) -> i32
         ensures { result ≡ number_of self.now.«end» }
     {
@@ -146,14 +146,14 @@ impl ReservedRange {
         }
     }
 
-    /// The first number; where it is missing, 0.
+    /// The first number that no field may have; where it is missing, 0.
     pub fn start(&self) -> i32
         ensures { result ≡ number_of self.now.start }
     {
         self.start.unwrap_or(0)
     }
 
-    /// The number behind the last; where it is missing, 0.
+    /// The number behind the last that no field may have; where it is missing, 0.
     pub fn end(&self) -> i32
         ensures { result ≡ number_of self.now.«end» }
     {
