@@ -2,7 +2,7 @@
 use Rattle.std.proofs.Common.{◌≡◌, ℕ, ◌+◌, ◌<◌, ◌≤◌, ◌^◌, Bool, true, false, ◌&&◌, Option, Some, None, IsOk, List, [], ◌∷◌, length, cond, refl, ap, sym, subst, ◌∙◌, arith, rules}
 use Rattle.std.specs.List.{sum_by, list_all}
 use Rattle.std.specs.declared.result.Result.{Result}
-use Rattle.std.specs.declared.result.Result.TheVariants.{Ok, Err}
+use Rattle.std.specs.declared.result.Result.TheVariants.{Err}
 use Rattle.std.proofs.lemmas.Bool.Decides.{nat_tests}
 use Rattle.std.proofs.lemmas.List.Sums.{sum_by-cons}
 use Rattle.proto_records.specs.declared.counts.Counts.{Counts}
@@ -15,7 +15,7 @@ use Rattle.proto_records.specs.Shown.{Shown}
 use Rattle.proto_records.specs.Counts.{no_counts, counted, counting, counts_of, counts_with, added_to, within_limit, lists_fit, fits_list}
 use Rattle.proto_records.specs.Declarations.{declarations}
 use Rattle.proto_records.specs.Totals.{tally}
-use Rattle.proto_records.proofs.Counted.{both, one, summed}
+use Rattle.proto_records.proofs.Counted.{both, one}
 use Rattle.proto_records.proofs.Tallies.{message_tally, messages_tally, enums_tally, services_tally, so_many_extensions, file_tally, files_tally, message-parts, declarations-tally}
 use Rattle.descriptor_linker.specs.ReadDeclarations.{has_short_lists}
 
@@ -27,13 +27,6 @@ within None = Err ListTooLong
 counts_of-tally : (ds : List Shown) → counts_of ds ≡ within (tally ds)
 counts_of-tally ds = elim (list_all (λ d. lists_fit d.proto) ds) as (λ b. cond b (within_limit (counted no_counts ds)) (Err ListTooLong) ≡ within (cond b (Some (counted no_counts ds)) None))
     [ true ↦ refl | false ↦ refl ]
-
--- the counts of files do not go by where the numbers begin
-pub counts_with-is : (base : Counts) (fs : List FileDescriptorProto) (r : Result Counts CountKind) → r ≡ counts_of (declarations no_counts fs)
-    → counts_with base (declarations base fs) ≡ added_to base r
-counts_with-is base fs r is =
-    ap (added_to base) (counts_of-tally (declarations base fs) ∙ ap within (declarations-tally base fs ∙ sym (declarations-tally no_counts fs))
-    ∙ sym (counts_of-tally (declarations no_counts fs)) ∙ sym is)
 
 -- counts that are there are no fewer than these, and the lists that are read are short
 abbrev Bounded : Option Counts → ℕ → ℕ → Bool → Type 0

@@ -9,7 +9,7 @@ use Rattle.proto_records.specs.declared.records.message.DescriptorProto.{Descrip
 use Rattle.proto_records.specs.declared.records.field.FieldDescriptorProto.{FieldDescriptorProto}
 use Rattle.proto_records.specs.declared.tag.file.TheConstants.{MESSAGE_TYPE}
 use Rattle.proto_records.specs.Protos.{of_field}
-use Rattle.proto_records.specs.Shown.{Shown, Surrounding, row}
+use Rattle.proto_records.specs.Shown.{Surrounding, row}
 use Rattle.proto_records.specs.Counts.{counted}
 use Rattle.proto_records.specs.Declarations.{in_file}
 use Rattle.proto_records.proofs.Counted.{counted-append}

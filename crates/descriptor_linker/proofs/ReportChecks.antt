@@ -58,6 +58,15 @@ pub message_twice : report (script (codes "file a.proto\npackage p\nmessage M\ne
 unfolding scripts
 message_twice = refl
 
+pub nothing_to_walk : report (script (codes "walk\n")) ≡ codes "walk 0\n"
+unfolding scripts
+nothing_to_walk = refl
+
+pub walk_over_two_files : report (script (codes "file a.proto\npackage p\nenum E\nvalue V 0\nend\nend\nfile b.proto\nmessage M\nmessage N\nend\nend\nend\nlink\nwalk\n"))
+    ≡ codes "ok 2 1 0 0 0\nwalk 6\nfile 0 a.proto []\nenum 0 p.E [5, 0]\nvalue 0 p.V [5, 0, 2, 0]\nfile 1 b.proto []\nmessage 0 M [4, 0]\nmessage 1 M.N [4, 0, 3, 0]\n"
+unfolding scripts
+walk_over_two_files = refl
+
 pub file_twice : report (script (codes "file a.proto\nend\nfile a.proto\nend\nlink\n"))
     ≡ codes "refused 1\na different file named 'a.proto' has already been added\n"
 unfolding scripts

@@ -5,7 +5,6 @@ mod build;
 mod devices;
 mod ending;
 mod error;
-mod names;
 mod pool;
 mod report;
 mod runs;

@@ -11,7 +11,7 @@ use pool_parts::{
     Definition, Entry, FileDescriptor, FileDescriptorInner, Files, MessageDescriptor,
     MessageDescriptorInner, first_definition,
 };
-use proto_records::{CountKind, Counts, Duplicate, FileDescriptorProto, duplicates};
+use proto_records::{Counts, Duplicate, FileDescriptorProto, duplicates};
 use std::alloc::{AllocError, Global};
 use std::marker::Model;
 
@@ -40,13 +40,11 @@ impl Model for DescriptorPool {
 }
 
 impl DescriptorPool {
-    ghost use Rattle.proto_records.specs.Contents.{no_contents, counts_in};
+    ghost use Rattle.proto_records.specs.Contents.{no_contents, counts_in, files_of};
     ghost use Rattle.descriptor_linker.specs.LookUps.{definition_named};
     ghost use Rattle.descriptor_linker.specs.Outcome.{Outcome, IsLinked};
     ghost use Rattle.descriptor_linker.specs.Passes.{TellsFaults};
     ghost use Rattle.descriptor_linker.specs.Pool.{new_files, faults, Fits};
-    ghost use Rattle.proto_records.specs.Counts.{counts_with};
-    ghost use Rattle.proto_records.specs.Declarations.{declarations};
 
     /// A pool without files, which takes no memory.
     pub fn new(alloc: Global) -> DescriptorPool
@@ -94,6 +92,17 @@ impl DescriptorPool {
         }
     }
 
+    /// The linked records of the pool's files, in the order of linking.
+    pub fn linked_files(&self) -> Result<Vec<FileDescriptorProto>, AllocError>
+        ensures { IfOk result (λ files. files.items ≡ files_of self.now) }
+    {
+        let mut files = Vec::new(self.alloc);
+        for file in &self.files {
+            files.push(file.raw.clone(self.alloc)?)?;
+        }
+        Ok(files)
+    }
+
     /// Links the files of a batch whose names the pool lacks; the others are passed over unread.
     /// Where memory is refused, where there is too much of a kind, or where the new files break a
     /// rule, the pool stays as it was; of broken rules all of the first failing pass are told.
@@ -105,18 +114,11 @@ impl DescriptorPool {
         if files.is_empty() {
             return Ok(());
         }
-        if let Err(kind) = self.counts_with(&files) {
+        if let Err(kind) = self.counts().with_files(&files) {
             return Err(BuildError::TooMany(kind));
         }
         *self = self.grown(&files)?;
         Ok(())
-    }
-
-    /// The counts of the pool together with new files, or what there is too much of.
-    fn counts_with(&self, new: &[FileDescriptorProto]) -> Result<Counts, CountKind>
-        ensures { result ≡ counts_with (counts_in self.now) (declarations (counts_in self.now) new.now) }
-    {
-        self.counts().plus(&Counts::of(new)?)
     }
 
     /// A copy of the pool with new files linked into it, none of whose names it has.

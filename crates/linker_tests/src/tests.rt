@@ -15,4 +15,5 @@ mod script_faults;
 mod scripts;
 mod statements;
 mod telling;
+mod walk;
 mod whole;

@@ -5,3 +5,8 @@ pub mod Held
 pub mod Finding
 pub mod PathText
 pub mod Leading
+pub mod Listings
+pub mod Turns
+pub mod Showing
+pub mod Room
+pub mod InTurn

@@ -17,3 +17,6 @@ pub mod Labels
 pub mod Texts
 pub mod Exact
 pub mod Equality
+pub mod Walking
+pub mod Progress
+pub mod Listed

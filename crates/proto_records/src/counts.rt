@@ -26,7 +26,7 @@ pub enum CountKind {
 
 impl Counts {
     ghost use Rattle.std.specs.Prelude.{◌≡◌};
-    ghost use Rattle.proto_records.specs.Counts.{no_counts, counts_of, within_limit, plus as sums};
+    ghost use Rattle.proto_records.specs.Counts.{no_counts, counts_of, counts_with, within_limit, plus as sums};
     ghost use Rattle.proto_records.specs.Declarations.{declarations};
 
     /// The counts of all that files declare, or the first kind of which there is too much: a list
@@ -47,5 +47,13 @@ impl Counts {
     {
         let sums = Totals::new(*self).plus(Totals::new(*other));
         sums.within_limits()
+    }
+
+    /// These counts together with those of all that files declare, or what there is too much of: in the files alone,
+    /// as `of` tells it, or else in the sums.
+    pub fn with_files(&self, files: &[FileDescriptorProto]) -> Result<Counts, CountKind>
+        ensures { result ≡ counts_with self.now (declarations self.now files.now) }
+    {
+        self.plus(&Counts::of(files)?)
     }
 }

@@ -3,22 +3,27 @@
 
 mod contents;
 mod counts;
+mod declaration;
 mod exact;
 mod fault;
 mod find;
 mod items;
 mod kinds;
 mod label;
+mod lister;
 mod numbers;
 mod records;
 pub mod tag;
 mod text;
+mod visitor;
+mod walk;
 
 pub use contents::{
     Definition, DefinitionKind, Entry, FieldDescriptorInner, FileDescriptorInner, Identity,
     MessageDescriptorInner,
 };
 pub use counts::{CountKind, Counts};
+pub use declaration::{Declaration, DeclarationKind};
 pub use exact::{ExactEq, same};
 pub use fault::{DescriptorErrorKind, Placed};
 pub use find::{
@@ -28,6 +33,7 @@ pub use find::{
 pub use items::{Duplicate, Items, duplicates};
 pub use kinds::{Cardinality, KindIndex};
 pub use label::Label;
+pub use lister::{Lister, list_declarations};
 pub use numbers::{FileDescriptor, MessageDescriptor};
 pub use records::{
     DescriptorProto, EnumDescriptorProto, EnumOptions, EnumReservedRange, EnumValueDescriptorProto,
@@ -36,3 +42,5 @@ pub use records::{
     ReservedRange, ServiceDescriptorProto, SourceCodeInfo, Unread,
 };
 pub use text::Text;
+pub use visitor::Visitor;
+pub use walk::{join, visit, visit_each};

@@ -1,16 +1,26 @@
 -- What the commands of a script answer, each line with its end.
-use Rattle.std.specs.Prelude.{ℕ, List, [], ◌∷◌, ◌++◌, length, codes}
+use Rattle.std.specs.Prelude.{ℕ, List, [], ◌∷◌, ◌++◌, length, map, codes}
 use Rattle.std.specs.List.{flat_map}
 use Rattle.std.specs.Fmt.{decimal}
 use Rattle.std.specs.Option.{option_map_or}
+use Rattle.std.specs.declared.result.Result.{Result}
+use Rattle.std.specs.declared.result.Result.TheVariants.{Ok, Err}
+use Rattle.proto_records.specs.declared.declaration.Declaration.{Declaration}
+use Rattle.proto_records.specs.declared.declaration.DeclarationKind.{DeclarationKind}
+use Rattle.proto_records.specs.declared.declaration.DeclarationKind.TheVariants as declared
+use Rattle.proto_records.specs.declared.counts.Counts.{Counts}
 use Rattle.proto_records.specs.declared.counts.CountKind.{CountKind}
 use Rattle.proto_records.specs.declared.counts.CountKind.TheVariants as too_many
 use Rattle.proto_records.specs.declared.contents.definition.Definition.{Definition}
 use Rattle.proto_records.specs.declared.contents.definition.DefinitionKind.{DefinitionKind}
 use Rattle.proto_records.specs.declared.contents.definition.DefinitionKind.TheVariants as definition
 use Rattle.proto_records.specs.Contents.{Contents, counts_in, files_of}
+use Rattle.proto_records.specs.Counts.{no_counts, counts_with}
+use Rattle.proto_records.specs.Declarations.{declarations}
 use Rattle.proto_records.specs.Labels.{file_at}
+use Rattle.proto_records.specs.Listed.{declaration_of}
 use Rattle.proto_records.specs.Readers.{text_of}
+use Rattle.proto_records.specs.Shown.{Shown}
 use Rattle.proto_records.specs.Texts.{path_text, placed_text}
 use Rattle.descriptor_linker.specs.declared.script.statement.ScriptFault.{ScriptFault}
 use Rattle.descriptor_linker.specs.declared.script.statement.ScriptFault.TheVariants as fault
@@ -71,6 +81,34 @@ definition_line p def = line (kind_words def.kind ∷ alone (text_of (file_at (f
 -- what a name means in the pool
 abbrev pub find_answer : Contents → List ℕ → List ℕ
 find_answer p name = option_map_or (definition_line p) (definition_named p name) none_line
+
+-- a kind of declaration
+abbrev pub declared_word : DeclarationKind → List ℕ
+declared_word declared.File = codes "file"
+declared_word declared.Message = codes "message"
+declared_word declared.Field = codes "field"
+declared_word declared.Oneof = codes "oneof"
+declared_word declared.Service = codes "service"
+declared_word declared.Method = codes "method"
+declared_word declared.Enum = codes "enum"
+declared_word declared.EnumValue = codes "value"
+declared_word declared.Extension = codes "extension"
+
+-- a declaration's kind, its own number, its full name and its path
+abbrev pub declaration_line : Declaration → List ℕ
+declaration_line d = line (declared_word d.kind ∷ decimal d.index ∷ alone d.full_name ∷ path_text d.path ∷ [])
+
+-- how many declarations there are, and a line for each
+abbrev pub declaration_lines : List Declaration → List ℕ
+declaration_lines ds = line (codes "walk" ∷ decimal (length ds) ∷ []) ++ flat_map declaration_line ds
+
+abbrev walked : List Shown → Result Counts CountKind → List ℕ
+walked ds (Ok _) = declaration_lines (map declaration_of ds)
+walked ds (Err kind) = too_many_line kind
+
+-- what the pool's files declare, where their counts fit
+abbrev pub walk_answer : Contents → List ℕ
+walk_answer p = let ds = declarations no_counts (files_of p) in walked ds (counts_with no_counts ds)
 
 -- what is wrong with a line of a script
 abbrev pub fault_words : ScriptFault → List ℕ

@@ -3,10 +3,9 @@ ghost use Rattle.descriptor_linker.specs.Linked.{linked, linked_message, linked_
 ghost use Rattle.descriptor_linker.specs.Seen.{setting_in};
 
 use super::setting::Setting;
-use crate::names::join;
 use pool_parts::{DefinitionKind, ResolveNameFilter, ResolveNameResult};
 use proto_records::{
-    DescriptorProto, FieldDescriptorProto, FieldType, FileDescriptorProto, Items, Text,
+    DescriptorProto, FieldDescriptorProto, FieldType, FileDescriptorProto, Items, Text, join,
 };
 use std::alloc::{AllocError, Global};
 

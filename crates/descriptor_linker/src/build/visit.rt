@@ -1,6 +1,5 @@
 ghost use Rattle.std.specs.Prelude.{◌≡◌, ℤ, pos, List, [], ◌∷◌, ◌++◌, ◌+◌, ◌<◌, ◌^◌, true, IfOk, OnOk, Some, None, length, string_bytes};
 ghost use Rattle.std.specs.List.{list_all, sum_by};
-ghost use Rattle.proto_records.specs.Names.{join};
 ghost use Rattle.proto_records.specs.Protos.{of_message, of_field};
 ghost use Rattle.proto_records.specs.Shown.{Shown, file_shown, shown_as, step, parts};
 ghost use Rattle.proto_records.specs.Counts.{no_counts, fits_list};
@@ -11,8 +10,9 @@ ghost use Rattle.proto_records.specs.declared.tag.file.TheConstants.{MESSAGE_TYP
 ghost use Rattle.proto_records.specs.declared.tag.message.TheConstants.{FIELD};
 ghost use Rattle.descriptor_linker.specs.Progress.{Progress, HasSeen};
 
-use crate::names::join;
-use proto_records::{Counts, DescriptorProto, FieldDescriptorProto, FileDescriptorProto, tag};
+use proto_records::{
+    Counts, DescriptorProto, FieldDescriptorProto, FileDescriptorProto, join, tag,
+};
 use std::alloc::{AllocError, Global};
 
 /// What is shown the declarations of files, one after another.

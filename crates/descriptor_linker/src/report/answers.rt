@@ -9,8 +9,8 @@ ghost use Rattle.descriptor_linker.specs.Report.Answers as spec;
 use crate::pool::DescriptorPool;
 use crate::script::ScriptFault;
 use pool_parts::{DefinitionKind, DescriptorErrorKind, FileDescriptor};
-use proto_records::{CountKind, Counts, Placed};
-use std::alloc::AllocError;
+use proto_records::{CountKind, Counts, Declaration, DeclarationKind, Placed, list_declarations};
+use std::alloc::{AllocError, Global};
 use std::fmt;
 
 /// A name printed alone.
@@ -144,6 +144,68 @@ pub(super) fn tell_found(
     let file = alone(file_name(pool, definition.file));
     let path = definition.path.as_slice();
     writeln!(told, "{kind} {file} {path:?}")
+}
+
+/// The word for a kind of declaration.
+fn declared_word(kind: DeclarationKind) -> &'static str
+    ensures { result.now ≡ spec.declared_word kind }
+{
+    match kind {
+        DeclarationKind::File => "file",
+        DeclarationKind::Message => "message",
+        DeclarationKind::Field => "field",
+        DeclarationKind::Oneof => "oneof",
+        DeclarationKind::Service => "service",
+        DeclarationKind::Method => "method",
+        DeclarationKind::Enum => "enum",
+        DeclarationKind::EnumValue => "value",
+        DeclarationKind::Extension => "extension",
+    }
+}
+
+/// Tells a declaration: its kind, its own number, its full name and its path.
+fn tell_declaration(told: &mut String, declaration: &Declaration) -> Result<(), AllocError>
+    ensures { OnOk result (string_bytes told.new ≡ string_bytes told.old ++ spec.declaration_line declaration.now) }
+{
+    let kind = declared_word(declaration.kind);
+    let index = declaration.index;
+    let name = alone(declaration.full_name.as_str());
+    let path = declaration.path.as_slice();
+    writeln!(told, "{kind} {index} {name} {path:?}")
+}
+
+/// Tells how many declarations there are, and each on a line of its own.
+fn tell_declarations(told: &mut String, list: &[Declaration]) -> Result<(), AllocError>
+    ensures { OnOk result (string_bytes told.new ≡ string_bytes told.old ++ spec.declaration_lines list.now) }
+{
+    let count = list.len();
+    writeln!(told, "walk {count}")?;
+    for declaration in list {
+        tell_declaration(told, declaration)?;
+    }
+    Ok(())
+}
+
+/// Tells what the files of a pool declare, or what of it there is too much of.
+pub(super) fn tell_walk(
+    alloc: Global,
+    told: &mut String,
+    pool: &DescriptorPool,
+) -> Result<(), AllocError>
+    ensures { OnOk result (string_bytes told.new ≡ string_bytes told.old ++ spec.walk_answer pool.now) }
+{
+    let files = pool.linked_files()?;
+    let base = Counts {
+        files: 0,
+        messages: 0,
+        enums: 0,
+        services: 0,
+        extensions: 0,
+    };
+    if let Err(kind) = base.with_files(&files) {
+        return tell_too_many(told, kind);
+    }
+    tell_declarations(told, &list_declarations(alloc, base, &files)?)
 }
 
 /// Tells the fault of a script, and its line.

@@ -4,7 +4,7 @@ ghost use Rattle.std.specs.Prelude.{◌≡◌, OnOk};
 ghost use Rattle.descriptor_linker.specs.declared.script.statement.Statement.TheVariants as say;
 ghost use Rattle.descriptor_linker.specs.Report.Session.{new_session, opening, stating, extends_after, step};
 
-use super::answers::{tell_counts, tell_found, tell_refused, tell_too_many};
+use super::answers::{tell_counts, tell_found, tell_refused, tell_too_many, tell_walk};
 use super::building::Open;
 use crate::error::BuildError;
 use crate::pool::DescriptorPool;
@@ -56,6 +56,7 @@ impl Session {
             Statement::End => self.close(),
             Statement::Link => self.link(),
             Statement::Find(name) => tell_found(&mut self.told, &self.pool, name.as_str()),
+            Statement::Walk => tell_walk(self.alloc, &mut self.told, &self.pool),
             said => self.state(said),
         }
     }

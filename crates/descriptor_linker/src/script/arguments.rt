@@ -53,6 +53,7 @@ fn of_none(keyword: Keyword) -> Result<Statement, LineError>
         Keyword::Alias => Ok(Statement::Alias),
         Keyword::End => Ok(Statement::End),
         Keyword::Link => Ok(Statement::Link),
+        Keyword::Walk => Ok(Statement::Walk),
         _ => Err(LineError::Fault(ScriptFault::WrongCount)),
     }
 }

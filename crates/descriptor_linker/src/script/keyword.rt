@@ -7,7 +7,7 @@ use super::statement::{Block, Keyword};
 use std::alloc::AllocError;
 
 /// Each keyword as it is written.
-const SPELLINGS: [(&str, Keyword); 24] = [
+const SPELLINGS: [(&str, Keyword); 25] = [
     ("file", Keyword::File),
     ("package", Keyword::Package),
     ("syntax", Keyword::Syntax),
@@ -32,6 +32,7 @@ const SPELLINGS: [(&str, Keyword); 24] = [
     ("end", Keyword::End),
     ("link", Keyword::Link),
     ("find", Keyword::Find),
+    ("walk", Keyword::Walk),
 ];
 
 /// The keyword that a word spells in a table.
@@ -58,7 +59,10 @@ pub(super) fn stands(blocks: &[Block], keyword: Keyword) -> bool
     ensures { result ≡ spec.stands (reverse blocks.now) keyword }
 {
     match blocks.last() {
-        None => matches!(keyword, Keyword::File | Keyword::Link | Keyword::Find),
+        None => matches!(
+            keyword,
+            Keyword::File | Keyword::Link | Keyword::Find | Keyword::Walk
+        ),
         Some(Block::File) => stands_in_file(keyword),
         Some(Block::Message) => stands_in_message(keyword),
         Some(Block::Enum) => matches!(

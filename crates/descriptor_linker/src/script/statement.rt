@@ -29,6 +29,7 @@ pub enum Keyword {
     End,
     Link,
     Find,
+    Walk,
 }
 
 /// What an open block declares.
@@ -67,6 +68,7 @@ pub enum Statement {
     End,
     Link,
     Find(Text),
+    Walk,
 }
 
 /// What is wrong with a line, in the order in which a line is looked at.

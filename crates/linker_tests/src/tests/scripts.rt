@@ -167,3 +167,33 @@ fn tells_the_faults_of_a_batch_and_of_the_script(rt: HostRuntime) -> Result<(), 
     assert!(rt; !whole.has_fault);
     Ok(())
 }
+
+const WALKED_SCRIPT: &str =
+    "file a.proto\npackage p\nmessage M\nfield f 1 optional int32 ~ ~\noneof o\n\
+    message N\nend\nenum E\nvalue V 0\nend\nextensions 100 200\n\
+    extend e 100 optional int32 ~ M\nend\nservice S\nmethod m .p.M .p.M\nend\n\
+    extend x 101 optional int32 ~ .p.M\nend\nlink\nwalk\n";
+
+const WALKED_REPORT: &str = "ok 1 1 0 0 0\nwalk 11\nfile 0 a.proto []\nmessage 0 p.M [4, 0]\n\
+    oneof 0 p.M.o [4, 0, 8, 0]\nfield 0 p.M.f [4, 0, 2, 0]\nmessage 1 p.M.N [4, 0, 3, 0]\n\
+    enum 0 p.M.E [4, 0, 4, 0]\nvalue 0 p.M.V [4, 0, 4, 0, 2, 0]\nextension 0 p.M.e [4, 0, 6, 0]\n\
+    service 0 p.S [6, 0]\nmethod 0 p.S.m [6, 0, 2, 0]\nextension 1 p.x [7, 0]\n";
+
+#[test]
+fn walks_over_what_files_declare(rt: HostRuntime) -> Result<(), Fail> {
+    let cases = [
+        (WALKED_SCRIPT, WALKED_REPORT, Ending::Whole),
+        ("walk\n", "walk 0\n", Ending::Whole),
+        (
+            "walk x\n",
+            "line 1: wrong count of words\n",
+            Ending::ScriptFault,
+        ),
+        (
+            "file ~\nmessage ~\nend\nend\nfile b\nmessage M\nend\nend\nlink\nwalk\n",
+            "ok 2 2 0 0 0\nwalk 4\nfile 0 '' []\nmessage 0 '' [4, 0]\nfile 1 b []\nmessage 1 M [4, 0]\n",
+            Ending::Whole,
+        ),
+    ];
+    compare(&rt, rt.alloc(), &cases)
+}

@@ -4,7 +4,6 @@ use Rattle.std.specs.Result.{IsOk}
 use Rattle.proto_records.specs.Contents.{counts_in}
 use Rattle.proto_records.specs.Counts.{counts_with}
 use Rattle.proto_records.specs.Declarations.{declarations}
-use Rattle.descriptor_linker.specs.ReadDeclarations.{read_declarations}
 use Rattle.pool_parts.specs.Entries.{names}
 use Rattle.descriptor_linker.specs.Outcome.{Outcome}
 use Rattle.descriptor_linker.specs.Pool.{Batch, new_files, known_names, Fits, counts_after}
@@ -31,7 +30,8 @@ returns-in-Err-clause-outcome c =
     let p = c.args.self.now in
     let kept = c.keep_new.ensures ∙ kept_files p c.deref.result.now c.args.files.items (c.deref.ensures.value ∙ ap (λ q. q.files) c.self.view_is) in
     let first : counts_after p c.args.files.items ≡ Err c.in-Err.kind =
-    ap (λ new. counts_with (counts_in p) (declarations (counts_in p) new)) (sym (c.deref-2.ensures.value ∙ kept)) ∙ sym c.counts_with.ensures ∙ c.in-Err.is in
+    ap (λ new. counts_with (counts_in p) (declarations (counts_in p) new)) (sym (c.deref-2.ensures.value ∙ kept))
+    ∙ ap (λ base. counts_with base (declarations base c.deref-2.result.now)) (sym c.counts.ensures) ∙ sym c.with_files.ensures ∙ c.in-Err.is in
     record { first = first; unchanged = refl }
 
 pub returns-in-Err-clause-nothing_new : goal.returns-in-Err-clause-nothing_new
@@ -54,7 +54,8 @@ grown-requires-clause-fits c =
     let kept = c.keep_new.ensures ∙ kept_files p c.deref.result.now c.args.files.items (c.deref.ensures.value ∙ ap (λ q. q.files) c.self.view_is) in
     let new = c.deref-3.ensures.value ∙ kept in
     let same = c.deref-2.ensures.value ∙ kept ∙ sym (ap (new_files p) new ∙ new_of_new p c.args.files.items) in
-    let ok : IsOk (counts_with (counts_in p) (declarations (counts_in p) c.deref-2.result.now)) = rw (← c.counts_with.ensures, c.in_default.is) refl in
+    let ok : IsOk (counts_with (counts_in p) (declarations (counts_in p) c.deref-2.result.now)) =
+    rw (← c.counts.ensures, ← c.with_files.ensures, c.in_default.is) refl in
     let P : Batch → Type 0 = λ fs. IsOk (counts_with (counts_in p) (declarations (counts_in p) fs)) in
     subst P same ok
 
@@ -64,7 +65,8 @@ returns-in_err-self-inside-clause-outcome c =
     let kept = c.keep_new.ensures ∙ kept_files p c.deref.result.now c.args.files.items (c.deref.ensures.value ∙ ap (λ q. q.files) c.self.view_is) in
     let new = c.deref-3.ensures.value ∙ kept in
     let same = ap (new_files p) new ∙ new_of_new p c.args.files.items in
-    let ok : IsOk (counts_with (counts_in p) (declarations (counts_in p) c.deref-2.result.now)) = rw (← c.counts_with.ensures, c.in_default.is) refl in
+    let ok : IsOk (counts_with (counts_in p) (declarations (counts_in p) c.deref-2.result.now)) =
+    rw (← c.counts.ensures, ← c.with_files.ensures, c.in_default.is) refl in
     let P : Batch → Type 0 = λ fs. IsOk (counts_with (counts_in p) (declarations (counts_in p) fs)) in
     let fits : Fits p c.deref-3.result.now = subst P (c.deref-2.ensures.value ∙ kept ∙ sym same) ok in
     let out : Outcome {U = Unit {0}} p c.args.files.items (Err c.in_err-self-inside.field-0.0) p =

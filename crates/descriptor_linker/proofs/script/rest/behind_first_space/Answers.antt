@@ -1,4 +1,4 @@
-use Rattle.std.proofs.Common.{◌≡◌, rules, None, Some, ap, sym, ◌∙◌, arith}
+use Rattle.std.proofs.Common.{Some, ap, sym, ◌∙◌, arith}
 use Rattle.std.specs.Option.{option_map}
 use Rattle.descriptor_linker.proofs.Rest.{without-space, with-space}
 use Rattle.descriptor_linker.proofs.script.rest.behind_first_space.Goals as goal

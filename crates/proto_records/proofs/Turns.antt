@@ -1,0 +1,134 @@
+-- What of a walk comes next, and the counts behind it.
+use Rattle.std.proofs.Common.{◌≤◌, true, subst, arith, ◌≡◌, ℕ, ℤ, suc, ◌+◌, ◌<◌, List, [], ◌∷◌, ◌++◌, length, drop, get_or, refl, ap, sym, ◌∙◌, append_assoc, add-one}
+use denote.Param.Weighed.{most, at_most}
+use Rattle.proto_records.specs.declared.counts.Counts.{Counts}
+use Rattle.proto_records.specs.declared.tag.message.TheConstants as message
+use Rattle.proto_records.specs.declared.tag.enum_.TheConstants as enumeration
+use Rattle.proto_records.specs.declared.tag.file.TheConstants as file
+use Rattle.proto_records.specs.declared.tag.service.TheConstants as service
+use Rattle.proto_records.specs.declared.records.message.DescriptorProto.{DescriptorProto, out-DescriptorProto, size-DescriptorProto, size_is-DescriptorProto}
+use Rattle.proto_records.specs.declared.records.enumeration.EnumDescriptorProto.{EnumDescriptorProto}
+use Rattle.proto_records.specs.declared.records.service.ServiceDescriptorProto.{ServiceDescriptorProto}
+use Rattle.proto_records.specs.declared.records.field.FieldDescriptorProto.{FieldDescriptorProto}
+use Rattle.proto_records.specs.declared.records.message.OneofDescriptorProto.{OneofDescriptorProto}
+use Rattle.proto_records.specs.Protos.{Proto, of_message, of_field, of_oneof, of_service, of_method, of_enum, of_value}
+use Rattle.proto_records.specs.Shown.{Shown, Surrounding, shown, row, parts, inside, beside}
+use Rattle.proto_records.specs.Counts.{counted, counting, fits_list, lists_fit}
+use Rattle.proto_records.specs.Declarations.{enum_walk, enums_walk, service_walk, services_walk, message_front, message_end, message_walk, messages_walk}
+use Rattle.proto_records.specs.Walking.{Room, message_opening}
+use Rattle.proto_records.proofs.Counted.{counted-append}
+use Rattle.proto_records.proofs.Leading.{message-walk-opens}
+use Rattle.proto_records.proofs.Listings.{first-true, next, second-true}
+
+-- what no pool numbers changes no count
+counted-row : {X : Type 0} (of : X → Proto) → ((c : Counts) (x : X) → counting c (of x) ≡ c) → (c : Counts) (here : Surrounding) (tag : ℤ) (i n : ℕ) (xs : List X)
+    → counted c (row of here tag i n xs) ≡ c
+counted-row of same c here tag i n [] = refl
+counted-row of same c here tag i n (x ∷ xs) =
+    ap (λ k. counted k (row of here tag (suc i) (suc n) xs)) (same c x) ∙ counted-row of same c here tag (suc i) (suc n) xs
+
+pub counted-enum : (c : Counts) (here : Surrounding) (tag : ℤ) (i n : ℕ) (e : EnumDescriptorProto) → counted c (enum_walk here tag i n e) ≡ counting c (of_enum e)
+counted-enum c here tag i n e =
+    counted-row of_value (λ _ _. refl) (counting c (of_enum e)) (beside here.scope (shown here tag i n (of_enum e))) enumeration.VALUE 0 0 e.value
+
+pub counted-service : (c : Counts) (here : Surrounding) (i n : ℕ) (s : ServiceDescriptorProto) → counted c (service_walk here i n s) ≡ counting c (of_service s)
+counted-service c here i n s =
+    counted-row of_method (λ _ _. refl) (counting c (of_service s)) (inside (shown here file.SERVICE i n (of_service s))) service.METHOD 0 0 s.method
+
+-- enums change no other count
+pub enums-keep : (c : Counts) (here : Surrounding) (tag : ℤ) (i n : ℕ) (es : List EnumDescriptorProto)
+    → ((counted c (enums_walk here tag i n es)).services ≡ c.services) × ((counted c (enums_walk here tag i n es)).extensions ≡ c.extensions)
+enums-keep c here tag i n [] = (refl, refl)
+enums-keep c here tag i n (e ∷ es) =
+    let parts = counted-append c (enum_walk here tag i n e) (enums_walk here tag (suc i) (suc n) es) ∙ ap (λ k. counted k (enums_walk here tag (suc i) (suc n) es)) (counted-enum c here tag i n e) in
+    let rest = enums-keep (counting c (of_enum e)) here tag (suc i) (suc n) es in
+    (ap (λ (k : Counts). k.services) parts ∙ rest.0, ap (λ (k : Counts). k.extensions) parts ∙ rest.1)
+
+-- nor do services
+pub services-keep : (c : Counts) (here : Surrounding) (i n : ℕ) (ss : List ServiceDescriptorProto)
+    → (counted c (services_walk here i n ss)).extensions ≡ c.extensions
+services-keep c here i n [] = refl
+services-keep c here i n (s ∷ ss) =
+    ap (λ (k : Counts). k.extensions) (counted-append c (service_walk here i n s) (services_walk here (suc i) (suc n) ss) ∙ ap (λ k. counted k (services_walk here (suc i) (suc n) ss)) (counted-service c here i n s))
+    ∙ services-keep (counting c (of_service s)) here (suc i) (suc n) ss
+
+pub enums-next : (here : Surrounding) (tag : ℤ) (n : ℕ) (es : List EnumDescriptorProto) (i : ℕ) (e : EnumDescriptorProto) → i < length es → e ≡ get_or es i e
+    → enums_walk here tag i n (drop i es) ≡ enum_walk here tag i n e ++ enums_walk here tag (i + 1) (suc n) (drop (i + 1) es)
+enums-next here tag n es i e within is =
+    ap (enums_walk here tag i n) (next es i e within is)
+    ∙ (λ j. enum_walk here tag i n e ++ enums_walk here tag (sym (add-one i) j) (suc n) (drop (i + 1) es))
+
+pub services-next : (here : Surrounding) (n : ℕ) (ss : List ServiceDescriptorProto) (i : ℕ) (s : ServiceDescriptorProto) → i < length ss → s ≡ get_or ss i s
+    → services_walk here i n (drop i ss) ≡ service_walk here i n s ++ services_walk here (i + 1) (suc n) (drop (i + 1) ss)
+services-next here n ss i s within is =
+    ap (services_walk here i n) (next ss i s within is)
+    ∙ (λ j. service_walk here i n s ++ services_walk here (sym (add-one i) j) (suc n) (drop (i + 1) ss))
+
+-- the opening of a message counts the message alone
+counted-front : (c : Counts) (here : Surrounding) (os : List OneofDescriptorProto) (fs : List FieldDescriptorProto) → counted c (message_front here os fs) ≡ c
+counted-front c here os fs =
+    counted-append c (parts of_oneof here message.ONEOF_DECL os) (parts of_field here message.FIELD fs)
+    ∙ ap (λ k. counted k (parts of_field here message.FIELD fs)) (counted-row of_oneof (λ _ _. refl) c here message.ONEOF_DECL 0 0 os)
+    ∙ counted-row of_field (λ _ _. refl) c here message.FIELD 0 0 fs
+
+pub counted-opening : (c : Counts) (here : Surrounding) (tag : ℤ) (i n : ℕ) (m : DescriptorProto) → counted c (message_opening here tag i n m) ≡ counting c (of_message m)
+counted-opening c here tag i n m =
+    counted-front (counting c (of_message m)) (inside (shown here tag i n (of_message m))) (out-DescriptorProto m).oneof_decl (out-DescriptorProto m).field
+
+-- a message's nested messages, and what follows them
+module _ (here : Surrounding) (tag : ℤ) (base : Counts) (i : ℕ) (m : DescriptorProto) where
+  abbrev pub within : Surrounding
+  within = inside (shown here tag i base.messages (of_message m))
+
+  abbrev pub deeper : List Shown
+  deeper = messages_walk within message.NESTED_TYPE 0 (counting base (of_message m)) (out-DescriptorProto m).nested_type
+
+  abbrev pub before_end : Counts
+  before_end = counted (counting base (of_message m)) deeper
+
+  abbrev pub ending : List Shown
+  ending = message_end within before_end (out-DescriptorProto m).enum_type (out-DescriptorProto m).extension
+
+  abbrev pub opening : List Shown
+  opening = message_opening here tag i base.messages m
+
+  abbrev front : List Shown
+  front = message_front within (out-DescriptorProto m).oneof_decl (out-DescriptorProto m).field
+
+  pub counted-message : counted base (message_walk here tag i base m) ≡ counted before_end ending
+  counted-message =
+      ap (counted base) (message-walk-opens here tag i base m)
+      ∙ counted-append (counting base (of_message m)) (front ++ deeper) ending
+      ∙ ap (λ k. counted k ending) (counted-append (counting base (of_message m)) front deeper
+      ∙ ap (λ k. counted k deeper) (counted-front (counting base (of_message m)) within (out-DescriptorProto m).oneof_decl (out-DescriptorProto m).field))
+
+  pub messages-next : (ms : List DescriptorProto) → i < length ms → m ≡ get_or ms i m
+      → messages_walk here tag i base (drop i ms) ≡ opening ++ (deeper ++ (ending ++ messages_walk here tag (i + 1) (counted before_end ending) (drop (i + 1) ms)))
+  messages-next ms below is =
+      let rest = messages_walk here tag (i + 1) (counted before_end ending) (drop (i + 1) ms) in
+      ap (messages_walk here tag i base) (next ms i m below is)
+      ∙ (λ j. message-walk-opens here tag i base m j ++ messages_walk here tag (sym (add-one i) j) (counted-message j) (drop (i + 1) ms))
+      ∙ append_assoc (opening ++ deeper) ending rest
+      ∙ append_assoc opening deeper (ending ++ rest)
+
+-- what is nested in a message of a list is less deep than the list
+pub nested-falls : (ms : List DescriptorProto) (i : ℕ) (m : DescriptorProto) (ns : List DescriptorProto) → i < length ms → m ≡ get_or ms i m
+    → ns ≡ (out-DescriptorProto m).nested_type → most size-DescriptorProto ns < most size-DescriptorProto ms
+nested-falls ms i m ns below is nested =
+    let less : size-DescriptorProto m ≤ most size-DescriptorProto ms = subst (λ (x : DescriptorProto). size-DescriptorProto x ≤ most size-DescriptorProto ms) (sym is) (at_most size-DescriptorProto ms i m below) in
+    let size = size_is-DescriptorProto m in
+    rw nested (omega arith)
+
+-- the lists of a message that is listed are short
+pub short-nested : (m : DescriptorProto) → lists_fit (of_message m) ≡ true → fits_list (out-DescriptorProto m).nested_type ≡ true
+short-nested m fits = second-true _ _ (first-true _ _ (first-true _ _ (first-true _ _ (first-true _ _ (first-true _ _ fits)))))
+
+pub short-enums : (m : DescriptorProto) → lists_fit (of_message m) ≡ true → fits_list (out-DescriptorProto m).enum_type ≡ true
+short-enums m fits = second-true _ _ (first-true _ _ (first-true _ _ (first-true _ _ (first-true _ _ fits))))
+
+pub short-extensions : (m : DescriptorProto) → lists_fit (of_message m) ≡ true → fits_list (out-DescriptorProto m).extension ≡ true
+short-extensions m fits = second-true _ _ (first-true _ _ (first-true _ _ (first-true _ _ fits)))
+
+-- as it does for the first of what there is room for
+pub fits-first : {c : Counts} {d : Shown} {ds : List Shown} → Room c (d ∷ ds) → lists_fit d.proto ≡ true
+fits-first {c} {d} {ds} room = first-true _ _ room.short

@@ -1,0 +1,12 @@
+use Rattle.std.proofs.Common.{drop}
+use Rattle.proto_records.specs.Protos.{of_extension}
+use Rattle.proto_records.specs.Shown.{row}
+use Rattle.proto_records.specs.Walking.{around}
+use Rattle.proto_records.proofs.Listings.{Left}
+use Rattle.proto_records.proofs.walk.listing.Listing.list_extensions.Given as goal
+
+-- the extensions from this place on are left
+abbrev pub invariant-loop-place : goal.invariant-loop-place
+invariant-loop-place l = Left l.fn.self l.self
+    (row of_extension (around l.here l.parent) l.tag 0 l.fn.self.counts.extensions l.extensions)
+    (row of_extension (around l.here l.parent) l.tag l.place l.self.counts.extensions (drop l.place l.extensions))

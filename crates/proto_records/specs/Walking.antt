@@ -1,0 +1,87 @@
+-- The list of declarations that a walk makes of a file.
+use Rattle.std.specs.Prelude.{◌≡◌, ℕ, ℤ, ◌≤◌, true, List, ◌∷◌, ◌++◌, map, string_bytes}
+use Rattle.std.specs.List.{list_all}
+use Rattle.std.specs.declared.option.Option.{Option}
+use Rattle.std.specs.declared.option.Option.TheVariants.{None, Some}
+use Rattle.proto_records.specs.declared.counts.Counts.{Counts}
+use Rattle.proto_records.specs.declared.walk.part.Part.{Part}
+use Rattle.proto_records.specs.declared.walk.part.Part.TheVariants as part
+use Rattle.proto_records.specs.declared.walk.place.Place.{Place}
+use Rattle.proto_records.specs.declared.walk.located.Located.{Located}
+use Rattle.proto_records.specs.declared.walk.listing.Listing.{Listing}
+use Rattle.proto_records.specs.Counts.{counted, count_limit, lists_fit}
+use Rattle.proto_records.specs.Protos.{Proto, of_file, of_message, of_field, of_oneof, of_service, of_method, of_enum, of_value, of_extension}
+use Rattle.proto_records.specs.Shown.{Shown, Surrounding, shown, shown_as, inside, row}
+use Rattle.proto_records.specs.Declarations.{message_front, messages_walk, enums_walk, services_walk, in_file}
+use Rattle.proto_records.specs.declared.tag.file.TheConstants as file
+use Rattle.proto_records.specs.declared.records.message.DescriptorProto.{DescriptorProto, out-DescriptorProto}
+use Rattle.proto_records.specs.declared.records.file.FileDescriptorProto.{FileDescriptorProto}
+
+abbrev pub proto_of : Part → Proto
+proto_of (part.Message _ m) = of_message m.now
+proto_of (part.Field _ f) = of_field f.now
+proto_of (part.Oneof _ o) = of_oneof o.now
+proto_of (part.Service s) = of_service s.now
+proto_of (part.Method _ m) = of_method m.now
+proto_of (part.Enum _ e) = of_enum e.now
+proto_of (part.EnumValue _ v) = of_value v.now
+proto_of (part.Extension _ x) = of_extension x.now
+
+abbrev pub parent_of : Part → Option ℕ
+parent_of (part.Message parent _) = parent
+parent_of (part.Field parent _) = Some parent
+parent_of (part.Oneof parent _) = Some parent
+parent_of (part.Service _) = None
+parent_of (part.Method parent _) = Some parent
+parent_of (part.Enum parent _) = parent
+parent_of (part.EnumValue parent _) = Some parent
+parent_of (part.Extension parent _) = parent
+
+-- the number of the next of a kind: how many were counted, or the place where none is
+abbrev pub number_at : Counts → ℕ → Proto → ℕ
+number_at c place (of_file _) = c.files
+number_at c place (of_message _) = c.messages
+number_at c place (of_enum _) = c.enums
+number_at c place (of_service _) = c.services
+number_at c place (of_extension _) = c.extensions
+number_at c place _ = place
+
+-- a listed record as a declaration
+abbrev pub located : Located → Shown
+located l = shown_as l.place.path.items (string_bytes l.place.name) l.place.file (parent_of l.part) l.number (proto_of l.part)
+
+-- what stands in a place
+abbrev pub around : Place → Option ℕ → Surrounding
+around p parent = record { file = p.file; path = p.path.items; scope = string_bytes p.name; parent = parent }
+
+-- a message, its oneofs and its fields
+abbrev pub message_opening : Surrounding → ℤ → ℕ → ℕ → DescriptorProto → List Shown
+message_opening here tag place number m =
+    let d = shown here tag place number (of_message m) in d ∷ message_front (inside d) (out-DescriptorProto m).oneof_decl (out-DescriptorProto m).field
+
+-- all that stands in the file with a number
+abbrev pub within_file : ℕ → Counts → FileDescriptorProto → List Shown
+within_file number base f =
+    let here = in_file number f in
+    let messages = messages_walk here file.MESSAGE_TYPE 0 base f.message_type in
+    let after = counted base messages in
+    messages ++ enums_walk here file.ENUM_TYPE 0 after.enums f.enum_type ++ services_walk here 0 after.services f.service
+    ++ row of_extension here file.EXTENSION 0 after.extensions f.extension
+
+-- these declarations came to the list, and their counts to the counts
+pub record Lists (old new : Listing) (ds : List Shown) : Type 0 where
+  pub list : map located new.list.items ≡ map located old.list.items ++ ds
+  pub counts : new.counts ≡ counted old.counts ds
+
+-- each count is one that a pool can hold
+pub record Held (c : Counts) : Type 0 where
+  pub files : c.files ≤ count_limit
+  pub messages : c.messages ≤ count_limit
+  pub enums : c.enums ≤ count_limit
+  pub services : c.services ≤ count_limit
+  pub extensions : c.extensions ≤ count_limit
+
+-- no list is too long, and the counts after these declarations can be held
+pub record Room (base : Counts) (ds : List Shown) : Type 0 where
+  pub short : list_all (λ d. lists_fit d.proto) ds ≡ true
+  pub held : Held (counted base ds)

@@ -1,0 +1,106 @@
+ghost use Rattle.std.specs.Prelude.{◌≡◌, ℕ, IsOk, IfOk, OnOk, OnErr};
+ghost use Rattle.std.specs.List.{AllByRecursion, AllZip};
+ghost use Rattle.proto_records.specs.Counts.{counted, counts_with};
+ghost use Rattle.proto_records.specs.Declarations.{declarations, file_walk};
+ghost use Rattle.proto_records.specs.Progress.{HasSeen, StopsAt};
+ghost use Rattle.proto_records.specs.Walking.{Room};
+
+mod listing;
+mod located;
+mod part;
+mod place;
+
+use crate::counts::Counts;
+use crate::records::FileDescriptorProto;
+use crate::visitor::Visitor;
+use listing::Listing;
+use located::{show_all, show_file};
+pub use place::join;
+use std::alloc::{AllocError, Global};
+
+/// Shows a visitor what files declare, in order, numbered on from the counts of a pool.
+///
+/// A file stands before what it declares: its messages, enums, services and extensions. A message stands before its
+/// oneofs, its fields, its nested messages, each whole, its enums and its extensions, an enum before its values, and
+/// a service before its methods. The names of an enum's values are formed in the scope around the enum.
+///
+/// The counts of the files and the base together must fit, as `Counts::of` and `Counts::plus` say.
+///
+/// # Errors
+/// `AllocError` where memory was refused to the walk or the visitor answered it. The visitor was then shown a front
+/// of the list.
+pub fn visit(
+    alloc: Global,
+    base: Counts,
+    files: &[FileDescriptorProto],
+    visitor: &mut dyn Visitor,
+) -> Result<(), AllocError>
+    requires fits { IsOk (counts_with base (declarations base files.now)) }
+    requires ready { ready visitor.old (declarations base files.now) }
+    ensures ok { OnOk result (HasSeen (after visitor.old) (ready visitor.old) (after visitor.new) (ready visitor.new) (declarations base files.now)) }
+    ensures kept { kept visitor.new ≡ kept visitor.old }
+{
+    let mut counts = base;
+    for file in files {
+        counts = visit_file(alloc, counts, file, visitor)?;
+    }
+    Ok(())
+}
+
+/// Shows a visitor a file and what it declares, and answers the counts behind it.
+fn visit_file(
+    alloc: Global,
+    base: Counts,
+    file: &FileDescriptorProto,
+    visitor: &mut dyn Visitor,
+) -> Result<Counts, AllocError>
+    requires room { Room base (file_walk base file.now) }
+    requires ready { ready visitor.old (file_walk base file.now) }
+    ensures ok { OnOk result (HasSeen (after visitor.old) (ready visitor.old) (after visitor.new) (ready visitor.new) (file_walk base file.now)) }
+    ensures counts { IfOk result (λ counts. counts ≡ counted base (file_walk base file.now)) }
+    ensures kept { kept visitor.new ≡ kept visitor.old }
+{
+    show_file(base.files, file, visitor)?;
+    let mut listing = Listing::new(alloc, base);
+    listing.list_file(base.files, file)?;
+    show_all(&listing.list, visitor)?;
+    Ok(listing.counts_with_file())
+}
+
+/// Shows each visitor in turn what files declare, as `visit` does.
+///
+/// # Errors
+/// `AllocError` where `visit` answers it of a visitor. Those before it have been shown all, and those behind it
+/// nothing.
+pub fn visit_each(
+    alloc: Global,
+    base: Counts,
+    files: &[FileDescriptorProto],
+    visitors: &mut Vec<Box<dyn Visitor>>,
+) -> Result<(), AllocError>
+    requires fits { IsOk (counts_with base (declarations base files.now)) }
+    requires ready { AllByRecursion (λ v. ready v (declarations base files.now)) visitors.old.items }
+    ensures ok { OnOk result (AllZip (λ v w. HasSeen (after v) (ready v) (after w) (ready w) (declarations base files.now)) visitors.old.items visitors.new.items) }
+    ensures err { OnErr result ((place : ℕ) × StopsAt (λ v w. HasSeen (after v) (ready v) (after w) (ready w) (declarations base files.now))
+        place visitors.old.items visitors.new.items) }
+    ensures kept { AllZip (λ v w. kept w ≡ kept v) visitors.old.items visitors.new.items }
+{
+    for place in 0..visitors.len() {
+        visit_boxed(alloc, base, files, &mut visitors[place])?;
+    }
+    Ok(())
+}
+
+fn visit_boxed(
+    alloc: Global,
+    base: Counts,
+    files: &[FileDescriptorProto],
+    visitor: &mut Box<dyn Visitor>,
+) -> Result<(), AllocError>
+    requires fits { IsOk (counts_with base (declarations base files.now)) }
+    requires ready { ready visitor.old (declarations base files.now) }
+    ensures ok { OnOk result (HasSeen (after visitor.old) (ready visitor.old) (after visitor.new) (ready visitor.new) (declarations base files.now)) }
+    ensures kept { kept visitor.new ≡ kept visitor.old }
+{
+    visit(alloc, base, files, &mut **visitor)
+}
