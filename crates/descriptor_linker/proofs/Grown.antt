@@ -1,13 +1,14 @@
 -- A pool into which new files are linked.
-use Rattle.std.proofs.Common.{◌≡◌, ◌≢◌, ℕ, ◌+◌, ◌<◌, ◌^◌, true, List, [], ◌∷◌, ◌++◌, length, length-append, refl, ap, sym, ◌∙◌, arith, suc}
+use Rattle.std.proofs.Common.{IsOk, subst, ◌≡◌, ◌≢◌, ◌+◌, ◌<◌, ◌^◌, List, [], ◌++◌, length, length-append, ap, sym, ◌∙◌, arith}
 use Rattle.std.proofs.lemmas.List.{length-map}
-use Rattle.std.proofs.lemmas.List.Sums.{sum_by-append}
-use Rattle.std.specs.List.{sum_by, list_all}
 use Rattle.proto_records.specs.declared.contents.definition.Entry.{Entry}
 use Rattle.proto_records.specs.declared.records.file.FileDescriptorProto.{FileDescriptorProto}
 use Rattle.proto_records.specs.Contents.{Contents, counts_in, files_of}
-use Rattle.descriptor_linker.specs.ReadDeclarations.{has_short_lists, read_declarations}
-use Rattle.descriptor_linker.proofs.Fitting.{fits-parts}
+use Rattle.proto_records.specs.Counts.{counts_with, no_counts}
+use Rattle.proto_records.specs.Declarations.{declarations}
+use Rattle.proto_records.proofs.Room.{room-fits}
+use Rattle.descriptor_linker.specs.ReadDeclarations.{read_declarations}
+use Rattle.descriptor_linker.proofs.ReadWalk.{file_counts, declarations-counted}
 use Rattle.descriptor_linker.specs.Entered.{entries}
 use Rattle.descriptor_linker.specs.FirstPass.{first_pass}
 use Rattle.descriptor_linker.specs.Held.{IsHeld, contents_of}
@@ -20,25 +21,30 @@ use Rattle.descriptor_linker.specs.Outcome.{IsLinked}
 use Rattle.descriptor_linker.specs.Pool.{Accepts, Fits, Made, linked_to, known_names, new_files, faults, faults_of_names, faults_of_references, first_of_both, link, with_items}
 use Rattle.descriptor_linker.specs.SecondPass.{second_pass}
 use Rattle.descriptor_linker.specs.Setting.{Setting, setting}
-use Rattle.descriptor_linker.proofs.Linking.{size, setting_behind, files_linked, names_linked, messages_linked, first_of_some}
-use Rattle.descriptor_linker.proofs.Outline.{linked_from, sum_linked}
+use Rattle.descriptor_linker.proofs.Linking.{setting_behind, files_linked, names_linked, messages_linked, counts_behind, first_of_some}
+use Rattle.descriptor_linker.proofs.Outline.{linked_from, length-linked}
 
 -- contents with the names that their files enter, and new files that fit
 pub record Ground (p : Contents) (known : List Entry) (fs : List FileDescriptorProto) : Type 0 where
-  pub messages : length p.messages ≡ sum_by size (files_of p)
+  pub messages : length p.messages ≡ file_counts (files_of p)
   pub known_is : known ≡ known_names p
   pub fresh : new_files p fs ≡ fs
   pub fits : Fits p fs
 
+-- files that are all new fit as they are
+pub fits-new : (p : Contents) (fs : List FileDescriptorProto) → new_files p fs ≡ fs → Fits p fs → IsOk (counts_with (counts_in p) (declarations (counts_in p) fs))
+fits-new p fs fresh fits = let P : List FileDescriptorProto → Type 0 = λ new. IsOk (counts_with (counts_in p) (declarations (counts_in p) new)) in subst P fresh fits
+
+-- counts that fit stay below the limits
 pub record Bounds (p : Contents) (fs : List FileDescriptorProto) : Type 0 where
   pub files : length p.files + length fs < 2 ^ 32
-  pub messages : length p.messages + sum_by size fs < 2 ^ 32
-  pub short : list_all has_short_lists fs ≡ true
+  pub messages : length p.messages + file_counts fs < 2 ^ 32
 
 pub bounds : (p : Contents) (fs : List FileDescriptorProto) → new_files p fs ≡ fs → Fits p fs → Bounds p fs
 bounds p fs fresh fits =
-    let h = fits-parts (counts_in p) fs (rw fresh at fits) in
-    record { files = omega (arith, h.1); messages = omega (arith, h.2); short = h.0 }
+    let held = (room-fits (counts_in p) (declarations (counts_in p) fs) (fits-new p fs fresh fits)).held in
+    let counted = declarations-counted (counts_in p) fs in
+    record { files = omega (arith, held.files, counted.0); messages = omega (arith, held.messages, counted.1) }
 
 -- what the new files are read against
 abbrev pub ground_setting : Contents → List Entry → List FileDescriptorProto → Setting
@@ -93,10 +99,6 @@ module _ (p : Contents) (known : List Entry) (fs : List FileDescriptorProto) (gr
     pub is_linked : (q : Contents) → q ≡ with_items p (ground_setting p known fs) (read_declarations (counts_in p) fs) → IsLinked p fs q
     is_linked q is = record { fits = ground.fits; accepted = accepted; is = is ∙ sym link_is }
 
-    length-linked : (s : Setting) (n : ℕ) (gs : List FileDescriptorProto) → length (linked_from s n gs) ≡ length gs
-    length-linked s n [] = refl
-    length-linked s n (g ∷ gs) = ap suc (length-linked s (suc n) gs)
-
     pub is_held : (new : Inside) → Made p → contents_of new ≡ with_items p (ground_setting p known fs) (read_declarations (counts_in p) fs)
         → new.entries.items ≡ known ++ entries (read_declarations (counts_in p) fs) → IsHeld new
     is_held new made is entries_are =
@@ -108,14 +110,15 @@ module _ (p : Contents) (known : List Entry) (fs : List FileDescriptorProto) (gr
         ap (λ c. length c.files) is ∙ sym (length-map q.files (λ f. f.raw)) ∙ ap length files_are
         ∙ length-append (files_of p) (linked_from s (length p.files) fs)
         ∙ (λ i. length-map p.files (λ f. f.raw) i + length-linked s (length p.files) fs i) in
-        let messages_count : length (contents_of new).messages ≡ length p.messages + sum_by size fs =
-        ap (λ c. length c.messages) is ∙ messages_linked p s fs ground.messages ∙ ap (sum_by size) files_are
-        ∙ sum_by-append size (files_of p) (linked_from s (length p.files) fs)
-        ∙ (λ i. sym ground.messages i + sum_linked s (length p.files) fs i) in
+        let messages_count : length (contents_of new).messages ≡ length p.messages + file_counts fs =
+        ap (λ c. length c.messages) is ∙ messages_linked p s fs ground.messages in
+        let declared : file_counts (files_of (contents_of new)) ≡ length p.messages + file_counts fs =
+        ap (λ c. file_counts (files_of c)) is ∙ sym (counts_behind p s fs ground.messages) in
+        let counted = declarations-counted no_counts (files_of (contents_of new)) in
         record {
           made = linked_to fs made accepted ground.fits (is ∙ sym link_is);
           entries = entries_are ∙ names_linked p s known fs ground.messages ground.known_is ∙ ap known_names (sym is);
-          messages = ap (λ c. length c.messages) is ∙ messages_linked p s fs ground.messages ∙ ap (λ c. sum_by size (files_of c)) (sym is);
+          messages = omega (arith, messages_count, declared, counted.1);
           few_files = omega (arith, files_count, within.files);
           few_messages = omega (arith, messages_count, within.messages);
         }

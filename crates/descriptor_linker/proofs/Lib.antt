@@ -1,9 +1,7 @@
+pub mod LinkedParts
+pub mod ReadWalk
 pub mod Rest
 pub mod NumberLists
-pub mod ReadCounts
-pub mod Fitting
-pub mod Leaves
-pub mod Walks
 pub mod Words
 pub mod Numbers
 pub mod Reading

@@ -2,6 +2,7 @@
 use Rattle.std.proofs.Common.{◌≡◌, ℕ, ℤ, Option, List, [], ◌∷◌, ◌++◌, ap, sym, ◌∙◌, append_assoc, append-nil}
 use Rattle.std.proofs.lemmas.Grind.{flat_map-append}
 use Rattle.std.specs.List.{fold, flat_map}
+use Rattle.proto_records.specs.Contents.{no_contents}
 use Rattle.proto_records.specs.Lists.{after_each}
 use Rattle.proto_records.specs.Protos.{Proto, of_file, of_message, of_field, of_oneof, of_service, of_method, of_enum, of_value, of_extension}
 use Rattle.proto_records.specs.Readers.{text_of}
@@ -112,6 +113,5 @@ fold_named files known ds =
 -- the same, as progress after a visitor has been shown all
 pub progress_named : (seen : NamesSeen) (files : List FileDescriptorProto) (known : List Entry) (ds : List Shown)
     → seen ≡ record { files = files; entries = known; file_names = []; faults = [] }
-    → names_progress (fold named seen (ds ++ [])) ≡ record { entries = known ++ entries ds; files = []; messages = []; faults = first_pass files known ds }
-progress_named seen files known ds is =
-    (λ i. names_progress (fold named (is i) (append-nil ds i))) ∙ ap names_progress (fold_named files known ds)
+    → names_progress (fold named seen ds) ≡ record { contents = no_contents; entries = known ++ entries ds; faults = first_pass files known ds; listed = [] }
+progress_named seen files known ds is = (λ i. names_progress (fold named (is i) ds)) ∙ ap names_progress (fold_named files known ds)

@@ -1,5 +1,5 @@
 -- The second pass, one declaration after another, has the items and the faults of its definition.
-use Rattle.std.proofs.Common.{◌≡◌, ℕ, ℤ, suc, Option, List, [], ◌∷◌, ◌++◌, map, refl, ap, sym, ◌∙◌, append_assoc, append-nil}
+use Rattle.std.proofs.Common.{◌+◌, ◌≡◌, ℕ, ℤ, suc, Option, List, [], ◌∷◌, ◌++◌, map, refl, ap, sym, ◌∙◌, append_assoc, append-nil}
 use Rattle.std.proofs.lemmas.List.{map-append}
 use Rattle.std.proofs.lemmas.List.Sums.{fold-append}
 use Rattle.std.proofs.lemmas.List.Elements.{filter_map-append}
@@ -9,20 +9,22 @@ use Rattle.proto_records.specs.declared.counts.Counts.{Counts}
 use Rattle.proto_records.specs.declared.contents.field.FieldDescriptorInner.{FieldDescriptorInner}
 use Rattle.proto_records.specs.declared.contents.message.MessageDescriptorInner.{MessageDescriptorInner}
 use Rattle.proto_records.specs.declared.records.file.FileDescriptorProto.{FileDescriptorProto}
-use Rattle.proto_records.specs.declared.records.message.DescriptorProto.{DescriptorProto, out-DescriptorProto}
+use Rattle.proto_records.specs.declared.records.message.DescriptorProto.{DescriptorProto, DescriptorProto', Row_of-DescriptorProto, end_of-DescriptorProto, more_of-DescriptorProto}
 use Rattle.proto_records.specs.declared.records.field.FieldDescriptorProto.{FieldDescriptorProto}
 use Rattle.proto_records.specs.declared.tag.file.TheConstants.{MESSAGE_TYPE}
-use Rattle.proto_records.specs.declared.tag.message.TheConstants.{FIELD}
-use Rattle.proto_records.specs.Counts.{counted}
+use Rattle.proto_records.specs.declared.tag.message.TheConstants.{FIELD, NESTED_TYPE}
+use Rattle.proto_records.specs.Contents.{no_contents}
 use Rattle.proto_records.specs.Declarations.{in_file}
-use Rattle.descriptor_linker.specs.ReadDeclarations.{read_declarations, read_file, read_messages, read_message}
+use Rattle.descriptor_linker.specs.ReadDeclarations.{read_declarations}
 use Rattle.proto_records.specs.Protos.{Proto, of_file, of_message, of_field, of_oneof, of_service, of_method, of_enum, of_value, of_extension, as_file, as_message, as_field}
-use Rattle.proto_records.specs.Shown.{Shown, Surrounding, row, shown, inside}
+use Rattle.proto_records.specs.Shown.{Shown, Surrounding, row, parts, shown, inside}
 use Rattle.descriptor_linker.specs.Items.{field_item, message_item}
 use Rattle.descriptor_linker.specs.Passes.{ReferencesSeen, referred, bare_message, with_field, references_progress}
 use Rattle.descriptor_linker.specs.Pool.{file_item}
 use Rattle.descriptor_linker.specs.SecondPass.{second_faults, second_pass}
 use Rattle.descriptor_linker.specs.Setting.{Setting, of_kind}
+use Rattle.descriptor_linker.proofs.ReadWalk.{message_count, file_count, message_read, nested_read, messages_read, file_read, files_read, declarations-read}
+use Rattle.proto_records.specs.Computed.{literals}
 use Rattle.descriptor_linker.proofs.LastMessage.{with_field_last}
 
 -- the messages after one more declaration
@@ -86,13 +88,6 @@ items-append s ds es =
     ap (map (λ e. message_item s e.0 e.1)) (filter_map-append (λ d. option_map (λ x. (d, x)) (as_message d.proto)) ds es)
     ∙ map-append (λ e. message_item s e.0 e.1) (of_kind as_message ds) (of_kind as_message es)
 
-told-message : (s : Setting) (ms : List MessageDescriptorInner) (here : Surrounding) (tag : ℤ) (place : ℕ) (base : Counts) (m : DescriptorProto)
-    → fold (told s) ms (read_message here tag place base m) ≡ ms ++ items s (read_message here tag place base m)
-told-message s ms here tag place base m =
-    let d = shown here tag place base.messages (of_message m) in
-    told-row s ms (bare_message d) (inside d) FIELD 0 0 (out-DescriptorProto m).field
-    ∙ ap (λ xs. ms ++ message_item s d m ∷ map (λ e. message_item s e.0 e.1) xs) (sym (no_messages (inside d) FIELD 0 0 (out-DescriptorProto m).field))
-
 both : (s : Setting) (ms : List MessageDescriptorInner) (ds es : List Shown)
     → ((xs : List MessageDescriptorInner) → fold (told s) xs ds ≡ xs ++ items s ds)
     → ((xs : List MessageDescriptorInner) → fold (told s) xs es ≡ xs ++ items s es)
@@ -104,25 +99,48 @@ both s ms ds es first second =
     ∙ append_assoc ms (items s ds) (items s es)
     ∙ ap (λ xs. ms ++ xs) (sym (items-append s ds es))
 
-told-messages : (s : Setting) (ms : List MessageDescriptorInner) (here : Surrounding) (tag : ℤ) (place : ℕ) (base : Counts) (list : List DescriptorProto)
-    → fold (told s) ms (read_messages here tag place base list) ≡ ms ++ items s (read_messages here tag place base list)
-told-messages s ms here tag place base [] = sym (append-nil ms)
-told-messages s ms here tag place base (m ∷ list) =
-    let first = read_message here tag place base m in
-    both s ms first (read_messages here tag (suc place) (counted base first) list)
-    (λ xs. told-message s xs here tag place base m) (λ xs. told-messages s xs here tag (suc place) (counted base first) list)
+mutual
+  unfolding literals
 
-told-file : (s : Setting) (ms : List MessageDescriptorInner) (base : Counts) (f : FileDescriptorProto)
-    → fold (told s) ms (read_file base f) ≡ ms ++ items s (read_file base f)
-told-file s ms base f = told-messages s ms (in_file base.files f) MESSAGE_TYPE 0 base f.message_type
+  told-message : (s : Setting) (ms : List MessageDescriptorInner) (here : Surrounding) (tag : ℤ) (place k : ℕ) (m : DescriptorProto)
+      → fold (told s) ms (message_read here tag place k m) ≡ ms ++ items s (message_read here tag place k m)
+  told-message s ms here tag place k (DescriptorProto' name fields c nested enums ranges extensions options oneofs reserved reserved_names) =
+      let m = DescriptorProto' name fields c nested enums ranges extensions options oneofs reserved reserved_names in
+      let d = shown here tag place k (of_message m) in
+      let own = parts of_field (inside d) FIELD fields in
+      let deeper = nested_read (inside d) 0 (suc k) nested in
+      fold-append (told s) (ms ++ bare_message d ∷ []) own deeper
+      ∙ ap (λ xs. fold (told s) xs deeper) (told-row s ms (bare_message d) (inside d) FIELD 0 0 fields)
+      ∙ told-nested s (ms ++ message_item s d m ∷ []) (inside d) 0 (suc k) nested
+      ∙ append_assoc ms (message_item s d m ∷ []) (items s deeper)
+      ∙ ap (λ xs. ms ++ message_item s d m ∷ map (λ e. message_item s e.0 e.1) xs)
+      (sym (filter_map-append (λ d. option_map (λ x. (d, x)) (as_message d.proto)) own deeper ∙ ap (λ xs. xs ++ of_kind as_message deeper) (no_messages (inside d) FIELD 0 0 fields)))
+
+  told-nested : {c : _} (s : Setting) (ms : List MessageDescriptorInner) (here : Surrounding) (place k : ℕ) (nested : Row_of-DescriptorProto c)
+      → fold (told s) ms (nested_read here place k nested) ≡ ms ++ items s (nested_read here place k nested)
+  told-nested s ms here place k end_of-DescriptorProto = sym (append-nil ms)
+  told-nested s ms here place k (more_of-DescriptorProto m rest) =
+      both s ms (message_read here NESTED_TYPE place k m) (nested_read here (suc place) (k + message_count m) rest)
+      (λ xs. told-message s xs here NESTED_TYPE place k m) (λ xs. told-nested s xs here (suc place) (k + message_count m) rest)
+
+told-messages : (s : Setting) (ms : List MessageDescriptorInner) (here : Surrounding) (tag : ℤ) (place k : ℕ) (list : List DescriptorProto)
+    → fold (told s) ms (messages_read here tag place k list) ≡ ms ++ items s (messages_read here tag place k list)
+told-messages s ms here tag place k [] = sym (append-nil ms)
+told-messages s ms here tag place k (m ∷ list) =
+    both s ms (message_read here tag place k m) (messages_read here tag (suc place) (k + message_count m) list)
+    (λ xs. told-message s xs here tag place k m) (λ xs. told-messages s xs here tag (suc place) (k + message_count m) list)
+
+told-files : (s : Setting) (ms : List MessageDescriptorInner) (n k : ℕ) (fs : List FileDescriptorProto)
+    → fold (told s) ms (files_read n k fs) ≡ ms ++ items s (files_read n k fs)
+told-files s ms n k [] = sym (append-nil ms)
+told-files s ms n k (f ∷ fs) =
+    both s ms (file_read n k f) (files_read (suc n) (k + file_count f) fs)
+    (λ xs. told-messages s xs (in_file n f) MESSAGE_TYPE 0 k f.message_type) (λ xs. told-files s xs (suc n) (k + file_count f) fs)
 
 told-read_declarations : (s : Setting) (ms : List MessageDescriptorInner) (base : Counts) (fs : List FileDescriptorProto)
     → fold (told s) ms (read_declarations base fs) ≡ ms ++ items s (read_declarations base fs)
-told-read_declarations s ms base [] = sym (append-nil ms)
-told-read_declarations s ms base (f ∷ fs) =
-    let first = read_file base f in
-    both s ms first (read_declarations (counted base first) fs)
-    (λ xs. told-file s xs base f) (λ xs. told-read_declarations s xs (counted base first) fs)
+told-read_declarations s ms base fs =
+    ap (fold (told s) ms) (declarations-read base fs) ∙ told-files s ms base.files base.messages fs ∙ ap (λ ds. ms ++ items s ds) (sym (declarations-read base fs))
 
 -- the whole pass over the declarations of files
 pub fold_referred : (s : Setting) (base : Counts) (fs : List FileDescriptorProto)
@@ -141,11 +159,14 @@ fold_referred s base fs =
 -- the same, as progress after a visitor has been shown all
 pub progress_referred : (seen : ReferencesSeen) (s : Setting) (base : Counts) (fs : List FileDescriptorProto)
     → seen ≡ record { setting = s; files = []; messages = []; faults = [] }
-    → references_progress (fold referred seen (read_declarations base fs ++ [])) ≡ record {
-      entries = s.entries;
-      files = map (λ e. file_item s e.0 e.1) (of_kind as_file (read_declarations base fs));
-      messages = map (λ e. message_item s e.0 e.1) (of_kind as_message (read_declarations base fs));
+    → references_progress (fold referred seen (read_declarations base fs)) ≡ record {
+      contents = record no_contents {
+        files = map (λ e. file_item s e.0 e.1) (of_kind as_file (read_declarations base fs));
+        messages = map (λ e. message_item s e.0 e.1) (of_kind as_message (read_declarations base fs));
+      };
+      entries = [];
       faults = second_pass s (read_declarations base fs);
+      listed = [];
     }
 progress_referred seen s base fs is =
-    (λ i. references_progress (fold referred (is i) (append-nil (read_declarations base fs) i))) ∙ ap references_progress (fold_referred s base fs)
+    (λ i. references_progress (fold referred (is i) (read_declarations base fs))) ∙ ap references_progress (fold_referred s base fs)

@@ -7,7 +7,6 @@ pub mod Items
 pub mod Linked
 pub mod SecondPass
 pub mod Pool
-pub mod Progress
 pub mod Passes
 pub mod Seen
 pub mod Held

@@ -1,10 +1,10 @@
 -- A file's record with each reference resolved: a dot and the full name that was found.
-use Rattle.std.specs.Prelude.{ℕ, ℤ, pos, List, [], ◌∷◌, map}
+use Rattle.std.specs.Prelude.{◌≡◌, ℕ, ℤ, pos, List, [], ◌∷◌, map}
 use Rattle.std.specs.Option.{option_map, option_map_or, option_or}
 use Rattle.std.specs.declared.option.Option.{Option}
 use Rattle.std.specs.declared.option.Option.TheVariants.{Some}
 use Rattle.proto_records.specs.declared.records.file.FileDescriptorProto.{FileDescriptorProto}
-use Rattle.proto_records.specs.declared.records.message.DescriptorProto.{DescriptorProto, out-DescriptorProto, roll-DescriptorProto}
+use Rattle.proto_records.specs.declared.records.message.DescriptorProto.{DescriptorProto, DescriptorProto', out-DescriptorProto, roll-DescriptorProto, Row_of-DescriptorProto, end_of-DescriptorProto, more_of-DescriptorProto}
 use Rattle.proto_records.specs.declared.records.field.FieldDescriptorProto.{FieldDescriptorProto}
 use Rattle.proto_records.specs.declared.records.field.FieldType.{FieldType}
 use Rattle.proto_records.specs.declared.records.field.FieldType.TheVariants as written
@@ -41,9 +41,26 @@ linked_field s number scope f = elim (text_of f.type_name) [
   | _ ∷ _ ↦ typed (meaning s number (join scope (text_of f.name)) AnyType (text_of f.type_name)) f
 ]
 
-abbrev pub linked_message : Setting → ℕ → List ℕ → DescriptorProto → DescriptorProto
-linked_message s number scope m = let written = out-DescriptorProto m in
-    roll-DescriptorProto (record written { field = map (linked_field s number (join scope (text_of written.name))) written.field })
+-- a message with its fields, and with its nested messages, in a scope
+abbrev mutual
+  pub linked_message : Setting → ℕ → List ℕ → DescriptorProto → DescriptorProto
+  linked_message s number scope (DescriptorProto' name fields n nested enums ranges extensions options oneofs reserved reserved_names) =
+      let within = join scope (text_of name) in
+      DescriptorProto' name (map (linked_field s number within) fields) n (linked_nested s number within nested) enums ranges extensions options oneofs reserved reserved_names
+
+  pub linked_nested : {n : _} → Setting → ℕ → List ℕ → Row_of-DescriptorProto n → Row_of-DescriptorProto n
+  linked_nested s number scope end_of-DescriptorProto = end_of-DescriptorProto
+  linked_nested s number scope (more_of-DescriptorProto m rest) = more_of-DescriptorProto (linked_message s number scope m) (linked_nested s number scope rest)
+
+-- law: a linked message by its parts
+abbrev pub LinkedMessageIs : Type 0
+LinkedMessageIs = (s : Setting) (number : ℕ) (scope : List ℕ) (m : DescriptorProto) →
+    let written = out-DescriptorProto m in
+    let within = join scope (text_of written.name) in
+    linked_message s number scope m ≡ roll-DescriptorProto (record written {
+      field = map (linked_field s number within) written.field;
+      nested_type = map (linked_message s number within) written.nested_type;
+    })
 
 -- the file with a number
 abbrev pub linked : Setting → ℕ → FileDescriptorProto → FileDescriptorProto

@@ -6,6 +6,8 @@ use Rattle.proto_records.specs.declared.contents.field.FieldDescriptorInner.{Fie
 use Rattle.proto_records.specs.declared.contents.file.FileDescriptorInner.{FileDescriptorInner}
 use Rattle.proto_records.specs.declared.contents.message.MessageDescriptorInner.{MessageDescriptorInner}
 use Rattle.proto_records.specs.declared.records.file.FileDescriptorProto.{FileDescriptorProto}
+use Rattle.proto_records.specs.Contents.{no_contents}
+use Rattle.proto_records.specs.Progress.{Progress}
 use Rattle.proto_records.specs.Protos.{of_file, of_message, of_field}
 use Rattle.proto_records.specs.Readers.{text_of}
 use Rattle.proto_records.specs.Shown.{Shown}
@@ -15,7 +17,6 @@ use Rattle.descriptor_linker.specs.Entered.{entries_of, own_entry}
 use Rattle.descriptor_linker.specs.FirstPass.{Faults, clash_faults, file_name_faults}
 use Rattle.descriptor_linker.specs.Items.{identity, field_item}
 use Rattle.descriptor_linker.specs.Pool.{file_item}
-use Rattle.descriptor_linker.specs.Progress.{Progress}
 use Rattle.descriptor_linker.specs.SecondPass.{second_faults}
 use Rattle.descriptor_linker.specs.Setting.{Setting}
 
@@ -42,7 +43,7 @@ named seen d = elim d.proto [
 ]
 
 abbrev pub names_progress : NamesSeen → Progress
-names_progress seen = record { entries = seen.entries; files = []; messages = []; faults = seen.faults }
+names_progress seen = record { contents = no_contents; entries = seen.entries; faults = seen.faults; listed = [] }
 
 -- of the second pass: what references are read against, the items of files and messages, and the faults so far
 pub record ReferencesSeen : Type 0 where
@@ -71,7 +72,12 @@ referred seen d = elim d.proto [
 ]
 
 abbrev pub references_progress : ReferencesSeen → Progress
-references_progress seen = record { entries = seen.setting.entries; files = seen.files; messages = seen.messages; faults = seen.faults }
+references_progress seen = record {
+  contents = record no_contents { files = seen.files; messages = seen.messages };
+  entries = [];
+  faults = seen.faults;
+  listed = [];
+}
 
 -- an error that tells these faults, unless memory was refused
 abbrev pub TellsFaults : BuildError → Faults → Type 0

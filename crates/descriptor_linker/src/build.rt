@@ -1,8 +1,9 @@
 //! How a batch is linked: the walk over its declarations, and the two passes.
 
-ghost use Rattle.std.specs.Prelude.{◌≡◌, ◌+◌, ◌<◌, ◌^◌, ◌++◌, [], ⊤, true, length, map, MatchResult};
-ghost use Rattle.std.specs.List.{list_all, sum_by};
-ghost use Rattle.descriptor_linker.specs.ReadDeclarations.{has_short_lists, read_declarations};
+ghost use Rattle.std.specs.Prelude.{◌≡◌, ◌++◌, [], ⊤, map, IsOk, MatchResult};
+ghost use Rattle.descriptor_linker.specs.ReadDeclarations.{read_declarations};
+ghost use Rattle.proto_records.specs.Counts.{counts_with};
+ghost use Rattle.proto_records.specs.Declarations.{declarations};
 ghost use Rattle.proto_records.specs.Protos.{as_file, as_message};
 ghost use Rattle.pool_parts.specs.AllFiles.{files_in};
 ghost use Rattle.descriptor_linker.specs.Entered.{entries};
@@ -19,18 +20,16 @@ mod linked;
 mod names;
 mod resolve;
 mod setting;
-mod visit;
 
 use crate::error::BuildError;
-use names::NameVisitor;
+pub use names::NameVisitor;
 use pool_parts::{
     DescriptorError, DescriptorErrorKind, Entry, FileDescriptorInner, Files, MessageDescriptorInner,
 };
-use proto_records::{Counts, FileDescriptorProto, duplicates};
-use resolve::ResolveVisitor;
+use proto_records::{Counts, FileDescriptorProto, duplicates, visit_with};
+pub use resolve::ResolveVisitor;
 pub(crate) use setting::Setting;
 use std::alloc::Global;
-use visit::visit;
 
 /// The items of files and messages.
 #[derive(Drop)]
@@ -47,9 +46,7 @@ pub(crate) fn enter_names(
     known: &[Entry],
     new: &[FileDescriptorProto],
 ) -> Result<Vec<Entry>, BuildError>
-    requires files_fit { base.files + length new.now < 2 ^ 32 }
-    requires messages_fit { base.messages + sum_by (λ f. length f.message_type) new.now < 2 ^ 32 }
-    requires short { list_all has_short_lists new.now ≡ true }
+    requires { IsOk (counts_with base (declarations base new.now)) }
     ensures entered { MatchResult result (λ all. all.items ≡ known.now ++ entries (read_declarations base new.now)) (λ _. ⊤) }
     ensures faults { MatchResult result (λ _. first_pass (files_in files.entry) known.now (read_declarations base new.now) ≡ [])
         (λ error. TellsFaults error (first_pass (files_in files.entry) known.now (read_declarations base new.now))) }
@@ -61,7 +58,7 @@ pub(crate) fn enter_names(
         file_names: Vec::new(alloc),
         faults: Vec::new(alloc),
     };
-    visit(alloc, base, new, &mut visitor)?;
+    visit_with(alloc, base, new, &mut visitor)?;
     let NameVisitor {
         entries,
         faults,
@@ -78,9 +75,7 @@ pub(crate) fn make_items(
     setting: Setting,
     new: &[FileDescriptorProto],
 ) -> Result<NewItems, BuildError>
-    requires files_fit { base.files + length new.now < 2 ^ 32 }
-    requires messages_fit { base.messages + sum_by (λ f. length f.message_type) new.now < 2 ^ 32 }
-    requires short { list_all has_short_lists new.now ≡ true }
+    requires { IsOk (counts_with base (declarations base new.now)) }
     ensures files { MatchResult result (λ made. made.files.items
         ≡ map (λ e. file_item (setting_in setting.entry) e.0 e.1) (of_kind as_file (read_declarations base new.now))) (λ _. ⊤) }
     ensures messages { MatchResult result (λ made. made.messages.items
@@ -95,7 +90,7 @@ pub(crate) fn make_items(
         messages: Vec::new(alloc),
         faults: Vec::new(alloc),
     };
-    visit(alloc, base, new, &mut visitor)?;
+    visit_with(alloc, base, new, &mut visitor)?;
     let ResolveVisitor {
         files,
         messages,

@@ -10,6 +10,7 @@ mod report;
 mod runs;
 mod script;
 
+pub use build::{NameVisitor, ResolveVisitor};
 pub use devices::{
     MemoryInput, MemoryOutput, ReaderInput, ReportOutput, ScriptInput, WriterOutput,
 };

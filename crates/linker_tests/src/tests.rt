@@ -6,6 +6,7 @@ mod errors;
 mod finders;
 mod large;
 mod made;
+mod nested;
 mod numbers;
 mod pools;
 mod readers;

@@ -43,4 +43,4 @@ pub use records::{
 };
 pub use text::Text;
 pub use visitor::Visitor;
-pub use walk::{join, visit, visit_each};
+pub use walk::{join, visit, visit_each, visit_with};

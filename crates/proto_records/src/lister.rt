@@ -71,7 +71,7 @@ impl Visitor for Lister {
     ghost use Rattle.proto_records.specs.Contents.{no_contents};
     ghost use Rattle.proto_records.specs.Listed.{declaration_of};
 
-    ghost after = { λ l ds. record { contents = no_contents; faults = []; listed = l.list.items ++ map declaration_of ds } };
+    ghost after = { λ l ds. record { contents = no_contents; entries = []; faults = []; listed = l.list.items ++ map declaration_of ds } };
 
     ghost ready = { λ _ _. Unit {0} };
 
@@ -221,19 +221,5 @@ fn show_lister(
     requires fits { IsOk (counts_with base (declarations base files.now)) }
     ensures { OnOk result (lister.new.list.items ≡ lister.old.list.items ++ map declaration_of (declarations base files.now)) }
 {
-    show_object(alloc, base, files, lister)
-}
-
-/// Shows a visitor object what files declare.
-fn show_object(
-    alloc: Global,
-    base: Counts,
-    files: &[FileDescriptorProto],
-    visitor: &mut dyn Visitor,
-) -> Result<(), AllocError>
-    requires fits { IsOk (counts_with base (declarations base files.now)) }
-    requires ready { ready visitor.old (declarations base files.now) }
-    ensures { OnOk result (after visitor.new [] ≡ after visitor.old (declarations base files.now)) }
-{
-    visit(alloc, base, files, visitor)
+    visit(alloc, base, files, lister)
 }

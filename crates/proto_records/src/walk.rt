@@ -1,10 +1,11 @@
-ghost use Rattle.std.specs.Prelude.{◌≡◌, ℕ, IsOk, IfOk, OnOk, OnErr};
+ghost use Rattle.std.specs.Prelude.{◌≡◌, [], ℕ, IsOk, IfOk, OnOk, OnErr};
 ghost use Rattle.std.specs.List.{AllByRecursion, AllZip};
 ghost use Rattle.proto_records.specs.Counts.{counted, counts_with};
 ghost use Rattle.proto_records.specs.Declarations.{declarations, file_walk};
 ghost use Rattle.proto_records.specs.Progress.{HasSeen, StopsAt};
 ghost use Rattle.proto_records.specs.Walking.{Room};
 
+mod known;
 mod listing;
 mod located;
 mod part;
@@ -13,6 +14,7 @@ mod place;
 use crate::counts::Counts;
 use crate::records::FileDescriptorProto;
 use crate::visitor::Visitor;
+pub use known::visit_with;
 use listing::Listing;
 use located::{show_all, show_file};
 pub use place::join;
@@ -38,6 +40,7 @@ pub fn visit(
     requires fits { IsOk (counts_with base (declarations base files.now)) }
     requires ready { ready visitor.old (declarations base files.now) }
     ensures ok { OnOk result (HasSeen (after visitor.old) (ready visitor.old) (after visitor.new) (ready visitor.new) (declarations base files.now)) }
+    ensures after { OnOk result (after visitor.new [] ≡ after visitor.old (declarations base files.now)) }
     ensures kept { kept visitor.new ≡ kept visitor.old }
 {
     let mut counts = base;

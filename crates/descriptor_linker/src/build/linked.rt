@@ -5,7 +5,8 @@ ghost use Rattle.descriptor_linker.specs.Seen.{setting_in};
 use super::setting::Setting;
 use pool_parts::{DefinitionKind, ResolveNameFilter, ResolveNameResult};
 use proto_records::{
-    DescriptorProto, FieldDescriptorProto, FieldType, FileDescriptorProto, Items, Text, join,
+    DescriptorProto, FieldDescriptorProto, FieldType, FileDescriptorProto, Items, Options, Text,
+    join,
 };
 use std::alloc::{AllocError, Global};
 
@@ -27,6 +28,7 @@ pub(crate) fn linked_file(
     Ok(linked)
 }
 
+/// A message with its fields and its nested messages, in a scope.
 fn linked_message(
     alloc: Global,
     setting: Setting,
@@ -36,13 +38,39 @@ fn linked_message(
 ) -> Result<DescriptorProto, AllocError>
     ensures { IfOk result (λ m. m ≡ linked_message (setting_in setting.entry) number scope.now message.now) }
 {
-    let full_name = join(alloc, scope, message.name())?;
-    let mut field = Items::new(alloc);
-    for written in message.field.as_slice() {
-        field.push(linked_field(alloc, setting, number, &full_name, written)?)?;
+    let within = join(alloc, scope, message.name())?;
+    let field = linked_fields(alloc, setting, number, &within, message.field.as_slice())?;
+    let mut nested_type = Items::new(alloc);
+    for nested in message.nested_type.as_slice() {
+        nested_type.push(linked_message(alloc, setting, number, &within, nested)?)?;
     }
-    let mut linked = message.clone(alloc)?;
-    linked.field = field;
+    Ok(DescriptorProto {
+        name: Text::clone_given(alloc, &message.name)?,
+        field,
+        nested_type,
+        enum_type: message.enum_type.clone(alloc)?,
+        extension_range: message.extension_range.clone(alloc)?,
+        extension: message.extension.clone(alloc)?,
+        options: Options::clone_given(alloc, &message.options)?,
+        oneof_decl: message.oneof_decl.clone(alloc)?,
+        reserved_range: message.reserved_range.clone(alloc)?,
+        reserved_name: message.reserved_name.clone(alloc)?,
+    })
+}
+
+fn linked_fields(
+    alloc: Global,
+    setting: Setting,
+    number: u32,
+    scope: &str,
+    fields: &[FieldDescriptorProto],
+) -> Result<Items<FieldDescriptorProto>, AllocError>
+    ensures { IfOk result (λ linked. linked ≡ map (linked_field (setting_in setting.entry) number scope.now) fields.now) }
+{
+    let mut linked = Items::new(alloc);
+    for field in fields {
+        linked.push(linked_field(alloc, setting, number, scope, field)?)?;
+    }
     Ok(linked)
 }
 

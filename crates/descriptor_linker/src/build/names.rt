@@ -8,14 +8,17 @@ ghost use Rattle.pool_parts.specs.Kinds.{is_package};
 ghost use Rattle.descriptor_linker.specs.Entered.{packages, package_entry};
 ghost use Rattle.descriptor_linker.specs.FirstPass.{clash_faults};
 
-use super::visit::Visitor;
 use pool_parts::{Definition, DefinitionKind, DescriptorErrorKind, Entry, Files, first_definition};
-use proto_records::{DescriptorProto, FieldDescriptorProto, FileDescriptorProto, Items, Text, tag};
+use proto_records::{
+    DescriptorProto, EnumDescriptorProto, EnumValueDescriptorProto, FieldDescriptorProto,
+    FileDescriptorProto, Items, MethodDescriptorProto, OneofDescriptorProto,
+    ServiceDescriptorProto, Text, Visitor, tag,
+};
 use std::alloc::{AllocError, Global};
 
 /// The first pass: it enters the names of declarations, and gathers the faults of names.
 #[derive(Drop)]
-pub(crate) struct NameVisitor<'a> {
+pub struct NameVisitor<'a> {
     pub(crate) alloc: Global,
     pub(crate) files: Files<'a>,
     pub(crate) entries: Vec<Entry>,
@@ -109,10 +112,18 @@ impl NameVisitor<'_> {
 
 impl Visitor for NameVisitor<'_> {
     ghost use Rattle.std.specs.List.{fold};
+    ghost use Rattle.proto_records.specs.Contents.{no_contents};
     ghost use Rattle.descriptor_linker.specs.Passes.{named, names_progress};
+    ghost use Rattle.descriptor_linker.specs.ReadDeclarations.{read};
     ghost use Rattle.descriptor_linker.specs.Seen.{names_seen};
 
-    ghost after = { λ v ds. names_progress (fold named (names_seen v) ds) };
+    ghost after = { λ v ds. names_progress (fold named (names_seen v) (read ds)) };
+
+    ghost ready = { λ _ _. Unit {0} };
+
+    ghost kept = { λ _. no_contents };
+
+    ghost front_ready = { λ _ _ _ _. tt };
 
     fn visit_file(
         &mut self,
@@ -146,6 +157,77 @@ impl Visitor for NameVisitor<'_> {
         _field: &FieldDescriptorProto,
     ) -> Result<(), AllocError> {
         self.enter_own(full_name, file, path, DefinitionKind::Field(parent))
+    }
+
+    fn visit_oneof(
+        &mut self,
+        _path: &[i32],
+        _full_name: &str,
+        _file: u32,
+        _parent: u32,
+        _index: u32,
+        _oneof: &OneofDescriptorProto,
+    ) -> Result<(), AllocError> {
+        Ok(())
+    }
+
+    fn visit_service(
+        &mut self,
+        _path: &[i32],
+        _full_name: &str,
+        _file: u32,
+        _index: u32,
+        _service: &ServiceDescriptorProto,
+    ) -> Result<(), AllocError> {
+        Ok(())
+    }
+
+    fn visit_method(
+        &mut self,
+        _path: &[i32],
+        _full_name: &str,
+        _file: u32,
+        _parent: u32,
+        _index: u32,
+        _method: &MethodDescriptorProto,
+    ) -> Result<(), AllocError> {
+        Ok(())
+    }
+
+    fn visit_enum(
+        &mut self,
+        _path: &[i32],
+        _full_name: &str,
+        _file: u32,
+        _parent: Option<u32>,
+        _index: u32,
+        _enumeration: &EnumDescriptorProto,
+    ) -> Result<(), AllocError> {
+        Ok(())
+    }
+
+    fn visit_enum_value(
+        &mut self,
+        _path: &[i32],
+        _full_name: &str,
+        _file: u32,
+        _parent: u32,
+        _index: u32,
+        _value: &EnumValueDescriptorProto,
+    ) -> Result<(), AllocError> {
+        Ok(())
+    }
+
+    fn visit_extension(
+        &mut self,
+        _path: &[i32],
+        _full_name: &str,
+        _file: u32,
+        _parent: Option<u32>,
+        _index: u32,
+        _extension: &FieldDescriptorProto,
+    ) -> Result<(), AllocError> {
+        Ok(())
     }
 }
 

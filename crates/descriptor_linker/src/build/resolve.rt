@@ -1,15 +1,18 @@
 use super::field::{add_field, add_given, identity, read_field};
 use super::linked::linked_file;
 use super::setting::Setting;
-use super::visit::Visitor;
 use pool_parts::{DescriptorErrorKind, FileDescriptorInner, MessageDescriptorInner};
-use proto_records::{DescriptorProto, FieldDescriptorProto, FileDescriptorProto, Items};
+use proto_records::{
+    DescriptorProto, EnumDescriptorProto, EnumValueDescriptorProto, FieldDescriptorProto,
+    FileDescriptorProto, Items, MethodDescriptorProto, OneofDescriptorProto,
+    ServiceDescriptorProto, Visitor,
+};
 use std::alloc::{AllocError, Global};
 
 /// The second pass: it makes the items of files, messages and fields, and gathers the faults of
 /// numbers and of references.
 #[derive(Drop)]
-pub(crate) struct ResolveVisitor<'a> {
+pub struct ResolveVisitor<'a> {
     pub(crate) alloc: Global,
     pub(crate) setting: Setting<'a>,
     pub(crate) files: Vec<FileDescriptorInner>,
@@ -19,10 +22,18 @@ pub(crate) struct ResolveVisitor<'a> {
 
 impl Visitor for ResolveVisitor<'_> {
     ghost use Rattle.std.specs.List.{fold};
+    ghost use Rattle.proto_records.specs.Contents.{no_contents};
     ghost use Rattle.descriptor_linker.specs.Passes.{referred, references_progress};
+    ghost use Rattle.descriptor_linker.specs.ReadDeclarations.{read};
     ghost use Rattle.descriptor_linker.specs.Seen.{references_seen};
 
-    ghost after = { λ v ds. references_progress (fold referred (references_seen v) ds) };
+    ghost after = { λ v ds. references_progress (fold referred (references_seen v) (read ds)) };
+
+    ghost ready = { λ _ _. Unit {0} };
+
+    ghost kept = { λ _. no_contents };
+
+    ghost front_ready = { λ _ _ _ _. tt };
 
     fn visit_file(
         &mut self,
@@ -66,5 +77,76 @@ impl Visitor for ResolveVisitor<'_> {
         add_field(&mut self.messages, read.item)?;
         add_given(&mut self.faults, read.number_fault)?;
         add_given(&mut self.faults, read.type_fault)
+    }
+
+    fn visit_oneof(
+        &mut self,
+        _path: &[i32],
+        _full_name: &str,
+        _file: u32,
+        _parent: u32,
+        _index: u32,
+        _oneof: &OneofDescriptorProto,
+    ) -> Result<(), AllocError> {
+        Ok(())
+    }
+
+    fn visit_service(
+        &mut self,
+        _path: &[i32],
+        _full_name: &str,
+        _file: u32,
+        _index: u32,
+        _service: &ServiceDescriptorProto,
+    ) -> Result<(), AllocError> {
+        Ok(())
+    }
+
+    fn visit_method(
+        &mut self,
+        _path: &[i32],
+        _full_name: &str,
+        _file: u32,
+        _parent: u32,
+        _index: u32,
+        _method: &MethodDescriptorProto,
+    ) -> Result<(), AllocError> {
+        Ok(())
+    }
+
+    fn visit_enum(
+        &mut self,
+        _path: &[i32],
+        _full_name: &str,
+        _file: u32,
+        _parent: Option<u32>,
+        _index: u32,
+        _enumeration: &EnumDescriptorProto,
+    ) -> Result<(), AllocError> {
+        Ok(())
+    }
+
+    fn visit_enum_value(
+        &mut self,
+        _path: &[i32],
+        _full_name: &str,
+        _file: u32,
+        _parent: u32,
+        _index: u32,
+        _value: &EnumValueDescriptorProto,
+    ) -> Result<(), AllocError> {
+        Ok(())
+    }
+
+    fn visit_extension(
+        &mut self,
+        _path: &[i32],
+        _full_name: &str,
+        _file: u32,
+        _parent: Option<u32>,
+        _index: u32,
+        _extension: &FieldDescriptorProto,
+    ) -> Result<(), AllocError> {
+        Ok(())
     }
 }

@@ -55,7 +55,7 @@ fn links_a_file_with_every_statement(rt: HostRuntime) -> Result<(), Fail> {
             enum F\nend\nservice S\nmethod m .p.M .p.M\nend\n\
             extend x 101 optional int32 ~ .p.M\npacked false\nend\nlink\n\
             find p.M.f\nfind p.M.N\nfind p.S\n",
-            "ok 1 1 0 0 0\nfield 0 a.proto [4, 0, 2, 0, 1]\nnone\nnone\n",
+            "ok 1 2 0 0 0\nfield 0 a.proto [4, 0, 2, 0, 1]\nmessage 1 a.proto [4, 0, 3, 0, 1]\nnone\n",
             Ending::Whole,
         ),
         (
@@ -174,7 +174,7 @@ const WALKED_SCRIPT: &str =
     extend e 100 optional int32 ~ M\nend\nservice S\nmethod m .p.M .p.M\nend\n\
     extend x 101 optional int32 ~ .p.M\nend\nlink\nwalk\n";
 
-const WALKED_REPORT: &str = "ok 1 1 0 0 0\nwalk 11\nfile 0 a.proto []\nmessage 0 p.M [4, 0]\n\
+const WALKED_REPORT: &str = "ok 1 2 0 0 0\nwalk 11\nfile 0 a.proto []\nmessage 0 p.M [4, 0]\n\
     oneof 0 p.M.o [4, 0, 8, 0]\nfield 0 p.M.f [4, 0, 2, 0]\nmessage 1 p.M.N [4, 0, 3, 0]\n\
     enum 0 p.M.E [4, 0, 4, 0]\nvalue 0 p.M.V [4, 0, 4, 0, 2, 0]\nextension 0 p.M.e [4, 0, 6, 0]\n\
     service 0 p.S [6, 0]\nmethod 0 p.S.m [6, 0, 2, 0]\nextension 1 p.x [7, 0]\n";
@@ -192,6 +192,37 @@ fn walks_over_what_files_declare(rt: HostRuntime) -> Result<(), Fail> {
         (
             "file ~\nmessage ~\nend\nend\nfile b\nmessage M\nend\nend\nlink\nwalk\n",
             "ok 2 2 0 0 0\nwalk 4\nfile 0 '' []\nmessage 0 '' [4, 0]\nfile 1 b []\nmessage 1 M [4, 0]\n",
+            Ending::Whole,
+        ),
+    ];
+    compare(&rt, rt.alloc(), &cases)
+}
+
+#[test]
+fn nested_messages_are_named_and_numbered(rt: HostRuntime) -> Result<(), Fail> {
+    let cases = [
+        (
+            "file a.proto\npackage p\nmessage A\nmessage B\nmessage C\nend\nend\nmessage D\nend\nend\n\
+            message E\nend\nend\nlink\nfind p.A.B.C\nfind p.A.D\nfind p.E\n\
+            file b.proto\nmessage F\nend\nend\nlink\nfind F\n",
+            "ok 1 5 0 0 0\nmessage 2 a.proto [4, 0, 3, 0, 3, 0, 1]\nmessage 3 a.proto [4, 0, 3, 1, 1]\n\
+            message 4 a.proto [4, 1, 1]\nok 2 6 0 0 0\nmessage 5 b.proto [4, 0, 1]\n",
+            Ending::Whole,
+        ),
+        (
+            "file a.proto\nmessage A\nmessage B\nfield f 1 optional message .A ~\nend\n\
+            field g 1 optional message .A.B ~\nend\nend\nlink\nfind A.B.f\n",
+            "ok 1 2 0 0 0\nfield 1 a.proto [4, 0, 3, 0, 2, 0, 1]\n",
+            Ending::Whole,
+        ),
+        (
+            "file a.proto\nmessage A\nmessage B\nfield f 0 optional message .C ~\nend\nend\nend\nlink\n",
+            "refused 2\na.proto: invalid field number '0'\na.proto: name '.C' is not defined\n",
+            Ending::Whole,
+        ),
+        (
+            "file a.proto\nmessage A\nfield B 1 optional int32 ~ ~\nmessage B\nend\nend\nend\nlink\n",
+            "refused 1\na.proto: name 'A.B' is defined twice\n",
             Ending::Whole,
         ),
     ];

@@ -39,7 +39,7 @@ fn every_kind(alloc: Global) -> Result<FileDescriptorProto, AllocError> {
 }
 
 /// A message inside another, and so on, as many as this.
-fn nested(alloc: Global, depth: u32) -> Result<DescriptorProto, AllocError> {
+pub(super) fn nested(alloc: Global, depth: u32) -> Result<DescriptorProto, AllocError> {
     let mut inner = message(alloc, "M", Vec::new(alloc))?;
     for _ in 1..depth {
         let mut outer = message(alloc, "M", Vec::new(alloc))?;
@@ -95,7 +95,7 @@ impl Limited {
 }
 
 impl Visitor for Limited {
-    ghost after = { λ _ _. record { contents = no_contents; faults = []; listed = [] } };
+    ghost after = { λ _ _. record { contents = no_contents; entries = []; faults = []; listed = [] } };
 
     ghost ready = { λ _ _. Unit {0} };
 

@@ -1,4 +1,4 @@
-use Rattle.std.proofs.Common.{◌+◌, drop, refl, ap, sym, subst, ◌∙◌}
+use Rattle.std.proofs.Common.{[], append-nil, ◌+◌, drop, refl, ap, sym, subst, ◌∙◌}
 use Rattle.std.proofs.lemmas.List.{drop_all}
 use Rattle.proto_records.specs.declared.counts.Counts.{Counts}
 use Rattle.proto_records.specs.Counts.{counted}
@@ -40,7 +40,10 @@ loop-file-preserved g c =
 pub returns : goal.returns
 returns g c =
     let L = c.loop-file in
+    let all = declarations c.args.base c.args.files.now in
+    let seen = remains-none (ap (declarations L.counts) (drop_all L.file-index c.args.files.now c.loop-file-test.false)) L.invariant.left in
     record {
-      ok = remains-none (ap (declarations L.counts) (drop_all L.file-index c.args.files.now c.loop-file-test.false)) L.invariant.left;
+      ok = seen;
+      after = seen.after_is [] ∙ ap ((goal.Visitor-dyn g c.args.visitor.now).after c.args.visitor.now.1) (append-nil all);
       kept = L.invariant.kept;
     }

@@ -1,5 +1,4 @@
-use Rattle.std.proofs.Common.{◌≡◌, List, [], ◌++◌, length, map, refl, ap, subst, sym, ◌∙◌, rules}
-use Rattle.std.specs.List.{sum_by}
+use Rattle.std.proofs.Common.{ℕ, ◌+◌, IsOk, arith, ◌≡◌, List, [], ◌++◌, length, map, refl, ap, subst, sym, ◌∙◌, rules}
 use Rattle.proto_records.specs.declared.contents.file.FileDescriptorInner.{FileDescriptorInner}
 use Rattle.proto_records.specs.declared.records.file.FileDescriptorProto.{FileDescriptorProto}
 use Rattle.proto_records.specs.Contents.{Contents, counts_in, files_of}
@@ -18,40 +17,29 @@ use Rattle.descriptor_linker.specs.Items.{message_item}
 use Rattle.descriptor_linker.specs.Held.{contents_of, IsHeld}
 use Rattle.descriptor_linker.specs.Passes.{TellsFaults}
 use Rattle.descriptor_linker.specs.Pool.{Made, new_files, known_names, faults, Fits, file_item, with_items}
-use Rattle.descriptor_linker.proofs.Linking.{size}
-use Rattle.descriptor_linker.proofs.Grown.{Ground, bounds, told_first, told_second, ground_setting, is_linked, is_held}
+use Rattle.proto_records.specs.Counts.{no_counts, counts_with}
+use Rattle.proto_records.specs.Declarations.{declarations}
+use Rattle.descriptor_linker.proofs.ReadWalk.{file_counts, declarations-counted}
+use Rattle.descriptor_linker.proofs.Grown.{Ground, fits-new, told_first, told_second, ground_setting, is_linked, is_held}
 use Rattle.descriptor_linker.proofs.pool.DescriptorPool.grown.Goals as goal
 
-pub enter_names-requires-clause-files_fit : goal.enter_names-requires-clause-files_fit
-enter_names-requires-clause-files_fit c =
-    let h = bounds c.args.self.now c.args.new.now c.requires.new c.requires.fits in
-    rw c.counts-base.ensures h.files
+pub enter_names-requires : goal.enter_names-requires
+enter_names-requires c =
+    let P : Counts → Type 0 = λ base. IsOk (counts_with base (declarations base c.args.new.now)) in
+    subst P (sym c.counts-base.ensures) (fits-new c.args.self.now c.args.new.now c.requires.new c.requires.fits)
 
-pub enter_names-requires-clause-messages_fit : goal.enter_names-requires-clause-messages_fit
-enter_names-requires-clause-messages_fit c =
-    let h = bounds c.args.self.now c.args.new.now c.requires.new c.requires.fits in
-    rw c.counts-base.ensures h.messages
+pub make_items-requires : goal.make_items-requires
+make_items-requires c =
+    let P : Counts → Type 0 = λ base. IsOk (counts_with base (declarations base c.args.new.now)) in
+    subst P (sym c.counts-base.ensures) (fits-new c.args.self.now c.args.new.now c.requires.new c.requires.fits)
 
-pub enter_names-requires-clause-short : goal.enter_names-requires-clause-short
-enter_names-requires-clause-short c = (bounds c.args.self.now c.args.new.now c.requires.new c.requires.fits).short
-
-pub make_items-requires-clause-files_fit : goal.make_items-requires-clause-files_fit
-make_items-requires-clause-files_fit c =
-    let h = bounds c.args.self.now c.args.new.now c.requires.new c.requires.fits in
-    rw c.counts-base.ensures h.files
-
-pub make_items-requires-clause-messages_fit : goal.make_items-requires-clause-messages_fit
-make_items-requires-clause-messages_fit c =
-    let h = bounds c.args.self.now c.args.new.now c.requires.new c.requires.fits in
-    rw c.counts-base.ensures h.messages
-
-pub make_items-requires-clause-short : goal.make_items-requires-clause-short
-make_items-requires-clause-short c = (bounds c.args.self.now c.args.new.now c.requires.new c.requires.fits).short
+from-none : (n : ℕ) → 0 + n ≡ n
+from-none n = omega arith
 
 -- the pool as it was
 ground : (p : Contents) (inside : Inside) (fs : List FileDescriptorProto) → contents_of inside ≡ p → IsHeld inside → new_files p fs ≡ fs → Fits p fs → Ground p inside.entries.items fs
 ground p inside fs is held fresh fits = record {
-  messages = ap (λ q. length q.messages) (sym is) ∙ held.messages ∙ ap (λ q. sum_by size (files_of q)) is;
+  messages = ap (λ q. length q.messages) (sym is) ∙ held.messages ∙ (declarations-counted no_counts (files_of (contents_of inside))).1 ∙ from-none (file_counts (files_of (contents_of inside))) ∙ ap (λ q. file_counts (files_of q)) is;
   known_is = held.entries ∙ ap known_names is;
   fresh = fresh;
   fits = fits;

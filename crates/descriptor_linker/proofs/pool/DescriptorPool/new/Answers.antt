@@ -1,6 +1,6 @@
 use Rattle.std.proofs.Common.{length, map, ap, sym, ◌∙◌, arith}
-use Rattle.std.specs.List.{sum_by}
-use Rattle.proto_records.specs.Counts.{no_counts}
+use Rattle.proto_records.specs.Counts.{no_counts, counted}
+use Rattle.proto_records.specs.Declarations.{declarations}
 use Rattle.descriptor_linker.specs.ReadDeclarations.{read_declarations}
 use Rattle.pool_parts.specs.Entries.{names}
 use Rattle.descriptor_linker.specs.Entered.{entries}
@@ -18,7 +18,7 @@ invariant_of-result c =
     record {
       made = empty (λ i. record { files = files i; messages = messages i; names = names (known i) });
       entries = known ∙ ap (λ fs. entries (read_declarations no_counts (map (λ f. f.raw) fs))) (sym files);
-      messages = no_messages ∙ ap (λ fs. sum_by (λ f. length f.message_type) (map (λ f. f.raw) fs)) (sym files);
+      messages = no_messages ∙ ap (λ fs. (counted no_counts (declarations no_counts (map (λ f. f.raw) fs))).messages) (sym files);
       few_files = omega arith;
       few_messages = omega arith;
     }
