@@ -1,7 +1,7 @@
 -- The texts before each dot of a text that grows at its end.
 use Rattle.std.proofs.Common.{◌≡◌, ℕ, Bool, true, false, List, [], ◌∷◌, ◌++◌, map, cond, refl, ap, ◌∙◌}
 use Rattle.std.proofs.lemmas.List.{map-append}
-use Rattle.proto_records.specs.Names.{fronts, is_dot}
+use Rattle.proto_types.specs.Names.{fronts, is_dot}
 
 map-cond : (f : List ℕ → List ℕ) (b : Bool) (x : List ℕ) → map f (cond b (x ∷ []) []) ≡ cond b (f x ∷ []) []
 map-cond f true x = refl

@@ -1,10 +1,10 @@
 -- A pool into which new files are linked.
 use Rattle.std.proofs.Common.{IsOk, subst, ◌≡◌, ◌≢◌, ◌+◌, ◌<◌, ◌^◌, List, [], ◌++◌, length, length-append, ap, sym, ◌∙◌, arith}
 use Rattle.std.proofs.lemmas.List.{length-map}
-use Rattle.proto_records.specs.declared.contents.definition.Entry.{Entry}
-use Rattle.proto_records.specs.declared.records.file.FileDescriptorProto.{FileDescriptorProto}
-use Rattle.proto_records.specs.Contents.{Contents, counts_in, files_of}
-use Rattle.proto_records.specs.Counts.{counts_with, no_counts}
+use Rattle.proto_types.specs.declared.contents.definition.Entry.{Entry}
+use Rattle.proto_types.specs.declared.records.file.FileDescriptorProto.{FileDescriptorProto}
+use Rattle.proto_types.specs.Contents.{Contents, files_of}
+use Rattle.proto_records.specs.Counts.{counts_with, no_counts, counts_in}
 use Rattle.proto_records.specs.Declarations.{declarations}
 use Rattle.proto_records.proofs.Room.{room-fits}
 use Rattle.descriptor_linker.specs.ReadDeclarations.{read_declarations}

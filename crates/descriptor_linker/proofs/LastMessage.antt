@@ -1,7 +1,7 @@
 -- A field put into the last message of a list.
 use Rattle.std.proofs.Common.{◌≡◌, List, [], ◌∷◌, ◌++◌, refl, ap}
-use Rattle.proto_records.specs.declared.contents.field.FieldDescriptorInner.{FieldDescriptorInner}
-use Rattle.proto_records.specs.declared.contents.message.MessageDescriptorInner.{MessageDescriptorInner}
+use Rattle.proto_types.specs.declared.contents.field.FieldDescriptorInner.{FieldDescriptorInner}
+use Rattle.proto_types.specs.declared.contents.message.MessageDescriptorInner.{MessageDescriptorInner}
 use Rattle.descriptor_linker.specs.Report.Building.{change_last}
 use Rattle.descriptor_linker.specs.Passes.{with_field}
 

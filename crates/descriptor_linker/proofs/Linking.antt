@@ -1,10 +1,10 @@
 -- A batch linked behind the files of a pool.
 use Rattle.std.proofs.Common.{◌≡◌, ◌≢◌, ◌+◌, List, [], ◌∷◌, ◌++◌, length, length-append, map, refl, ap, sym, ◌∙◌, arith}
 use Rattle.std.proofs.lemmas.List.{length-map, map-append}
-use Rattle.proto_records.specs.declared.contents.definition.Entry.{Entry}
-use Rattle.proto_records.specs.declared.records.file.FileDescriptorProto.{FileDescriptorProto}
-use Rattle.proto_records.specs.Contents.{Contents, counts_in, files_of}
-use Rattle.proto_records.specs.Counts.{no_counts}
+use Rattle.proto_types.specs.declared.contents.definition.Entry.{Entry}
+use Rattle.proto_types.specs.declared.records.file.FileDescriptorProto.{FileDescriptorProto}
+use Rattle.proto_types.specs.Contents.{Contents, files_of}
+use Rattle.proto_records.specs.Counts.{no_counts, counts_in}
 use Rattle.proto_records.specs.Protos.{as_file, as_message}
 use Rattle.descriptor_linker.specs.ReadDeclarations.{read_declarations}
 use Rattle.descriptor_linker.specs.Entered.{entries}

@@ -2,13 +2,13 @@
 use Rattle.std.proofs.Common.{◌≡◌, ℕ, ℤ, Option, List, [], ◌∷◌, ◌++◌, ap, sym, ◌∙◌, append_assoc, append-nil}
 use Rattle.std.proofs.lemmas.Grind.{flat_map-append}
 use Rattle.std.specs.List.{fold, flat_map}
-use Rattle.proto_records.specs.Contents.{no_contents}
-use Rattle.proto_records.specs.Lists.{after_each}
+use Rattle.proto_types.specs.Contents.{no_contents}
+use Rattle.proto_types.specs.Lists.{after_each}
 use Rattle.proto_records.specs.Protos.{Proto, of_file, of_message, of_field, of_oneof, of_service, of_method, of_enum, of_value, of_extension}
-use Rattle.proto_records.specs.Readers.{text_of}
+use Rattle.proto_types.specs.Readers.{text_of}
 use Rattle.proto_records.specs.Shown.{Shown}
-use Rattle.proto_records.specs.declared.contents.definition.Entry.{Entry}
-use Rattle.proto_records.specs.declared.records.file.FileDescriptorProto.{FileDescriptorProto}
+use Rattle.proto_types.specs.declared.contents.definition.Entry.{Entry}
+use Rattle.proto_types.specs.declared.records.file.FileDescriptorProto.{FileDescriptorProto}
 use Rattle.descriptor_linker.specs.Entered.{entries_of, entries, own_entry}
 use Rattle.descriptor_linker.specs.FirstPass.{Faults, clash_faults, file_name_faults, file_names, file_names_of, first_faults, first_pass}
 use Rattle.descriptor_linker.specs.Passes.{NamesSeen, entered, file_named, named, names_progress}

@@ -4,7 +4,7 @@ use Rattle.std.proofs.Math.Seq.{take-suc}
 use Rattle.std.proofs.lemmas.List.{map-append}
 use Rattle.std.proofs.lemmas.List.Sums.{fold-append}
 use Rattle.std.specs.List.{fold}
-use Rattle.proto_records.specs.Names.{fronts, is_dot}
+use Rattle.proto_types.specs.Names.{fronts, is_dot}
 use Rattle.descriptor_linker.specs.Entered.{package_entry}
 use Rattle.descriptor_linker.specs.Passes.{NamesSeen, entered}
 use Rattle.descriptor_linker.proofs.Fronts.{fronts_push}

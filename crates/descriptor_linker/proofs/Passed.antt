@@ -2,8 +2,8 @@
 use Rattle.std.proofs.Common.{◌≡◌, List, [], ◌++◌, map, ap, ◌∙◌}
 use Rattle.std.specs.List.{fold}
 use Rattle.proto_records.specs.declared.counts.Counts.{Counts}
-use Rattle.proto_records.specs.declared.contents.definition.Entry.{Entry}
-use Rattle.proto_records.specs.declared.records.file.FileDescriptorProto.{FileDescriptorProto}
+use Rattle.proto_types.specs.declared.contents.definition.Entry.{Entry}
+use Rattle.proto_types.specs.declared.records.file.FileDescriptorProto.{FileDescriptorProto}
 use Rattle.descriptor_linker.specs.ReadDeclarations.{read_declarations}
 use Rattle.proto_records.specs.Progress.{Progress}
 use Rattle.proto_records.specs.Protos.{as_file, as_message}

@@ -1,13 +1,13 @@
 -- The names that declarations enter: a file its package and the packages around it, and any other its full name.
 use Rattle.std.specs.Prelude.{ℕ, List, [], ◌∷◌, ◌++◌, map, unwrap_or}
 use Rattle.std.specs.List.{flat_map}
-use Rattle.proto_records.specs.declared.tag.file.TheConstants as file
-use Rattle.proto_records.specs.declared.tag.message.TheConstants as message
-use Rattle.proto_records.specs.declared.contents.definition.Entry.{Entry}
-use Rattle.proto_records.specs.declared.contents.definition.DefinitionKind.{DefinitionKind}
-use Rattle.proto_records.specs.declared.contents.definition.DefinitionKind.TheVariants as definition
-use Rattle.proto_records.specs.Names.{fronts}
-use Rattle.proto_records.specs.Readers.{text_of}
+use Rattle.proto_types.specs.declared.tag.file.TheConstants as file
+use Rattle.proto_types.specs.declared.tag.message.TheConstants as message
+use Rattle.proto_types.specs.declared.contents.definition.Entry.{Entry}
+use Rattle.proto_types.specs.declared.contents.definition.DefinitionKind.{DefinitionKind}
+use Rattle.proto_types.specs.declared.contents.definition.DefinitionKind.TheVariants as definition
+use Rattle.proto_types.specs.Names.{fronts}
+use Rattle.proto_types.specs.Readers.{text_of}
 use Rattle.proto_records.specs.Protos.{of_file, of_message, of_field, of_oneof, of_service, of_method, of_enum, of_value, of_extension}
 use Rattle.proto_records.specs.Shown.{Shown}
 

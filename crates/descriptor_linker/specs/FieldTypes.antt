@@ -2,14 +2,14 @@
 use Rattle.std.specs.Prelude.{not, List, [], ◌∷◌, ◌++◌, is_some}
 use Rattle.std.specs.Option.{option_and_then}
 use Rattle.std.specs.declared.option.Option.{Option}
-use Rattle.proto_records.specs.declared.tag.field.TheConstants as field
-use Rattle.proto_records.specs.declared.records.field.FieldDescriptorProto.{FieldDescriptorProto}
-use Rattle.proto_records.specs.declared.kinds.KindIndex.{KindIndex}
-use Rattle.proto_records.specs.declared.fault.DescriptorErrorKind.{DescriptorErrorKind}
-use Rattle.proto_records.specs.declared.fault.DescriptorErrorKind.TheVariants.{MissingRequiredField}
-use Rattle.proto_records.specs.Labels.{label_in}
-use Rattle.proto_records.specs.Lists.{listed, only_if}
-use Rattle.proto_records.specs.Readers.{text_of, type_of}
+use Rattle.proto_types.specs.declared.tag.field.TheConstants as field
+use Rattle.proto_types.specs.declared.records.field.FieldDescriptorProto.{FieldDescriptorProto}
+use Rattle.proto_types.specs.declared.kinds.KindIndex.{KindIndex}
+use Rattle.proto_types.specs.declared.fault.DescriptorErrorKind.{DescriptorErrorKind}
+use Rattle.proto_types.specs.declared.fault.DescriptorErrorKind.TheVariants.{MissingRequiredField}
+use Rattle.proto_types.specs.Labels.{label_in}
+use Rattle.proto_types.specs.Lists.{listed, only_if}
+use Rattle.proto_types.specs.Readers.{text_of, type_of}
 use Rattle.proto_records.specs.Shown.{Shown}
 use Rattle.pool_parts.specs.declared.filter.ResolveNameFilter.TheVariants.{FieldType}
 use Rattle.pool_parts.specs.Kinds.{simple_kind, named_kind}

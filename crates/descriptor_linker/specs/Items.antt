@@ -1,13 +1,13 @@
 -- The records that a pool holds of a message and its fields.
 use Rattle.std.specs.Prelude.{ℕ, suc, ◌-◌, ◌^◌, ℤ, pos, negsuc, length, map, unwrap_or}
-use Rattle.proto_records.specs.declared.tag.message.TheConstants as message
-use Rattle.proto_records.specs.declared.contents.definition.Identity.{Identity}
-use Rattle.proto_records.specs.declared.contents.field.FieldDescriptorInner.{FieldDescriptorInner}
-use Rattle.proto_records.specs.declared.contents.message.MessageDescriptorInner.{MessageDescriptorInner}
-use Rattle.proto_records.specs.declared.kinds.KindIndex.TheVariants.{Double}
-use Rattle.proto_records.specs.declared.records.field.FieldDescriptorProto.{FieldDescriptorProto}
-use Rattle.proto_records.specs.declared.records.message.DescriptorProto.{DescriptorProto, out-DescriptorProto}
-use Rattle.proto_records.specs.Readers.{number_of, label_of}
+use Rattle.proto_types.specs.declared.tag.message.TheConstants as message
+use Rattle.proto_types.specs.declared.contents.definition.Identity.{Identity}
+use Rattle.proto_types.specs.declared.contents.field.FieldDescriptorInner.{FieldDescriptorInner}
+use Rattle.proto_types.specs.declared.contents.message.MessageDescriptorInner.{MessageDescriptorInner}
+use Rattle.proto_types.specs.declared.kinds.KindIndex.TheVariants.{Double}
+use Rattle.proto_types.specs.declared.records.field.FieldDescriptorProto.{FieldDescriptorProto}
+use Rattle.proto_types.specs.declared.records.message.DescriptorProto.{DescriptorProto, out-DescriptorProto}
+use Rattle.proto_types.specs.Readers.{number_of, label_of}
 use Rattle.proto_records.specs.Protos.{name_of, of_field, as_field}
 use Rattle.proto_records.specs.Shown.{Shown, inside, parts}
 use Rattle.pool_parts.specs.Kinds.{cardinality_of}

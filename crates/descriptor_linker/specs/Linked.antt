@@ -3,15 +3,15 @@ use Rattle.std.specs.Prelude.{◌≡◌, ℕ, ℤ, pos, List, [], ◌∷◌, map
 use Rattle.std.specs.Option.{option_map, option_map_or, option_or}
 use Rattle.std.specs.declared.option.Option.{Option}
 use Rattle.std.specs.declared.option.Option.TheVariants.{Some}
-use Rattle.proto_records.specs.declared.records.file.FileDescriptorProto.{FileDescriptorProto}
-use Rattle.proto_records.specs.declared.records.message.DescriptorProto.{DescriptorProto, DescriptorProto', out-DescriptorProto, roll-DescriptorProto, Row_of-DescriptorProto, end_of-DescriptorProto, more_of-DescriptorProto}
-use Rattle.proto_records.specs.declared.records.field.FieldDescriptorProto.{FieldDescriptorProto}
-use Rattle.proto_records.specs.declared.records.field.FieldType.{FieldType}
-use Rattle.proto_records.specs.declared.records.field.FieldType.TheVariants as written
-use Rattle.proto_records.specs.declared.contents.definition.DefinitionKind.{DefinitionKind}
-use Rattle.proto_records.specs.declared.contents.definition.DefinitionKind.TheVariants as definition
-use Rattle.proto_records.specs.Names.{join}
-use Rattle.proto_records.specs.Readers.{text_of, type_of}
+use Rattle.proto_types.specs.declared.records.file.FileDescriptorProto.{FileDescriptorProto}
+use Rattle.proto_types.specs.declared.records.message.DescriptorProto.{DescriptorProto, DescriptorProto', out-DescriptorProto, roll-DescriptorProto, Row_of-DescriptorProto, end_of-DescriptorProto, more_of-DescriptorProto}
+use Rattle.proto_types.specs.declared.records.field.FieldDescriptorProto.{FieldDescriptorProto}
+use Rattle.proto_types.specs.declared.records.field.FieldType.{FieldType}
+use Rattle.proto_types.specs.declared.records.field.FieldType.TheVariants as written
+use Rattle.proto_types.specs.declared.contents.definition.DefinitionKind.{DefinitionKind}
+use Rattle.proto_types.specs.declared.contents.definition.DefinitionKind.TheVariants as definition
+use Rattle.proto_types.specs.Names.{join}
+use Rattle.proto_types.specs.Readers.{text_of, type_of}
 use Rattle.pool_parts.specs.declared.filter.ResolveNameFilter.TheVariants.{FieldType as AnyType}
 use Rattle.pool_parts.specs.Resolution.{Resolution, name_found, kind_found}
 use Rattle.descriptor_linker.specs.Setting.{Setting, meaning}

@@ -2,9 +2,9 @@
 use Rattle.std.specs.Prelude.{ℕ, List, [], ◌∷◌, if◌then◌else◌}
 use Rattle.std.specs.FinMap as finite
 use Rattle.std.specs.declared.option.Option.{Option}
-use Rattle.proto_records.specs.declared.contents.definition.Definition.{Definition}
-use Rattle.proto_records.specs.Contents.{Contents}
-use Rattle.proto_records.specs.Names.{is_dot}
+use Rattle.proto_types.specs.declared.contents.definition.Definition.{Definition}
+use Rattle.proto_types.specs.Contents.{Contents}
+use Rattle.proto_types.specs.Names.{is_dot}
 
 -- a name without one leading dot
 abbrev pub without_dot : List ℕ → List ℕ

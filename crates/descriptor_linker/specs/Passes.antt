@@ -1,15 +1,15 @@
 -- What the two passes make of one more declaration.
 use Rattle.std.specs.Prelude.{◌≡◌, ℕ, List, [], ◌∷◌, ◌++◌}
 use Rattle.std.specs.List.{fold}
-use Rattle.proto_records.specs.declared.contents.definition.Entry.{Entry}
-use Rattle.proto_records.specs.declared.contents.field.FieldDescriptorInner.{FieldDescriptorInner}
-use Rattle.proto_records.specs.declared.contents.file.FileDescriptorInner.{FileDescriptorInner}
-use Rattle.proto_records.specs.declared.contents.message.MessageDescriptorInner.{MessageDescriptorInner}
-use Rattle.proto_records.specs.declared.records.file.FileDescriptorProto.{FileDescriptorProto}
-use Rattle.proto_records.specs.Contents.{no_contents}
+use Rattle.proto_types.specs.declared.contents.definition.Entry.{Entry}
+use Rattle.proto_types.specs.declared.contents.field.FieldDescriptorInner.{FieldDescriptorInner}
+use Rattle.proto_types.specs.declared.contents.file.FileDescriptorInner.{FileDescriptorInner}
+use Rattle.proto_types.specs.declared.contents.message.MessageDescriptorInner.{MessageDescriptorInner}
+use Rattle.proto_types.specs.declared.records.file.FileDescriptorProto.{FileDescriptorProto}
+use Rattle.proto_types.specs.Contents.{no_contents}
 use Rattle.proto_records.specs.Progress.{Progress}
 use Rattle.proto_records.specs.Protos.{of_file, of_message, of_field}
-use Rattle.proto_records.specs.Readers.{text_of}
+use Rattle.proto_types.specs.Readers.{text_of}
 use Rattle.proto_records.specs.Shown.{Shown}
 use Rattle.descriptor_linker.specs.declared.error.BuildError.{BuildError}
 use Rattle.descriptor_linker.specs.declared.error.BuildError.TheVariants.{TooMany, Descriptor, OutOfMemory}

@@ -5,15 +5,15 @@ use Rattle.std.specs.Str.{bytes_eq}
 use Rattle.std.specs.declared.result.Result.{Result}
 use Rattle.proto_records.specs.declared.counts.Counts.{Counts}
 use Rattle.proto_records.specs.declared.counts.CountKind.{CountKind}
-use Rattle.proto_records.specs.declared.contents.definition.Entry.{Entry}
-use Rattle.proto_records.specs.declared.records.file.FileDescriptorProto.{FileDescriptorProto}
-use Rattle.proto_records.specs.declared.contents.file.FileDescriptorInner.{FileDescriptorInner}
-use Rattle.proto_records.specs.Contents.{Contents, no_contents, counts_in, files_of}
-use Rattle.proto_records.specs.Counts.{no_counts, counts_with}
+use Rattle.proto_types.specs.declared.contents.definition.Entry.{Entry}
+use Rattle.proto_types.specs.declared.records.file.FileDescriptorProto.{FileDescriptorProto}
+use Rattle.proto_types.specs.declared.contents.file.FileDescriptorInner.{FileDescriptorInner}
+use Rattle.proto_types.specs.Contents.{Contents, no_contents, files_of}
+use Rattle.proto_records.specs.Counts.{no_counts, counts_with, counts_in}
 use Rattle.proto_records.specs.Declarations.{declarations}
 use Rattle.descriptor_linker.specs.ReadDeclarations.{read_declarations}
 use Rattle.proto_records.specs.Protos.{as_file, as_message}
-use Rattle.proto_records.specs.Readers.{text_of}
+use Rattle.proto_types.specs.Readers.{text_of}
 use Rattle.proto_records.specs.Shown.{Shown}
 use Rattle.pool_parts.specs.Entries.{names}
 use Rattle.descriptor_linker.specs.Entered.{entries}

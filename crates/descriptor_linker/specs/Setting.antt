@@ -3,8 +3,8 @@ use Rattle.std.specs.Prelude.{ℕ, ◌==◌, List}
 use Rattle.std.specs.List.{filter_map}
 use Rattle.std.specs.Option.{option_map}
 use Rattle.std.specs.declared.option.Option.{Option}
-use Rattle.proto_records.specs.declared.contents.definition.Entry.{Entry}
-use Rattle.proto_records.specs.declared.records.file.FileDescriptorProto.{FileDescriptorProto}
+use Rattle.proto_types.specs.declared.contents.definition.Entry.{Entry}
+use Rattle.proto_types.specs.declared.records.file.FileDescriptorProto.{FileDescriptorProto}
 use Rattle.proto_records.specs.Protos.{Proto}
 use Rattle.proto_records.specs.Shown.{Shown}
 use Rattle.proto_records.specs.Counts.{no_counts}

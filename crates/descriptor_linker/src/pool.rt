@@ -2,7 +2,7 @@ ghost use Rattle.std.specs.Prelude.{◌≡◌, [], ◌++◌, not, IsOk, IfOk, If
 ghost use Rattle.std.specs.Option.{option_copied};
 ghost use Rattle.std.specs.List.{list_any, filter};
 ghost use Rattle.std.specs.Str.{bytes_eq};
-ghost use Rattle.proto_records.specs.Readers.{text_of};
+ghost use Rattle.proto_types.specs.Readers.{text_of};
 ghost use Rattle.descriptor_linker.specs.LookUps.{without_dot};
 
 use crate::build::{Setting, enter_names, make_items};
@@ -25,8 +25,8 @@ pub struct DescriptorPool {
 }
 
 impl Model for DescriptorPool {
-    ghost use Rattle.proto_records.specs.Contents.{Contents};
-    ghost use Rattle.proto_records.specs.ContentsCode.{contents_code};
+    ghost use Rattle.proto_types.specs.Contents.{Contents};
+    ghost use Rattle.proto_types.specs.ContentsCode.{contents_code};
 
     ghost Value = { Contents };
 
@@ -40,7 +40,8 @@ impl Model for DescriptorPool {
 }
 
 impl DescriptorPool {
-    ghost use Rattle.proto_records.specs.Contents.{no_contents, counts_in, files_of};
+    ghost use Rattle.proto_types.specs.Contents.{no_contents, files_of};
+    ghost use Rattle.proto_records.specs.Counts.{counts_in};
     ghost use Rattle.descriptor_linker.specs.LookUps.{definition_named};
     ghost use Rattle.descriptor_linker.specs.Outcome.{Outcome, IsLinked};
     ghost use Rattle.descriptor_linker.specs.Passes.{TellsFaults};

@@ -2,16 +2,16 @@
 use Rattle.std.specs.Prelude.{ℕ, Bool, true, false, List, codes}
 use Rattle.std.specs.declared.option.Option.{Option}
 use Rattle.std.specs.declared.option.Option.TheVariants.{None, Some}
-use Rattle.proto_records.specs.declared.kinds.KindIndex.{KindIndex}
-use Rattle.proto_records.specs.declared.kinds.KindIndex.TheVariants as index
-use Rattle.proto_records.specs.declared.kinds.Cardinality.{Cardinality}
-use Rattle.proto_records.specs.declared.kinds.Cardinality.TheVariants as cardinality
-use Rattle.proto_records.specs.declared.contents.definition.DefinitionKind.{DefinitionKind}
-use Rattle.proto_records.specs.declared.contents.definition.DefinitionKind.TheVariants as definition
-use Rattle.proto_records.specs.declared.records.field.FieldLabel.{FieldLabel}
-use Rattle.proto_records.specs.declared.records.field.FieldLabel.TheVariants as label
-use Rattle.proto_records.specs.declared.records.field.FieldType.{FieldType}
-use Rattle.proto_records.specs.declared.records.field.FieldType.TheVariants as written
+use Rattle.proto_types.specs.declared.kinds.KindIndex.{KindIndex}
+use Rattle.proto_types.specs.declared.kinds.KindIndex.TheVariants as index
+use Rattle.proto_types.specs.declared.kinds.Cardinality.{Cardinality}
+use Rattle.proto_types.specs.declared.kinds.Cardinality.TheVariants as cardinality
+use Rattle.proto_types.specs.declared.contents.definition.DefinitionKind.{DefinitionKind}
+use Rattle.proto_types.specs.declared.contents.definition.DefinitionKind.TheVariants as definition
+use Rattle.proto_types.specs.declared.records.field.FieldLabel.{FieldLabel}
+use Rattle.proto_types.specs.declared.records.field.FieldLabel.TheVariants as label
+use Rattle.proto_types.specs.declared.records.field.FieldType.{FieldType}
+use Rattle.proto_types.specs.declared.records.field.FieldType.TheVariants as written
 use Rattle.pool_parts.specs.declared.filter.ResolveNameFilter.{ResolveNameFilter}
 use Rattle.pool_parts.specs.declared.filter.ResolveNameFilter.TheVariants as filter
 

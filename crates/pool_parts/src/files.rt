@@ -1,6 +1,6 @@
 ghost use Rattle.std.specs.Prelude.{◌≡◌, ◌++◌, map, IfOk, slice_get};
 ghost use Rattle.std.specs.Option.{option_copied};
-ghost use Rattle.proto_records.specs.Labels.{label_in};
+ghost use Rattle.proto_types.specs.Labels.{label_in};
 ghost use Rattle.pool_parts.specs.AllFiles.{files_in};
 
 use proto_records::{FileDescriptorInner, FileDescriptorProto, Items, Label, Text};

@@ -5,16 +5,16 @@ use Rattle.std.specs.Option.{option_map, option_and_then}
 use Rattle.std.proofs.lemmas.List.{append-nil, append_assoc}
 use Rattle.std.proofs.lemmas.List.Elements.{All-nil, All-cons, All-append}
 use denote.Param.Weighed.{most}
-use Rattle.proto_records.specs.Computed.{literals}
+use Rattle.proto_types.specs.Computed.{literals}
 use Rattle.proto_records.specs.declared.counts.Counts.{Counts}
-use Rattle.proto_records.specs.declared.records.file.FileDescriptorProto.{FileDescriptorProto}
-use Rattle.proto_records.specs.declared.records.message.DescriptorProto.{DescriptorProto, DescriptorProto', out-DescriptorProto, Row_of-DescriptorProto, end_of-DescriptorProto, more_of-DescriptorProto, items-the_row-DescriptorProto, items_shown-the_row-DescriptorProto-0, size-DescriptorProto, size_is-DescriptorProto}
-use Rattle.proto_records.specs.declared.records.enumeration.EnumDescriptorProto.{EnumDescriptorProto}
-use Rattle.proto_records.specs.declared.records.service.ServiceDescriptorProto.{ServiceDescriptorProto}
-use Rattle.proto_records.specs.declared.tag.file.TheConstants as file
-use Rattle.proto_records.specs.declared.tag.message.TheConstants as message
-use Rattle.proto_records.specs.declared.tag.enum_.TheConstants as enumeration
-use Rattle.proto_records.specs.declared.tag.service.TheConstants as service
+use Rattle.proto_types.specs.declared.records.file.FileDescriptorProto.{FileDescriptorProto}
+use Rattle.proto_types.specs.declared.records.message.DescriptorProto.{DescriptorProto, DescriptorProto', out-DescriptorProto, Row_of-DescriptorProto, end_of-DescriptorProto, more_of-DescriptorProto, items-the_row-DescriptorProto, items_shown-the_row-DescriptorProto-0, size-DescriptorProto, size_is-DescriptorProto}
+use Rattle.proto_types.specs.declared.records.enumeration.EnumDescriptorProto.{EnumDescriptorProto}
+use Rattle.proto_types.specs.declared.records.service.ServiceDescriptorProto.{ServiceDescriptorProto}
+use Rattle.proto_types.specs.declared.tag.file.TheConstants as file
+use Rattle.proto_types.specs.declared.tag.message.TheConstants as message
+use Rattle.proto_types.specs.declared.tag.enum_.TheConstants as enumeration
+use Rattle.proto_types.specs.declared.tag.service.TheConstants as service
 use Rattle.proto_records.specs.Protos.{Proto, of_message, of_field, of_oneof, of_service, of_method, of_enum, of_value, of_extension}
 use Rattle.proto_records.specs.Shown.{Shown, Surrounding, row, parts, shown, file_shown, step, inside, beside}
 use Rattle.proto_records.specs.Counts.{counted, counting}

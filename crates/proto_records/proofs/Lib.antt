@@ -3,7 +3,6 @@ pub mod Counted
 pub mod Tallies
 pub mod Held
 pub mod Finding
-pub mod PathText
 pub mod Leading
 pub mod Listings
 pub mod Turns

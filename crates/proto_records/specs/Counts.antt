@@ -6,9 +6,10 @@ use Rattle.std.specs.declared.result.Result.TheVariants.{Ok, Err}
 use Rattle.proto_records.specs.declared.counts.Counts.{Counts}
 use Rattle.proto_records.specs.declared.counts.CountKind.{CountKind}
 use Rattle.proto_records.specs.declared.counts.CountKind.TheVariants.{ListTooLong, Files, Messages, Enums, Services, Extensions}
-use Rattle.proto_records.specs.declared.records.message.DescriptorProto.{out-DescriptorProto}
+use Rattle.proto_types.specs.declared.records.message.DescriptorProto.{out-DescriptorProto}
 use Rattle.proto_records.specs.Protos.{Proto, of_file, of_message, of_service, of_enum, of_extension}
 use Rattle.proto_records.specs.Shown.{Shown}
+use Rattle.proto_types.specs.Contents.{Contents}
 
 abbrev pub no_counts : Counts
 no_counts = record { files = 0; messages = 0; enums = 0; services = 0; extensions = 0 }
@@ -77,3 +78,6 @@ added_to base (Err kind) = Err kind
 -- the counts together with those of declarations; what these alone have too much of comes first
 abbrev pub counts_with : Counts → List Shown → Result Counts CountKind
 counts_with base ds = added_to base (counts_of ds)
+
+abbrev pub counts_in : Contents → Counts
+counts_in p = record { files = length p.files; messages = length p.messages; enums = 0; services = 0; extensions = 0 }

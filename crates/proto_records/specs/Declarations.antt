@@ -2,18 +2,18 @@
 -- its oneofs, fields, nested messages, enums and extensions; an enum and its values; a service and its methods.
 use Rattle.std.specs.Prelude.{◌≡◌, ℕ, suc, ℤ, List, [], ◌∷◌, ◌++◌}
 use Rattle.std.specs.declared.option.Option.TheVariants.{None}
-use Rattle.proto_records.specs.declared.tag.file.TheConstants as file
-use Rattle.proto_records.specs.declared.tag.message.TheConstants as message
-use Rattle.proto_records.specs.declared.tag.enum_.TheConstants as enumeration
-use Rattle.proto_records.specs.declared.tag.service.TheConstants as service
+use Rattle.proto_types.specs.declared.tag.file.TheConstants as file
+use Rattle.proto_types.specs.declared.tag.message.TheConstants as message
+use Rattle.proto_types.specs.declared.tag.enum_.TheConstants as enumeration
+use Rattle.proto_types.specs.declared.tag.service.TheConstants as service
 use Rattle.proto_records.specs.declared.counts.Counts.{Counts}
-use Rattle.proto_records.specs.declared.records.file.FileDescriptorProto.{FileDescriptorProto}
-use Rattle.proto_records.specs.declared.records.message.DescriptorProto.{DescriptorProto, out-DescriptorProto, DescriptorProto', Row_of-DescriptorProto, end_of-DescriptorProto, more_of-DescriptorProto}
-use Rattle.proto_records.specs.declared.records.enumeration.EnumDescriptorProto.{EnumDescriptorProto}
-use Rattle.proto_records.specs.declared.records.field.FieldDescriptorProto.{FieldDescriptorProto}
-use Rattle.proto_records.specs.declared.records.message.OneofDescriptorProto.{OneofDescriptorProto}
-use Rattle.proto_records.specs.declared.records.service.ServiceDescriptorProto.{ServiceDescriptorProto}
-use Rattle.proto_records.specs.Readers.{text_of}
+use Rattle.proto_types.specs.declared.records.file.FileDescriptorProto.{FileDescriptorProto}
+use Rattle.proto_types.specs.declared.records.message.DescriptorProto.{DescriptorProto, out-DescriptorProto, DescriptorProto', Row_of-DescriptorProto, end_of-DescriptorProto, more_of-DescriptorProto}
+use Rattle.proto_types.specs.declared.records.enumeration.EnumDescriptorProto.{EnumDescriptorProto}
+use Rattle.proto_types.specs.declared.records.field.FieldDescriptorProto.{FieldDescriptorProto}
+use Rattle.proto_types.specs.declared.records.message.OneofDescriptorProto.{OneofDescriptorProto}
+use Rattle.proto_types.specs.declared.records.service.ServiceDescriptorProto.{ServiceDescriptorProto}
+use Rattle.proto_types.specs.Readers.{text_of}
 use Rattle.proto_records.specs.Protos.{of_message, of_field, of_oneof, of_service, of_method, of_enum, of_value, of_extension}
 use Rattle.proto_records.specs.Shown.{Shown, Surrounding, shown, file_shown, inside, beside, row, parts}
 use Rattle.proto_records.specs.Counts.{counted, counting}

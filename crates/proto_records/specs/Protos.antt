@@ -2,15 +2,15 @@
 use Rattle.std.specs.Prelude.{ℕ, List}
 use Rattle.std.specs.declared.option.Option.{Option}
 use Rattle.std.specs.declared.option.Option.TheVariants.{None, Some}
-use Rattle.proto_records.specs.Readers.{text_of}
-use Rattle.proto_records.specs.declared.records.file.FileDescriptorProto.{FileDescriptorProto}
-use Rattle.proto_records.specs.declared.records.message.DescriptorProto.{DescriptorProto, out-DescriptorProto}
-use Rattle.proto_records.specs.declared.records.message.OneofDescriptorProto.{OneofDescriptorProto}
-use Rattle.proto_records.specs.declared.records.field.FieldDescriptorProto.{FieldDescriptorProto}
-use Rattle.proto_records.specs.declared.records.enumeration.EnumDescriptorProto.{EnumDescriptorProto}
-use Rattle.proto_records.specs.declared.records.enumeration.EnumValueDescriptorProto.{EnumValueDescriptorProto}
-use Rattle.proto_records.specs.declared.records.service.ServiceDescriptorProto.{ServiceDescriptorProto}
-use Rattle.proto_records.specs.declared.records.service.MethodDescriptorProto.{MethodDescriptorProto}
+use Rattle.proto_types.specs.Readers.{text_of}
+use Rattle.proto_types.specs.declared.records.file.FileDescriptorProto.{FileDescriptorProto}
+use Rattle.proto_types.specs.declared.records.message.DescriptorProto.{DescriptorProto, out-DescriptorProto}
+use Rattle.proto_types.specs.declared.records.message.OneofDescriptorProto.{OneofDescriptorProto}
+use Rattle.proto_types.specs.declared.records.field.FieldDescriptorProto.{FieldDescriptorProto}
+use Rattle.proto_types.specs.declared.records.enumeration.EnumDescriptorProto.{EnumDescriptorProto}
+use Rattle.proto_types.specs.declared.records.enumeration.EnumValueDescriptorProto.{EnumValueDescriptorProto}
+use Rattle.proto_types.specs.declared.records.service.ServiceDescriptorProto.{ServiceDescriptorProto}
+use Rattle.proto_types.specs.declared.records.service.MethodDescriptorProto.{MethodDescriptorProto}
 
 pub data Proto : Type 0 where
   of_file : FileDescriptorProto → Proto

@@ -2,10 +2,10 @@
 use Rattle.std.specs.Prelude.{ℕ, suc, ℤ, pos, List, [], ◌∷◌, ◌++◌}
 use Rattle.std.specs.declared.option.Option.{Option}
 use Rattle.std.specs.declared.option.Option.TheVariants.{None, Some}
-use Rattle.proto_records.specs.Names.{join}
+use Rattle.proto_types.specs.Names.{join}
 use Rattle.proto_records.specs.Protos.{Proto, of_file, name_of}
-use Rattle.proto_records.specs.Readers.{text_of}
-use Rattle.proto_records.specs.declared.records.file.FileDescriptorProto.{FileDescriptorProto}
+use Rattle.proto_types.specs.Readers.{text_of}
+use Rattle.proto_types.specs.declared.records.file.FileDescriptorProto.{FileDescriptorProto}
 
 -- A file, message, enum, service or extension has its number in the pool, and any other its place in its list.
 -- The parent is the number of the innermost message, enum or service around it.

@@ -1,6 +1,6 @@
 mod totals;
 
-use crate::FileDescriptorProto;
+use proto_types::FileDescriptorProto;
 use totals::Totals;
 
 /// How many of each numbered kind there are.

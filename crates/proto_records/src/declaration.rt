@@ -1,4 +1,4 @@
-use crate::{Items, Text};
+use proto_types::{Items, Text};
 
 /// What kind of record declares something.
 #[derive(Clone, Copy, PartialEq, Debug)]

@@ -8,7 +8,7 @@ ghost use Rattle.proto_records.specs.Protos.{as_message, as_enum, as_field, as_e
 
 mod record;
 
-use crate::{
+use proto_types::{
     DescriptorProto, EnumDescriptorProto, EnumValueDescriptorProto, FieldDescriptorProto,
     FileDescriptorProto, MethodDescriptorProto, OneofDescriptorProto, ServiceDescriptorProto,
 };

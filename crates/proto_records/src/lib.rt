@@ -1,46 +1,29 @@
-//! The records of descriptor.proto, what a file declares, and the data that linking makes of it.
+//! What the records of descriptor.proto declare: counts, finders, the list of all declarations and its walk.
+//! The records themselves are those of `proto_types`.
 #![tactic(auto)]
 
-mod contents;
 mod counts;
 mod declaration;
-mod exact;
-mod fault;
 mod find;
-mod items;
-mod kinds;
-mod label;
 mod lister;
-mod numbers;
-mod records;
-pub mod tag;
-mod text;
 mod visitor;
 mod walk;
 
-pub use contents::{
-    Definition, DefinitionKind, Entry, FieldDescriptorInner, FileDescriptorInner, Identity,
-    MessageDescriptorInner,
-};
 pub use counts::{CountKind, Counts};
 pub use declaration::{Declaration, DeclarationKind};
-pub use exact::{ExactEq, same};
-pub use fault::{DescriptorErrorKind, Placed};
 pub use find::{
     find_enum_proto, find_enum_value_proto, find_field_proto, find_message_proto,
     find_method_proto, find_oneof_proto, find_service_proto,
 };
-pub use items::{Duplicate, Items, duplicates};
-pub use kinds::{Cardinality, KindIndex};
-pub use label::Label;
 pub use lister::{Lister, list_declarations};
-pub use numbers::{FileDescriptor, MessageDescriptor};
-pub use records::{
-    DescriptorProto, EnumDescriptorProto, EnumOptions, EnumReservedRange, EnumValueDescriptorProto,
-    ExtensionRange, FieldDescriptorProto, FieldLabel, FieldOptions, FieldType, FileDescriptorProto,
-    FileDescriptorSet, Location, MethodDescriptorProto, OneofDescriptorProto, Options,
-    ReservedRange, ServiceDescriptorProto, SourceCodeInfo, Unread,
+pub use proto_types::{
+    Cardinality, Definition, DefinitionKind, DescriptorErrorKind, DescriptorProto, Duplicate,
+    Entry, EnumDescriptorProto, EnumOptions, EnumReservedRange, EnumValueDescriptorProto, ExactEq,
+    ExtensionRange, FieldDescriptorInner, FieldDescriptorProto, FieldLabel, FieldOptions,
+    FieldType, FileDescriptor, FileDescriptorInner, FileDescriptorProto, FileDescriptorSet,
+    Identity, Items, KindIndex, Label, Location, MessageDescriptor, MessageDescriptorInner,
+    MethodDescriptorProto, OneofDescriptorProto, Options, Placed, ReservedRange,
+    ServiceDescriptorProto, SourceCodeInfo, Text, Unread, duplicates, same, tag,
 };
-pub use text::Text;
 pub use visitor::Visitor;
 pub use walk::{join, visit, visit_each, visit_with};

@@ -5,14 +5,13 @@ ghost use Rattle.proto_records.specs.Listed.{declaration_of};
 
 use crate::counts::Counts;
 use crate::declaration::{Declaration, DeclarationKind};
-use crate::items::Items;
-use crate::records::{
-    DescriptorProto, EnumDescriptorProto, EnumValueDescriptorProto, FieldDescriptorProto,
-    FileDescriptorProto, MethodDescriptorProto, OneofDescriptorProto, ServiceDescriptorProto,
-};
-use crate::text::Text;
 use crate::visitor::Visitor;
 use crate::walk::visit;
+use proto_types::{
+    DescriptorProto, EnumDescriptorProto, EnumValueDescriptorProto, FieldDescriptorProto,
+    FileDescriptorProto, Items, MethodDescriptorProto, OneofDescriptorProto,
+    ServiceDescriptorProto, Text,
+};
 use std::alloc::{AllocError, Global};
 
 /// A visitor that keeps the list of what it is shown.
@@ -68,7 +67,7 @@ impl Lister {
 
 impl Visitor for Lister {
     ghost use Rattle.std.specs.Prelude.{[], ◌++◌, map};
-    ghost use Rattle.proto_records.specs.Contents.{no_contents};
+    ghost use Rattle.proto_types.specs.Contents.{no_contents};
     ghost use Rattle.proto_records.specs.Listed.{declaration_of};
 
     ghost after = { λ l ds. record { contents = no_contents; entries = []; faults = []; listed = l.list.items ++ map declaration_of ds } };

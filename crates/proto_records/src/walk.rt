@@ -12,12 +12,12 @@ mod part;
 mod place;
 
 use crate::counts::Counts;
-use crate::records::FileDescriptorProto;
 use crate::visitor::Visitor;
 pub use known::visit_with;
 use listing::Listing;
 use located::{show_all, show_file};
 pub use place::join;
+use proto_types::FileDescriptorProto;
 use std::alloc::{AllocError, Global};
 
 /// Shows a visitor what files declare, in order, numbered on from the counts of a pool.

@@ -11,17 +11,17 @@ use Rattle.proto_records.specs.declared.declaration.DeclarationKind.TheVariants 
 use Rattle.proto_records.specs.declared.counts.Counts.{Counts}
 use Rattle.proto_records.specs.declared.counts.CountKind.{CountKind}
 use Rattle.proto_records.specs.declared.counts.CountKind.TheVariants as too_many
-use Rattle.proto_records.specs.declared.contents.definition.Definition.{Definition}
-use Rattle.proto_records.specs.declared.contents.definition.DefinitionKind.{DefinitionKind}
-use Rattle.proto_records.specs.declared.contents.definition.DefinitionKind.TheVariants as definition
-use Rattle.proto_records.specs.Contents.{Contents, counts_in, files_of}
-use Rattle.proto_records.specs.Counts.{no_counts, counts_with}
+use Rattle.proto_types.specs.declared.contents.definition.Definition.{Definition}
+use Rattle.proto_types.specs.declared.contents.definition.DefinitionKind.{DefinitionKind}
+use Rattle.proto_types.specs.declared.contents.definition.DefinitionKind.TheVariants as definition
+use Rattle.proto_types.specs.Contents.{Contents, files_of}
+use Rattle.proto_records.specs.Counts.{no_counts, counts_with, counts_in}
 use Rattle.proto_records.specs.Declarations.{declarations}
-use Rattle.proto_records.specs.Labels.{file_at}
+use Rattle.proto_types.specs.Labels.{file_at}
 use Rattle.proto_records.specs.Listed.{declaration_of}
-use Rattle.proto_records.specs.Readers.{text_of}
+use Rattle.proto_types.specs.Readers.{text_of}
 use Rattle.proto_records.specs.Shown.{Shown}
-use Rattle.proto_records.specs.Texts.{path_text, placed_text}
+use Rattle.proto_types.specs.Texts.{path_text, placed_text}
 use Rattle.descriptor_linker.specs.declared.script.statement.ScriptFault.{ScriptFault}
 use Rattle.descriptor_linker.specs.declared.script.statement.ScriptFault.TheVariants as fault
 use Rattle.descriptor_linker.specs.FirstPass.{Faults}

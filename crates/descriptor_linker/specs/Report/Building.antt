@@ -3,14 +3,14 @@ use Rattle.std.specs.Prelude.{Bool, true, false, List, [], ◌∷◌, ◌++◌}
 use Rattle.std.specs.Option.{option_map_or}
 use Rattle.std.specs.declared.option.Option.{Option}
 use Rattle.std.specs.declared.option.Option.TheVariants.{None, Some}
-use Rattle.proto_records.specs.Empty.{no_file, no_message, no_enum, no_service, no_oneof}
-use Rattle.proto_records.specs.declared.records.file.FileDescriptorProto.{FileDescriptorProto}
-use Rattle.proto_records.specs.declared.records.message.DescriptorProto.{DescriptorProto, DescriptorProto-F, out-DescriptorProto, roll-DescriptorProto}
-use Rattle.proto_records.specs.declared.records.field.FieldDescriptorProto.{FieldDescriptorProto}
-use Rattle.proto_records.specs.declared.records.enumeration.EnumDescriptorProto.{EnumDescriptorProto}
-use Rattle.proto_records.specs.declared.records.service.ServiceDescriptorProto.{ServiceDescriptorProto}
-use Rattle.proto_records.specs.declared.records.source.Location.{Location}
-use Rattle.proto_records.specs.declared.records.source.SourceCodeInfo.{SourceCodeInfo}
+use Rattle.proto_types.specs.Empty.{no_file, no_message, no_enum, no_service, no_oneof}
+use Rattle.proto_types.specs.declared.records.file.FileDescriptorProto.{FileDescriptorProto}
+use Rattle.proto_types.specs.declared.records.message.DescriptorProto.{DescriptorProto, DescriptorProto-F, out-DescriptorProto, roll-DescriptorProto}
+use Rattle.proto_types.specs.declared.records.field.FieldDescriptorProto.{FieldDescriptorProto}
+use Rattle.proto_types.specs.declared.records.enumeration.EnumDescriptorProto.{EnumDescriptorProto}
+use Rattle.proto_types.specs.declared.records.service.ServiceDescriptorProto.{ServiceDescriptorProto}
+use Rattle.proto_types.specs.declared.records.source.Location.{Location}
+use Rattle.proto_types.specs.declared.records.source.SourceCodeInfo.{SourceCodeInfo}
 use Rattle.descriptor_linker.specs.declared.script.statement.Statement.{Statement}
 use Rattle.descriptor_linker.specs.declared.script.statement.Statement.TheVariants as say
 use Rattle.descriptor_linker.specs.declared.report.building.Open.{Open}

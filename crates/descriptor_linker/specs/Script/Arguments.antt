@@ -9,9 +9,9 @@ use Rattle.std.specs.declared.option.Option.{Option}
 use Rattle.std.specs.declared.option.Option.TheVariants.{None, Some}
 use Rattle.std.specs.declared.result.Result.{Result}
 use Rattle.std.specs.declared.result.Result.TheVariants.{Ok, Err}
-use Rattle.proto_records.specs.Readers.{text_of}
-use Rattle.proto_records.specs.Empty.{no_field, no_value, no_method, no_location}
-use Rattle.proto_records.specs.declared.records.field.FieldDescriptorProto.{FieldDescriptorProto}
+use Rattle.proto_types.specs.Readers.{text_of}
+use Rattle.proto_types.specs.Empty.{no_field, no_value, no_method, no_location}
+use Rattle.proto_types.specs.declared.records.field.FieldDescriptorProto.{FieldDescriptorProto}
 use Rattle.descriptor_linker.specs.declared.script.statement.Keyword.{Keyword}
 use Rattle.descriptor_linker.specs.declared.script.statement.Keyword.TheVariants as word
 use Rattle.descriptor_linker.specs.declared.script.statement.Statement.{Statement}

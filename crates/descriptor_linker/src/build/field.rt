@@ -1,5 +1,5 @@
 ghost use Rattle.std.specs.Prelude.{◌≡◌, ◌++◌, ◌-◌, [], None, IfOk, OnOk, length};
-ghost use Rattle.proto_records.specs.Lists.{listed};
+ghost use Rattle.proto_types.specs.Lists.{listed};
 ghost use Rattle.proto_records.specs.Protos.{of_field};
 ghost use Rattle.proto_records.specs.Shown.{shown_as};
 ghost use Rattle.descriptor_linker.specs.FieldTypes.{field_kind, type_faults};

@@ -1,8 +1,8 @@
 ghost use Rattle.std.specs.Prelude.{◌≡◌, ◌∷◌, ◌++◌, [], IfOk, OnOk, map};
 ghost use Rattle.std.specs.List.{fold, list_any};
 ghost use Rattle.std.specs.Str.{bytes_eq};
-ghost use Rattle.proto_records.specs.Lists.{listed};
-ghost use Rattle.proto_records.specs.declared.tag.message.TheConstants.{NAME};
+ghost use Rattle.proto_types.specs.Lists.{listed};
+ghost use Rattle.proto_types.specs.declared.tag.message.TheConstants.{NAME};
 ghost use Rattle.pool_parts.specs.AllFiles.{files_in};
 ghost use Rattle.pool_parts.specs.Kinds.{is_package};
 ghost use Rattle.descriptor_linker.specs.Entered.{packages, package_entry};
@@ -112,7 +112,7 @@ impl NameVisitor<'_> {
 
 impl Visitor for NameVisitor<'_> {
     ghost use Rattle.std.specs.List.{fold};
-    ghost use Rattle.proto_records.specs.Contents.{no_contents};
+    ghost use Rattle.proto_types.specs.Contents.{no_contents};
     ghost use Rattle.descriptor_linker.specs.Passes.{named, names_progress};
     ghost use Rattle.descriptor_linker.specs.ReadDeclarations.{read};
     ghost use Rattle.descriptor_linker.specs.Seen.{names_seen};

@@ -22,7 +22,7 @@ pub struct ResolveVisitor<'a> {
 
 impl Visitor for ResolveVisitor<'_> {
     ghost use Rattle.std.specs.List.{fold};
-    ghost use Rattle.proto_records.specs.Contents.{no_contents};
+    ghost use Rattle.proto_types.specs.Contents.{no_contents};
     ghost use Rattle.descriptor_linker.specs.Passes.{referred, references_progress};
     ghost use Rattle.descriptor_linker.specs.ReadDeclarations.{read};
     ghost use Rattle.descriptor_linker.specs.Seen.{references_seen};

@@ -1,7 +1,7 @@
 //! Records as the statements of a script build them.
 
 ghost use Rattle.std.specs.Prelude.{◌≡◌, OnOk};
-ghost use Rattle.proto_records.specs.declared.records.message.DescriptorProto.{out-DescriptorProto, roll-DescriptorProto};
+ghost use Rattle.proto_types.specs.declared.records.message.DescriptorProto.{out-DescriptorProto, roll-DescriptorProto};
 ghost use Rattle.descriptor_linker.specs.declared.script.statement.Statement.TheVariants as say;
 ghost use Rattle.descriptor_linker.specs.Report.Building.{change_last, more_said, in_file, in_message, in_enum, in_service};
 

@@ -1,10 +1,10 @@
 ghost use Rattle.std.specs.Prelude.{◌≡◌};
 ghost use Rattle.std.specs.Option.{option_copied};
 ghost use Rattle.proto_records.specs.Leads.{last_entry};
-ghost use Rattle.proto_records.specs.Lists.{at};
+ghost use Rattle.proto_types.specs.Lists.{at};
 
-use crate::tag::{enum_, file, message, service};
-use crate::{
+use proto_types::tag::{enum_, file, message, service};
+use proto_types::{
     DescriptorProto, EnumDescriptorProto, EnumValueDescriptorProto, FieldDescriptorProto,
     FileDescriptorProto, Items, MethodDescriptorProto, OneofDescriptorProto,
     ServiceDescriptorProto,

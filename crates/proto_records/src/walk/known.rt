@@ -9,8 +9,8 @@ use super::located::Located;
 use super::part::Part;
 use super::place::Place;
 use crate::counts::Counts;
-use crate::records::FileDescriptorProto;
 use crate::visitor::Visitor;
+use proto_types::FileDescriptorProto;
 use std::alloc::{AllocError, Global};
 
 /// The same as `visit`, of a visitor whose type is known, which may hold borrows.

@@ -1,8 +1,8 @@
 ghost use Rattle.std.specs.Prelude.{suc, ◌≡◌, ◌<◌, ◌+◌, ◌^◌, [], ◌∷◌, ◌++◌, true, None, Some, OnOk, IfOk, string_bytes};
-ghost use Rattle.proto_records.specs.declared.records.message.DescriptorProto.{out-DescriptorProto};
-ghost use Rattle.proto_records.specs.declared.tag.message.TheConstants.{FIELD, ONEOF_DECL};
-ghost use Rattle.proto_records.specs.declared.tag.enum_.TheConstants.{VALUE};
-ghost use Rattle.proto_records.specs.declared.tag.service.TheConstants.{METHOD};
+ghost use Rattle.proto_types.specs.declared.records.message.DescriptorProto.{out-DescriptorProto};
+ghost use Rattle.proto_types.specs.declared.tag.message.TheConstants.{FIELD, ONEOF_DECL};
+ghost use Rattle.proto_types.specs.declared.tag.enum_.TheConstants.{VALUE};
+ghost use Rattle.proto_types.specs.declared.tag.service.TheConstants.{METHOD};
 ghost use Rattle.proto_records.specs.Counts.{counting, fits_list, lists_fit};
 ghost use Rattle.proto_records.specs.Declarations.{enum_walk, enums_walk, service_walk, services_walk, message_end, messages_walk};
 ghost use Rattle.proto_records.specs.Protos.{of_file, of_message, of_field, of_oneof, of_service, of_method, of_enum, of_value, of_extension};
@@ -13,11 +13,10 @@ use super::located::Located;
 use super::part::Part;
 use super::place::Place;
 use crate::counts::Counts;
-use crate::records::{
+use proto_types::{
     DescriptorProto, EnumDescriptorProto, EnumValueDescriptorProto, FieldDescriptorProto,
-    FileDescriptorProto, MethodDescriptorProto, OneofDescriptorProto, ServiceDescriptorProto,
+    FileDescriptorProto, MethodDescriptorProto, OneofDescriptorProto, ServiceDescriptorProto, tag,
 };
-use crate::tag;
 use std::alloc::{AllocError, Global};
 
 /// What a file declares, as far as it is listed, and the counts after it.

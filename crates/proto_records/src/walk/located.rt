@@ -5,8 +5,8 @@ ghost use Rattle.proto_records.specs.Walking.{located};
 
 use super::part::Part;
 use super::place::Place;
-use crate::records::FileDescriptorProto;
 use crate::visitor::Visitor;
+use proto_types::FileDescriptorProto;
 use std::alloc::AllocError;
 
 /// A record that stands in a file, with where it stands and its number.

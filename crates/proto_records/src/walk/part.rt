@@ -4,7 +4,7 @@ ghost use Rattle.proto_records.specs.Protos.{name_of};
 ghost use Rattle.proto_records.specs.Walking.{Held, number_at, proto_of};
 
 use crate::counts::Counts;
-use crate::records::{
+use proto_types::{
     DescriptorProto, EnumDescriptorProto, EnumValueDescriptorProto, FieldDescriptorProto,
     MethodDescriptorProto, OneofDescriptorProto, ServiceDescriptorProto,
 };

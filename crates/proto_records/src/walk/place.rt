@@ -1,5 +1,5 @@
 ghost use Rattle.std.specs.Prelude.{◌≡◌, ◌<◌, ◌^◌, IfOk, string_bytes};
-ghost use Rattle.proto_records.specs.Names.{join};
+ghost use Rattle.proto_types.specs.Names.{join};
 ghost use Rattle.proto_records.specs.Shown.{step};
 
 use std::alloc::{AllocError, Global};

@@ -1,7 +1,7 @@
 use Rattle.std.proofs.Common.{◌≡◌, false, take}
 use Rattle.std.specs.List.{list_any}
 use Rattle.std.specs.Str.{bytes_eq}
-use Rattle.proto_records.specs.Readers.{text_of}
+use Rattle.proto_types.specs.Readers.{text_of}
 use Rattle.descriptor_linker.proofs.pool.has_name.Given as goal
 
 -- the files so far have other names

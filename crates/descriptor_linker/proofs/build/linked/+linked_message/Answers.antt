@@ -1,8 +1,8 @@
 use Rattle.std.proofs.Common.{rules, ◌≡◌, map, ap, sym, ◌∙◌}
 use Rattle.std.proofs.lemmas.List.{take_all}
-use Rattle.proto_records.specs.declared.records.message.DescriptorProto.{out-DescriptorProto, roll-DescriptorProto}
-use Rattle.proto_records.specs.Names.{join}
-use Rattle.proto_records.specs.Readers.{text_of}
+use Rattle.proto_types.specs.declared.records.message.DescriptorProto.{out-DescriptorProto, roll-DescriptorProto}
+use Rattle.proto_types.specs.Names.{join}
+use Rattle.proto_types.specs.Readers.{text_of}
 use Rattle.descriptor_linker.specs.Linked.{linked_message, linked_field}
 use Rattle.descriptor_linker.specs.Seen.{setting_in}
 use Rattle.descriptor_linker.proofs.LinkedParts.{linked-message-is}

@@ -1,7 +1,7 @@
 use Rattle.std.proofs.Common.{◌≡◌, map, take}
-use Rattle.proto_records.specs.Names.{join}
-use Rattle.proto_records.specs.Readers.{text_of}
-use Rattle.proto_records.specs.declared.records.message.DescriptorProto.{out-DescriptorProto}
+use Rattle.proto_types.specs.Names.{join}
+use Rattle.proto_types.specs.Readers.{text_of}
+use Rattle.proto_types.specs.declared.records.message.DescriptorProto.{out-DescriptorProto}
 use Rattle.descriptor_linker.specs.Linked.{linked_message}
 use Rattle.descriptor_linker.specs.Seen.{setting_in}
 use Rattle.descriptor_linker.proofs.build.linked.+linked_message.Given as goal

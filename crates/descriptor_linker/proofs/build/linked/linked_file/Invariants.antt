@@ -1,5 +1,5 @@
 use Rattle.std.proofs.Common.{◌≡◌, map, take}
-use Rattle.proto_records.specs.Readers.{text_of}
+use Rattle.proto_types.specs.Readers.{text_of}
 use Rattle.descriptor_linker.specs.Linked.{linked_message}
 use Rattle.descriptor_linker.specs.Seen.{setting_in}
 use Rattle.descriptor_linker.proofs.build.linked.linked_file.Given as goal

@@ -1,8 +1,7 @@
 use Rattle.std.proofs.Common.{◌≡◌, ℕ, true, eqb, List, [], ◌∷◌, length, Err, refl, ap, subst, sym, ◌∙◌, rules, arith}
 use Rattle.std.proofs.lemmas.Bool.Decides.{nat_tests}
 use Rattle.std.specs.Result.{IsOk}
-use Rattle.proto_records.specs.Contents.{counts_in}
-use Rattle.proto_records.specs.Counts.{counts_with}
+use Rattle.proto_records.specs.Counts.{counts_with, counts_in}
 use Rattle.proto_records.specs.Declarations.{declarations}
 use Rattle.pool_parts.specs.Entries.{names}
 use Rattle.descriptor_linker.specs.Outcome.{Outcome}

@@ -1,13 +1,13 @@
 use Rattle.std.proofs.Common.{ℕ, ◌+◌, IsOk, arith, ◌≡◌, List, [], ◌++◌, length, map, refl, ap, subst, sym, ◌∙◌, rules}
-use Rattle.proto_records.specs.declared.contents.file.FileDescriptorInner.{FileDescriptorInner}
-use Rattle.proto_records.specs.declared.records.file.FileDescriptorProto.{FileDescriptorProto}
-use Rattle.proto_records.specs.Contents.{Contents, counts_in, files_of}
+use Rattle.proto_types.specs.declared.contents.file.FileDescriptorInner.{FileDescriptorInner}
+use Rattle.proto_types.specs.declared.records.file.FileDescriptorProto.{FileDescriptorProto}
+use Rattle.proto_types.specs.Contents.{Contents, files_of}
 use Rattle.descriptor_linker.specs.ReadDeclarations.{read_declarations}
 use Rattle.pool_parts.specs.Entries.{names}
 use Rattle.pool_parts.specs.AllFiles.{files_in}
 use Rattle.descriptor_linker.specs.declared.pool.DescriptorPool.TheInside.{Inside}
 use Rattle.proto_records.specs.declared.counts.Counts.{Counts}
-use Rattle.proto_records.specs.declared.contents.definition.Entry.{Entry}
+use Rattle.proto_types.specs.declared.contents.definition.Entry.{Entry}
 use Rattle.proto_records.specs.Protos.{as_file, as_message}
 use Rattle.descriptor_linker.specs.Entered.{entries}
 use Rattle.descriptor_linker.specs.FirstPass.{first_pass}
@@ -17,7 +17,7 @@ use Rattle.descriptor_linker.specs.Items.{message_item}
 use Rattle.descriptor_linker.specs.Held.{contents_of, IsHeld}
 use Rattle.descriptor_linker.specs.Passes.{TellsFaults}
 use Rattle.descriptor_linker.specs.Pool.{Made, new_files, known_names, faults, Fits, file_item, with_items}
-use Rattle.proto_records.specs.Counts.{no_counts, counts_with}
+use Rattle.proto_records.specs.Counts.{no_counts, counts_with, counts_in}
 use Rattle.proto_records.specs.Declarations.{declarations}
 use Rattle.descriptor_linker.proofs.ReadWalk.{file_counts, declarations-counted}
 use Rattle.descriptor_linker.proofs.Grown.{Ground, fits-new, told_first, told_second, ground_setting, is_linked, is_held}

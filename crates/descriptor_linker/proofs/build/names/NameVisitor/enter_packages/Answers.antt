@@ -1,6 +1,6 @@
 use Rattle.std.proofs.Common.{◌≡◌, true, false, get_or, arith, rules}
 use Rattle.std.proofs.lemmas.Bool.Decides.{nat_tests}
-use Rattle.proto_records.specs.Names.{is_dot}
+use Rattle.proto_types.specs.Names.{is_dot}
 use Rattle.descriptor_linker.specs.Seen.{names_seen}
 use Rattle.descriptor_linker.proofs.Packages.{packages_more}
 use Rattle.descriptor_linker.proofs.build.names.NameVisitor.enter_packages.Goals as goal

@@ -1,6 +1,6 @@
 use Rattle.std.proofs.Common.{◌≡◌, map, take}
 use Rattle.std.specs.List.{fold}
-use Rattle.proto_records.specs.Names.{fronts}
+use Rattle.proto_types.specs.Names.{fronts}
 use Rattle.descriptor_linker.specs.Entered.{package_entry}
 use Rattle.descriptor_linker.specs.Passes.{entered}
 use Rattle.descriptor_linker.specs.Seen.{names_seen}

@@ -1,6 +1,6 @@
 use Rattle.std.proofs.Common.{rules, ◌≡◌, Some, None, ap, sym, ◌∙◌}
 use Rattle.std.proofs.lemmas.List.{take_all}
-use Rattle.proto_records.specs.declared.tag.file.TheConstants.{MESSAGE_TYPE}
+use Rattle.proto_types.specs.declared.tag.file.TheConstants.{MESSAGE_TYPE}
 use Rattle.proto_records.specs.Counts.{no_counts}
 use Rattle.proto_records.specs.Totals.{nowhere, both_sums}
 use Rattle.proto_records.proofs.Tallies.{message_tally, messages_tally, message-tally, messages-tally}

@@ -1,7 +1,7 @@
 use Rattle.std.proofs.Common.{rules, ◌≡◌, pos, Some, slice_index_or, sym, ◌∙◌}
-use Rattle.proto_records.specs.declared.records.message.DescriptorProto.{out-DescriptorProto}
-use Rattle.proto_records.specs.declared.tag.message.TheConstants as message
-use Rattle.proto_records.specs.Lists.{at}
+use Rattle.proto_types.specs.declared.records.message.DescriptorProto.{out-DescriptorProto}
+use Rattle.proto_types.specs.declared.tag.message.TheConstants as message
+use Rattle.proto_types.specs.Lists.{at}
 use Rattle.proto_records.proofs.Finding.{leads-on}
 use Rattle.proto_records.proofs.find.record.Record.+in_message.Goals as goal
 

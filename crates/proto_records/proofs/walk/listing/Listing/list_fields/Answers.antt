@@ -1,6 +1,6 @@
 use Rattle.std.proofs.Common.{Some, drop, ◌+◌, ap}
 use Rattle.std.proofs.lemmas.List.{drop_all}
-use Rattle.proto_records.specs.declared.tag.message.TheConstants.{FIELD}
+use Rattle.proto_types.specs.declared.tag.message.TheConstants.{FIELD}
 use Rattle.proto_records.specs.Protos.{of_field}
 use Rattle.proto_records.specs.Shown.{row}
 use Rattle.proto_records.specs.Walking.{around}

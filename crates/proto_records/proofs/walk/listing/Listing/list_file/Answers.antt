@@ -1,7 +1,7 @@
 use Rattle.std.proofs.Common.{◌≡◌, None, ◌++◌, refl, ap, sym, subst, ◌∙◌, append_assoc}
 use Rattle.proto_records.specs.declared.counts.Counts.{Counts}
 use Rattle.proto_records.specs.declared.walk.place.Place.{Place}
-use Rattle.proto_records.specs.declared.tag.file.TheConstants as file
+use Rattle.proto_types.specs.declared.tag.file.TheConstants as file
 use Rattle.proto_records.specs.Counts.{counted}
 use Rattle.proto_records.specs.Declarations.{in_file, messages_walk, enums_walk, services_walk}
 use Rattle.proto_records.specs.Protos.{of_extension}

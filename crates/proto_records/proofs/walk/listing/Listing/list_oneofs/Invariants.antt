@@ -1,5 +1,5 @@
 use Rattle.std.proofs.Common.{Some, drop}
-use Rattle.proto_records.specs.declared.tag.message.TheConstants.{ONEOF_DECL}
+use Rattle.proto_types.specs.declared.tag.message.TheConstants.{ONEOF_DECL}
 use Rattle.proto_records.specs.Protos.{of_oneof}
 use Rattle.proto_records.specs.Shown.{parts, row}
 use Rattle.proto_records.specs.Walking.{around}

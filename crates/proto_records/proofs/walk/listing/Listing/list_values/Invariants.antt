@@ -1,5 +1,5 @@
 use Rattle.std.proofs.Common.{Some, drop}
-use Rattle.proto_records.specs.declared.tag.enum_.TheConstants.{VALUE}
+use Rattle.proto_types.specs.declared.tag.enum_.TheConstants.{VALUE}
 use Rattle.proto_records.specs.Protos.{of_value}
 use Rattle.proto_records.specs.Shown.{parts, row}
 use Rattle.proto_records.specs.Walking.{around}

@@ -1,0 +1,25 @@
+-- The contents of a pool. Two pools are equal where these are.
+use Rattle.std.specs.Prelude.{List, [], map as each}
+use Rattle.std.specs.Ordering.{nat_cmp}
+use Rattle.std.specs.Cmp.Lexicographic.{slice_cmp}
+use Rattle.std.specs.FinMap as map
+use Rattle.proto_types.specs.declared.contents.definition.Definition.{Definition}
+use Rattle.proto_types.specs.declared.contents.file.FileDescriptorInner.{FileDescriptorInner}
+use Rattle.proto_types.specs.declared.contents.message.MessageDescriptorInner.{MessageDescriptorInner}
+use Rattle.proto_types.specs.declared.records.file.FileDescriptorProto.{FileDescriptorProto}
+
+-- finite maps from texts
+abbrev pub ByText : Type 0 → Type 0
+ByText X = map.FinMap (slice_cmp nat_cmp) X
+
+pub record Contents : Type 0 where
+  pub files : List FileDescriptorInner
+  pub messages : List MessageDescriptorInner
+  pub names : ByText Definition
+
+abbrev pub no_contents : Contents
+no_contents = record { files = []; messages = []; names = map.empty }
+
+-- the linked records of a pool's files
+abbrev pub files_of : Contents → List FileDescriptorProto
+files_of p = each (λ f. f.raw) p.files

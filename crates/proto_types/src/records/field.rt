@@ -1,0 +1,182 @@
+ghost use Rattle.std.specs.Prelude.{◌≡◌, IfOk};
+ghost use Rattle.proto_types.specs.Readers.{text_of, number_of, flag_of, label_of, type_of};
+ghost use Rattle.proto_types.specs.Empty.{no_field};
+
+use super::options::{FieldOptions, Options};
+use crate::items::Duplicate;
+use crate::text::{self, Text};
+use std::alloc::{AllocError, Global};
+
+/// A field of a message, or an extension.
+#[derive(PartialEq, Drop)]
+pub struct FieldDescriptorProto {
+    pub name: Option<Text>,
+    /// The name of the message that an extension extends.
+    pub extendee: Option<Text>,
+    pub number: Option<i32>,
+    pub label: Option<i32>,
+    pub type_: Option<i32>,
+    pub type_name: Option<Text>,
+    pub default_value: Option<Text>,
+    pub options: Option<Options<FieldOptions>>,
+    /// The place of its oneof in its message, from 0.
+    pub oneof_index: Option<i32>,
+    pub json_name: Option<Text>,
+    pub proto3_optional: Option<bool>,
+}
+
+/// How often a field stands in a message.
+#[derive(Clone, Copy, PartialEq, Debug)]
+pub enum FieldLabel {
+    Optional,
+    Required,
+    Repeated,
+}
+
+/// The type of a field as it is written.
+#[derive(Clone, Copy, PartialEq, Debug)]
+pub enum FieldType {
+    Double,
+    Float,
+    Int64,
+    Uint64,
+    Int32,
+    Fixed64,
+    Fixed32,
+    Bool,
+    String,
+    Group,
+    Message,
+    Bytes,
+    Uint32,
+    Enum,
+    Sfixed32,
+    Sfixed64,
+    Sint32,
+    Sint64,
+}
+
+impl FieldDescriptorProto {
+    /// A field with all parts absent, which takes no memory.
+    pub fn empty(_alloc: Global) -> FieldDescriptorProto
+        ensures { result ≡ no_field }
+    {
+        FieldDescriptorProto {
+            name: None,
+            extendee: None,
+            number: None,
+            label: None,
+            type_: None,
+            type_name: None,
+            default_value: None,
+            options: None,
+            oneof_index: None,
+            json_name: None,
+            proto3_optional: None,
+        }
+    }
+
+    /// The field's name; where it is missing, the empty text.
+    pub fn name(&self) -> &str
+        ensures { result.now ≡ text_of self.now.name }
+    {
+        text::or_empty(&self.name)
+    }
+
+    /// The field's number; where it is missing, 0.
+    pub fn number(&self) -> i32
+        ensures { result ≡ number_of self.now.number }
+    {
+        self.number.unwrap_or(0)
+    }
+
+    /// The label by descriptor.proto's numbers; where it is missing or unknown, optional.
+    pub fn label(&self) -> FieldLabel
+        ensures { result ≡ label_of self.now.label }
+    {
+        match self.label {
+            Some(2) => FieldLabel::Required,
+            Some(3) => FieldLabel::Repeated,
+            _ => FieldLabel::Optional,
+        }
+    }
+
+    /// The written type by descriptor.proto's numbers; where it is missing or unknown, double.
+    pub fn field_type(&self) -> FieldType
+        ensures { result ≡ type_of self.now.type_ }
+    {
+        match self.type_ {
+            Some(2) => FieldType::Float,
+            Some(3) => FieldType::Int64,
+            Some(4) => FieldType::Uint64,
+            Some(5) => FieldType::Int32,
+            Some(6) => FieldType::Fixed64,
+            Some(7) => FieldType::Fixed32,
+            Some(8) => FieldType::Bool,
+            Some(9) => FieldType::String,
+            Some(10) => FieldType::Group,
+            Some(11) => FieldType::Message,
+            Some(12) => FieldType::Bytes,
+            Some(13) => FieldType::Uint32,
+            Some(14) => FieldType::Enum,
+            Some(15) => FieldType::Sfixed32,
+            Some(16) => FieldType::Sfixed64,
+            Some(17) => FieldType::Sint32,
+            Some(18) => FieldType::Sint64,
+            _ => FieldType::Double,
+        }
+    }
+
+    /// The name of the message or enum that is the field's type; where it is missing, the empty text.
+    pub fn type_name(&self) -> &str
+        ensures { result.now ≡ text_of self.now.type_name }
+    {
+        text::or_empty(&self.type_name)
+    }
+
+    /// The name of the message that an extension extends; where it is missing, the empty text.
+    pub fn extendee(&self) -> &str
+        ensures { result.now ≡ text_of self.now.extendee }
+    {
+        text::or_empty(&self.extendee)
+    }
+
+    /// The name in JSON; where it is missing, the empty text.
+    pub fn json_name(&self) -> &str
+        ensures { result.now ≡ text_of self.now.json_name }
+    {
+        text::or_empty(&self.json_name)
+    }
+
+    /// Whether the field is optional by word in proto3; where it is missing, false.
+    pub fn proto3_optional(&self) -> bool
+        ensures { result ≡ flag_of self.now.proto3_optional }
+    {
+        self.proto3_optional.unwrap_or(false)
+    }
+
+    /// An equal field.
+    pub fn clone(&self, alloc: Global) -> Result<FieldDescriptorProto, AllocError>
+        ensures { IfOk result (λ copy. copy ≡ self.now) }
+    {
+        Ok(FieldDescriptorProto {
+            name: Text::clone_given(alloc, &self.name)?,
+            extendee: Text::clone_given(alloc, &self.extendee)?,
+            number: self.number,
+            label: self.label,
+            type_: self.type_,
+            type_name: Text::clone_given(alloc, &self.type_name)?,
+            default_value: Text::clone_given(alloc, &self.default_value)?,
+            options: Options::clone_given(alloc, &self.options)?,
+            oneof_index: self.oneof_index,
+            json_name: Text::clone_given(alloc, &self.json_name)?,
+            proto3_optional: self.proto3_optional,
+        })
+    }
+}
+
+impl Duplicate for FieldDescriptorProto {
+    fn duplicate(&self, alloc: Global) -> Result<FieldDescriptorProto, AllocError> {
+        self.clone(alloc)
+    }
+}

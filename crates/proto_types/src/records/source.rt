@@ -1,0 +1,89 @@
+ghost use Rattle.std.specs.Prelude.{◌≡◌, IfOk};
+ghost use Rattle.proto_types.specs.Empty.{no_source, no_location};
+
+use crate::items::{Duplicate, Items};
+use crate::text::Text;
+use std::alloc::{AllocError, Global};
+
+/// Where the declarations of a file stand in its source.
+#[derive(PartialEq, Drop)]
+pub struct SourceCodeInfo {
+    pub location: Items<Location>,
+}
+
+/// A declaration, by its path of field numbers and places, and its lines and columns, which count from 0.
+#[derive(PartialEq, Drop)]
+pub struct Location {
+    pub path: Items<i32>,
+    pub span: Items<i32>,
+    pub leading_comments: Option<Text>,
+    pub trailing_comments: Option<Text>,
+    pub leading_detached_comments: Items<Text>,
+}
+
+impl SourceCodeInfo {
+    /// No places, which takes no memory.
+    pub fn empty(alloc: Global) -> SourceCodeInfo
+        ensures { result ≡ no_source }
+    {
+        SourceCodeInfo {
+            location: Items::new(alloc),
+        }
+    }
+
+    /// An equal record.
+    pub fn clone(&self, alloc: Global) -> Result<SourceCodeInfo, AllocError>
+        ensures { IfOk result (λ copy. copy ≡ self.now) }
+    {
+        Ok(SourceCodeInfo {
+            location: self.location.clone(alloc)?,
+        })
+    }
+
+    /// A copy of places that may be missing.
+    pub fn clone_given(
+        alloc: Global,
+        source: &Option<SourceCodeInfo>,
+    ) -> Result<Option<SourceCodeInfo>, AllocError>
+        ensures { IfOk result (λ copy. copy ≡ source.now) }
+    {
+        match source {
+            Some(source) => Ok(Some(source.clone(alloc)?)),
+            None => Ok(None),
+        }
+    }
+}
+
+impl Location {
+    /// A location with all parts absent or empty, which takes no memory.
+    pub fn empty(alloc: Global) -> Location
+        ensures { result ≡ no_location }
+    {
+        Location {
+            path: Items::new(alloc),
+            span: Items::new(alloc),
+            leading_comments: None,
+            trailing_comments: None,
+            leading_detached_comments: Items::new(alloc),
+        }
+    }
+
+    /// An equal location.
+    pub fn clone(&self, alloc: Global) -> Result<Location, AllocError>
+        ensures { IfOk result (λ copy. copy ≡ self.now) }
+    {
+        Ok(Location {
+            path: Items::from_slice(alloc, self.path.as_slice())?,
+            span: Items::from_slice(alloc, self.span.as_slice())?,
+            leading_comments: Text::clone_given(alloc, &self.leading_comments)?,
+            trailing_comments: Text::clone_given(alloc, &self.trailing_comments)?,
+            leading_detached_comments: self.leading_detached_comments.clone(alloc)?,
+        })
+    }
+}
+
+impl Duplicate for Location {
+    fn duplicate(&self, alloc: Global) -> Result<Location, AllocError> {
+        self.clone(alloc)
+    }
+}
