@@ -13,9 +13,10 @@ pub mod NamesFold
 pub mod ReferencesFold
 pub mod Passed
 pub mod Outline
+pub mod SameNames
 pub mod Linking
+pub mod NewFiles
 pub mod Grown
 pub mod Innermost
 mod Computed
 mod ReportChecks
-pub mod NewFiles

@@ -1,5 +1,5 @@
 -- A batch linked behind the files of a pool.
-use Rattle.std.proofs.Common.{◌≡◌, ◌≢◌, ◌+◌, List, [], ◌∷◌, ◌++◌, length, length-append, map, refl, ap, sym, ◌∙◌, arith}
+use Rattle.std.proofs.Common.{rules, ◌≡◌, ◌+◌, List, [], ◌∷◌, ◌++◌, length, length-append, map, refl, ap, sym, ◌∙◌, arith}
 use Rattle.std.proofs.lemmas.List.{length-map, map-append}
 use Rattle.proto_types.specs.declared.contents.definition.Entry.{Entry}
 use Rattle.proto_types.specs.declared.records.file.FileDescriptorProto.{FileDescriptorProto}
@@ -7,11 +7,13 @@ use Rattle.proto_types.specs.Contents.{Contents, files_of}
 use Rattle.proto_records.specs.Counts.{no_counts, counts_in}
 use Rattle.proto_records.specs.Protos.{as_file, as_message}
 use Rattle.descriptor_linker.specs.ReadDeclarations.{read_declarations}
+use Rattle.pool_parts.specs.Entries.{names}
 use Rattle.descriptor_linker.specs.Entered.{entries}
 use Rattle.descriptor_linker.specs.FirstPass.{Faults}
 use Rattle.descriptor_linker.specs.Items.{message_item}
 use Rattle.descriptor_linker.specs.Pool.{known_names, with_items, first_of_both, file_item}
 use Rattle.descriptor_linker.specs.Setting.{Setting, setting, of_kind}
+use Rattle.descriptor_linker.proofs.SameNames.{names_behind}
 use Rattle.descriptor_linker.proofs.ReadWalk.{file_count, file_counts, files_read, files-append, declarations-read}
 use Rattle.descriptor_linker.proofs.Outline.{entries-append, linked_from, entries_linked, counts_linked, raw_items, length_messages}
 
@@ -26,11 +28,11 @@ declared_behind p fs messages =
     ∙ (λ i. entries (sym (declarations-read no_counts (files_of p)) i) ++ entries (sym (declarations-read (counts_in p) fs) i))
 
 -- what new files are read against
-pub setting_behind : (p : Contents) (known : List Entry) (fs : List FileDescriptorProto) → length p.messages ≡ file_counts (files_of p) → known ≡ known_names p
-    → record { files = files_of p ++ fs; entries = known ++ entries (read_declarations (counts_in p) fs) } ≡ setting (files_of p ++ fs)
+pub setting_behind : (p : Contents) (known : List Entry) (fs : List FileDescriptorProto) → length p.messages ≡ file_counts (files_of p) → names known ≡ names (known_names p)
+    → record { files = files_of p ++ fs; names = names (known ++ entries (read_declarations (counts_in p) fs)) } ≡ setting (files_of p ++ fs)
 setting_behind p known fs messages is = λ i. record {
   files = files_of p ++ fs;
-  entries = (ap (λ es. es ++ entries (read_declarations (counts_in p) fs)) is ∙ sym (declared_behind p fs messages)) i;
+  names = (names_behind known (known_names p) is (entries (read_declarations (counts_in p) fs)) ∙ ap names (sym (declared_behind p fs messages))) i;
 }
 
 pub files_linked : (p : Contents) (s : Setting) (fs : List FileDescriptorProto)
@@ -41,15 +43,15 @@ files_linked p s fs =
     ∙ ap (λ gs. files_of p ++ gs) (raw_items s (length p.files) (length p.messages) fs)
 
 -- the names of a pool behind which files were linked
-pub names_linked : (p : Contents) (s : Setting) (known : List Entry) (fs : List FileDescriptorProto) → length p.messages ≡ file_counts (files_of p) → known ≡ known_names p
-    → known ++ entries (read_declarations (counts_in p) fs) ≡ known_names (with_items p s (read_declarations (counts_in p) fs))
+pub names_linked : (p : Contents) (s : Setting) (known : List Entry) (fs : List FileDescriptorProto) → length p.messages ≡ file_counts (files_of p) → names known ≡ names (known_names p)
+    → names (known ++ entries (read_declarations (counts_in p) fs)) ≡ names (known_names (with_items p s (read_declarations (counts_in p) fs)))
 names_linked p s known fs messages is =
     let linked = linked_from s (length p.files) fs in
-    ap (λ es. es ++ entries (read_declarations (counts_in p) fs)) is
-    ∙ ap (λ es. known_names p ++ es) (ap entries (declarations-read (counts_in p) fs) ∙ sym (entries_linked s (length p.files) (length p.files) (length p.messages) fs)
+    names_behind known (known_names p) is (entries (read_declarations (counts_in p) fs))
+    ∙ ap names (ap (λ es. known_names p ++ es) (ap entries (declarations-read (counts_in p) fs) ∙ sym (entries_linked s (length p.files) (length p.files) (length p.messages) fs)
     ∙ ap entries (sym (declarations-read (counts_in p) linked)))
     ∙ sym (declared_behind p linked messages)
-    ∙ ap (λ gs. entries (read_declarations no_counts gs)) (sym (files_linked p s fs))
+    ∙ ap (λ gs. entries (read_declarations no_counts gs)) (sym (files_linked p s fs)))
 
 counts-append : (fs gs : List FileDescriptorProto) → file_counts (fs ++ gs) ≡ file_counts fs + file_counts gs
 counts-append [] gs = omega arith
@@ -72,7 +74,7 @@ counts_behind p s fs messages =
     ∙ sym (counts-append (files_of p) (linked_from s (length p.files) fs))
     ∙ ap file_counts (sym (files_linked p s fs))
 
--- faults that are some are those of the first pass that has any
-pub first_of_some : (first second : Faults) → first ≢ [] → first_of_both first second ≡ first
-first_of_some [] second some = absurd (some refl)
-first_of_some (f ∷ fs) second some = refl
+-- faults of two passes that are none
+pub none_of_both : (first second : Faults) → first_of_both first second ≡ [] → (first ≡ []) × (second ≡ [])
+none_of_both [] second none = (refl, none)
+none_of_both (f ∷ fs) second none = absurd (search rules)

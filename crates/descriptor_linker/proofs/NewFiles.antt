@@ -68,10 +68,10 @@ module _ (p : Contents) (a b : Batch) (same : new_files p a ≡ new_files p b) w
   }
 
   -- an error that tells the faults is an outcome that leaves the pool as it was
-  pub told_outcome : (error : BuildError) → Fits p a → TellsFaults error (faults p a) → Outcome {U = Unit {0}} p b (Err error) p
-  told_outcome (TooMany kind) fits told = absurd told
-  told_outcome (Descriptor error) fits told = record { fits = same_fits fits; all = told ∙ same_faults; unchanged = refl }
-  told_outcome OutOfMemory fits told = record { fits = same_fits fits; unchanged = refl }
+  pub told_outcome : (U : Type 0) (error : BuildError) → Fits p a → TellsFaults error (faults p a) → Outcome {U = U} p b (Err error) p
+  told_outcome U (TooMany kind) fits told = absurd told
+  told_outcome U (Descriptor error) fits told = record { fits = same_fits fits; all = told ∙ same_faults; unchanged = refl }
+  told_outcome U OutOfMemory fits told = record { fits = same_fits fits; unchanged = refl }
 
 few_fit : (p : Contents) → length p.files < 2 ^ 32 → length p.messages < 2 ^ 32 → IsOk (counts_with (counts_in p) (declarations (counts_in p) []))
 few_fit p files messages = grind (arith, nat_tests)

@@ -13,14 +13,14 @@ use Rattle.proto_types.specs.declared.records.message.DescriptorProto.{Descripto
 use Rattle.proto_types.specs.declared.records.field.FieldDescriptorProto.{FieldDescriptorProto}
 use Rattle.proto_types.specs.declared.tag.file.TheConstants.{MESSAGE_TYPE}
 use Rattle.proto_types.specs.declared.tag.message.TheConstants.{FIELD, NESTED_TYPE}
-use Rattle.proto_types.specs.Contents.{no_contents}
+use Rattle.proto_types.specs.Contents.{Contents}
 use Rattle.proto_records.specs.Declarations.{in_file}
 use Rattle.descriptor_linker.specs.ReadDeclarations.{read_declarations}
 use Rattle.proto_records.specs.Protos.{Proto, of_file, of_message, of_field, of_oneof, of_service, of_method, of_enum, of_value, of_extension, as_file, as_message, as_field}
 use Rattle.proto_records.specs.Shown.{Shown, Surrounding, row, parts, shown, inside}
 use Rattle.descriptor_linker.specs.Items.{field_item, message_item}
 use Rattle.descriptor_linker.specs.Passes.{ReferencesSeen, referred, bare_message, with_field, references_progress}
-use Rattle.descriptor_linker.specs.Pool.{file_item}
+use Rattle.descriptor_linker.specs.Pool.{file_item, with_items}
 use Rattle.descriptor_linker.specs.SecondPass.{second_faults, second_pass}
 use Rattle.descriptor_linker.specs.Setting.{Setting, of_kind}
 use Rattle.descriptor_linker.proofs.ReadWalk.{message_count, file_count, message_read, nested_read, messages_read, file_read, files_read, declarations-read}
@@ -143,30 +143,27 @@ told-read_declarations s ms base fs =
     ap (fold (told s) ms) (declarations-read base fs) ∙ told-files s ms base.files base.messages fs ∙ ap (λ ds. ms ++ items s ds) (sym (declarations-read base fs))
 
 -- the whole pass over the declarations of files
-pub fold_referred : (s : Setting) (base : Counts) (fs : List FileDescriptorProto)
-    → fold referred (record { setting = s; files = []; messages = []; faults = [] }) (read_declarations base fs)
+pub fold_referred : (s : Setting) (held : Contents) (base : Counts) (fs : List FileDescriptorProto)
+    → fold referred (record { setting = s; held = held; files = []; messages = []; faults = [] }) (read_declarations base fs)
     ≡ record {
       setting = s;
+      held = held;
       files = map (λ e. file_item s e.0 e.1) (of_kind as_file (read_declarations base fs));
       messages = map (λ e. message_item s e.0 e.1) (of_kind as_message (read_declarations base fs));
       faults = second_pass s (read_declarations base fs);
     }
-fold_referred s base fs =
-    let r : ReferencesSeen = record { setting = s; files = []; messages = []; faults = [] } in
+fold_referred s held base fs =
+    let r : ReferencesSeen = record { setting = s; held = held; files = []; messages = []; faults = [] } in
     fold-seen r (read_declarations base fs)
     ∙ (λ i. record (seen r (read_declarations base fs)) { messages = told-read_declarations s [] base fs i })
 
 -- the same, as progress after a visitor has been shown all
-pub progress_referred : (seen : ReferencesSeen) (s : Setting) (base : Counts) (fs : List FileDescriptorProto)
-    → seen ≡ record { setting = s; files = []; messages = []; faults = [] }
+pub progress_referred : (seen : ReferencesSeen) (s : Setting) (held : Contents) (base : Counts) (fs : List FileDescriptorProto)
+    → seen ≡ record { setting = s; held = held; files = []; messages = []; faults = [] }
     → references_progress (fold referred seen (read_declarations base fs)) ≡ record {
-      contents = record no_contents {
-        files = map (λ e. file_item s e.0 e.1) (of_kind as_file (read_declarations base fs));
-        messages = map (λ e. message_item s e.0 e.1) (of_kind as_message (read_declarations base fs));
-      };
-      entries = [];
+      contents = with_items held s (read_declarations base fs);
       faults = second_pass s (read_declarations base fs);
       listed = [];
     }
-progress_referred seen s base fs is =
-    (λ i. references_progress (fold referred (is i) (read_declarations base fs))) ∙ ap references_progress (fold_referred s base fs)
+progress_referred seen s held base fs is =
+    (λ i. references_progress (fold referred (is i) (read_declarations base fs))) ∙ ap references_progress (fold_referred s held base fs)

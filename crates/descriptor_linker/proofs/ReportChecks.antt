@@ -46,7 +46,7 @@ missing_end = refl
 
 pub last_package_counts : report (script (codes "file a.proto\npackage p\npackage q\nmessage M\nfield f 1 optional message .q.M ~\nend\nend\nlink\n")) ≡ codes "ok 1 1 0 0 0\n"
 unfolding scripts
-last_package_counts = refl
+last_package_counts = simp (get-insert {X = Definition} nat_list_cmp_total) refl
 
 pub unknown_type : report (script (codes "file a.proto\nmessage M\nfield f 1 optional message N ~\nend\nend\nlink\n"))
     ≡ codes "refused 1\na.proto: name 'N' is not defined\n"
@@ -85,7 +85,7 @@ missing_type_name = refl
 pub field_is_no_type : report (script (codes "file a.proto\nmessage M\nfield f 1 optional message .M.f ~\nend\nend\nlink\n"))
     ≡ codes "refused 1\na.proto: 'M.f' is not a message or enum type\n"
 unfolding scripts
-field_is_no_type = refl
+field_is_no_type = simp (get-insert {X = Definition} nat_list_cmp_total) refl
 
 pub numbers_at_the_edges : report (script (codes "file a.proto\nmessage M\nfield a 0 optional int32 ~ ~\nfield b 1 optional int32 ~ ~\nfield c 18999 optional int32 ~ ~\nfield d 19000 optional int32 ~ ~\nfield e 19999 optional int32 ~ ~\nfield f 20000 optional int32 ~ ~\nfield g 536870911 optional int32 ~ ~\nfield h 536870912 optional int32 ~ ~\nfield i -1 optional int32 ~ ~\nend\nend\nlink\n"))
     ≡ codes "refused 5\na.proto: invalid field number '0'\na.proto: invalid field number '19000'\na.proto: invalid field number '19999'\na.proto: invalid field number '536870912'\na.proto: invalid field number '-1'\n"

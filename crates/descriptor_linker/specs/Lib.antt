@@ -10,6 +10,8 @@ pub mod Pool
 pub mod Passes
 pub mod Seen
 pub mod Held
+pub mod Growing
+pub mod Behind
 pub mod Outcome
 pub mod LookUps
 pub mod Script

@@ -1,16 +1,16 @@
 -- What the two passes make of one more declaration.
-use Rattle.std.specs.Prelude.{◌≡◌, ℕ, List, [], ◌∷◌, ◌++◌}
+use Rattle.std.specs.Prelude.{◌≡◌, ℕ, List, [], ◌∷◌, ◌++◌, map}
 use Rattle.std.specs.List.{fold}
 use Rattle.proto_types.specs.declared.contents.definition.Entry.{Entry}
 use Rattle.proto_types.specs.declared.contents.field.FieldDescriptorInner.{FieldDescriptorInner}
 use Rattle.proto_types.specs.declared.contents.file.FileDescriptorInner.{FileDescriptorInner}
 use Rattle.proto_types.specs.declared.contents.message.MessageDescriptorInner.{MessageDescriptorInner}
-use Rattle.proto_types.specs.declared.records.file.FileDescriptorProto.{FileDescriptorProto}
-use Rattle.proto_types.specs.Contents.{no_contents}
+use Rattle.proto_types.specs.Contents.{Contents}
 use Rattle.proto_records.specs.Progress.{Progress}
 use Rattle.proto_records.specs.Protos.{of_file, of_message, of_field}
 use Rattle.proto_types.specs.Readers.{text_of}
 use Rattle.proto_records.specs.Shown.{Shown}
+use Rattle.pool_parts.specs.Entries.{names}
 use Rattle.descriptor_linker.specs.declared.error.BuildError.{BuildError}
 use Rattle.descriptor_linker.specs.declared.error.BuildError.TheVariants.{TooMany, Descriptor, OutOfMemory}
 use Rattle.descriptor_linker.specs.Entered.{entries_of, own_entry}
@@ -20,16 +20,17 @@ use Rattle.descriptor_linker.specs.Pool.{file_item}
 use Rattle.descriptor_linker.specs.SecondPass.{second_faults}
 use Rattle.descriptor_linker.specs.Setting.{Setting}
 
--- of the first pass: the files that labels name, the entries, the names of new files, and the faults so far
+-- of the first pass: the files, new ones among them, the messages of the pool, the entries, the names of new files, and the faults so far
 pub record NamesSeen : Type 0 where
-  pub files : List FileDescriptorProto
+  pub files : List FileDescriptorInner
+  pub messages : List MessageDescriptorInner
   pub entries : List Entry
   pub file_names : List (List ℕ)
   pub faults : Faults
 
 -- after one more entry
 abbrev pub entered : NamesSeen → Entry → NamesSeen
-entered seen e = record seen { entries = seen.entries ++ e ∷ []; faults = seen.faults ++ clash_faults seen.files seen.entries e }
+entered seen e = record seen { entries = seen.entries ++ e ∷ []; faults = seen.faults ++ clash_faults (map (λ f. f.raw) seen.files) seen.entries e }
 
 -- after the name of one more file
 abbrev pub file_named : NamesSeen → List ℕ → NamesSeen
@@ -43,11 +44,16 @@ named seen d = elim d.proto [
 ]
 
 abbrev pub names_progress : NamesSeen → Progress
-names_progress seen = record { contents = no_contents; entries = seen.entries; faults = seen.faults; listed = [] }
+names_progress seen = record {
+  contents = record { files = seen.files; messages = seen.messages; names = names seen.entries };
+  faults = seen.faults;
+  listed = [];
+}
 
--- of the second pass: what references are read against, the items of files and messages, and the faults so far
+-- of the second pass: what references are read against, what the pool holds, the items of new files and messages, and the faults so far
 pub record ReferencesSeen : Type 0 where
   pub setting : Setting
+  pub held : Contents
   pub files : List FileDescriptorInner
   pub messages : List MessageDescriptorInner
   pub faults : Faults
@@ -73,8 +79,7 @@ referred seen d = elim d.proto [
 
 abbrev pub references_progress : ReferencesSeen → Progress
 references_progress seen = record {
-  contents = record no_contents { files = seen.files; messages = seen.messages };
-  entries = [];
+  contents = record { files = seen.held.files ++ seen.files; messages = seen.held.messages ++ seen.messages; names = seen.setting.names };
   faults = seen.faults;
   listed = [];
 }

@@ -15,7 +15,6 @@ use Rattle.descriptor_linker.specs.ReadDeclarations.{read_declarations}
 use Rattle.proto_records.specs.Protos.{as_file, as_message}
 use Rattle.proto_types.specs.Readers.{text_of}
 use Rattle.proto_records.specs.Shown.{Shown}
-use Rattle.pool_parts.specs.Entries.{names}
 use Rattle.descriptor_linker.specs.Entered.{entries}
 use Rattle.descriptor_linker.specs.Setting.{Setting, setting, of_kind}
 use Rattle.descriptor_linker.specs.FirstPass.{Faults, first_pass}
@@ -77,7 +76,7 @@ abbrev pub with_items : Contents → Setting → List Shown → Contents
 with_items p s ds = record {
   files = p.files ++ map (λ e. file_item s e.0 e.1) (of_kind as_file ds);
   messages = p.messages ++ map (λ e. message_item s e.0 e.1) (of_kind as_message ds);
-  names = names s.entries;
+  names = s.names;
 }
 
 -- the pool after a batch

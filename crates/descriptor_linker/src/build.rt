@@ -1,110 +1,203 @@
-//! How a batch is linked: the walk over its declarations, and the two passes.
+//! How a batch is linked: the two passes over its declarations, and the roll-back.
 
-ghost use Rattle.std.specs.Prelude.{◌≡◌, ◌++◌, [], ⊤, map, IsOk, MatchResult};
-ghost use Rattle.descriptor_linker.specs.ReadDeclarations.{read_declarations};
+ghost use Rattle.std.specs.Prelude.{◌≡◌, ◌++◌, [], IsOk, IfOk, IfErr, OnOk, OnErr, MatchResult, map};
+ghost use Rattle.std.specs.List.{fold};
 ghost use Rattle.proto_records.specs.Counts.{counts_with};
 ghost use Rattle.proto_records.specs.Declarations.{declarations};
-ghost use Rattle.proto_records.specs.Protos.{as_file, as_message};
-ghost use Rattle.pool_parts.specs.AllFiles.{files_in};
+ghost use Rattle.pool_parts.specs.Entries.{names};
+ghost use Rattle.descriptor_linker.specs.declared.error.BuildError.TheVariants.{OutOfMemory};
+ghost use Rattle.descriptor_linker.specs.Behind.{setting_behind, faults_behind};
 ghost use Rattle.descriptor_linker.specs.Entered.{entries};
 ghost use Rattle.descriptor_linker.specs.FirstPass.{first_pass};
-ghost use Rattle.descriptor_linker.specs.Items.{message_item};
-ghost use Rattle.descriptor_linker.specs.Passes.{TellsFaults};
-ghost use Rattle.descriptor_linker.specs.Pool.{file_item};
+ghost use Rattle.descriptor_linker.specs.Growing.{kept_in};
+ghost use Rattle.descriptor_linker.specs.Held.{contents_in};
+ghost use Rattle.descriptor_linker.specs.Passes.{TellsFaults, named, names_progress, referred, references_progress};
+ghost use Rattle.descriptor_linker.specs.Pool.{with_items};
+ghost use Rattle.descriptor_linker.specs.ReadDeclarations.{read_declarations};
 ghost use Rattle.descriptor_linker.specs.SecondPass.{second_pass};
-ghost use Rattle.descriptor_linker.specs.Seen.{setting_in};
-ghost use Rattle.descriptor_linker.specs.Setting.{of_kind};
+ghost use Rattle.descriptor_linker.specs.Seen.{names_seen, references_seen, setting_with};
 
 mod field;
+mod growing;
 mod linked;
 mod names;
 mod resolve;
 mod setting;
 
 use crate::error::BuildError;
+use crate::inner::DescriptorPoolInner;
+use growing::GrowingPool;
 pub use names::NameVisitor;
-use pool_parts::{
-    DescriptorError, DescriptorErrorKind, Entry, FileDescriptorInner, Files, MessageDescriptorInner,
-};
-use proto_records::{Counts, FileDescriptorProto, duplicates, visit_with};
+use pool_parts::{DescriptorError, DescriptorErrorKind, FileDescriptorInner};
+use proto_records::{Counts, FileDescriptorProto, visit};
 pub use resolve::ResolveVisitor;
 pub(crate) use setting::Setting;
-use std::alloc::Global;
+use std::alloc::{AllocError, Global};
+use std::mem;
 
-/// The items of files and messages.
-#[derive(Drop)]
-pub(crate) struct NewItems {
-    pub(crate) files: Vec<FileDescriptorInner>,
-    pub(crate) messages: Vec<MessageDescriptorInner>,
-}
-
-/// The first pass: the names that are known and those of new files, or all faults of names.
-pub(crate) fn enter_names(
+/// Links new files behind those of a pool, in the pool itself. A refusal is rolled back.
+pub(crate) fn link(
     alloc: Global,
     base: Counts,
-    files: Files,
-    known: &[Entry],
+    pool: &mut DescriptorPoolInner,
     new: &[FileDescriptorProto],
-) -> Result<Vec<Entry>, BuildError>
+) -> Result<(), BuildError>
     requires { IsOk (counts_with base (declarations base new.now)) }
-    ensures entered { MatchResult result (λ all. all.items ≡ known.now ++ entries (read_declarations base new.now)) (λ _. ⊤) }
-    ensures faults { MatchResult result (λ _. first_pass (files_in files.entry) known.now (read_declarations base new.now) ≡ [])
-        (λ error. TellsFaults error (first_pass (files_in files.entry) known.now (read_declarations base new.now))) }
+    ensures ok { OnOk result (contents_in pool.new
+        ≡ with_items (contents_in pool.old) (setting_behind pool.old base new.now) (read_declarations base new.now)) }
+    ensures faults { MatchResult result (λ _. faults_behind pool.old base new.now ≡ []) (λ error. TellsFaults error (faults_behind pool.old base new.now)) }
+    ensures err { OnErr result (contents_in pool.new ≡ contents_in pool.old) }
+{
+    let held = mem::replace(pool, DescriptorPoolInner::new(alloc));
+    let mut growing = GrowingPool::new(held);
+    let linked = link_behind(alloc, base, &mut growing, new);
+    if linked.is_err() {
+        growing.rollback();
+    }
+    let GrowingPool { inner, .. } = growing;
+    *pool = inner;
+    linked
+}
+
+/// Links new files behind those of a pool. A refusal may leave anything behind them.
+fn link_behind(
+    alloc: Global,
+    base: Counts,
+    pool: &mut GrowingPool,
+    new: &[FileDescriptorProto],
+) -> Result<(), BuildError>
+    requires { IsOk (counts_with base (declarations base new.now)) }
+    ensures ok { OnOk result (contents_in pool.new.inner
+        ≡ with_items (kept_in pool.old) (setting_behind pool.old.inner base new.now) (read_declarations base new.now)) }
+    ensures faults { MatchResult result (λ _. faults_behind pool.old.inner base new.now ≡ []) (λ error. TellsFaults error (faults_behind pool.old.inner base new.now)) }
+    ensures kept { OnErr result (kept_in pool.new ≡ kept_in pool.old) }
+{
+    let mut files = unlinked_files(alloc, new)?;
+    pool.inner.files.append(&mut files)?;
+    enter_names(alloc, base, pool, new)?;
+    make_items(alloc, base, pool, new)?;
+    Ok(())
+}
+
+/// The records of files as they are, which labels name until the linked ones take their place.
+fn unlinked_files(
+    alloc: Global,
+    new: &[FileDescriptorProto],
+) -> Result<Vec<FileDescriptorInner>, AllocError>
+    ensures { IfOk result (λ files. map (λ f. f.raw) files.items ≡ new.now) }
+{
+    let mut files = Vec::new(alloc);
+    for file in new {
+        files.push(FileDescriptorInner {
+            raw: file.clone(alloc)?,
+        })?;
+    }
+    Ok(files)
+}
+
+/// The first pass: it enters the names of new files, or tells all faults of names. The pool has
+/// the records of the new files.
+fn enter_names(
+    alloc: Global,
+    base: Counts,
+    pool: &mut GrowingPool,
+    new: &[FileDescriptorProto],
+) -> Result<(), BuildError>
+    requires { IsOk (counts_with base (declarations base new.now)) }
+    ensures entered { OnOk result (contents_in pool.new.inner
+        ≡ record (contents_in pool.old.inner) { names = names (pool.old.inner.entries.items ++ entries (read_declarations base new.now)) }) }
+    ensures faults { MatchResult result (λ _. first_pass (map (λ f. f.raw) pool.old.inner.files.items) pool.old.inner.entries.items (read_declarations base new.now) ≡ [])
+        (λ error. TellsFaults error (first_pass (map (λ f. f.raw) pool.old.inner.files.items) pool.old.inner.entries.items (read_declarations base new.now))) }
+    ensures kept { kept_in pool.new ≡ kept_in pool.old }
 {
     let mut visitor = NameVisitor {
         alloc,
-        files,
-        entries: duplicates(alloc, known)?,
+        pool: mem::replace(pool, GrowingPool::new(DescriptorPoolInner::new(alloc))),
         file_names: Vec::new(alloc),
         faults: Vec::new(alloc),
     };
-    visit_with(alloc, base, new, &mut visitor)?;
+    let shown = show_names(alloc, base, new, &mut visitor);
     let NameVisitor {
-        entries,
+        pool: entered,
         faults,
         ..
     } = visitor;
-    refuse_if_some(faults)?;
-    Ok(entries)
+    *pool = entered;
+    verdict(shown, faults)?;
+    Ok(())
 }
 
-/// The second pass: the items of new files, or all faults of numbers and references.
-pub(crate) fn make_items(
+fn show_names(
     alloc: Global,
     base: Counts,
-    setting: Setting,
     new: &[FileDescriptorProto],
-) -> Result<NewItems, BuildError>
+    visitor: &mut NameVisitor,
+) -> Result<(), AllocError>
     requires { IsOk (counts_with base (declarations base new.now)) }
-    ensures files { MatchResult result (λ made. made.files.items
-        ≡ map (λ e. file_item (setting_in setting.entry) e.0 e.1) (of_kind as_file (read_declarations base new.now))) (λ _. ⊤) }
-    ensures messages { MatchResult result (λ made. made.messages.items
-        ≡ map (λ e. message_item (setting_in setting.entry) e.0 e.1) (of_kind as_message (read_declarations base new.now))) (λ _. ⊤) }
-    ensures faults { MatchResult result (λ _. second_pass (setting_in setting.entry) (read_declarations base new.now) ≡ [])
-        (λ error. TellsFaults error (second_pass (setting_in setting.entry) (read_declarations base new.now))) }
+    ensures ok { OnOk result (names_progress (names_seen visitor.new) ≡ names_progress (fold named (names_seen visitor.old) (read_declarations base new.now))) }
+    ensures kept { kept_in visitor.new.pool ≡ kept_in visitor.old.pool }
+{
+    visit(alloc, base, new, visitor)
+}
+
+/// The second pass: it puts the items of new files into the pool, which has their records and
+/// names, or tells all faults of numbers and references.
+fn make_items(
+    alloc: Global,
+    base: Counts,
+    pool: &mut GrowingPool,
+    new: &[FileDescriptorProto],
+) -> Result<(), BuildError>
+    requires { IsOk (counts_with base (declarations base new.now)) }
+    ensures made { OnOk result (contents_in pool.new.inner ≡ with_items (kept_in pool.old) (setting_with pool.old.inner) (read_declarations base new.now)) }
+    ensures faults { MatchResult result (λ _. second_pass (setting_with pool.old.inner) (read_declarations base new.now) ≡ [])
+        (λ error. TellsFaults error (second_pass (setting_with pool.old.inner) (read_declarations base new.now))) }
+    ensures kept { OnErr result (kept_in pool.new ≡ kept_in pool.old) }
 {
     let mut visitor = ResolveVisitor {
         alloc,
-        setting,
+        pool: mem::replace(pool, GrowingPool::new(DescriptorPoolInner::new(alloc))),
         files: Vec::new(alloc),
         messages: Vec::new(alloc),
         faults: Vec::new(alloc),
     };
-    visit_with(alloc, base, new, &mut visitor)?;
+    let shown = show_references(alloc, base, new, &mut visitor);
     let ResolveVisitor {
+        pool: read,
         files,
         messages,
         faults,
         ..
     } = visitor;
-    refuse_if_some(faults)?;
-    Ok(NewItems { files, messages })
+    *pool = read;
+    verdict(shown, faults)?;
+    pool.put_items(files, messages)?;
+    Ok(())
 }
 
-/// Refuses a batch with its faults, if there are any.
-fn refuse_if_some(faults: Vec<DescriptorErrorKind>) -> Result<(), BuildError>
-    ensures { MatchResult result (λ _. faults.items ≡ []) (λ error. TellsFaults error faults.items) }
+fn show_references(
+    alloc: Global,
+    base: Counts,
+    new: &[FileDescriptorProto],
+    visitor: &mut ResolveVisitor,
+) -> Result<(), AllocError>
+    requires { IsOk (counts_with base (declarations base new.now)) }
+    ensures ok { OnOk result (references_progress (references_seen visitor.new)
+        ≡ references_progress (fold referred (references_seen visitor.old) (read_declarations base new.now))) }
+    ensures kept { kept_in visitor.new.pool ≡ kept_in visitor.old.pool }
 {
+    visit(alloc, base, new, visitor)
+}
+
+/// How a pass ends: for want of memory, with its faults, or well.
+fn verdict(
+    shown: Result<(), AllocError>,
+    faults: Vec<DescriptorErrorKind>,
+) -> Result<(), BuildError>
+    ensures ok { OnOk result (IsOk shown × (faults.items ≡ [])) }
+    ensures err { IfErr result (λ error. MatchResult shown (λ _. TellsFaults error faults.items) (λ _. error ≡ OutOfMemory)) }
+{
+    shown?;
     if faults.is_empty() {
         return Ok(());
     }

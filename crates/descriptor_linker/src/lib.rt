@@ -5,6 +5,7 @@ mod build;
 mod devices;
 mod ending;
 mod error;
+mod inner;
 mod pool;
 mod report;
 mod runs;

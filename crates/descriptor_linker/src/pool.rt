@@ -5,13 +5,14 @@ ghost use Rattle.std.specs.Str.{bytes_eq};
 ghost use Rattle.proto_types.specs.Readers.{text_of};
 ghost use Rattle.descriptor_linker.specs.LookUps.{without_dot};
 
-use crate::build::{Setting, enter_names, make_items};
+use crate::build::link;
 use crate::error::BuildError;
+use crate::inner::DescriptorPoolInner;
 use pool_parts::{
-    Definition, Entry, FileDescriptor, FileDescriptorInner, Files, MessageDescriptor,
-    MessageDescriptorInner, first_definition,
+    Definition, FileDescriptor, FileDescriptorInner, MessageDescriptor, MessageDescriptorInner,
+    first_definition,
 };
-use proto_records::{Counts, Duplicate, FileDescriptorProto, duplicates};
+use proto_records::{Counts, FileDescriptorProto};
 use std::alloc::{AllocError, Global};
 use std::marker::Model;
 
@@ -19,9 +20,7 @@ use std::marker::Model;
 #[derive(Drop)]
 pub struct DescriptorPool {
     alloc: Global,
-    files: Vec<FileDescriptorInner>,
-    messages: Vec<MessageDescriptorInner>,
-    entries: Vec<Entry>,
+    inner: DescriptorPoolInner,
 }
 
 impl Model for DescriptorPool {
@@ -32,11 +31,11 @@ impl Model for DescriptorPool {
 
     ghost coded = { contents_code };
 
-    ghost use Rattle.descriptor_linker.specs.Held.{contents_of, IsHeld};
+    ghost use Rattle.descriptor_linker.specs.Held.{contents_in, IsHeld};
 
-    ghost view = { contents_of };
+    ghost view = { λ p. contents_in p.inner };
 
-    ghost invariant = { IsHeld };
+    ghost invariant = { λ p. IsHeld (contents_in p.inner) };
 }
 
 impl DescriptorPool {
@@ -53,9 +52,7 @@ impl DescriptorPool {
     {
         DescriptorPool {
             alloc,
-            files: Vec::new(alloc),
-            messages: Vec::new(alloc),
-            entries: Vec::new(alloc),
+            inner: DescriptorPoolInner::new(alloc),
         }
     }
 
@@ -63,21 +60,21 @@ impl DescriptorPool {
     pub fn get_by_name(&self, name: &str) -> Option<&Definition>
         ensures { option_copied result ≡ definition_named self.now name.now }
     {
-        first_definition(&self.entries, without_dot(name))
+        first_definition(&self.inner.entries, without_dot(name))
     }
 
     /// The file with a number, or none past the end.
     pub fn file(&self, file: FileDescriptor) -> Option<&FileDescriptorInner>
         ensures { option_copied result ≡ slice_get self.now.files file.index }
     {
-        self.files.get(file.index() as usize)
+        self.inner.files.get(file.index() as usize)
     }
 
     /// The message with a number, or none past the end.
     pub fn message(&self, message: MessageDescriptor) -> Option<&MessageDescriptorInner>
         ensures { option_copied result ≡ slice_get self.now.messages message.index }
     {
-        self.messages.get(message.index() as usize)
+        self.inner.messages.get(message.index() as usize)
     }
 
     /// How many files and messages the pool has.
@@ -85,8 +82,8 @@ impl DescriptorPool {
         ensures { result ≡ counts_in self.now }
     {
         Counts {
-            files: self.files.len() as u32,
-            messages: self.messages.len() as u32,
+            files: self.inner.files.len() as u32,
+            messages: self.inner.messages.len() as u32,
             enums: 0,
             services: 0,
             extensions: 0,
@@ -98,52 +95,29 @@ impl DescriptorPool {
         ensures { IfOk result (λ files. files.items ≡ files_of self.now) }
     {
         let mut files = Vec::new(self.alloc);
-        for file in &self.files {
+        for file in &self.inner.files {
             files.push(file.raw.clone(self.alloc)?)?;
         }
         Ok(files)
     }
 
     /// Links the files of a batch whose names the pool lacks; the others are passed over unread.
-    /// Where memory is refused, where there is too much of a kind, or where the new files break a
-    /// rule, the pool stays as it was; of broken rules all of the first failing pass are told.
+    /// The pool is changed in place. Where memory is refused, where there is too much of a kind, or
+    /// where the new files break a rule, it is as it was: what came behind is taken away, without
+    /// memory. Of broken rules all of the first failing pass are told.
     pub fn build_files(&mut self, mut files: Vec<FileDescriptorProto>) -> Result<(), BuildError>
         ensures outcome { Outcome self.old files.items result self.new }
         ensures nothing_new { new_files self.old files.items ≡ [] → IsOk result }
     {
-        keep_new(&self.files, &mut files);
+        keep_new(&self.inner.files, &mut files);
         if files.is_empty() {
             return Ok(());
         }
-        if let Err(kind) = self.counts().with_files(&files) {
+        let base = self.counts();
+        if let Err(kind) = base.with_files(&files) {
             return Err(BuildError::TooMany(kind));
         }
-        *self = self.grown(&files)?;
-        Ok(())
-    }
-
-    /// A copy of the pool with new files linked into it, none of whose names it has.
-    fn grown(&self, new: &[FileDescriptorProto]) -> Result<DescriptorPool, BuildError>
-        requires new { new_files self.now new.now ≡ new.now }
-        requires fits { Fits self.now new.now }
-        ensures ok { IfOk result (IsLinked self.now new.now) }
-        ensures err { IfErr result (λ error. TellsFaults error (faults self.now new.now)) }
-    {
-        let alloc = self.alloc;
-        let base = self.counts();
-        let all = Files::new(&self.files, new);
-        let entries = enter_names(alloc, base, all, &self.entries, new)?;
-        let setting = Setting {
-            files: all,
-            entries: &entries,
-        };
-        let made = make_items(alloc, base, setting, new)?;
-        Ok(DescriptorPool {
-            alloc,
-            files: in_a_row(alloc, &self.files, made.files)?,
-            messages: in_a_row(alloc, &self.messages, made.messages)?,
-            entries,
-        })
+        link(self.alloc, base, &mut self.inner, &files)
     }
 }
 
@@ -174,17 +148,4 @@ fn without_dot(name: &str) -> &str
         Some(rest) => rest,
         None => name,
     }
-}
-
-/// Copies of some items, and others behind them.
-fn in_a_row<T: Duplicate>(
-    alloc: Global,
-    front: &[T],
-    mut back: Vec<T>,
-) -> Result<Vec<T>, AllocError>
-    ensures { IfOk result (λ both. both.items ≡ front.now ++ back.items) }
-{
-    let mut both = duplicates(alloc, front)?;
-    both.append(&mut back)?;
-    Ok(both)
 }

@@ -1,5 +1,4 @@
 pub mod Kinds
-pub mod AllFiles
 pub mod Entries
 pub mod FieldNumbers
 pub mod Resolution

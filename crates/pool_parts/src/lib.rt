@@ -11,7 +11,7 @@ mod resolve;
 
 pub use error::DescriptorError;
 pub use field_number::is_valid_number;
-pub use files::Files;
+pub use files::label_at;
 pub use filter::ResolveNameFilter;
 pub use kinds::{cardinality_of, named_kind, simple_kind};
 pub use names::first_definition;

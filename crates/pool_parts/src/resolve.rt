@@ -1,13 +1,12 @@
-ghost use Rattle.std.specs.Prelude.{◌≡◌, ◌==◌, IfOk};
-ghost use Rattle.pool_parts.specs.AllFiles.{files_in};
+ghost use Rattle.std.specs.Prelude.{◌≡◌, ◌==◌, IfOk, map};
 ghost use Rattle.pool_parts.specs.Entries.{first_of};
 ghost use Rattle.pool_parts.specs.Resolution.{resolution, resolution_in, look, is_found};
 ghost use Rattle.pool_parts.specs.References.{reference_fault};
 
-use crate::files::Files;
+use crate::files::label_at;
 use crate::filter::ResolveNameFilter;
 use crate::names::first_definition;
-use proto_records::{Definition, DescriptorErrorKind, Entry, Text};
+use proto_records::{Definition, DescriptorErrorKind, Entry, FileDescriptorInner, Text};
 use std::alloc::{AllocError, Global};
 
 /// What a reference means.
@@ -92,11 +91,11 @@ impl ResolveNameResult<'_> {
         &self,
         alloc: Global,
         orig_name: &str,
-        files: Files,
+        files: &[FileDescriptorInner],
         found_file: u32,
         path: &[i32],
     ) -> Result<Option<DescriptorErrorKind>, AllocError>
-        ensures { IfOk result (λ fault. fault ≡ reference_fault (files_in files.entry) orig_name.now found_file path.now (resolution_in self.now)) }
+        ensures { IfOk result (λ fault. fault ≡ reference_fault (map (λ f. f.raw) files.now) orig_name.now found_file path.now (resolution_in self.now)) }
     {
         let name = match self {
             ResolveNameResult::Found { .. } => return Ok(None),
@@ -104,8 +103,8 @@ impl ResolveNameResult<'_> {
                 return Ok(Some(DescriptorErrorKind::InvalidType {
                     name: name.clone(alloc)?,
                     expected: Text::from_string(format!(in alloc; "{filter}")?),
-                    found: files.label(alloc, found_file, path)?,
-                    defined: files.label(alloc, def.file, def.path.as_slice())?,
+                    found: label_at(alloc, files, found_file, path)?,
+                    defined: label_at(alloc, files, def.file, def.path.as_slice())?,
                 }));
             }
             ResolveNameResult::NotImported { name, .. } => name.as_str(),
@@ -113,7 +112,7 @@ impl ResolveNameResult<'_> {
         };
         Ok(Some(DescriptorErrorKind::NameNotFound {
             name: Text::from_str(alloc, name)?,
-            found: files.label(alloc, found_file, path)?,
+            found: label_at(alloc, files, found_file, path)?,
         }))
     }
 }

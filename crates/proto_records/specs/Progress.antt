@@ -1,15 +1,13 @@
 -- What a visitor has made of the declarations that it was shown.
 use Rattle.std.specs.Prelude.{◌≡◌, ◌↔◌, ℕ, zero, suc, List, [], ◌∷◌, ◌++◌}
 use Rattle.proto_records.specs.declared.declaration.Declaration.{Declaration}
-use Rattle.proto_types.specs.declared.contents.definition.Entry.{Entry}
 use Rattle.proto_types.specs.declared.fault.DescriptorErrorKind.{DescriptorErrorKind}
 use Rattle.proto_types.specs.Contents.{Contents}
 use Rattle.proto_records.specs.Shown.{Shown}
 
--- the contents of a pool, the names that are entered, in order, the faults, and the declarations that are listed
+-- the contents of a pool, the faults, and the declarations that are listed
 pub record Progress : Type 0 where
   pub contents : Contents
-  pub entries : List Entry
   pub faults : List DescriptorErrorKind
   pub listed : List Declaration
 

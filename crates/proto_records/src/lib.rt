@@ -26,4 +26,4 @@ pub use proto_types::{
     ServiceDescriptorProto, SourceCodeInfo, Text, Unread, duplicates, same, tag,
 };
 pub use visitor::Visitor;
-pub use walk::{join, visit, visit_each, visit_with};
+pub use walk::{join, visit, visit_each};

@@ -70,7 +70,7 @@ impl Visitor for Lister {
     ghost use Rattle.proto_types.specs.Contents.{no_contents};
     ghost use Rattle.proto_records.specs.Listed.{declaration_of};
 
-    ghost after = { λ l ds. record { contents = no_contents; entries = []; faults = []; listed = l.list.items ++ map declaration_of ds } };
+    ghost after = { λ l ds. record { contents = no_contents; faults = []; listed = l.list.items ++ map declaration_of ds } };
 
     ghost ready = { λ _ _. Unit {0} };
 

@@ -5,7 +5,6 @@ ghost use Rattle.proto_records.specs.Declarations.{declarations, file_walk};
 ghost use Rattle.proto_records.specs.Progress.{HasSeen, StopsAt};
 ghost use Rattle.proto_records.specs.Walking.{Room};
 
-mod known;
 mod listing;
 mod located;
 mod part;
@@ -13,7 +12,6 @@ mod place;
 
 use crate::counts::Counts;
 use crate::visitor::Visitor;
-pub use known::visit_with;
 use listing::Listing;
 use located::{show_all, show_file};
 pub use place::join;

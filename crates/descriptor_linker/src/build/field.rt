@@ -11,7 +11,8 @@ ghost use Rattle.descriptor_linker.specs.Seen.{setting_in};
 use super::setting::Setting;
 use pool_parts::{
     DescriptorErrorKind, FieldDescriptorInner, Identity, KindIndex, MessageDescriptorInner,
-    ResolveNameFilter, ResolveNameResult, cardinality_of, is_valid_number, named_kind, simple_kind,
+    ResolveNameFilter, ResolveNameResult, cardinality_of, is_valid_number, label_at, named_kind,
+    simple_kind,
 };
 use proto_records::{FieldDescriptorProto, Items, Text, tag};
 use std::alloc::{AllocError, Global};
@@ -95,7 +96,7 @@ fn field_type(
         return match simple_kind(written) {
             Some(kind) => Ok((Some(kind), None)),
             None => {
-                let label = setting.files.label(alloc, file, &type_path)?;
+                let label = label_at(alloc, setting.files, file, &type_path)?;
                 Ok((
                     None,
                     Some(DescriptorErrorKind::MissingRequiredField { label }),
@@ -129,7 +130,7 @@ fn number_fault(
     }
     let mut number_path = Vec::from_slice(alloc, path)?;
     number_path.push(tag::field::NUMBER)?;
-    let found = setting.files.label(alloc, file, &number_path)?;
+    let found = label_at(alloc, setting.files, file, &number_path)?;
     Ok(Some(DescriptorErrorKind::InvalidFieldNumber { number, found }))
 }
 

@@ -3,12 +3,15 @@ ghost use Rattle.std.specs.List.{fold, list_any};
 ghost use Rattle.std.specs.Str.{bytes_eq};
 ghost use Rattle.proto_types.specs.Lists.{listed};
 ghost use Rattle.proto_types.specs.declared.tag.message.TheConstants.{NAME};
-ghost use Rattle.pool_parts.specs.AllFiles.{files_in};
 ghost use Rattle.pool_parts.specs.Kinds.{is_package};
 ghost use Rattle.descriptor_linker.specs.Entered.{packages, package_entry};
 ghost use Rattle.descriptor_linker.specs.FirstPass.{clash_faults};
 
-use pool_parts::{Definition, DefinitionKind, DescriptorErrorKind, Entry, Files, first_definition};
+use super::growing::GrowingPool;
+use pool_parts::{
+    Definition, DefinitionKind, DescriptorErrorKind, Entry, FileDescriptorInner, first_definition,
+    label_at,
+};
 use proto_records::{
     DescriptorProto, EnumDescriptorProto, EnumValueDescriptorProto, FieldDescriptorProto,
     FileDescriptorProto, Items, MethodDescriptorProto, OneofDescriptorProto,
@@ -16,18 +19,19 @@ use proto_records::{
 };
 use std::alloc::{AllocError, Global};
 
-/// The first pass: it enters the names of declarations, and gathers the faults of names.
+/// The first pass: it enters the names of declarations into a pool whose files are those of a
+/// batch as well, and gathers the faults of names.
 #[derive(Drop)]
-pub struct NameVisitor<'a> {
+pub struct NameVisitor {
     pub(crate) alloc: Global,
-    pub(crate) files: Files<'a>,
-    pub(crate) entries: Vec<Entry>,
+    pub(crate) pool: GrowingPool,
     pub(crate) file_names: Vec<Text>,
     pub(crate) faults: Vec<DescriptorErrorKind>,
 }
 
-impl NameVisitor<'_> {
+impl NameVisitor {
     ghost use Rattle.descriptor_linker.specs.Passes.{entered, file_named, named};
+    ghost use Rattle.descriptor_linker.specs.Growing.{kept_in};
     ghost use Rattle.descriptor_linker.specs.Seen.{names_seen};
 
     /// Enters a name; where it clashes with a holder, that is a fault.
@@ -38,8 +42,9 @@ impl NameVisitor<'_> {
         path: &[i32],
         kind: DefinitionKind,
     ) -> Result<(), AllocError>
-        ensures { OnOk result (names_seen self.new
+        ensures ok { OnOk result (names_seen self.new
             ≡ entered (names_seen self.old) (record { name = name.now; definition = record { file = file; path = path.now; kind = kind } })) }
+        ensures kept { kept_in self.new.pool ≡ kept_in self.old.pool }
     {
         let entry = Entry {
             name: Text::from_str(self.alloc, name)?,
@@ -49,17 +54,19 @@ impl NameVisitor<'_> {
                 kind,
             },
         };
-        if let Some(fault) = clash(self.alloc, self.files, &self.entries, &entry)? {
+        let pool = &self.pool.inner;
+        if let Some(fault) = clash(self.alloc, &pool.files, &pool.entries, &entry)? {
             self.faults.push(fault)?;
         }
-        self.entries.push(entry)?;
+        self.pool.inner.entries.push(entry)?;
         Ok(())
     }
 
     /// Enters a package and those around it, from the outermost in.
     fn enter_packages(&mut self, file: u32, name: &str) -> Result<(), AllocError>
-        ensures { OnOk result (names_seen self.new
+        ensures ok { OnOk result (names_seen self.new
             ≡ fold entered (names_seen self.old) (map (package_entry file) (packages name.now))) }
+        ensures kept { kept_in self.new.pool ≡ kept_in self.old.pool }
     {
         let bytes = name.as_bytes();
         for (end, byte) in bytes.iter().enumerate() {
@@ -74,14 +81,16 @@ impl NameVisitor<'_> {
     }
 
     fn enter_package(&mut self, file: u32, name: &str) -> Result<(), AllocError>
-        ensures { OnOk result (names_seen self.new ≡ entered (names_seen self.old) (package_entry file name.now)) }
+        ensures ok { OnOk result (names_seen self.new ≡ entered (names_seen self.old) (package_entry file name.now)) }
+        ensures kept { kept_in self.new.pool ≡ kept_in self.old.pool }
     {
         self.enter(name, file, &[tag::file::PACKAGE], DefinitionKind::Package)
     }
 
     /// Notes a file's name; where an earlier new file has it, that is a fault.
     fn name_file(&mut self, name: &str) -> Result<(), AllocError>
-        ensures { OnOk result (names_seen self.new ≡ file_named (names_seen self.old) name.now) }
+        ensures ok { OnOk result (names_seen self.new ≡ file_named (names_seen self.old) name.now) }
+        ensures kept { kept_in self.new.pool ≡ kept_in self.old.pool }
     {
         let name = Text::from_str(self.alloc, name)?;
         if is_among(name.as_str(), &self.file_names) {
@@ -101,8 +110,9 @@ impl NameVisitor<'_> {
         path: &[i32],
         kind: DefinitionKind,
     ) -> Result<(), AllocError>
-        ensures { OnOk result (names_seen self.new
+        ensures ok { OnOk result (names_seen self.new
             ≡ entered (names_seen self.old) (record { name = full_name.now; definition = record { file = file; path = path.now ++ NAME ∷ []; kind = kind } })) }
+        ensures kept { kept_in self.new.pool ≡ kept_in self.old.pool }
     {
         let mut name_path = Vec::from_slice(self.alloc, path)?;
         name_path.push(tag::message::NAME)?;
@@ -110,9 +120,9 @@ impl NameVisitor<'_> {
     }
 }
 
-impl Visitor for NameVisitor<'_> {
+impl Visitor for NameVisitor {
     ghost use Rattle.std.specs.List.{fold};
-    ghost use Rattle.proto_types.specs.Contents.{no_contents};
+    ghost use Rattle.descriptor_linker.specs.Growing.{kept_in};
     ghost use Rattle.descriptor_linker.specs.Passes.{named, names_progress};
     ghost use Rattle.descriptor_linker.specs.ReadDeclarations.{read};
     ghost use Rattle.descriptor_linker.specs.Seen.{names_seen};
@@ -121,7 +131,7 @@ impl Visitor for NameVisitor<'_> {
 
     ghost ready = { λ _ _. Unit {0} };
 
-    ghost kept = { λ _. no_contents };
+    ghost kept = { λ v. kept_in v.pool };
 
     ghost front_ready = { λ _ _ _ _. tt };
 
@@ -234,11 +244,11 @@ impl Visitor for NameVisitor<'_> {
 /// The fault of an entry whose name is held already; a package may be entered again as a package.
 fn clash(
     alloc: Global,
-    files: Files,
+    files: &[FileDescriptorInner],
     entries: &[Entry],
     entry: &Entry,
 ) -> Result<Option<DescriptorErrorKind>, AllocError>
-    ensures { IfOk result (λ fault. listed fault ≡ clash_faults (files_in files.entry) entries.now entry.now) }
+    ensures { IfOk result (λ fault. listed fault ≡ clash_faults (map (λ f. f.raw) files.now) entries.now entry.now) }
 {
     let Some(holder) = first_definition(entries, entry.name.as_str()) else {
         return Ok(None);
@@ -249,8 +259,8 @@ fn clash(
     }
     Ok(Some(DescriptorErrorKind::DuplicateName {
         name: entry.name.clone(alloc)?,
-        first: files.label(alloc, holder.file, holder.path.as_slice())?,
-        second: files.label(alloc, new.file, new.path.as_slice())?,
+        first: label_at(alloc, files, holder.file, holder.path.as_slice())?,
+        second: label_at(alloc, files, new.file, new.path.as_slice())?,
     }))
 }
 

@@ -1,6 +1,6 @@
 use super::field::{add_field, add_given, identity, read_field};
+use super::growing::GrowingPool;
 use super::linked::linked_file;
-use super::setting::Setting;
 use pool_parts::{DescriptorErrorKind, FileDescriptorInner, MessageDescriptorInner};
 use proto_records::{
     DescriptorProto, EnumDescriptorProto, EnumValueDescriptorProto, FieldDescriptorProto,
@@ -9,20 +9,21 @@ use proto_records::{
 };
 use std::alloc::{AllocError, Global};
 
-/// The second pass: it makes the items of files, messages and fields, and gathers the faults of
-/// numbers and of references.
+/// The second pass: it reads a batch against a pool whose files and names are those of the batch as
+/// well, makes the items of files, messages and fields, and gathers the faults of numbers and of
+/// references.
 #[derive(Drop)]
-pub struct ResolveVisitor<'a> {
+pub struct ResolveVisitor {
     pub(crate) alloc: Global,
-    pub(crate) setting: Setting<'a>,
+    pub(crate) pool: GrowingPool,
     pub(crate) files: Vec<FileDescriptorInner>,
     pub(crate) messages: Vec<MessageDescriptorInner>,
     pub(crate) faults: Vec<DescriptorErrorKind>,
 }
 
-impl Visitor for ResolveVisitor<'_> {
+impl Visitor for ResolveVisitor {
     ghost use Rattle.std.specs.List.{fold};
-    ghost use Rattle.proto_types.specs.Contents.{no_contents};
+    ghost use Rattle.descriptor_linker.specs.Growing.{kept_in};
     ghost use Rattle.descriptor_linker.specs.Passes.{referred, references_progress};
     ghost use Rattle.descriptor_linker.specs.ReadDeclarations.{read};
     ghost use Rattle.descriptor_linker.specs.Seen.{references_seen};
@@ -31,7 +32,7 @@ impl Visitor for ResolveVisitor<'_> {
 
     ghost ready = { λ _ _. Unit {0} };
 
-    ghost kept = { λ _. no_contents };
+    ghost kept = { λ v. kept_in v.pool };
 
     ghost front_ready = { λ _ _ _ _. tt };
 
@@ -41,7 +42,7 @@ impl Visitor for ResolveVisitor<'_> {
         index: u32,
         file: &FileDescriptorProto,
     ) -> Result<(), AllocError> {
-        let raw = linked_file(self.alloc, self.setting, index, file)?;
+        let raw = linked_file(self.alloc, self.pool.inner.setting(), index, file)?;
         self.files.push(FileDescriptorInner { raw })?;
         Ok(())
     }
@@ -73,7 +74,14 @@ impl Visitor for ResolveVisitor<'_> {
         _index: u32,
         field: &FieldDescriptorProto,
     ) -> Result<(), AllocError> {
-        let read = read_field(self.alloc, self.setting, path, full_name, file, field)?;
+        let read = read_field(
+            self.alloc,
+            self.pool.inner.setting(),
+            path,
+            full_name,
+            file,
+            field,
+        )?;
         add_field(&mut self.messages, read.item)?;
         add_given(&mut self.faults, read.number_fault)?;
         add_given(&mut self.faults, read.type_fault)

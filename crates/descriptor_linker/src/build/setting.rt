@@ -2,13 +2,13 @@ ghost use Rattle.std.specs.Prelude.{IfOk, ◌≡◌};
 ghost use Rattle.pool_parts.specs.Resolution.{resolution_in};
 ghost use Rattle.descriptor_linker.specs.Setting.{meaning};
 
-use pool_parts::{Entry, Files, ResolveNameFilter, ResolveNameResult, resolve_name};
+use pool_parts::{Entry, FileDescriptorInner, ResolveNameFilter, ResolveNameResult, resolve_name};
 use std::alloc::{AllocError, Global};
 
 /// What a batch is read against: the files of the pool and its own, and the names that these enter.
 #[derive(Clone, Copy)]
 pub(crate) struct Setting<'a> {
-    pub(crate) files: Files<'a>,
+    pub(crate) files: &'a [FileDescriptorInner],
     pub(crate) entries: &'a [Entry],
 }
 

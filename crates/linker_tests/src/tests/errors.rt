@@ -1,9 +1,9 @@
 use super::made::{entry, first_file, small_file};
 use descriptor_linker::{BuildError, DescriptorPool};
 use pool_parts::{
-    Cardinality, DefinitionKind, DescriptorError, DescriptorErrorKind, FileDescriptorInner, Files,
+    Cardinality, DefinitionKind, DescriptorError, DescriptorErrorKind, FileDescriptorInner,
     KindIndex, Label, ResolveNameFilter, ResolveNameResult, cardinality_of, first_definition,
-    is_valid_number, named_kind, resolve_name, simple_kind,
+    is_valid_number, label_at, named_kind, resolve_name, simple_kind,
 };
 use proto_records::{FieldLabel, FieldType, Placed, Text};
 use std::test::Fail;
@@ -80,29 +80,27 @@ fn a_name_means_its_first_entry(rt: HostRuntime) -> Result<(), Fail> {
         FileDescriptorInner {
             raw: first_file(alloc)?
         },
+        FileDescriptorInner {
+            raw: small_file(alloc, "b.proto", "M")?
+        },
     ]?;
-    let new = vec![in alloc; small_file(alloc, "b.proto", "M")?]?;
-    let files = Files::new(&held, &new);
-    assert!(rt; files.get(2).is_none());
-    let Some(file) = files.get(1) else {
-        panic!(rt; "no file");
-    };
-    assert_eq!(rt; file.name(), "b.proto");
-    let label = files.label(alloc, 1, &[4])?;
-    assert!(rt; label == Label::in_record(alloc, file, &[4])?);
-    assert_eq!(rt; held.len(), 1);
-    assert!(rt; files.label(alloc, 0, &[4])? == Label::new(alloc, &held, 0, &[4])?);
+    assert_eq!(rt; held.len(), 2);
+    let label = label_at(alloc, &held, 1, &[4])?;
+    assert_eq!(rt; label.file(), "b.proto");
+    assert!(rt; label == Label::new(alloc, &held, 1, &[4])?);
+    assert!(rt; label == Label::in_record(alloc, &held[1].raw, &[4])?);
+    assert_eq!(rt; label_at(alloc, &held, 2, &[4])?.file(), "");
     let filter = ResolveNameFilter::FieldType;
     let found = resolve_name(alloc, 0, &names, "p", ".p.M", filter)?;
     assert!(rt; found.is_found());
-    assert!(rt; found.fault(alloc, ".p.M", files, 0, &[4])?.is_none());
+    assert!(rt; found.fault(alloc, ".p.M", &held, 0, &[4])?.is_none());
     let wrong = resolve_name(alloc, 0, &names, "", "p", filter)?;
     assert!(rt; matches!(&wrong, ResolveNameResult::InvalidType { .. }));
     let unseen = resolve_name(alloc, 1, &names, "p", ".p.M", filter)?;
     assert!(rt; matches!(&unseen, ResolveNameResult::NotImported { file: 0, .. }));
     let missing = resolve_name(alloc, 0, &names, "p", "p.M", filter)?;
     assert!(rt; !missing.is_found());
-    let Some(fault) = missing.fault(alloc, "p.M", files, 1, &[4])? else {
+    let Some(fault) = missing.fault(alloc, "p.M", &held, 1, &[4])? else {
         panic!(rt; "no fault");
     };
     let placed = Placed(&fault);

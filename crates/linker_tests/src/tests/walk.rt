@@ -95,7 +95,7 @@ impl Limited {
 }
 
 impl Visitor for Limited {
-    ghost after = { λ _ _. record { contents = no_contents; entries = []; faults = []; listed = [] } };
+    ghost after = { λ _ _. record { contents = no_contents; faults = []; listed = [] } };
 
     ghost ready = { λ _ _. Unit {0} };
 

@@ -4,4 +4,4 @@ use Rattle.descriptor_linker.proofs.pool.DescriptorPool.get_by_name.Goals as goa
 
 pub returns : goal.returns
 returns c =
-    rw (← c.self.view_is, names_first c.self.inside.entries.items (without_dot c.args.name.now), ← c.without_dot.ensures, ← c.deref.ensures.value) c.first_definition.ensures
+    rw (← c.self.view_is, names_first c.self.inside.inner.entries.items (without_dot c.args.name.now), ← c.without_dot.ensures, ← c.deref.ensures.value) c.first_definition.ensures

@@ -1,4 +1,4 @@
-use Rattle.std.proofs.Common.{◌≡◌, true, false, get_or, arith, rules}
+use Rattle.std.proofs.Common.{◌≡◌, true, false, get_or, arith, rules, ◌∙◌}
 use Rattle.std.proofs.lemmas.Bool.Decides.{nat_tests}
 use Rattle.proto_types.specs.Names.{is_dot}
 use Rattle.descriptor_linker.specs.Seen.{names_seen}
@@ -12,8 +12,14 @@ loop-end-preserved c =
     elim c.if-byte-eq46.branch [
       | then-byte-eq46+in_ok-enter_package w ↦
           let dot : is_dot (get_or c.as_bytes-bytes.result.now c.loop-end.end 0) ≡ true = grind (arith, nat_tests) in
-          rw (more, dot, ← c.loop-end.invariant, w.self-is) (grind (arith, rules, w.in_ok-enter_package.ensures))
+          record {
+            seen = rw (more, dot, ← c.loop-end.invariant.seen, w.self-is) (grind (arith, rules, w.in_ok-enter_package.ensures.ok));
+            kept = rw (w.self-is) (w.in_ok-enter_package.ensures.kept ∙ c.loop-end.invariant.kept);
+          }
       | else-byte-eq46 w ↦
           let other : is_dot (get_or c.as_bytes-bytes.result.now c.loop-end.end 0) ≡ false = grind (arith, nat_tests) in
-          rw (more, other, w.self-is) c.loop-end.invariant
+          record {
+            seen = rw (more, other, w.self-is) c.loop-end.invariant.seen;
+            kept = rw (w.self-is) c.loop-end.invariant.kept;
+          }
     ]
