@@ -11,16 +11,16 @@ use Rattle.proto_records.proofs.Room.{room-fits}
 use Rattle.pool_parts.specs.Entries.{names}
 use Rattle.descriptor_linker.specs.ReadDeclarations.{read_declarations}
 use Rattle.descriptor_linker.proofs.ReadWalk.{file_counts, declarations-counted}
-use Rattle.descriptor_linker.specs.Entered.{entries}
-use Rattle.descriptor_linker.specs.FirstPass.{Faults, first_pass}
+use Rattle.descriptor_linker.specs.Behind.{setting_behind, faults_behind}
+use Rattle.descriptor_linker.specs.FirstPass.{first_pass}
 use Rattle.descriptor_linker.specs.Held.{IsHeld}
 use Rattle.descriptor_linker.specs.declared.error.BuildError.{BuildError}
 use Rattle.descriptor_linker.specs.Passes.{TellsFaults}
 use Rattle.descriptor_linker.specs.Outcome.{Outcome, IsLinked}
 use Rattle.descriptor_linker.specs.Pool.{Batch, Accepts, Fits, linked_to, known_names, new_files, faults, faults_of_names, faults_of_references, first_of_both, link, with_items}
 use Rattle.descriptor_linker.specs.SecondPass.{second_pass}
-use Rattle.descriptor_linker.specs.Setting.{Setting, setting}
-use Rattle.descriptor_linker.proofs.Linking.{setting_behind, files_linked, names_linked, messages_linked, counts_behind, none_of_both}
+use Rattle.descriptor_linker.specs.Setting.{setting}
+use Rattle.descriptor_linker.proofs.Linking.{read_at_once, files_linked, names_linked, messages_linked, counts_behind, none_of_both}
 use Rattle.descriptor_linker.proofs.NewFiles.{new_of_new, same_linked, told_outcome}
 use Rattle.descriptor_linker.proofs.Outline.{linked_from, length-linked}
 use Rattle.descriptor_linker.proofs.SameNames.{same_pass}
@@ -43,14 +43,6 @@ bounds p fs fresh fits =
 from-none : (n : _) → 0 + n ≡ n
 from-none n = omega arith
 
--- what new files are read against that are numbered on from some counts
-abbrev pub ground_setting : Contents → List Entry → Counts → List FileDescriptorProto → Setting
-ground_setting p known base fs = record { files = files_of p ++ fs; names = names (known ++ entries (read_declarations base fs)) }
-
-abbrev pub ground_faults : Contents → List Entry → Counts → List FileDescriptorProto → Faults
-ground_faults p known base fs =
-    first_of_both (first_pass (files_of p ++ fs) known (read_declarations base fs)) (second_pass (ground_setting p known base fs) (read_declarations base fs))
-
 -- contents that are held, entries whose names mean the same, and new files that fit
 pub record Ground (p : Contents) (known : List Entry) (fs : List FileDescriptorProto) : Type 0 where
   pub held : IsHeld p
@@ -70,20 +62,20 @@ module _ (p : Contents) (known : List Entry) (fs : List FileDescriptorProto) (gr
       (λ i. first_pass (files_of p ++ ground.fresh i) (known_names p) (read_declarations (counts_in p) (ground.fresh i)))
       ∙ same_pass (files_of p ++ fs) (known_names p) known (sym as_files) (read_declarations (counts_in p) fs)
 
-  setting_is : setting (files_of p ++ new_files p fs) ≡ ground_setting p known (counts_in p) fs
-  setting_is = ap (λ gs. setting (files_of p ++ gs)) ground.fresh ∙ sym (setting_behind p known fs messages as_files)
+  setting_is : setting (files_of p ++ new_files p fs) ≡ setting_behind p known (counts_in p) fs
+  setting_is = ap (λ gs. setting (files_of p ++ gs)) ground.fresh ∙ sym (read_at_once p known fs messages as_files)
 
-  references_faults : faults_of_references p fs ≡ second_pass (ground_setting p known (counts_in p) fs) (read_declarations (counts_in p) fs)
+  references_faults : faults_of_references p fs ≡ second_pass (setting_behind p known (counts_in p) fs) (read_declarations (counts_in p) fs)
   references_faults = λ i. second_pass (setting_is i) (read_declarations (counts_in p) (ground.fresh i))
 
-  faults_are : ground_faults p known (counts_in p) fs ≡ faults p fs
+  faults_are : faults_behind p known (counts_in p) fs ≡ faults p fs
   faults_are = λ i. first_of_both (sym names_faults i) (sym references_faults i)
 
-  link_is : link p fs ≡ with_items p (ground_setting p known (counts_in p) fs) (read_declarations (counts_in p) fs)
+  link_is : link p fs ≡ with_items p (setting_behind p known (counts_in p) fs) (read_declarations (counts_in p) fs)
   link_is = λ i. with_items p (setting_is i) (read_declarations (counts_in p) (ground.fresh i))
 
-  module _ (none : ground_faults p known (counts_in p) fs ≡ []) (q : Contents)
-      (is : q ≡ with_items p (ground_setting p known (counts_in p) fs) (read_declarations (counts_in p) fs)) where
+  module _ (none : faults_behind p known (counts_in p) fs ≡ []) (q : Contents)
+      (is : q ≡ with_items p (setting_behind p known (counts_in p) fs) (read_declarations (counts_in p) fs)) where
     accepted : Accepts p fs
     accepted = none_of_both (faults_of_names p fs) (faults_of_references p fs) (sym faults_are ∙ none)
 
@@ -92,7 +84,7 @@ module _ (p : Contents) (known : List Entry) (fs : List FileDescriptorProto) (gr
 
     is_held : IsHeld q
     is_held =
-        let s = ground_setting p known (counts_in p) fs in
+        let s = setting_behind p known (counts_in p) fs in
         let with = with_items p s (read_declarations (counts_in p) fs) in
         let within = bounds p fs ground.fresh ground.fits in
         let files_are : files_of with ≡ files_of p ++ linked_from s (length p.files) fs = files_linked p s fs in
@@ -115,27 +107,27 @@ module _ (p : Contents) (known : List Entry) (fs : List FileDescriptorProto) (gr
 
 -- the contents after new files were linked behind those of a pool, or were refused
 pub record IsBehind {U : Type 0} (p : Contents) (known : List Entry) (base : Counts) (fs : List FileDescriptorProto) (r : Result U BuildError) (q : Contents) : Type 0 where
-  pub ok : OnOk r (q ≡ with_items p (ground_setting p known base fs) (read_declarations base fs))
-  pub faults_are : MatchResult r (λ _. ground_faults p known base fs ≡ []) (λ error. TellsFaults error (ground_faults p known base fs))
+  pub ok : OnOk r (q ≡ with_items p (setting_behind p known base fs) (read_declarations base fs))
+  pub faults_are : MatchResult r (λ _. faults_behind p known base fs ≡ []) (λ error. TellsFaults error (faults_behind p known base fs))
   pub err : OnErr r (q ≡ p)
 
 pub outcome_behind : {U : Type 0} (p : Contents) (known : List Entry) (base : Counts) (fs : List FileDescriptorProto) (batch : Batch) (r : Result U BuildError) (q : Contents)
     → base ≡ counts_in p → Ground p known fs → new_files p fs ≡ new_files p batch → IsBehind p known base fs r q → Outcome p batch r q
 outcome_behind p known base fs batch (Ok u) q base_is ground same behind =
-    let none = ap (λ b. ground_faults p known b fs) (sym base_is) ∙ behind.faults_are in
-    let is = behind.ok ∙ ap (λ b. with_items p (ground_setting p known b fs) (read_declarations b fs)) base_is in
+    let none = ap (λ b. faults_behind p known b fs) (sym base_is) ∙ behind.faults_are in
+    let is = behind.ok ∙ ap (λ b. with_items p (setting_behind p known b fs) (read_declarations b fs)) base_is in
     same_linked p fs batch same q (is_linked p known fs ground none q is)
 outcome_behind {U = U} p known base fs batch (Err error) q base_is ground same behind =
     let told : TellsFaults error (faults p fs) =
-    subst (TellsFaults error) (ap (λ b. ground_faults p known b fs) base_is ∙ faults_are p known fs ground) behind.faults_are in
+    subst (TellsFaults error) (ap (λ b. faults_behind p known b fs) base_is ∙ faults_are p known fs ground) behind.faults_are in
     let P : Contents → Type 0 = λ after. Outcome {U = U} p batch (Err error) after in
     subst P (sym behind.err) (told_outcome p fs batch same U error ground.fits told)
 
 pub held_behind : {U : Type 0} (p : Contents) (known : List Entry) (base : Counts) (fs : List FileDescriptorProto) (r : Result U BuildError) (q : Contents)
     → base ≡ counts_in p → Ground p known fs → IsBehind p known base fs r q → IsHeld q
 held_behind p known base fs (Ok u) q base_is ground behind =
-    let none = ap (λ b. ground_faults p known b fs) (sym base_is) ∙ behind.faults_are in
-    let is = behind.ok ∙ ap (λ b. with_items p (ground_setting p known b fs) (read_declarations b fs)) base_is in
+    let none = ap (λ b. faults_behind p known b fs) (sym base_is) ∙ behind.faults_are in
+    let is = behind.ok ∙ ap (λ b. with_items p (setting_behind p known b fs) (read_declarations b fs)) base_is in
     is_held p known fs ground none q is
 held_behind p known base fs (Err error) q base_is ground behind = subst IsHeld (sym behind.err) ground.held
 

@@ -8,6 +8,7 @@ use Rattle.proto_records.specs.Counts.{no_counts, counts_in}
 use Rattle.proto_records.specs.Protos.{as_file, as_message}
 use Rattle.descriptor_linker.specs.ReadDeclarations.{read_declarations}
 use Rattle.pool_parts.specs.Entries.{names}
+use Rattle.descriptor_linker.specs.Behind.{setting_behind}
 use Rattle.descriptor_linker.specs.Entered.{entries}
 use Rattle.descriptor_linker.specs.FirstPass.{Faults}
 use Rattle.descriptor_linker.specs.Items.{message_item}
@@ -27,10 +28,10 @@ declared_behind p fs messages =
     ∙ entries-append (files_read 0 0 (files_of p)) (files_read (length p.files) (length p.messages) fs)
     ∙ (λ i. entries (sym (declarations-read no_counts (files_of p)) i) ++ entries (sym (declarations-read (counts_in p) fs) i))
 
--- what new files are read against
-pub setting_behind : (p : Contents) (known : List Entry) (fs : List FileDescriptorProto) → length p.messages ≡ file_counts (files_of p) → names known ≡ names (known_names p)
-    → record { files = files_of p ++ fs; names = names (known ++ entries (read_declarations (counts_in p) fs)) } ≡ setting (files_of p ++ fs)
-setting_behind p known fs messages is = λ i. record {
+-- new files are read behind a pool as they are at once with its files
+pub read_at_once : (p : Contents) (known : List Entry) (fs : List FileDescriptorProto) → length p.messages ≡ file_counts (files_of p) → names known ≡ names (known_names p)
+    → setting_behind p known (counts_in p) fs ≡ setting (files_of p ++ fs)
+read_at_once p known fs messages is = λ i. record {
   files = files_of p ++ fs;
   names = (names_behind known (known_names p) is (entries (read_declarations (counts_in p) fs)) ∙ ap names (sym (declared_behind p fs messages))) i;
 }

@@ -1,9 +1,10 @@
--- New files behind those of a pool, by what the pool holds.
-use Rattle.std.specs.Prelude.{List, ◌++◌, map}
+-- New files behind those of a pool, numbered on from some counts. The entries are those of the pool's names.
+use Rattle.std.specs.Prelude.{List, ◌++◌}
 use Rattle.proto_records.specs.declared.counts.Counts.{Counts}
+use Rattle.proto_types.specs.declared.contents.definition.Entry.{Entry}
 use Rattle.proto_types.specs.declared.records.file.FileDescriptorProto.{FileDescriptorProto}
+use Rattle.proto_types.specs.Contents.{Contents, files_of}
 use Rattle.pool_parts.specs.Entries.{names}
-use Rattle.descriptor_linker.specs.declared.inner.DescriptorPoolInner.{DescriptorPoolInner}
 use Rattle.descriptor_linker.specs.Entered.{entries}
 use Rattle.descriptor_linker.specs.FirstPass.{Faults, first_pass}
 use Rattle.descriptor_linker.specs.Pool.{first_of_both}
@@ -11,15 +12,12 @@ use Rattle.descriptor_linker.specs.ReadDeclarations.{read_declarations}
 use Rattle.descriptor_linker.specs.SecondPass.{second_pass}
 use Rattle.descriptor_linker.specs.Setting.{Setting}
 
-abbrev pub files_behind : DescriptorPoolInner → List FileDescriptorProto → List FileDescriptorProto
-files_behind p new = map (λ f. f.raw) p.files.items ++ new
-
 -- what they are read against
-abbrev pub setting_behind : DescriptorPoolInner → Counts → List FileDescriptorProto → Setting
-setting_behind p base new = record { files = files_behind p new; names = names (p.entries.items ++ entries (read_declarations base new)) }
+abbrev pub setting_behind : Contents → List Entry → Counts → List FileDescriptorProto → Setting
+setting_behind p known base new = record { files = files_of p ++ new; names = names (known ++ entries (read_declarations base new)) }
 
 -- their faults, of the first pass that has any
-abbrev pub faults_behind : DescriptorPoolInner → Counts → List FileDescriptorProto → Faults
-faults_behind p base new =
+abbrev pub faults_behind : Contents → List Entry → Counts → List FileDescriptorProto → Faults
+faults_behind p known base new =
     let ds = read_declarations base new in
-    first_of_both (first_pass (files_behind p new) p.entries.items ds) (second_pass (setting_behind p base new) ds)
+    first_of_both (first_pass (files_of p ++ new) known ds) (second_pass (setting_behind p known base new) ds)

@@ -44,8 +44,8 @@ pub(crate) fn link(
 ) -> Result<(), BuildError>
     requires { IsOk (counts_with base (declarations base new.now)) }
     ensures ok { OnOk result (contents_in pool.new
-        ≡ with_items (contents_in pool.old) (setting_behind pool.old base new.now) (read_declarations base new.now)) }
-    ensures faults { MatchResult result (λ _. faults_behind pool.old base new.now ≡ []) (λ error. TellsFaults error (faults_behind pool.old base new.now)) }
+        ≡ with_items (contents_in pool.old) (setting_behind (contents_in pool.old) pool.old.entries.items base new.now) (read_declarations base new.now)) }
+    ensures faults { MatchResult result (λ _. faults_behind (contents_in pool.old) pool.old.entries.items base new.now ≡ []) (λ error. TellsFaults error (faults_behind (contents_in pool.old) pool.old.entries.items base new.now)) }
     ensures err { OnErr result (contents_in pool.new ≡ contents_in pool.old) }
 {
     let held = mem::replace(pool, DescriptorPoolInner::new(alloc));
@@ -68,8 +68,8 @@ fn link_behind(
 ) -> Result<(), BuildError>
     requires { IsOk (counts_with base (declarations base new.now)) }
     ensures ok { OnOk result (contents_in pool.new.inner
-        ≡ with_items (kept_in pool.old) (setting_behind pool.old.inner base new.now) (read_declarations base new.now)) }
-    ensures faults { MatchResult result (λ _. faults_behind pool.old.inner base new.now ≡ []) (λ error. TellsFaults error (faults_behind pool.old.inner base new.now)) }
+        ≡ with_items (kept_in pool.old) (setting_behind (contents_in pool.old.inner) pool.old.inner.entries.items base new.now) (read_declarations base new.now)) }
+    ensures faults { MatchResult result (λ _. faults_behind (contents_in pool.old.inner) pool.old.inner.entries.items base new.now ≡ []) (λ error. TellsFaults error (faults_behind (contents_in pool.old.inner) pool.old.inner.entries.items base new.now)) }
     ensures kept { OnErr result (kept_in pool.new ≡ kept_in pool.old) }
 {
     let mut files = unlinked_files(alloc, new)?;

@@ -53,8 +53,7 @@ impl GrowingPool {
         }) }
         ensures kept { OnErr result (kept_in self.new ≡ kept_in self.old) }
     {
-        self.inner.files.truncate(self.offsets.files);
-        self.inner.messages.truncate(self.offsets.messages);
+        self.cut_items();
         self.inner.files.append(&mut files)?;
         self.inner.messages.append(&mut messages)?;
         Ok(())
@@ -64,13 +63,16 @@ impl GrowingPool {
     pub(crate) fn rollback(&mut self)
         ensures { contents_in self.new.inner ≡ kept_in self.old }
     {
-        let DescriptorPoolOffsets {
-            files,
-            messages,
-            entries,
-        } = self.offsets;
-        self.inner.files.truncate(files);
-        self.inner.messages.truncate(messages);
-        self.inner.entries.truncate(entries);
+        self.cut_items();
+        self.inner.entries.truncate(self.offsets.entries);
+    }
+
+    /// Takes away the files and messages that came.
+    fn cut_items(&mut self)
+        ensures cut { contents_in self.new.inner ≡ record (kept_in self.old) { names = names self.old.inner.entries.items } }
+        ensures kept { kept_in self.new ≡ kept_in self.old }
+    {
+        self.inner.files.truncate(self.offsets.files);
+        self.inner.messages.truncate(self.offsets.messages);
     }
 }

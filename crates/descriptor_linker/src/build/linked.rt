@@ -5,8 +5,8 @@ ghost use Rattle.descriptor_linker.specs.Seen.{setting_in};
 use super::setting::Setting;
 use pool_parts::{DefinitionKind, ResolveNameFilter, ResolveNameResult};
 use proto_records::{
-    DescriptorProto, FieldDescriptorProto, FieldType, FileDescriptorProto, Items, Options, Text,
-    join,
+    DescriptorProto, FieldDescriptorProto, FieldType, FileDescriptorProto, Items, Options,
+    SourceCodeInfo, Text, join,
 };
 use std::alloc::{AllocError, Global};
 
@@ -23,9 +23,20 @@ pub(crate) fn linked_file(
     for message in file.message_type.as_slice() {
         message_type.push(linked_message(alloc, setting, number, file.package(), message)?)?;
     }
-    let mut linked = file.clone(alloc)?;
-    linked.message_type = message_type;
-    Ok(linked)
+    Ok(FileDescriptorProto {
+        name: Text::clone_given(alloc, &file.name)?,
+        package: Text::clone_given(alloc, &file.package)?,
+        dependency: file.dependency.clone(alloc)?,
+        message_type,
+        enum_type: file.enum_type.clone(alloc)?,
+        service: file.service.clone(alloc)?,
+        extension: file.extension.clone(alloc)?,
+        options: Options::clone_given(alloc, &file.options)?,
+        source_code_info: SourceCodeInfo::clone_given(alloc, &file.source_code_info)?,
+        public_dependency: Items::from_slice(alloc, file.public_dependency.as_slice())?,
+        weak_dependency: Items::from_slice(alloc, file.weak_dependency.as_slice())?,
+        syntax: Text::clone_given(alloc, &file.syntax)?,
+    })
 }
 
 /// A message with its fields and its nested messages, in a scope.

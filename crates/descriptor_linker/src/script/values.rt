@@ -53,10 +53,7 @@ pub(super) fn number_of(word: &str) -> Result<Option<i32>, ScriptFault>
     if is_absent(word) {
         return Ok(None);
     }
-    match int32(word) {
-        Some(number) => Ok(Some(number)),
-        None => Err(ScriptFault::BadNumber),
-    }
+    Ok(Some(given_number(word)?))
 }
 
 /// The place of a word among names, counted from 1, or else the number that it writes.
@@ -82,10 +79,7 @@ fn named_or_bad(names: &[&str], word: &str) -> Result<Option<i32>, ScriptFault>
     if is_absent(word) {
         return Ok(None);
     }
-    match named(names, word) {
-        Some(number) => Ok(Some(number)),
-        None => Err(ScriptFault::BadWord),
-    }
+    Ok(Some(named(names, word).ok_or(ScriptFault::BadWord)?))
 }
 
 /// A label, by its name or its number.
@@ -106,20 +100,14 @@ pub(super) fn type_of(word: &str) -> Result<Option<i32>, ScriptFault>
 pub(super) fn given_text(alloc: Global, word: &str) -> Result<Text, LineError>
     ensures { IsAnswer (spec.given_text_in word.now) result }
 {
-    match text(alloc, word)? {
-        Some(text) => Ok(text),
-        None => Err(LineError::Fault(ScriptFault::BadWord)),
-    }
+    text(alloc, word)?.ok_or(LineError::Fault(ScriptFault::BadWord))
 }
 
 /// A number that may not be missing.
 pub(super) fn given_number(word: &str) -> Result<i32, ScriptFault>
     ensures { result ≡ spec.given_number_in word.now }
 {
-    match int32(word) {
-        Some(number) => Ok(number),
-        None => Err(ScriptFault::BadNumber),
-    }
+    int32(word).ok_or(ScriptFault::BadNumber)
 }
 
 /// The parts of a word between commas.
