@@ -1,4 +1,3 @@
 pub mod Answers
-pub mod Building
 pub mod Session
 pub mod Held

@@ -4,7 +4,7 @@ use Rattle.std.specs.declared.option.Option.TheVariants.{None, Some}
 use Rattle.descriptor_linker.specs.declared.ending.Ending.{Ending}
 use Rattle.descriptor_linker.specs.declared.ending.Ending.TheVariants as ending
 use Rattle.descriptor_linker.specs.Devices.{Source, Sink, Took}
-use Rattle.descriptor_linker.specs.Script.Reading.{script}
+use Rattle.link_script.specs.Script.Reading.{script}
 use Rattle.descriptor_linker.specs.Report.Session.{report}
 
 -- the input was read to its end, and the whole report of all its bytes was written

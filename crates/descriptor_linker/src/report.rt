@@ -1,13 +1,12 @@
 ghost use Rattle.std.specs.Prelude.{◌≡◌, ◌≢◌, true, false, None, IfOk, string_bytes};
-ghost use Rattle.descriptor_linker.specs.Script.Reading.{script};
+ghost use Rattle.link_script.specs.Script.Reading.{script};
 ghost use Rattle.descriptor_linker.specs.Report.Session.{report};
 
 mod answers;
-mod building;
 mod session;
 
-use crate::script::{Script, read_script};
 use answers::tell_fault;
+use link_script::{Script, read_script};
 use session::Session;
 use std::alloc::{AllocError, Global};
 

@@ -22,10 +22,10 @@ use Rattle.proto_records.specs.Listed.{declaration_of}
 use Rattle.proto_types.specs.Readers.{text_of}
 use Rattle.proto_records.specs.Shown.{Shown}
 use Rattle.proto_types.specs.Texts.{path_text, placed_text}
-use Rattle.descriptor_linker.specs.declared.script.statement.ScriptFault.{ScriptFault}
-use Rattle.descriptor_linker.specs.declared.script.statement.ScriptFault.TheVariants as fault
-use Rattle.descriptor_linker.specs.FirstPass.{Faults}
-use Rattle.descriptor_linker.specs.LookUps.{definition_named}
+use Rattle.link_script.specs.declared.script.statement.ScriptFault.{ScriptFault}
+use Rattle.link_script.specs.Script.Faults.{fault_words}
+use Rattle.descriptor_pool.specs.FirstPass.{Faults}
+use Rattle.descriptor_pool.specs.LookUps.{definition_named}
 
 -- words with a space between each two, and the line's end
 abbrev pub line : List (List ℕ) → List ℕ
@@ -109,16 +109,6 @@ walked ds (Err kind) = too_many_line kind
 -- what the pool's files declare, where their counts fit
 abbrev pub walk_answer : Contents → List ℕ
 walk_answer p = let ds = declarations no_counts (files_of p) in walked ds (counts_with no_counts ds)
-
--- what is wrong with a line of a script
-abbrev pub fault_words : ScriptFault → List ℕ
-fault_words fault.BadText = codes "bad text"
-fault_words fault.UnknownWord = codes "unknown word"
-fault_words fault.Misplaced = codes "misplaced"
-fault_words fault.WrongCount = codes "wrong count of words"
-fault_words fault.BadNumber = codes "bad number"
-fault_words fault.BadWord = codes "bad word"
-fault_words fault.MissingEnd = codes "missing end"
 
 -- the last line of a report, where the script has a fault
 abbrev pub fault_line : ℕ × ScriptFault → List ℕ

@@ -9,14 +9,14 @@ use Rattle.std.specs.declared.result.Result.TheVariants.{Ok, Err}
 use Rattle.proto_records.specs.declared.counts.Counts.{Counts}
 use Rattle.proto_records.specs.declared.counts.CountKind.{CountKind}
 use Rattle.proto_types.specs.Contents.{Contents, no_contents}
-use Rattle.descriptor_linker.specs.declared.script.statement.Script.{Script}
-use Rattle.descriptor_linker.specs.declared.script.statement.Statement.{Statement}
-use Rattle.descriptor_linker.specs.declared.script.statement.Statement.TheVariants as say
-use Rattle.descriptor_linker.specs.declared.report.building.Open.{Open}
-use Rattle.descriptor_linker.specs.declared.report.building.Open.TheVariants as opened
-use Rattle.descriptor_linker.specs.FirstPass.{Faults}
-use Rattle.descriptor_linker.specs.Pool.{Batch, faults, counts_after, link}
-use Rattle.descriptor_linker.specs.Report.Building.{opened_by, stated_in, closed_in}
+use Rattle.link_script.specs.declared.script.statement.Script.{Script}
+use Rattle.link_script.specs.declared.script.statement.Statement.{Statement}
+use Rattle.link_script.specs.declared.script.statement.Statement.TheVariants as say
+use Rattle.link_script.specs.declared.building.Open.{Open}
+use Rattle.link_script.specs.declared.building.Open.TheVariants as opened
+use Rattle.descriptor_pool.specs.FirstPass.{Faults}
+use Rattle.descriptor_pool.specs.Pool.{Batch, faults, counts_after, link}
+use Rattle.link_script.specs.Building.{opened_by, stated_in, closed_in}
 use Rattle.descriptor_linker.specs.Report.Answers.{counts_line, refused_lines, too_many_line, find_answer, walk_answer, fault_line}
 
 -- the records that are open, from the innermost out; whether an extension was stated last; the batch, the pool, and what is told

@@ -6,8 +6,8 @@ ghost use Rattle.proto_types.specs.Labels.{file_at};
 ghost use Rattle.proto_types.specs.Readers.{text_of};
 ghost use Rattle.descriptor_linker.specs.Report.Answers as spec;
 
-use crate::pool::DescriptorPool;
-use crate::script::ScriptFault;
+use descriptor_pool::DescriptorPool;
+use link_script::ScriptFault;
 use pool_parts::{DefinitionKind, DescriptorErrorKind, FileDescriptor};
 use proto_records::{CountKind, Counts, Declaration, DeclarationKind, Placed, list_declarations};
 use std::alloc::{AllocError, Global};
@@ -18,25 +18,6 @@ fn alone(name: &str) -> &str
     ensures { result.now ≡ spec.alone name.now }
 {
     if name.is_empty() { "''" } else { name }
-}
-
-impl fmt::Display for ScriptFault {
-    ghost use Rattle.std.specs.Prelude.{Some};
-    ghost use Rattle.descriptor_linker.specs.Report.Answers.{fault_words};
-
-    ghost output = { λ fault. Some (fault_words fault) };
-
-    fn fmt<W: fmt::Write>(&self, f: &mut fmt::Formatter<W>) -> fmt::Result {
-        f.write_str(match self {
-            ScriptFault::BadText => "bad text",
-            ScriptFault::UnknownWord => "unknown word",
-            ScriptFault::Misplaced => "misplaced",
-            ScriptFault::WrongCount => "wrong count of words",
-            ScriptFault::BadNumber => "bad number",
-            ScriptFault::BadWord => "bad word",
-            ScriptFault::MissingEnd => "missing end",
-        })
-    }
 }
 
 /// A kind, with the number that it holds.

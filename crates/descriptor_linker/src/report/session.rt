@@ -1,14 +1,12 @@
 //! A script, statement by statement.
 
 ghost use Rattle.std.specs.Prelude.{◌≡◌, OnOk};
-ghost use Rattle.descriptor_linker.specs.declared.script.statement.Statement.TheVariants as say;
+ghost use Rattle.link_script.specs.declared.script.statement.Statement.TheVariants as say;
 ghost use Rattle.descriptor_linker.specs.Report.Session.{new_session, opening, stating, extends_after, step};
 
 use super::answers::{tell_counts, tell_found, tell_refused, tell_too_many, tell_walk};
-use super::building::Open;
-use crate::error::BuildError;
-use crate::pool::DescriptorPool;
-use crate::script::Statement;
+use descriptor_pool::{BuildError, DescriptorPool};
+use link_script::{Open, Statement};
 use proto_records::FileDescriptorProto;
 use std::alloc::{AllocError, Global};
 use std::mem;

@@ -1,7 +1,7 @@
 use Rattle.std.proofs.Common.{◌∙◌, sym, ap, inr, List, ℕ, Ok, Err, OnErr, IsErr}
 use Rattle.std.specs.declared.result.Result.{Result}
 use Rattle.std.proofs.lemmas.Bool.{false≢true}
-use Rattle.descriptor_linker.specs.Script.Reading.{script}
+use Rattle.link_script.specs.Script.Reading.{script}
 use Rattle.descriptor_linker.specs.Report.Session.{report}
 use Rattle.descriptor_linker.proofs.runs.run.Goals as goal
 

@@ -1,7 +1,0 @@
-use Rattle.std.proofs.Common.{◌≡◌, map, drop}
-use Rattle.descriptor_linker.specs.Script.Keywords.{spelled}
-use Rattle.descriptor_linker.proofs.script.keyword.spelled.Given as goal
-
--- the word is spelled by none of those before
-abbrev pub invariant-loop-spelling : goal.invariant-loop-spelling
-invariant-loop-spelling l = spelled (map (λ s. (s.0.now, s.1)) l.table) l.word ≡ spelled (map (λ s. (s.0.now, s.1)) (drop l.spelling-index l.table)) l.word

@@ -1,9 +1,0 @@
-use Rattle.std.proofs.Common.{◌∙◌, arith}
-use Rattle.descriptor_linker.proofs.Reading.{said_from-line}
-use Rattle.descriptor_linker.proofs.script.reading.read_script.Goals as goal
-
-pub loop-line-preserved : goal.loop-line-preserved
-loop-line-preserved c = record {
-  counted = omega arith;
-  said = c.loop-line.invariant.said ∙ said_from-line _ _ _ _ _ _ _ _ c.loop-line-test.true c.in-Ok.ensures.ok;
-}

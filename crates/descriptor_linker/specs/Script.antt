@@ -1,5 +1,0 @@
-pub mod Words
-pub mod Keywords
-pub mod Arguments
-pub mod Answers
-pub mod Reading

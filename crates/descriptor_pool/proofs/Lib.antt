@@ -1,0 +1,13 @@
+pub mod LinkedParts
+pub mod ReadWalk
+pub mod LastMessage
+pub mod Fronts
+pub mod Packages
+pub mod NamesFold
+pub mod ReferencesFold
+pub mod Passed
+pub mod Outline
+pub mod SameNames
+pub mod Linking
+pub mod NewFiles
+pub mod Grown

@@ -1,0 +1,14 @@
+use Rattle.std.proofs.Common.{◌≡◌, map, take}
+use Rattle.proto_types.specs.Names.{join}
+use Rattle.proto_types.specs.Readers.{text_of}
+use Rattle.proto_types.specs.declared.records.message.DescriptorProto.{out-DescriptorProto}
+use Rattle.descriptor_pool.specs.Linked.{linked_message}
+use Rattle.descriptor_pool.specs.Seen.{setting_in}
+use Rattle.descriptor_pool.proofs.build.linked.+linked_message.Given as goal
+
+abbrev pub decreases-linked_message : goal.decreases-linked_message
+decreases-linked_message l = goal.size-linked_message l
+
+-- the nested messages so far are linked
+abbrev pub invariant-loop-nested : goal.invariant-loop-nested
+invariant-loop-nested l = l.nested_type ≡ map (linked_message (setting_in l.setting) l.number (join l.scope (text_of (out-DescriptorProto l.message).name))) (take l.nested-index l.nested-items)

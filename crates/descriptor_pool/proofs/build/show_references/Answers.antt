@@ -1,0 +1,34 @@
+use Rattle.std.proofs.Common.{[], ap, ◌∙◌, sym, refl}
+use Rattle.proto_types.specs.Contents.{Contents}
+use Rattle.proto_records.specs.Declarations.{declarations}
+use Rattle.proto_records.specs.Progress.{Progress}
+use Rattle.proto_records.proofs.Listings.{on-ok}
+use Rattle.descriptor_pool.specs.Growing.{kept_in}
+use Rattle.descriptor_pool.specs.Passes.{references_progress}
+use Rattle.descriptor_pool.specs.Seen.{references_seen}
+use borrow.Pointer.Hide.{carried_sameᵐ}
+use borrow.Rule.Reborrow.{re_n}
+use mir.Syntax.{Dict}
+use Rattle.descriptor_pool.proofs.build.show_references.OwnLists.{own-1, at-1-1, entry-1-1, same-1-1}
+use Rattle.descriptor_pool.proofs.build.show_references.Object-1 as object
+use Rattle.descriptor_pool.proofs.build.show_references.Goals as goal
+
+-- the visitor object is the visitor
+pub returns-clause-ok : goal.returns-clause-ok
+returns-clause-ok c =
+    let last = c.visitor-2-1.given.1 refl in
+    let v = c.visitor-1.given.0 in
+    let ds = declarations c.args.base c.args.new.now in
+    let there = carried_sameᵐ object.Members Dict entry-1-1 (own-1.entry at-1-1) same-1-1 Progress (λ j r. j.1.after r.now []) v in
+    let here = ap (λ z. (own-1.entry z.now.0).1.after z.now.1 []) c.visitor-1.given.1 in
+    let old = carried_sameᵐ object.Members Dict entry-1-1 (own-1.entry at-1-1) same-1-1 Progress (λ j r. j.1.after r.now ds) (re_n c.visit-arg-1.given c.args.visitor) in
+    on-ok c.visit.result (λ s. ap (λ w. references_progress (references_seen w)) last ∙ sym there ∙ here ∙ s ∙ old) c.visit.ensures.after
+
+pub returns-clause-kept : goal.returns-clause-kept
+returns-clause-kept c =
+    let last = c.visitor-2-1.given.1 refl in
+    let v = c.visitor-1.given.0 in
+    let there = carried_sameᵐ object.Members Dict entry-1-1 (own-1.entry at-1-1) same-1-1 Contents (λ j r. j.1.kept r.now) v in
+    let here = ap (λ z. (own-1.entry z.now.0).1.kept z.now.1) c.visitor-1.given.1 in
+    let old = carried_sameᵐ object.Members Dict entry-1-1 (own-1.entry at-1-1) same-1-1 Contents (λ j r. j.1.kept r.now) (re_n c.visit-arg-1.given c.args.visitor) in
+    ap (λ w. kept_in w.pool) last ∙ sym there ∙ here ∙ c.visit.ensures.kept ∙ old

@@ -1,0 +1,23 @@
+-- New files behind those of a pool, numbered on from some counts. The entries are those of the pool's names.
+use Rattle.std.specs.Prelude.{List, ◌++◌}
+use Rattle.proto_records.specs.declared.counts.Counts.{Counts}
+use Rattle.proto_types.specs.declared.contents.definition.Entry.{Entry}
+use Rattle.proto_types.specs.declared.records.file.FileDescriptorProto.{FileDescriptorProto}
+use Rattle.proto_types.specs.Contents.{Contents, files_of}
+use Rattle.pool_parts.specs.Entries.{names}
+use Rattle.descriptor_pool.specs.Entered.{entries}
+use Rattle.descriptor_pool.specs.FirstPass.{Faults, first_pass}
+use Rattle.descriptor_pool.specs.Pool.{first_of_both}
+use Rattle.descriptor_pool.specs.ReadDeclarations.{read_declarations}
+use Rattle.descriptor_pool.specs.SecondPass.{second_pass}
+use Rattle.descriptor_pool.specs.Setting.{Setting}
+
+-- what they are read against
+abbrev pub setting_behind : Contents → List Entry → Counts → List FileDescriptorProto → Setting
+setting_behind p known base new = record { files = files_of p ++ new; names = names (known ++ entries (read_declarations base new)) }
+
+-- their faults, of the first pass that has any
+abbrev pub faults_behind : Contents → List Entry → Counts → List FileDescriptorProto → Faults
+faults_behind p known base new =
+    let ds = read_declarations base new in
+    first_of_both (first_pass (files_of p ++ new) known ds) (second_pass (setting_behind p known base new) ds)

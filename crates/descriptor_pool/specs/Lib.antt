@@ -1,0 +1,16 @@
+pub mod ReadDeclarations
+pub mod Entered
+pub mod Setting
+pub mod FirstPass
+pub mod FieldTypes
+pub mod Items
+pub mod Linked
+pub mod SecondPass
+pub mod Pool
+pub mod Passes
+pub mod Seen
+pub mod Held
+pub mod Growing
+pub mod Behind
+pub mod Outcome
+pub mod LookUps

@@ -1,0 +1,67 @@
+-- A file's record with each reference resolved: a dot and the full name that was found.
+use Rattle.std.specs.Prelude.{◌≡◌, ℕ, ℤ, pos, List, [], ◌∷◌, map}
+use Rattle.std.specs.Option.{option_map, option_map_or, option_or}
+use Rattle.std.specs.declared.option.Option.{Option}
+use Rattle.std.specs.declared.option.Option.TheVariants.{Some}
+use Rattle.proto_types.specs.declared.records.file.FileDescriptorProto.{FileDescriptorProto}
+use Rattle.proto_types.specs.declared.records.message.DescriptorProto.{DescriptorProto, DescriptorProto', out-DescriptorProto, roll-DescriptorProto, Row_of-DescriptorProto, end_of-DescriptorProto, more_of-DescriptorProto}
+use Rattle.proto_types.specs.declared.records.field.FieldDescriptorProto.{FieldDescriptorProto}
+use Rattle.proto_types.specs.declared.records.field.FieldType.{FieldType}
+use Rattle.proto_types.specs.declared.records.field.FieldType.TheVariants as written
+use Rattle.proto_types.specs.declared.contents.definition.DefinitionKind.{DefinitionKind}
+use Rattle.proto_types.specs.declared.contents.definition.DefinitionKind.TheVariants as definition
+use Rattle.proto_types.specs.Names.{join}
+use Rattle.proto_types.specs.Readers.{text_of, type_of}
+use Rattle.pool_parts.specs.declared.filter.ResolveNameFilter.TheVariants.{FieldType as AnyType}
+use Rattle.pool_parts.specs.Resolution.{Resolution, name_found, kind_found}
+use Rattle.descriptor_pool.specs.Setting.{Setting, meaning}
+
+-- a reference, or as it was where nothing was found
+abbrev pub resolved : Resolution → Option (List ℕ) → Option (List ℕ)
+resolved r given = option_or (option_map (λ name. 46 ∷ name) (name_found r)) given
+
+-- the number of the type that a type name means; a group keeps its own
+abbrev pub type_number : FieldType → DefinitionKind → Option ℤ → Option ℤ
+type_number written.Group kind given = given
+type_number _ (definition.Message _) given = Some (pos 11)
+type_number _ (definition.Enum _) given = Some (pos 14)
+type_number _ _ given = given
+
+-- a field with its type name resolved, and its type as that says
+abbrev pub typed : Resolution → FieldDescriptorProto → FieldDescriptorProto
+typed r f = record f {
+  type_name = resolved r f.type_name;
+  type_ = option_map_or (λ kind. type_number (type_of f.type_) kind f.type_) (kind_found r) f.type_;
+}
+
+-- a field of a file with a number, in a scope
+abbrev pub linked_field : Setting → ℕ → List ℕ → FieldDescriptorProto → FieldDescriptorProto
+linked_field s number scope f = elim (text_of f.type_name) [
+  | [] ↦ f
+  | _ ∷ _ ↦ typed (meaning s number (join scope (text_of f.name)) AnyType (text_of f.type_name)) f
+]
+
+-- a message with its fields, and with its nested messages, in a scope
+abbrev mutual
+  pub linked_message : Setting → ℕ → List ℕ → DescriptorProto → DescriptorProto
+  linked_message s number scope (DescriptorProto' name fields n nested enums ranges extensions options oneofs reserved reserved_names) =
+      let within = join scope (text_of name) in
+      DescriptorProto' name (map (linked_field s number within) fields) n (linked_nested s number within nested) enums ranges extensions options oneofs reserved reserved_names
+
+  pub linked_nested : {n : _} → Setting → ℕ → List ℕ → Row_of-DescriptorProto n → Row_of-DescriptorProto n
+  linked_nested s number scope end_of-DescriptorProto = end_of-DescriptorProto
+  linked_nested s number scope (more_of-DescriptorProto m rest) = more_of-DescriptorProto (linked_message s number scope m) (linked_nested s number scope rest)
+
+-- law: a linked message by its parts
+abbrev pub LinkedMessageIs : Type 0
+LinkedMessageIs = (s : Setting) (number : ℕ) (scope : List ℕ) (m : DescriptorProto) →
+    let written = out-DescriptorProto m in
+    let within = join scope (text_of written.name) in
+    linked_message s number scope m ≡ roll-DescriptorProto (record written {
+      field = map (linked_field s number within) written.field;
+      nested_type = map (linked_message s number within) written.nested_type;
+    })
+
+-- the file with a number
+abbrev pub linked : Setting → ℕ → FileDescriptorProto → FileDescriptorProto
+linked s number f = record f { message_type = map (linked_message s number (text_of f.«package»)) f.message_type }

@@ -1,0 +1,40 @@
+ghost use Rattle.std.specs.Prelude.{◌≡◌};
+ghost use Rattle.proto_types.specs.Contents.{no_contents};
+ghost use Rattle.descriptor_pool.specs.Held.{contents_in};
+ghost use Rattle.descriptor_pool.specs.Seen.{setting_in, setting_with};
+
+use crate::build::Setting;
+use pool_parts::{Entry, FileDescriptorInner, MessageDescriptorInner};
+use std::alloc::Global;
+
+/// What a pool holds: files and messages in the order of their numbers, and the names that these
+/// enter.
+#[derive(Drop)]
+pub(crate) struct DescriptorPoolInner {
+    pub(crate) files: Vec<FileDescriptorInner>,
+    pub(crate) messages: Vec<MessageDescriptorInner>,
+    pub(crate) entries: Vec<Entry>,
+}
+
+impl DescriptorPoolInner {
+    /// What a pool without files holds, which takes no memory.
+    pub(crate) fn new(alloc: Global) -> DescriptorPoolInner
+        ensures { contents_in result ≡ no_contents }
+    {
+        DescriptorPoolInner {
+            files: Vec::new(alloc),
+            messages: Vec::new(alloc),
+            entries: Vec::new(alloc),
+        }
+    }
+
+    /// What is read against the files and names that it holds.
+    pub(crate) fn setting(&self) -> Setting<'_>
+        ensures { setting_in result ≡ setting_with self.now }
+    {
+        Setting {
+            files: &self.files,
+            entries: &self.entries,
+        }
+    }
+}

@@ -1,0 +1,18 @@
+//! The pool of linked files, and the two passes that link a batch.
+#![tactic(auto)]
+
+mod build;
+mod error;
+mod inner;
+mod pool;
+
+pub use build::{NameVisitor, ResolveVisitor};
+pub use error::BuildError;
+pub use pool::DescriptorPool;
+pub use pool_parts::DescriptorError;
+pub use proto_records::{
+    Cardinality, CountKind, Counts, Definition, DefinitionKind, DescriptorErrorKind,
+    DescriptorProto, FieldDescriptorInner, FieldDescriptorProto, FileDescriptor,
+    FileDescriptorInner, FileDescriptorProto, Identity, Items, KindIndex, Label, MessageDescriptor,
+    MessageDescriptorInner, Text,
+};

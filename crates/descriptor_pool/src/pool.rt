@@ -1,0 +1,151 @@
+ghost use Rattle.std.specs.Prelude.{◌≡◌, [], ◌++◌, not, IsOk, IfOk, IfErr, slice_get};
+ghost use Rattle.std.specs.Option.{option_copied};
+ghost use Rattle.std.specs.List.{list_any, filter};
+ghost use Rattle.std.specs.Str.{bytes_eq};
+ghost use Rattle.proto_types.specs.Readers.{text_of};
+ghost use Rattle.descriptor_pool.specs.LookUps.{without_dot};
+
+use crate::build::link;
+use crate::error::BuildError;
+use crate::inner::DescriptorPoolInner;
+use pool_parts::{
+    Definition, FileDescriptor, FileDescriptorInner, MessageDescriptor, MessageDescriptorInner,
+    first_definition,
+};
+use proto_records::{Counts, FileDescriptorProto};
+use std::alloc::{AllocError, Global};
+use std::marker::Model;
+
+/// Linked files and what they declare, each known by a number and by its full name.
+#[derive(Drop)]
+pub struct DescriptorPool {
+    alloc: Global,
+    inner: DescriptorPoolInner,
+}
+
+impl Model for DescriptorPool {
+    ghost use Rattle.proto_types.specs.Contents.{Contents};
+    ghost use Rattle.proto_types.specs.ContentsCode.{contents_code};
+
+    ghost Value = { Contents };
+
+    ghost coded = { contents_code };
+
+    ghost use Rattle.descriptor_pool.specs.Held.{contents_in, IsHeld};
+
+    ghost view = { λ p. contents_in p.inner };
+
+    ghost invariant = { λ p. IsHeld (contents_in p.inner) };
+}
+
+impl DescriptorPool {
+    ghost use Rattle.proto_types.specs.Contents.{no_contents, files_of};
+    ghost use Rattle.proto_records.specs.Counts.{counts_in};
+    ghost use Rattle.descriptor_pool.specs.LookUps.{definition_named};
+    ghost use Rattle.descriptor_pool.specs.Outcome.{Outcome, IsLinked};
+    ghost use Rattle.descriptor_pool.specs.Passes.{TellsFaults};
+    ghost use Rattle.descriptor_pool.specs.Pool.{new_files, faults, Fits};
+
+    /// A pool without files, which takes no memory.
+    pub fn new(alloc: Global) -> DescriptorPool
+        ensures { result ≡ no_contents }
+    {
+        DescriptorPool {
+            alloc,
+            inner: DescriptorPoolInner::new(alloc),
+        }
+    }
+
+    /// What the pool has under a full name, which may have one leading dot.
+    pub fn get_by_name(&self, name: &str) -> Option<&Definition>
+        ensures { option_copied result ≡ definition_named self.now name.now }
+    {
+        first_definition(&self.inner.entries, without_dot(name))
+    }
+
+    /// The file with a number, or none past the end.
+    pub fn file(&self, file: FileDescriptor) -> Option<&FileDescriptorInner>
+        ensures { option_copied result ≡ slice_get self.now.files file.index }
+    {
+        self.inner.files.get(file.index() as usize)
+    }
+
+    /// The message with a number, or none past the end.
+    pub fn message(&self, message: MessageDescriptor) -> Option<&MessageDescriptorInner>
+        ensures { option_copied result ≡ slice_get self.now.messages message.index }
+    {
+        self.inner.messages.get(message.index() as usize)
+    }
+
+    /// How many files and messages the pool has.
+    pub fn counts(&self) -> Counts
+        ensures { result ≡ counts_in self.now }
+    {
+        Counts {
+            files: self.inner.files.len() as u32,
+            messages: self.inner.messages.len() as u32,
+            enums: 0,
+            services: 0,
+            extensions: 0,
+        }
+    }
+
+    /// The linked records of the pool's files, in the order of linking.
+    pub fn linked_files(&self) -> Result<Vec<FileDescriptorProto>, AllocError>
+        ensures { IfOk result (λ files. files.items ≡ files_of self.now) }
+    {
+        let mut files = Vec::new(self.alloc);
+        for file in &self.inner.files {
+            files.push(file.raw.clone(self.alloc)?)?;
+        }
+        Ok(files)
+    }
+
+    /// Links the files of a batch whose names the pool lacks; the others are passed over unread.
+    /// The pool is changed in place. Where memory is refused, where there is too much of a kind, or
+    /// where the new files break a rule, it is as it was: what came behind is taken away, without
+    /// memory. Of broken rules all of the first failing pass are told.
+    pub fn build_files(&mut self, mut files: Vec<FileDescriptorProto>) -> Result<(), BuildError>
+        ensures outcome { Outcome self.old files.items result self.new }
+        ensures nothing_new { new_files self.old files.items ≡ [] → IsOk result }
+    {
+        keep_new(&self.inner.files, &mut files);
+        if files.is_empty() {
+            return Ok(());
+        }
+        let base = self.counts();
+        if let Err(kind) = base.with_files(&files) {
+            return Err(BuildError::TooMany(kind));
+        }
+        link(self.alloc, base, &mut self.inner, &files)
+    }
+}
+
+/// Whether one of the files has this name.
+fn has_name(files: &[FileDescriptorInner], name: &str) -> bool
+    ensures { result ≡ list_any (λ f. bytes_eq (text_of f.raw.name) name.now) files.now }
+{
+    for file in files {
+        if file.raw.name() == name {
+            return true;
+        }
+    }
+    false
+}
+
+/// Keeps the files of a batch whose names no linked file has, and takes no memory.
+fn keep_new(linked: &[FileDescriptorInner], batch: &mut Vec<FileDescriptorProto>)
+    ensures { batch.new.items ≡ filter (λ f. not (list_any (λ g. bytes_eq (text_of g.raw.name) (text_of f.name)) linked.now)) batch.old.items }
+{
+    batch.retain(|file| !has_name(linked, file.name()));
+}
+
+/// A name without one leading dot.
+fn without_dot(name: &str) -> &str
+    ensures { result.now ≡ without_dot name.now }
+{
+    match name.strip_prefix('.') {
+        Some(rest) => rest,
+        None => name,
+    }
+}

@@ -1,0 +1,6 @@
+pub mod Rest
+pub mod NumberLists
+pub mod Words
+pub mod Numbers
+pub mod Reading
+pub mod LastStated

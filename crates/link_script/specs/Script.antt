@@ -1,0 +1,6 @@
+pub mod Words
+pub mod Keywords
+pub mod Arguments
+pub mod Answers
+pub mod Reading
+pub mod Faults

@@ -1,0 +1,58 @@
+-- The statements of a script before its first fault, and that fault.
+use Rattle.std.specs.Prelude.{ℕ, suc, Bool, not, List, [], ◌∷◌, if◌then◌else◌}
+use Rattle.std.specs.Str.{is_utf8}
+use Rattle.std.specs.declared.option.Option.{Option}
+use Rattle.std.specs.declared.option.Option.TheVariants.{None, Some}
+use Rattle.std.specs.declared.result.Result.{Result}
+use Rattle.std.specs.declared.result.Result.TheVariants.{Ok, Err}
+use Rattle.link_script.specs.declared.script.statement.Keyword.{Keyword}
+use Rattle.link_script.specs.declared.script.statement.Block.{Block}
+use Rattle.link_script.specs.declared.script.statement.Statement.{Statement}
+use Rattle.link_script.specs.declared.script.statement.Script.{Script}
+use Rattle.link_script.specs.declared.script.statement.ScriptFault.{ScriptFault}
+use Rattle.link_script.specs.declared.script.statement.ScriptFault.TheVariants.{BadText, UnknownWord, Misplaced, MissingEnd}
+use Rattle.link_script.specs.Script.Words.{lines, words, says_nothing}
+use Rattle.link_script.specs.Script.Keywords.{Standing, at_start, keyword_of, may_stand, standing_after}
+use Rattle.link_script.specs.Script.Arguments.{said_in, and_then}
+
+-- what a line says: a keyword and its statement, or nothing, or its fault
+abbrev pub Line : Type 0
+Line = Result (Option (Keyword × Statement)) ScriptFault
+
+abbrev placed : List ℕ → Keyword → List (List ℕ) → Bool → Line
+placed line keyword rest may = if may then and_then (said_in line keyword rest) (λ s. Ok (Some (keyword, s))) else Err Misplaced
+
+abbrev known : Standing → List ℕ → List (List ℕ) → Option Keyword → Line
+known here line rest None = Err UnknownWord
+known here line rest (Some keyword) = placed line keyword rest (may_stand here keyword)
+
+abbrev pub of_words : Standing → List ℕ → List (List ℕ) → Line
+of_words here line [] = Ok None
+of_words here line (w ∷ ws) = if says_nothing (w ∷ ws) then Ok None else known here line ws (keyword_of w)
+
+-- what a line says behind other statements
+abbrev pub line_said : Standing → List ℕ → Line
+line_said here line = if not (is_utf8 line) then Err BadText else of_words here line (words line)
+
+abbrev pub after_statement : Statement → Script → Script
+after_statement s said = record said { statements = s ∷ said.statements }
+
+abbrev pub faulty : ℕ → ScriptFault → Script
+faulty line fault = record { statements = []; fault = Some (line, fault) }
+
+abbrev at_end : ℕ → List Block → Script
+at_end n [] = record { statements = []; fault = None }
+at_end n (_ ∷ _) = faulty n MissingEnd
+
+-- what the lines from a number on say, behind other statements
+abbrev pub said_from : ℕ → Standing → List (List ℕ) → Script
+said_from n here [] = at_end n here.blocks
+said_from n here (line ∷ rest) = elim (line_said here line) [
+  | Err fault ↦ faulty n fault
+  | Ok None ↦ said_from (suc n) here rest
+  | Ok (Some s) ↦ after_statement s.1 (said_from (suc n) (standing_after here s.0) rest)
+]
+
+-- what a script says: its lines count from 1
+abbrev pub script : List ℕ → Script
+script bytes = said_from 1 at_start (lines bytes)

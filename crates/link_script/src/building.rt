@@ -1,0 +1,268 @@
+//! Records as the statements of a script build them.
+
+ghost use Rattle.std.specs.Prelude.{◌≡◌, OnOk};
+ghost use Rattle.proto_types.specs.declared.records.message.DescriptorProto.{out-DescriptorProto, roll-DescriptorProto};
+ghost use Rattle.link_script.specs.declared.script.statement.Statement.TheVariants as say;
+ghost use Rattle.link_script.specs.Building.{change_last, more_said, in_file, in_message, in_enum, in_service};
+
+use crate::script::Statement;
+use proto_records::{
+    DescriptorProto, EnumDescriptorProto, EnumOptions, EnumReservedRange, ExtensionRange,
+    FieldDescriptorProto, FieldOptions, FileDescriptorProto, Items, Location, OneofDescriptorProto,
+    Options, ReservedRange, ServiceDescriptorProto, SourceCodeInfo, Text,
+};
+use std::alloc::{AllocError, Global};
+
+/// A record whose block is open.
+#[derive(Drop)]
+pub enum Open {
+    File(FileDescriptorProto),
+    Message(DescriptorProto),
+    Enum(EnumDescriptorProto),
+    Service(ServiceDescriptorProto),
+}
+
+impl Open {
+    ghost use Rattle.std.specs.Prelude.{Some};
+    ghost use Rattle.link_script.specs.Building.{opened_by, stated_in, closed_in};
+    ghost use Rattle.link_script.specs.declared.building.Open.TheVariants as opened;
+
+    /// A file of which nothing but the name is said.
+    pub fn file(alloc: Global, name: Option<Text>) -> Open
+        ensures { Some result ≡ opened_by (say.File name) }
+    {
+        let mut file = FileDescriptorProto::empty(alloc);
+        file.name = name;
+        Open::File(file)
+    }
+
+    /// A message of which nothing but the name is said.
+    pub fn message(alloc: Global, name: Option<Text>) -> Open
+        ensures { Some result ≡ opened_by (say.Message name) }
+    {
+        let mut message = DescriptorProto::empty(alloc);
+        message.name = name;
+        Open::Message(message)
+    }
+
+    /// An enum of which nothing but the name is said.
+    pub fn enumeration(alloc: Global, name: Option<Text>) -> Open
+        ensures { Some result ≡ opened_by (say.Enum name) }
+    {
+        let mut opened = EnumDescriptorProto::empty(alloc);
+        opened.name = name;
+        Open::Enum(opened)
+    }
+
+    /// A service of which nothing but the name is said.
+    pub fn service(alloc: Global, name: Option<Text>) -> Open
+        ensures { Some result ≡ opened_by (say.Service name) }
+    {
+        let mut service = ServiceDescriptorProto::empty(alloc);
+        service.name = name;
+        Open::Service(service)
+    }
+
+    /// Does what a statement says of the record. `extends` tells whether an extension was stated
+    /// last, of which more may be said then, or a field.
+    pub fn state(&mut self, alloc: Global, extends: bool, said: Statement) -> Result<(), AllocError>
+        ensures { OnOk result (self.new ≡ stated_in extends said self.old) }
+    {
+        match self {
+            Open::File(file) => state_in_file(alloc, file, said),
+            Open::Message(message) => state_in_message(alloc, message, extends, said),
+            Open::Enum(opened) => state_in_enum(alloc, opened, said),
+            Open::Service(service) => state_in_service(service, said),
+        }
+    }
+
+    /// Takes in a record whose block has closed: it stands behind the others of its list.
+    pub fn close_in(&mut self, inner: Open) -> Result<(), AllocError>
+        ensures { OnOk result (self.new ≡ closed_in inner self.old) }
+    {
+        match inner {
+            Open::Message(message) => self.close_message(message),
+            Open::Enum(closed) => self.close_enum(closed),
+            Open::Service(service) => self.close_service(service),
+            Open::File(_file) => Ok(()),
+        }
+    }
+
+    fn close_message(&mut self, message: DescriptorProto) -> Result<(), AllocError>
+        ensures { OnOk result (self.new ≡ closed_in (opened.Message message) self.old) }
+    {
+        match self {
+            Open::File(file) => file.message_type.push(message),
+            Open::Message(outer) => outer.nested_type.push(message),
+            _ => Ok(()),
+        }
+    }
+
+    fn close_enum(&mut self, closed: EnumDescriptorProto) -> Result<(), AllocError>
+        ensures { OnOk result (self.new ≡ closed_in (opened.Enum closed) self.old) }
+    {
+        match self {
+            Open::File(file) => file.enum_type.push(closed),
+            Open::Message(outer) => outer.enum_type.push(closed),
+            _ => Ok(()),
+        }
+    }
+
+    fn close_service(&mut self, service: ServiceDescriptorProto) -> Result<(), AllocError>
+        ensures { OnOk result (self.new ≡ closed_in (opened.Service service) self.old) }
+    {
+        match self {
+            Open::File(file) => file.service.push(service),
+            _ => Ok(()),
+        }
+    }
+}
+
+fn state_in_file(
+    alloc: Global,
+    file: &mut FileDescriptorProto,
+    said: Statement,
+) -> Result<(), AllocError>
+    ensures { OnOk result (file.new ≡ in_file said file.old) }
+{
+    match said {
+        Statement::Package(name) => file.package = name,
+        Statement::Syntax(name) => file.syntax = name,
+        Statement::Import(name) => file.dependency.push(name)?,
+        Statement::Public(place) => file.public_dependency.push(place)?,
+        Statement::Weak(place) => file.weak_dependency.push(place)?,
+        Statement::At(location) => add_location(alloc, file, location)?,
+        Statement::Extend(field) => file.extension.push(field)?,
+        more => say_more(alloc, &mut file.extension, more)?,
+    }
+    Ok(())
+}
+
+/// Puts a place behind those that are told of a file.
+fn add_location(
+    alloc: Global,
+    file: &mut FileDescriptorProto,
+    location: Location,
+) -> Result<(), AllocError>
+    ensures { OnOk result (file.new ≡ in_file (say.At location) file.old) }
+{
+    let mut source = match file.source_code_info.take() {
+        Some(source) => source,
+        None => SourceCodeInfo::empty(alloc),
+    };
+    source.location.push(location)?;
+    file.source_code_info = Some(source);
+    Ok(())
+}
+
+fn state_in_message(
+    alloc: Global,
+    message: &mut DescriptorProto,
+    extends: bool,
+    said: Statement,
+) -> Result<(), AllocError>
+    ensures { OnOk result (message.new ≡ roll-DescriptorProto (in_message extends said (out-DescriptorProto message.old))) }
+{
+    match said {
+        Statement::Field(field) => message.field.push(field)?,
+        Statement::Extend(field) => message.extension.push(field)?,
+        Statement::Oneof(name) => {
+            let options = None;
+            message
+                .oneof_decl
+                .push(OneofDescriptorProto { name, options })?;
+        }
+        Statement::Reserved(start, end) => {
+            message.reserved_range.push(ReservedRange { start, end })?;
+        }
+        Statement::Extensions(start, end) => {
+            let options = None;
+            message.extension_range.push(ExtensionRange {
+                start,
+                end,
+                options,
+            })?;
+        }
+        more => {
+            if extends {
+                say_more(alloc, &mut message.extension, more)?;
+            } else {
+                say_more(alloc, &mut message.field, more)?;
+            }
+        }
+    }
+    Ok(())
+}
+
+/// Says more of the last field or extension.
+#[tactic(auto, using(crate::proofs::LastStated::change_last_end))]
+fn say_more(
+    alloc: Global,
+    fields: &mut Items<FieldDescriptorProto>,
+    more: Statement,
+) -> Result<(), AllocError>
+    ensures { OnOk result (fields.new ≡ change_last (more_said more) fields.old) }
+{
+    if let Some(field) = fields.pop() {
+        fields.push(with_more(alloc, field, more))?;
+    }
+    Ok(())
+}
+
+/// A field or an extension of which more is said.
+fn with_more(
+    alloc: Global,
+    mut field: FieldDescriptorProto,
+    more: Statement,
+) -> FieldDescriptorProto
+    ensures { result ≡ more_said more field }
+{
+    match more {
+        Statement::Json(name) => field.json_name = name,
+        Statement::Packed(packed) => {
+            field.options = Some(Options {
+                encoded: Items::new(alloc),
+                value: FieldOptions {
+                    packed: Some(packed),
+                },
+            });
+        }
+        Statement::Default(text) => field.default_value = Some(text),
+        _other => {}
+    }
+    field
+}
+
+fn state_in_enum(
+    alloc: Global,
+    opened: &mut EnumDescriptorProto,
+    said: Statement,
+) -> Result<(), AllocError>
+    ensures { OnOk result (opened.new ≡ in_enum said opened.old) }
+{
+    match said {
+        Statement::Value(value) => opened.value.push(value),
+        Statement::Reserved(start, end) => {
+            opened.reserved_range.push(EnumReservedRange { start, end })
+        }
+        Statement::Alias => {
+            opened.options = Some(Options {
+                encoded: Items::new(alloc),
+                value: EnumOptions {
+                    allow_alias: Some(true),
+                },
+            });
+            Ok(())
+        }
+        _ => Ok(()),
+    }
+}
+
+fn state_in_service(service: &mut ServiceDescriptorProto, said: Statement) -> Result<(), AllocError>
+    ensures { OnOk result (service.new ≡ in_service said service.old) }
+{
+    match said {
+        Statement::Method(method) => service.method.push(method),
+        _ => Ok(()),
+    }
+}

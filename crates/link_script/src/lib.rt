@@ -1,0 +1,12 @@
+//! The line script: what its lines say, and the records that its statements build.
+#![tactic(auto)]
+
+mod building;
+mod script;
+
+pub use building::Open;
+pub use proto_records::{
+    DescriptorProto, EnumDescriptorProto, EnumValueDescriptorProto, FieldDescriptorProto,
+    FileDescriptorProto, Items, Location, MethodDescriptorProto, ServiceDescriptorProto, Text,
+};
+pub use script::{Block, Keyword, Script, ScriptFault, Statement, read_script};

@@ -1,0 +1,192 @@
+//! The statements that keywords and the words behind them make.
+
+ghost use Rattle.std.specs.Prelude.{map};
+ghost use Rattle.link_script.specs.Script.Arguments as spec;
+ghost use Rattle.link_script.specs.Script.Answers.{IsAnswer};
+
+use super::line_error::LineError;
+use super::rest::rest;
+use super::statement::{Keyword, ScriptFault, Statement};
+use super::values::{given_number, given_text, label_of, number_of, numbers, text, truth, type_of};
+use proto_records::{
+    EnumValueDescriptorProto, FieldDescriptorProto, Location, MethodDescriptorProto, Text,
+};
+use std::alloc::Global;
+
+/// The statement of a keyword and the words behind it, in a line.
+pub(super) fn statement(
+    alloc: Global,
+    line: &str,
+    keyword: Keyword,
+    words: &[&str],
+) -> Result<Statement, LineError>
+    ensures { IsAnswer (spec.said_in line.now keyword (map (λ word. word.now) words.now)) result }
+{
+    match keyword {
+        Keyword::Default => Ok(Statement::Default(rest(alloc, line)?)),
+        _ => of_words(alloc, keyword, words),
+    }
+}
+
+/// The statement of a keyword, by how many words are behind it.
+fn of_words(alloc: Global, keyword: Keyword, words: &[&str]) -> Result<Statement, LineError>
+    ensures { IsAnswer (spec.statement_in keyword (map (λ word. word.now) words.now)) result }
+{
+    match words {
+        [] => of_none(keyword),
+        [word] => of_one(alloc, keyword, word),
+        [first, second] => of_two(alloc, keyword, first, second),
+        [name, input, output] => of_three(alloc, keyword, name, input, output),
+        [name, number, label, type_, type_name, last] => {
+            of_six(alloc, keyword, name, number, label, type_, type_name, last)
+        }
+        [_, _, _, _] => Err(LineError::Fault(ScriptFault::WrongCount)),
+        [_, _, _, _, _] => Err(LineError::Fault(ScriptFault::WrongCount)),
+        [_, _, _, _, _, _, _, ..] => Err(LineError::Fault(ScriptFault::WrongCount)),
+    }
+}
+
+fn of_none(keyword: Keyword) -> Result<Statement, LineError>
+    ensures { IsAnswer (spec.of_none keyword) result }
+{
+    match keyword {
+        Keyword::Alias => Ok(Statement::Alias),
+        Keyword::End => Ok(Statement::End),
+        Keyword::Link => Ok(Statement::Link),
+        Keyword::Walk => Ok(Statement::Walk),
+        _ => Err(LineError::Fault(ScriptFault::WrongCount)),
+    }
+}
+
+fn of_one(alloc: Global, keyword: Keyword, word: &str) -> Result<Statement, LineError>
+    ensures { IsAnswer (spec.of_one keyword word.now) result }
+{
+    match keyword {
+        Keyword::File => Ok(Statement::File(text(alloc, word)?)),
+        Keyword::Package => Ok(Statement::Package(text(alloc, word)?)),
+        Keyword::Syntax => Ok(Statement::Syntax(text(alloc, word)?)),
+        Keyword::Import => Ok(Statement::Import(given_text(alloc, word)?)),
+        Keyword::Public => Ok(Statement::Public(given_number(word)?)),
+        Keyword::Weak => Ok(Statement::Weak(given_number(word)?)),
+        Keyword::Service => Ok(Statement::Service(text(alloc, word)?)),
+        Keyword::Message => Ok(Statement::Message(text(alloc, word)?)),
+        Keyword::Enum => Ok(Statement::Enum(text(alloc, word)?)),
+        Keyword::Oneof => Ok(Statement::Oneof(text(alloc, word)?)),
+        Keyword::Json => Ok(Statement::Json(text(alloc, word)?)),
+        Keyword::Packed => Ok(Statement::Packed(truth(word)?)),
+        Keyword::Find => {
+            let name = text(alloc, word)?;
+            Ok(Statement::Find(name.unwrap_or(Text::new(alloc))))
+        }
+        _ => Err(LineError::Fault(ScriptFault::WrongCount)),
+    }
+}
+
+fn of_two(
+    alloc: Global,
+    keyword: Keyword,
+    first: &str,
+    second: &str,
+) -> Result<Statement, LineError>
+    ensures { IsAnswer (spec.of_two keyword first.now second.now) result }
+{
+    match keyword {
+        Keyword::At => {
+            let path = numbers(alloc, first)?;
+            let span = numbers(alloc, second)?;
+            Ok(Statement::At(Location {
+                path,
+                span,
+                ..Location::empty(alloc)
+            }))
+        }
+        Keyword::Reserved => {
+            let start = number_of(first)?;
+            Ok(Statement::Reserved(start, number_of(second)?))
+        }
+        Keyword::Extensions => {
+            let start = number_of(first)?;
+            Ok(Statement::Extensions(start, number_of(second)?))
+        }
+        Keyword::Value => {
+            let number = number_of(second)?;
+            Ok(Statement::Value(EnumValueDescriptorProto {
+                name: text(alloc, first)?,
+                number,
+                ..EnumValueDescriptorProto::empty(alloc)
+            }))
+        }
+        _ => Err(LineError::Fault(ScriptFault::WrongCount)),
+    }
+}
+
+fn of_three(
+    alloc: Global,
+    keyword: Keyword,
+    name: &str,
+    input: &str,
+    output: &str,
+) -> Result<Statement, LineError>
+    ensures { IsAnswer (spec.of_three keyword name.now input.now output.now) result }
+{
+    match keyword {
+        Keyword::Method => Ok(Statement::Method(MethodDescriptorProto {
+            name: text(alloc, name)?,
+            input_type: text(alloc, input)?,
+            output_type: text(alloc, output)?,
+            ..MethodDescriptorProto::empty(alloc)
+        })),
+        _ => Err(LineError::Fault(ScriptFault::WrongCount)),
+    }
+}
+
+fn of_six(
+    alloc: Global,
+    keyword: Keyword,
+    name: &str,
+    number: &str,
+    label: &str,
+    type_: &str,
+    type_name: &str,
+    last: &str,
+) -> Result<Statement, LineError>
+    ensures { IsAnswer (spec.of_six keyword name.now number.now label.now type_.now type_name.now last.now) result }
+{
+    match keyword {
+        Keyword::Field => {
+            let mut field = typed(alloc, name, number, label, type_, type_name)?;
+            field.oneof_index = number_of(last)?;
+            Ok(Statement::Field(field))
+        }
+        Keyword::Extend => {
+            let mut field = typed(alloc, name, number, label, type_, type_name)?;
+            field.extendee = text(alloc, last)?;
+            Ok(Statement::Extend(field))
+        }
+        _ => Err(LineError::Fault(ScriptFault::WrongCount)),
+    }
+}
+
+/// What a field and an extension have in common; the leftmost fault is told.
+fn typed(
+    alloc: Global,
+    name: &str,
+    number: &str,
+    label: &str,
+    type_: &str,
+    type_name: &str,
+) -> Result<FieldDescriptorProto, LineError>
+    ensures { IsAnswer (spec.typed_in name.now number.now label.now type_.now type_name.now) result }
+{
+    let number = number_of(number)?;
+    let label = label_of(label)?;
+    let type_ = type_of(type_)?;
+    Ok(FieldDescriptorProto {
+        name: text(alloc, name)?,
+        number,
+        label,
+        type_,
+        type_name: text(alloc, type_name)?,
+        ..FieldDescriptorProto::empty(alloc)
+    })
+}

@@ -1,0 +1,140 @@
+//! The words that begin statements, and where these stand.
+
+ghost use Rattle.std.specs.Prelude.{◌≡◌, map, reverse, OnOk};
+ghost use Rattle.link_script.specs.Script.Keywords as spec;
+
+use super::statement::{Block, Keyword};
+use std::alloc::AllocError;
+
+/// Each keyword as it is written.
+const SPELLINGS: [(&str, Keyword); 25] = [
+    ("file", Keyword::File),
+    ("package", Keyword::Package),
+    ("syntax", Keyword::Syntax),
+    ("import", Keyword::Import),
+    ("public", Keyword::Public),
+    ("weak", Keyword::Weak),
+    ("at", Keyword::At),
+    ("service", Keyword::Service),
+    ("message", Keyword::Message),
+    ("enum", Keyword::Enum),
+    ("extend", Keyword::Extend),
+    ("field", Keyword::Field),
+    ("oneof", Keyword::Oneof),
+    ("reserved", Keyword::Reserved),
+    ("extensions", Keyword::Extensions),
+    ("value", Keyword::Value),
+    ("alias", Keyword::Alias),
+    ("method", Keyword::Method),
+    ("json", Keyword::Json),
+    ("packed", Keyword::Packed),
+    ("default", Keyword::Default),
+    ("end", Keyword::End),
+    ("link", Keyword::Link),
+    ("find", Keyword::Find),
+    ("walk", Keyword::Walk),
+];
+
+/// The keyword that a word spells in a table.
+fn spelled(table: &[(&str, Keyword)], word: &str) -> Option<Keyword>
+    ensures { result ≡ spec.spelled (map (λ s. (s.0.now, s.1)) table.now) word.now }
+{
+    for (spelling, keyword) in table {
+        if *spelling == word {
+            return Some(*keyword);
+        }
+    }
+    None
+}
+
+/// The keyword that a word spells.
+pub(super) fn keyword_of(word: &str) -> Option<Keyword>
+    ensures { result ≡ spec.keyword_of word.now }
+{
+    spelled(&SPELLINGS, word)
+}
+
+/// Whether a statement may stand in the open blocks, the innermost of which comes last.
+pub(super) fn stands(blocks: &[Block], keyword: Keyword) -> bool
+    ensures { result ≡ spec.stands (reverse blocks.now) keyword }
+{
+    match blocks.last() {
+        None => matches!(
+            keyword,
+            Keyword::File | Keyword::Link | Keyword::Find | Keyword::Walk
+        ),
+        Some(Block::File) => stands_in_file(keyword),
+        Some(Block::Message) => stands_in_message(keyword),
+        Some(Block::Enum) => matches!(
+            keyword,
+            Keyword::Value | Keyword::Reserved | Keyword::Alias | Keyword::End
+        ),
+        Some(Block::Service) => matches!(keyword, Keyword::Method | Keyword::End),
+    }
+}
+
+fn stands_in_file(keyword: Keyword) -> bool
+    ensures { result ≡ spec.in_files keyword }
+{
+    matches!(
+        keyword,
+        Keyword::Package
+            | Keyword::Syntax
+            | Keyword::Import
+            | Keyword::Public
+            | Keyword::Weak
+            | Keyword::At
+            | Keyword::Service
+            | Keyword::Message
+            | Keyword::Enum
+            | Keyword::Extend
+            | Keyword::End
+    )
+}
+
+fn stands_in_message(keyword: Keyword) -> bool
+    ensures { result ≡ spec.in_messages keyword }
+{
+    matches!(
+        keyword,
+        Keyword::Message
+            | Keyword::Enum
+            | Keyword::Extend
+            | Keyword::Field
+            | Keyword::Oneof
+            | Keyword::Reserved
+            | Keyword::Extensions
+            | Keyword::End
+    )
+}
+
+/// Whether a statement says more of the field or the extension before it.
+pub(super) fn says_more(keyword: Keyword) -> bool
+    ensures { result ≡ spec.says_more keyword }
+{
+    matches!(keyword, Keyword::Json | Keyword::Packed | Keyword::Default)
+}
+
+/// Whether more may be said after a statement.
+pub(super) fn may_say_more(keyword: Keyword) -> bool
+    ensures { result ≡ spec.may_say_more keyword }
+{
+    matches!(keyword, Keyword::Field | Keyword::Extend) || says_more(keyword)
+}
+
+/// Opens or closes the block that a statement opens or closes.
+pub(super) fn open_or_close(blocks: &mut Vec<Block>, keyword: Keyword) -> Result<(), AllocError>
+    ensures { OnOk result (reverse blocks.new.items ≡ spec.blocks_after (reverse blocks.old.items) keyword) }
+{
+    match keyword {
+        Keyword::File => blocks.push(Block::File)?,
+        Keyword::Message => blocks.push(Block::Message)?,
+        Keyword::Enum => blocks.push(Block::Enum)?,
+        Keyword::Service => blocks.push(Block::Service)?,
+        Keyword::End => {
+            blocks.pop();
+        }
+        _ => {}
+    }
+    Ok(())
+}

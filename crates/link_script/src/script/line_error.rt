@@ -1,0 +1,32 @@
+//! What stops a line from being read.
+
+ghost use Rattle.std.specs.Prelude.{◌≡◌};
+ghost use Rattle.link_script.specs.declared.script.line_error.LineError.TheVariants as stop;
+
+use super::statement::ScriptFault;
+use std::alloc::AllocError;
+
+/// Why a line gave no statement.
+#[derive(Clone, Copy)]
+pub(super) enum LineError {
+    /// The line says what it may not.
+    Fault(ScriptFault),
+    /// Memory was refused.
+    OutOfMemory,
+}
+
+impl From<ScriptFault> for LineError {
+    ghost from_gives = { λ fault error. error ≡ stop.Fault fault };
+
+    fn from(fault: ScriptFault) -> LineError {
+        LineError::Fault(fault)
+    }
+}
+
+impl From<AllocError> for LineError {
+    ghost from_gives = { λ _ error. error ≡ stop.OutOfMemory };
+
+    fn from(_refused: AllocError) -> LineError {
+        LineError::OutOfMemory
+    }
+}

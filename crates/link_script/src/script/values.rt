@@ -1,0 +1,151 @@
+//! What single words say.
+
+ghost use Rattle.std.specs.Prelude.{◌≡◌, ◌<◌, ◌==◌, map, length, IfOk};
+ghost use Rattle.std.specs.List.{slice_split};
+ghost use Rattle.link_script.specs.Script.Arguments as spec;
+ghost use Rattle.link_script.specs.Script.Answers.{IsAnswer};
+
+use super::line_error::LineError;
+use super::statement::ScriptFault;
+use proto_records::{Items, Text};
+use std::alloc::{AllocError, Global};
+
+/// The labels, in the order of their numbers from 1 on.
+const LABELS: [&str; 3] = ["optional", "required", "repeated"];
+
+/// The types, in the order of their numbers from 1 on.
+const TYPES: [&str; 18] = [
+    "double", "float", "int64", "uint64", "int32", "fixed64", "fixed32", "bool", "string", "group",
+    "message", "bytes", "uint32", "enum", "sfixed32", "sfixed64", "sint32", "sint64",
+];
+
+/// Whether a word stands for a missing value.
+fn is_absent(word: &str) -> bool
+    ensures { result ≡ spec.is_absent word.now }
+{
+    word == "~"
+}
+
+/// A text, which may be missing.
+pub(super) fn text(alloc: Global, word: &str) -> Result<Option<Text>, AllocError>
+    ensures { IfOk result (λ text. text ≡ spec.text_in word.now) }
+{
+    if is_absent(word) {
+        Ok(None)
+    } else if word == "''" {
+        Ok(Some(Text::new(alloc)))
+    } else {
+        Ok(Some(Text::from_str(alloc, word)?))
+    }
+}
+
+/// A whole number of 32 bits with a sign.
+pub(super) fn int32(word: &str) -> Option<i32>
+    ensures { result ≡ spec.int32_in word.now }
+{
+    word.parse::<i32>().ok()
+}
+
+/// A number, which may be missing.
+pub(super) fn number_of(word: &str) -> Result<Option<i32>, ScriptFault>
+    ensures { result ≡ spec.number_in word.now }
+{
+    if is_absent(word) {
+        return Ok(None);
+    }
+    Ok(Some(given_number(word)?))
+}
+
+/// The place of a word among names, counted from 1, or else the number that it writes.
+fn named(names: &[&str], word: &str) -> Option<i32>
+    requires { length names.now < 100 }
+    ensures { result ≡ spec.named_in (map (λ name. name.now) names.now) word.now }
+{
+    let mut number = 1;
+    for name in names {
+        if word == *name {
+            return Some(number);
+        }
+        number += 1;
+    }
+    int32(word)
+}
+
+/// A name's number, which may be missing.
+fn named_or_bad(names: &[&str], word: &str) -> Result<Option<i32>, ScriptFault>
+    requires { length names.now < 100 }
+    ensures { result ≡ spec.named_or_bad (map (λ name. name.now) names.now) word.now }
+{
+    if is_absent(word) {
+        return Ok(None);
+    }
+    Ok(Some(named(names, word).ok_or(ScriptFault::BadWord)?))
+}
+
+/// A label, by its name or its number.
+pub(super) fn label_of(word: &str) -> Result<Option<i32>, ScriptFault>
+    ensures { result ≡ spec.named_or_bad spec.labels word.now }
+{
+    named_or_bad(&LABELS, word)
+}
+
+/// A type, by its name or its number.
+pub(super) fn type_of(word: &str) -> Result<Option<i32>, ScriptFault>
+    ensures { result ≡ spec.named_or_bad spec.types word.now }
+{
+    named_or_bad(&TYPES, word)
+}
+
+/// A text that may not be missing.
+pub(super) fn given_text(alloc: Global, word: &str) -> Result<Text, LineError>
+    ensures { IsAnswer (spec.given_text_in word.now) result }
+{
+    text(alloc, word)?.ok_or(LineError::Fault(ScriptFault::BadWord))
+}
+
+/// A number that may not be missing.
+pub(super) fn given_number(word: &str) -> Result<i32, ScriptFault>
+    ensures { result ≡ spec.given_number_in word.now }
+{
+    int32(word).ok_or(ScriptFault::BadNumber)
+}
+
+/// The parts of a word between commas.
+fn parts(alloc: Global, word: &str) -> Result<Vec<&str>, AllocError>
+    ensures { IfOk result (λ parts. map (λ part. part.now) parts.items ≡ slice_split (λ c. c == 44) word.now) }
+{
+    word.split(',').collect(alloc)
+}
+
+/// The numbers that words write.
+fn each_number(alloc: Global, words: &[&str]) -> Result<Items<i32>, LineError>
+    ensures { IsAnswer (spec.each_number (map (λ word. word.now) words.now)) result }
+{
+    let mut numbers = Items::new(alloc);
+    for word in words {
+        numbers.push(given_number(word)?)?;
+    }
+    Ok(numbers)
+}
+
+/// Numbers between commas, or none in two quotes.
+pub(super) fn numbers(alloc: Global, word: &str) -> Result<Items<i32>, LineError>
+    ensures { IsAnswer (spec.numbers_in word.now) result }
+{
+    if word == "''" {
+        return Ok(Items::new(alloc));
+    }
+    let parts = parts(alloc, word)?;
+    each_number(alloc, &parts)
+}
+
+/// A truth value.
+pub(super) fn truth(word: &str) -> Result<bool, ScriptFault>
+    ensures { result ≡ spec.truth_in word.now }
+{
+    match word {
+        "true" => Ok(true),
+        "false" => Ok(false),
+        _ => Err(ScriptFault::BadWord),
+    }
+}
