@@ -3,7 +3,7 @@ use Rattle.std.specs.Prelude.{◌≡◌, [], ◌∷◌, refl, codes}
 use Rattle.std.specs.FinMap.{get-insert, get-empty}
 use Rattle.std.specs.Cmp.Lexicographic.{nat_list_cmp_total, slice_cmp}
 use Rattle.std.specs.Ordering.{nat_cmp}
-use Rattle.proto_types.specs.declared.contents.definition.Definition.{Definition}
+use Rattle.pool_types.specs.declared.contents.definition.Definition.{Definition}
 use Rattle.link_script.specs.Script.Reading.{script}
 use Rattle.descriptor_linker.specs.Report.Session.{report}
 use Rattle.descriptor_linker.proofs.Computed.{scripts}

@@ -2,9 +2,9 @@
 use Rattle.std.proofs.Common.{IsOk, Result, Ok, Err, OnOk, OnErr, MatchResult, subst, ◌≡◌, ◌+◌, ◌<◌, ◌^◌, List, [], ◌++◌, length, length-append, ap, sym, ◌∙◌, arith}
 use Rattle.std.proofs.lemmas.List.{length-map}
 use Rattle.proto_records.specs.declared.counts.Counts.{Counts}
-use Rattle.proto_types.specs.declared.contents.definition.Entry.{Entry}
+use Rattle.pool_types.specs.declared.contents.definition.Entry.{Entry}
 use Rattle.proto_types.specs.declared.records.file.FileDescriptorProto.{FileDescriptorProto}
-use Rattle.proto_types.specs.Contents.{Contents, files_of}
+use Rattle.pool_types.specs.Contents.{Contents, files_of}
 use Rattle.proto_records.specs.Counts.{counts_with, no_counts, counts_in}
 use Rattle.proto_records.specs.Declarations.{declarations}
 use Rattle.proto_records.proofs.Room.{room-fits}

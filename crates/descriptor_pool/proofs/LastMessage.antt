@@ -1,7 +1,7 @@
 -- A field put into the last message of a list.
 use Rattle.std.proofs.Common.{◌≡◌, List, [], ◌∷◌, ◌++◌, refl, ap}
-use Rattle.proto_types.specs.declared.contents.field.FieldDescriptorInner.{FieldDescriptorInner}
-use Rattle.proto_types.specs.declared.contents.message.MessageDescriptorInner.{MessageDescriptorInner}
+use Rattle.pool_types.specs.declared.contents.field.FieldDescriptorInner.{FieldDescriptorInner}
+use Rattle.pool_types.specs.declared.contents.message.MessageDescriptorInner.{MessageDescriptorInner}
 use Rattle.descriptor_pool.specs.Passes.{with_field}
 
 pub with_field_last : (f : FieldDescriptorInner) (ms : List MessageDescriptorInner) (m : MessageDescriptorInner)

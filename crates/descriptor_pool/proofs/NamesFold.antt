@@ -7,9 +7,9 @@ use Rattle.proto_records.specs.Protos.{Proto, of_file, of_message, of_field, of_
 use Rattle.proto_types.specs.Readers.{text_of}
 use Rattle.proto_records.specs.Shown.{Shown}
 use Rattle.pool_parts.specs.Entries.{names}
-use Rattle.proto_types.specs.declared.contents.definition.Entry.{Entry}
-use Rattle.proto_types.specs.declared.contents.file.FileDescriptorInner.{FileDescriptorInner}
-use Rattle.proto_types.specs.declared.contents.message.MessageDescriptorInner.{MessageDescriptorInner}
+use Rattle.pool_types.specs.declared.contents.definition.Entry.{Entry}
+use Rattle.pool_types.specs.declared.contents.file.FileDescriptorInner.{FileDescriptorInner}
+use Rattle.pool_types.specs.declared.contents.message.MessageDescriptorInner.{MessageDescriptorInner}
 use Rattle.proto_types.specs.declared.records.file.FileDescriptorProto.{FileDescriptorProto}
 use Rattle.descriptor_pool.specs.Entered.{entries_of, entries, own_entry}
 use Rattle.descriptor_pool.specs.FirstPass.{Faults, clash_faults, file_name_faults, file_names, file_names_of, first_faults, first_pass}

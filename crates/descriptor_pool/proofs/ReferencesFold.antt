@@ -6,14 +6,14 @@ use Rattle.std.proofs.lemmas.List.Elements.{filter_map-append}
 use Rattle.std.specs.List.{fold}
 use Rattle.std.specs.Option.{option_map}
 use Rattle.proto_records.specs.declared.counts.Counts.{Counts}
-use Rattle.proto_types.specs.declared.contents.field.FieldDescriptorInner.{FieldDescriptorInner}
-use Rattle.proto_types.specs.declared.contents.message.MessageDescriptorInner.{MessageDescriptorInner}
+use Rattle.pool_types.specs.declared.contents.field.FieldDescriptorInner.{FieldDescriptorInner}
+use Rattle.pool_types.specs.declared.contents.message.MessageDescriptorInner.{MessageDescriptorInner}
 use Rattle.proto_types.specs.declared.records.file.FileDescriptorProto.{FileDescriptorProto}
 use Rattle.proto_types.specs.declared.records.message.DescriptorProto.{DescriptorProto, DescriptorProto', Row_of-DescriptorProto, end_of-DescriptorProto, more_of-DescriptorProto}
 use Rattle.proto_types.specs.declared.records.field.FieldDescriptorProto.{FieldDescriptorProto}
 use Rattle.proto_types.specs.declared.tag.file.TheConstants.{MESSAGE_TYPE}
 use Rattle.proto_types.specs.declared.tag.message.TheConstants.{FIELD, NESTED_TYPE}
-use Rattle.proto_types.specs.Contents.{Contents}
+use Rattle.pool_types.specs.Contents.{Contents}
 use Rattle.proto_records.specs.Declarations.{in_file}
 use Rattle.descriptor_pool.specs.ReadDeclarations.{read_declarations}
 use Rattle.proto_records.specs.Protos.{Proto, of_file, of_message, of_field, of_oneof, of_service, of_method, of_enum, of_value, of_extension, as_file, as_message, as_field}

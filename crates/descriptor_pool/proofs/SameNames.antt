@@ -4,11 +4,11 @@ use Rattle.std.specs.Cmp.Lexicographic.{nat_list_cmp_total}
 use Rattle.std.specs.FinMap.{get, same_map, slice_cmp-IsAntisymmetric, nat_cmp-IsAntisymmetric}
 use Rattle.std.specs.Option.{option_and_then, option_map, option_or}
 use Rattle.std.specs.Str.{bytes_eq}
-use Rattle.proto_types.specs.declared.contents.definition.Definition.{Definition}
-use Rattle.proto_types.specs.declared.contents.definition.Entry.{Entry}
-use Rattle.proto_types.specs.declared.fault.DescriptorErrorKind.TheVariants as fault
+use Rattle.pool_types.specs.declared.contents.definition.Definition.{Definition}
+use Rattle.pool_types.specs.declared.contents.definition.Entry.{Entry}
+use Rattle.pool_types.specs.declared.fault.DescriptorErrorKind.TheVariants as fault
 use Rattle.proto_types.specs.declared.records.file.FileDescriptorProto.{FileDescriptorProto}
-use Rattle.proto_types.specs.Labels.{label_in}
+use Rattle.pool_types.specs.Labels.{label_in}
 use Rattle.proto_types.specs.Lists.{after_each, listed}
 use Rattle.proto_records.specs.Shown.{Shown}
 use Rattle.pool_parts.specs.Entries.{first_of, names}

@@ -1,9 +1,9 @@
 -- New files behind those of a pool, numbered on from some counts. The entries are those of the pool's names.
 use Rattle.std.specs.Prelude.{List, ◌++◌}
 use Rattle.proto_records.specs.declared.counts.Counts.{Counts}
-use Rattle.proto_types.specs.declared.contents.definition.Entry.{Entry}
+use Rattle.pool_types.specs.declared.contents.definition.Entry.{Entry}
 use Rattle.proto_types.specs.declared.records.file.FileDescriptorProto.{FileDescriptorProto}
-use Rattle.proto_types.specs.Contents.{Contents, files_of}
+use Rattle.pool_types.specs.Contents.{Contents, files_of}
 use Rattle.pool_parts.specs.Entries.{names}
 use Rattle.descriptor_pool.specs.Entered.{entries}
 use Rattle.descriptor_pool.specs.FirstPass.{Faults, first_pass}

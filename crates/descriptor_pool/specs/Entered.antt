@@ -3,9 +3,9 @@ use Rattle.std.specs.Prelude.{ℕ, List, [], ◌∷◌, ◌++◌, map, unwrap_or
 use Rattle.std.specs.List.{flat_map}
 use Rattle.proto_types.specs.declared.tag.file.TheConstants as file
 use Rattle.proto_types.specs.declared.tag.message.TheConstants as message
-use Rattle.proto_types.specs.declared.contents.definition.Entry.{Entry}
-use Rattle.proto_types.specs.declared.contents.definition.DefinitionKind.{DefinitionKind}
-use Rattle.proto_types.specs.declared.contents.definition.DefinitionKind.TheVariants as definition
+use Rattle.pool_types.specs.declared.contents.definition.Entry.{Entry}
+use Rattle.pool_types.specs.declared.contents.definition.DefinitionKind.{DefinitionKind}
+use Rattle.pool_types.specs.declared.contents.definition.DefinitionKind.TheVariants as definition
 use Rattle.proto_types.specs.Names.{fronts}
 use Rattle.proto_types.specs.Readers.{text_of}
 use Rattle.proto_records.specs.Protos.{of_file, of_message, of_field, of_oneof, of_service, of_method, of_enum, of_value, of_extension}

@@ -4,10 +4,10 @@ use Rattle.std.specs.Option.{option_and_then}
 use Rattle.std.specs.declared.option.Option.{Option}
 use Rattle.proto_types.specs.declared.tag.field.TheConstants as field
 use Rattle.proto_types.specs.declared.records.field.FieldDescriptorProto.{FieldDescriptorProto}
-use Rattle.proto_types.specs.declared.kinds.KindIndex.{KindIndex}
-use Rattle.proto_types.specs.declared.fault.DescriptorErrorKind.{DescriptorErrorKind}
-use Rattle.proto_types.specs.declared.fault.DescriptorErrorKind.TheVariants.{MissingRequiredField}
-use Rattle.proto_types.specs.Labels.{label_in}
+use Rattle.pool_types.specs.declared.kinds.KindIndex.{KindIndex}
+use Rattle.pool_types.specs.declared.fault.DescriptorErrorKind.{DescriptorErrorKind}
+use Rattle.pool_types.specs.declared.fault.DescriptorErrorKind.TheVariants.{MissingRequiredField}
+use Rattle.pool_types.specs.Labels.{label_in}
 use Rattle.proto_types.specs.Lists.{listed, only_if}
 use Rattle.proto_types.specs.Readers.{text_of, type_of}
 use Rattle.proto_records.specs.Shown.{Shown}

@@ -1,6 +1,6 @@
 -- A pool while a batch is linked into it.
 use Rattle.std.specs.Prelude.{take}
-use Rattle.proto_types.specs.Contents.{Contents}
+use Rattle.pool_types.specs.Contents.{Contents}
 use Rattle.pool_parts.specs.Entries.{names}
 use Rattle.descriptor_pool.specs.declared.build.growing.GrowingPool.{GrowingPool}
 

@@ -2,7 +2,7 @@
 use Rattle.std.specs.Prelude.{◌≡◌, ◌^◌, ◌<◌, length}
 use Rattle.proto_records.specs.Counts.{no_counts, counted}
 use Rattle.proto_records.specs.Declarations.{declarations}
-use Rattle.proto_types.specs.Contents.{Contents, files_of}
+use Rattle.pool_types.specs.Contents.{Contents, files_of}
 use Rattle.pool_parts.specs.Entries.{names}
 use Rattle.descriptor_pool.specs.Pool.{Made, known_names}
 use Rattle.descriptor_pool.specs.declared.inner.DescriptorPoolInner.{DescriptorPoolInner}

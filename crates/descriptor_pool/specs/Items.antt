@@ -1,10 +1,10 @@
 -- The records that a pool holds of a message and its fields.
 use Rattle.std.specs.Prelude.{ℕ, suc, ◌-◌, ◌^◌, ℤ, pos, negsuc, length, map, unwrap_or}
 use Rattle.proto_types.specs.declared.tag.message.TheConstants as message
-use Rattle.proto_types.specs.declared.contents.definition.Identity.{Identity}
-use Rattle.proto_types.specs.declared.contents.field.FieldDescriptorInner.{FieldDescriptorInner}
-use Rattle.proto_types.specs.declared.contents.message.MessageDescriptorInner.{MessageDescriptorInner}
-use Rattle.proto_types.specs.declared.kinds.KindIndex.TheVariants.{Double}
+use Rattle.pool_types.specs.declared.contents.definition.Identity.{Identity}
+use Rattle.pool_types.specs.declared.contents.field.FieldDescriptorInner.{FieldDescriptorInner}
+use Rattle.pool_types.specs.declared.contents.message.MessageDescriptorInner.{MessageDescriptorInner}
+use Rattle.pool_types.specs.declared.kinds.KindIndex.TheVariants.{Double}
 use Rattle.proto_types.specs.declared.records.field.FieldDescriptorProto.{FieldDescriptorProto}
 use Rattle.proto_types.specs.declared.records.message.DescriptorProto.{DescriptorProto, out-DescriptorProto}
 use Rattle.proto_types.specs.Readers.{number_of, label_of}

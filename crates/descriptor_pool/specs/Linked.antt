@@ -8,8 +8,8 @@ use Rattle.proto_types.specs.declared.records.message.DescriptorProto.{Descripto
 use Rattle.proto_types.specs.declared.records.field.FieldDescriptorProto.{FieldDescriptorProto}
 use Rattle.proto_types.specs.declared.records.field.FieldType.{FieldType}
 use Rattle.proto_types.specs.declared.records.field.FieldType.TheVariants as written
-use Rattle.proto_types.specs.declared.contents.definition.DefinitionKind.{DefinitionKind}
-use Rattle.proto_types.specs.declared.contents.definition.DefinitionKind.TheVariants as definition
+use Rattle.pool_types.specs.declared.contents.definition.DefinitionKind.{DefinitionKind}
+use Rattle.pool_types.specs.declared.contents.definition.DefinitionKind.TheVariants as definition
 use Rattle.proto_types.specs.Names.{join}
 use Rattle.proto_types.specs.Readers.{text_of, type_of}
 use Rattle.pool_parts.specs.declared.filter.ResolveNameFilter.TheVariants.{FieldType as AnyType}

@@ -2,8 +2,8 @@
 use Rattle.std.specs.Prelude.{ℕ, List, [], ◌∷◌, if◌then◌else◌}
 use Rattle.std.specs.FinMap as finite
 use Rattle.std.specs.declared.option.Option.{Option}
-use Rattle.proto_types.specs.declared.contents.definition.Definition.{Definition}
-use Rattle.proto_types.specs.Contents.{Contents}
+use Rattle.pool_types.specs.declared.contents.definition.Definition.{Definition}
+use Rattle.pool_types.specs.Contents.{Contents}
 use Rattle.proto_types.specs.Names.{is_dot}
 
 -- a name without one leading dot

@@ -1,11 +1,11 @@
 -- What the two passes make of one more declaration.
 use Rattle.std.specs.Prelude.{◌≡◌, ℕ, List, [], ◌∷◌, ◌++◌, map}
 use Rattle.std.specs.List.{fold}
-use Rattle.proto_types.specs.declared.contents.definition.Entry.{Entry}
-use Rattle.proto_types.specs.declared.contents.field.FieldDescriptorInner.{FieldDescriptorInner}
-use Rattle.proto_types.specs.declared.contents.file.FileDescriptorInner.{FileDescriptorInner}
-use Rattle.proto_types.specs.declared.contents.message.MessageDescriptorInner.{MessageDescriptorInner}
-use Rattle.proto_types.specs.Contents.{Contents}
+use Rattle.pool_types.specs.declared.contents.definition.Entry.{Entry}
+use Rattle.pool_types.specs.declared.contents.field.FieldDescriptorInner.{FieldDescriptorInner}
+use Rattle.pool_types.specs.declared.contents.file.FileDescriptorInner.{FileDescriptorInner}
+use Rattle.pool_types.specs.declared.contents.message.MessageDescriptorInner.{MessageDescriptorInner}
+use Rattle.pool_types.specs.Contents.{Contents}
 use Rattle.proto_records.specs.Progress.{Progress}
 use Rattle.proto_records.specs.Protos.{of_file, of_message, of_field}
 use Rattle.proto_types.specs.Readers.{text_of}

@@ -3,8 +3,8 @@ use Rattle.std.specs.Prelude.{not, List, [], ◌∷◌, ◌++◌}
 use Rattle.std.specs.List.{flat_map}
 use Rattle.proto_types.specs.declared.tag.field.TheConstants as field
 use Rattle.proto_types.specs.declared.records.field.FieldDescriptorProto.{FieldDescriptorProto}
-use Rattle.proto_types.specs.declared.fault.DescriptorErrorKind.TheVariants.{InvalidFieldNumber}
-use Rattle.proto_types.specs.Labels.{label_in}
+use Rattle.pool_types.specs.declared.fault.DescriptorErrorKind.TheVariants.{InvalidFieldNumber}
+use Rattle.pool_types.specs.Labels.{label_in}
 use Rattle.proto_types.specs.Lists.{only_if}
 use Rattle.proto_types.specs.Readers.{number_of}
 use Rattle.proto_records.specs.Protos.{of_field}

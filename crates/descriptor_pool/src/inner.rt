@@ -1,5 +1,5 @@
 ghost use Rattle.std.specs.Prelude.{◌≡◌};
-ghost use Rattle.proto_types.specs.Contents.{no_contents};
+ghost use Rattle.pool_types.specs.Contents.{no_contents};
 ghost use Rattle.descriptor_pool.specs.Held.{contents_in};
 ghost use Rattle.descriptor_pool.specs.Seen.{setting_in, setting_with};
 

@@ -1,4 +1,4 @@
-ghost use Rattle.std.specs.Prelude.{◌≡◌, [], ◌++◌, not, IsOk, IfOk, IfErr, slice_get};
+ghost use Rattle.std.specs.Prelude.{◌≡◌, [], not, IsOk, IfOk, slice_get};
 ghost use Rattle.std.specs.Option.{option_copied};
 ghost use Rattle.std.specs.List.{list_any, filter};
 ghost use Rattle.std.specs.Str.{bytes_eq};
@@ -24,8 +24,8 @@ pub struct DescriptorPool {
 }
 
 impl Model for DescriptorPool {
-    ghost use Rattle.proto_types.specs.Contents.{Contents};
-    ghost use Rattle.proto_types.specs.ContentsCode.{contents_code};
+    ghost use Rattle.pool_types.specs.Contents.{Contents};
+    ghost use Rattle.pool_types.specs.ContentsCode.{contents_code};
 
     ghost Value = { Contents };
 
@@ -39,12 +39,11 @@ impl Model for DescriptorPool {
 }
 
 impl DescriptorPool {
-    ghost use Rattle.proto_types.specs.Contents.{no_contents, files_of};
+    ghost use Rattle.pool_types.specs.Contents.{no_contents, files_of};
     ghost use Rattle.proto_records.specs.Counts.{counts_in};
     ghost use Rattle.descriptor_pool.specs.LookUps.{definition_named};
-    ghost use Rattle.descriptor_pool.specs.Outcome.{Outcome, IsLinked};
-    ghost use Rattle.descriptor_pool.specs.Passes.{TellsFaults};
-    ghost use Rattle.descriptor_pool.specs.Pool.{new_files, faults, Fits};
+    ghost use Rattle.descriptor_pool.specs.Outcome.{Outcome};
+    ghost use Rattle.descriptor_pool.specs.Pool.{new_files};
 
     /// A pool without files, which takes no memory.
     pub fn new(alloc: Global) -> DescriptorPool

@@ -1,7 +1,7 @@
 -- A reference without a leading dot.
 use Rattle.std.proofs.Common.{◌≡◌, ◌≢◌, arith, ℕ, Bool, false, eqb, List, [], ◌∷◌, refl, ap, Option}
 use Rattle.std.proofs.lemmas.Bool.Decides.{nat_tests}
-use Rattle.proto_types.specs.declared.contents.definition.Definition.{Definition}
+use Rattle.pool_types.specs.declared.contents.definition.Definition.{Definition}
 use Rattle.pool_parts.specs.declared.filter.ResolveNameFilter.{ResolveNameFilter}
 use Rattle.pool_parts.specs.Resolution.{resolution, relative}
 

@@ -3,7 +3,7 @@ use Rattle.std.proofs.Common.{◌≡◌, ℕ, List, [], ◌∷◌, refl, sym, �
 use Rattle.std.specs.Cmp.Lexicographic.{nat_list_cmp_total, slice_cmp, texts_ties}
 use Rattle.std.specs.Ordering.{nat_cmp}
 use Rattle.std.specs.FinMap.{find, get-from_entries}
-use Rattle.proto_types.specs.declared.contents.definition.Entry.{Entry}
+use Rattle.pool_types.specs.declared.contents.definition.Entry.{Entry}
 use Rattle.pool_parts.specs.Entries.{first_of, NamesAreFirst}
 
 find_first : (entries : List Entry) (name : List ℕ) → find (slice_cmp nat_cmp) name (map (λ e. (e.name, e.definition)) entries) ≡ first_of entries name

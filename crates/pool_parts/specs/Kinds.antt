@@ -2,12 +2,12 @@
 use Rattle.std.specs.Prelude.{ℕ, Bool, true, false, List, codes}
 use Rattle.std.specs.declared.option.Option.{Option}
 use Rattle.std.specs.declared.option.Option.TheVariants.{None, Some}
-use Rattle.proto_types.specs.declared.kinds.KindIndex.{KindIndex}
-use Rattle.proto_types.specs.declared.kinds.KindIndex.TheVariants as index
-use Rattle.proto_types.specs.declared.kinds.Cardinality.{Cardinality}
-use Rattle.proto_types.specs.declared.kinds.Cardinality.TheVariants as cardinality
-use Rattle.proto_types.specs.declared.contents.definition.DefinitionKind.{DefinitionKind}
-use Rattle.proto_types.specs.declared.contents.definition.DefinitionKind.TheVariants as definition
+use Rattle.pool_types.specs.declared.kinds.KindIndex.{KindIndex}
+use Rattle.pool_types.specs.declared.kinds.KindIndex.TheVariants as index
+use Rattle.pool_types.specs.declared.kinds.Cardinality.{Cardinality}
+use Rattle.pool_types.specs.declared.kinds.Cardinality.TheVariants as cardinality
+use Rattle.pool_types.specs.declared.contents.definition.DefinitionKind.{DefinitionKind}
+use Rattle.pool_types.specs.declared.contents.definition.DefinitionKind.TheVariants as definition
 use Rattle.proto_types.specs.declared.records.field.FieldLabel.{FieldLabel}
 use Rattle.proto_types.specs.declared.records.field.FieldLabel.TheVariants as label
 use Rattle.proto_types.specs.declared.records.field.FieldType.{FieldType}

@@ -2,11 +2,11 @@
 use Rattle.std.specs.Prelude.{ℕ, ℤ, List}
 use Rattle.std.specs.declared.option.Option.{Option}
 use Rattle.std.specs.declared.option.Option.TheVariants.{None, Some}
-use Rattle.proto_types.specs.declared.fault.DescriptorErrorKind.{DescriptorErrorKind}
-use Rattle.proto_types.specs.declared.fault.DescriptorErrorKind.TheVariants.{NameNotFound, InvalidType}
+use Rattle.pool_types.specs.declared.fault.DescriptorErrorKind.{DescriptorErrorKind}
+use Rattle.pool_types.specs.declared.fault.DescriptorErrorKind.TheVariants.{NameNotFound, InvalidType}
 use Rattle.proto_types.specs.declared.records.file.FileDescriptorProto.{FileDescriptorProto}
 use Rattle.pool_parts.specs.Kinds.{filter_text}
-use Rattle.proto_types.specs.Labels.{label_in}
+use Rattle.pool_types.specs.Labels.{label_in}
 use Rattle.pool_parts.specs.Resolution.{Resolution, found, invalid_type, not_imported, not_found}
 
 -- of a reference as it is written, at a path of a file

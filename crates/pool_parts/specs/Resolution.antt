@@ -4,8 +4,8 @@ use Rattle.std.specs.Option.{option_map_or}
 use Rattle.std.specs.declared.option.Option.{Option}
 use Rattle.std.specs.declared.option.Option.TheVariants.{None, Some}
 use Rattle.proto_types.specs.Names.{is_dot}
-use Rattle.proto_types.specs.declared.contents.definition.Definition.{Definition}
-use Rattle.proto_types.specs.declared.contents.definition.DefinitionKind.{DefinitionKind}
+use Rattle.pool_types.specs.declared.contents.definition.Definition.{Definition}
+use Rattle.pool_types.specs.declared.contents.definition.DefinitionKind.{DefinitionKind}
 use Rattle.pool_parts.specs.declared.filter.ResolveNameFilter.{ResolveNameFilter}
 use Rattle.pool_parts.specs.declared.resolve.ResolveNameResult.{ResolveNameResult}
 use Rattle.pool_parts.specs.declared.resolve.ResolveNameResult.TheVariants as result

@@ -1,8 +1,9 @@
 ghost use Rattle.std.specs.Prelude.{◌≡◌, ◌≢◌, []};
 ghost use Rattle.std.specs.Option.{option_copied, option_map};
-ghost use Rattle.proto_types.specs.Texts.{first_label};
+ghost use Rattle.pool_types.specs.Texts.{first_label};
 
-use proto_records::{DescriptorErrorKind, Items, Label, Placed};
+use pool_types::{DescriptorErrorKind, Label, Placed};
+use proto_types::Items;
 use std::error::Error;
 use std::fmt;
 
@@ -60,7 +61,7 @@ impl DescriptorError {
 
 impl fmt::Display for DescriptorError {
     ghost use Rattle.std.specs.Prelude.{Some};
-    ghost use Rattle.proto_types.specs.Texts.{first_text};
+    ghost use Rattle.pool_types.specs.Texts.{first_text};
 
     ghost output = { λ e. Some (first_text e.errors) };
 
@@ -74,7 +75,7 @@ impl fmt::Display for DescriptorError {
 
 impl fmt::Debug for DescriptorError {
     ghost use Rattle.std.specs.Prelude.{Some};
-    ghost use Rattle.proto_types.specs.Texts.{first_placed_text};
+    ghost use Rattle.pool_types.specs.Texts.{first_placed_text};
 
     ghost debug_output = { λ e. Some (first_placed_text e.errors) };
 

@@ -1,7 +1,8 @@
 ghost use Rattle.std.specs.Prelude.{◌≡◌, IfOk, map};
-ghost use Rattle.proto_types.specs.Labels.{label_in};
+ghost use Rattle.pool_types.specs.Labels.{label_in};
 
-use proto_records::{FileDescriptorInner, Items, Label, Text};
+use pool_types::{FileDescriptorInner, Label};
+use proto_types::{Items, Text};
 use std::alloc::{AllocError, Global};
 
 /// The place at a path of the file with a number, from 0 in the order of linking; where there is

@@ -1,7 +1,7 @@
 ghost use Rattle.std.specs.Prelude.{◌≡◌};
 ghost use Rattle.pool_parts.specs.Kinds.{is_match};
 
-use proto_records::DefinitionKind;
+use pool_types::DefinitionKind;
 use std::fmt;
 
 /// Which kinds of definition a reference wants.

@@ -15,7 +15,7 @@ pub use files::label_at;
 pub use filter::ResolveNameFilter;
 pub use kinds::{cardinality_of, named_kind, simple_kind};
 pub use names::first_definition;
-pub use proto_records::{
+pub use pool_types::{
     Cardinality, Definition, DefinitionKind, DescriptorErrorKind, Entry, FieldDescriptorInner,
     FileDescriptor, FileDescriptorInner, Identity, KindIndex, Label, MessageDescriptor,
     MessageDescriptorInner,

@@ -6,7 +6,8 @@ ghost use Rattle.pool_parts.specs.References.{reference_fault};
 use crate::files::label_at;
 use crate::filter::ResolveNameFilter;
 use crate::names::first_definition;
-use proto_records::{Definition, DescriptorErrorKind, Entry, FileDescriptorInner, Text};
+use pool_types::{Definition, DescriptorErrorKind, Entry, FileDescriptorInner};
+use proto_types::Text;
 use std::alloc::{AllocError, Global};
 
 /// What a reference means.

@@ -9,7 +9,7 @@ use Rattle.proto_records.specs.declared.counts.CountKind.TheVariants.{ListTooLon
 use Rattle.proto_types.specs.declared.records.message.DescriptorProto.{out-DescriptorProto}
 use Rattle.proto_records.specs.Protos.{Proto, of_file, of_message, of_service, of_enum, of_extension}
 use Rattle.proto_records.specs.Shown.{Shown}
-use Rattle.proto_types.specs.Contents.{Contents}
+use Rattle.pool_types.specs.Contents.{Contents}
 
 abbrev pub no_counts : Counts
 no_counts = record { files = 0; messages = 0; enums = 0; services = 0; extensions = 0 }

@@ -1,8 +1,8 @@
 -- What a visitor has made of the declarations that it was shown.
 use Rattle.std.specs.Prelude.{◌≡◌, ◌↔◌, ℕ, zero, suc, List, [], ◌∷◌, ◌++◌}
 use Rattle.proto_records.specs.declared.declaration.Declaration.{Declaration}
-use Rattle.proto_types.specs.declared.fault.DescriptorErrorKind.{DescriptorErrorKind}
-use Rattle.proto_types.specs.Contents.{Contents}
+use Rattle.pool_types.specs.declared.fault.DescriptorErrorKind.{DescriptorErrorKind}
+use Rattle.pool_types.specs.Contents.{Contents}
 use Rattle.proto_records.specs.Shown.{Shown}
 
 -- the contents of a pool, the faults, and the declarations that are listed

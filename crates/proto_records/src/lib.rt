@@ -1,5 +1,5 @@
 //! What the records of descriptor.proto declare: counts, finders, the list of all declarations and its walk.
-//! The records themselves are those of `proto_types`.
+//! The records themselves are those of `proto_types`, and the data of a pool's contents that of `pool_types`.
 #![tactic(auto)]
 
 mod counts;
@@ -16,14 +16,17 @@ pub use find::{
     find_method_proto, find_oneof_proto, find_service_proto,
 };
 pub use lister::{Lister, list_declarations};
+pub use pool_types::{
+    Cardinality, Definition, DefinitionKind, DescriptorErrorKind, Entry, FieldDescriptorInner,
+    FileDescriptor, FileDescriptorInner, Identity, KindIndex, Label, MessageDescriptor,
+    MessageDescriptorInner, Placed,
+};
 pub use proto_types::{
-    Cardinality, Definition, DefinitionKind, DescriptorErrorKind, DescriptorProto, Duplicate,
-    Entry, EnumDescriptorProto, EnumOptions, EnumReservedRange, EnumValueDescriptorProto, ExactEq,
-    ExtensionRange, FieldDescriptorInner, FieldDescriptorProto, FieldLabel, FieldOptions,
-    FieldType, FileDescriptor, FileDescriptorInner, FileDescriptorProto, FileDescriptorSet,
-    Identity, Items, KindIndex, Label, Location, MessageDescriptor, MessageDescriptorInner,
-    MethodDescriptorProto, OneofDescriptorProto, Options, Placed, ReservedRange,
-    ServiceDescriptorProto, SourceCodeInfo, Text, Unread, duplicates, same, tag,
+    DescriptorProto, Duplicate, EnumDescriptorProto, EnumOptions, EnumReservedRange,
+    EnumValueDescriptorProto, ExactEq, ExtensionRange, FieldDescriptorProto, FieldLabel,
+    FieldOptions, FieldType, FileDescriptorProto, FileDescriptorSet, Items, Location,
+    MethodDescriptorProto, OneofDescriptorProto, Options, ReservedRange, ServiceDescriptorProto,
+    SourceCodeInfo, Text, Unread, duplicates, same, tag,
 };
 pub use visitor::Visitor;
 pub use walk::{join, visit, visit_each};

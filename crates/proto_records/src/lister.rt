@@ -67,7 +67,7 @@ impl Lister {
 
 impl Visitor for Lister {
     ghost use Rattle.std.specs.Prelude.{[], ◌++◌, map};
-    ghost use Rattle.proto_types.specs.Contents.{no_contents};
+    ghost use Rattle.pool_types.specs.Contents.{no_contents};
     ghost use Rattle.proto_records.specs.Listed.{declaration_of};
 
     ghost after = { λ l ds. record { contents = no_contents; faults = []; listed = l.list.items ++ map declaration_of ds } };

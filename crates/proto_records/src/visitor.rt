@@ -1,5 +1,5 @@
 ghost use Rattle.std.specs.Prelude.{◌≡◌, List, [], ◌∷◌, ◌++◌, OnOk, None, Some};
-ghost use Rattle.proto_types.specs.Contents.{Contents};
+ghost use Rattle.pool_types.specs.Contents.{Contents};
 ghost use Rattle.proto_records.specs.Progress.{Progress, HasSeen};
 ghost use Rattle.proto_records.specs.Protos.{of_message, of_field, of_oneof, of_service, of_method, of_enum, of_value, of_extension};
 ghost use Rattle.proto_records.specs.Shown.{Shown, file_shown, shown_as};

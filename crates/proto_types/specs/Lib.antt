@@ -1,12 +1,6 @@
-pub mod formers
 pub mod Names
 pub mod Lists
 pub mod Readers
 pub mod Empty
 pub mod Computed
-pub mod Contents
-pub mod ContentsCode
-pub mod Labels
-pub mod Texts
-pub mod Exact
 pub mod Equality

@@ -1,35 +1,12 @@
-ghost use Rattle.std.specs.Prelude.{◌≡◌, ◌↔◌, IsTrue};
-ghost use Rattle.proto_types.specs.Exact.{text-exact, items-exact};
-ghost use Rattle.proto_types.specs.Equality.{options-exact, field_options-exact, enum_options-exact, unread-exact, field-exact, enum_range-exact, value-exact, enum-exact, method-exact, service-exact, location-exact, source-exact, extension_range-exact, reserved_range-exact, oneof-exact, message-exact, file-exact, file_set-exact, definition_kind-exact, cardinality-exact, kind-exact, identity-exact, definition-exact, entry-exact, field_inner-exact, file_inner-exact, message_inner-exact, label-exact, fault-exact};
+ghost use Rattle.proto_types.specs.Equality.{options-exact, field_options-exact, enum_options-exact, unread-exact, field-exact, enum_range-exact, value-exact, enum-exact, method-exact, service-exact, location-exact, source-exact, extension_range-exact, reserved_range-exact, oneof-exact, message-exact, file-exact, file_set-exact};
 
 use crate::{
-    Cardinality, Definition, DefinitionKind, DescriptorErrorKind, DescriptorProto, Entry,
-    EnumDescriptorProto, EnumOptions, EnumReservedRange, EnumValueDescriptorProto, ExtensionRange,
-    FieldDescriptorInner, FieldDescriptorProto, FieldOptions, FileDescriptorInner,
-    FileDescriptorProto, FileDescriptorSet, Identity, Items, KindIndex, Label, Location,
-    MessageDescriptorInner, MethodDescriptorProto, OneofDescriptorProto, Options, ReservedRange,
-    ServiceDescriptorProto, SourceCodeInfo, Text, Unread,
+    DescriptorProto, EnumDescriptorProto, EnumOptions, EnumReservedRange, EnumValueDescriptorProto,
+    ExtensionRange, FieldDescriptorProto, FieldOptions, FileDescriptorProto, FileDescriptorSet,
+    Location, MethodDescriptorProto, OneofDescriptorProto, Options, ReservedRange,
+    ServiceDescriptorProto, SourceCodeInfo, Unread,
 };
-
-/// A value whose `==` is equality of contents: two of them compare equal exactly where they are one value.
-pub trait ExactEq: PartialEq {
-    ghost exact: { (a b : Self) → IsTrue (Self.eq a b) ↔ (a ≡ b) };
-}
-
-/// Whether two values have the same contents.
-pub fn same<T: ExactEq>(a: &T, b: &T) -> bool
-    ensures { IsTrue result ↔ (a.now ≡ b.now) }
-{
-    a == b
-}
-
-impl ExactEq for Text {
-    ghost exact = { text-exact };
-}
-
-impl<T: ExactEq> ExactEq for Items<T> {
-    ghost exact = { items-exact T.exact };
-}
+use plain_values::ExactEq;
 
 impl<T: ExactEq> ExactEq for Options<T> {
     ghost exact = { options-exact T.exact };
@@ -101,48 +78,4 @@ impl ExactEq for FileDescriptorProto {
 
 impl ExactEq for FileDescriptorSet {
     ghost exact = { file_set-exact };
-}
-
-impl ExactEq for DefinitionKind {
-    ghost exact = { definition_kind-exact };
-}
-
-impl ExactEq for Cardinality {
-    ghost exact = { cardinality-exact };
-}
-
-impl ExactEq for KindIndex {
-    ghost exact = { kind-exact };
-}
-
-impl ExactEq for Identity {
-    ghost exact = { identity-exact };
-}
-
-impl ExactEq for Definition {
-    ghost exact = { definition-exact };
-}
-
-impl ExactEq for Entry {
-    ghost exact = { entry-exact };
-}
-
-impl ExactEq for FieldDescriptorInner {
-    ghost exact = { field_inner-exact };
-}
-
-impl ExactEq for FileDescriptorInner {
-    ghost exact = { file_inner-exact };
-}
-
-impl ExactEq for MessageDescriptorInner {
-    ghost exact = { message_inner-exact };
-}
-
-impl ExactEq for Label {
-    ghost exact = { label-exact };
-}
-
-impl ExactEq for DescriptorErrorKind {
-    ghost exact = { fault-exact };
 }

@@ -11,17 +11,17 @@ use Rattle.proto_records.specs.declared.declaration.DeclarationKind.TheVariants 
 use Rattle.proto_records.specs.declared.counts.Counts.{Counts}
 use Rattle.proto_records.specs.declared.counts.CountKind.{CountKind}
 use Rattle.proto_records.specs.declared.counts.CountKind.TheVariants as too_many
-use Rattle.proto_types.specs.declared.contents.definition.Definition.{Definition}
-use Rattle.proto_types.specs.declared.contents.definition.DefinitionKind.{DefinitionKind}
-use Rattle.proto_types.specs.declared.contents.definition.DefinitionKind.TheVariants as definition
-use Rattle.proto_types.specs.Contents.{Contents, files_of}
+use Rattle.pool_types.specs.declared.contents.definition.Definition.{Definition}
+use Rattle.pool_types.specs.declared.contents.definition.DefinitionKind.{DefinitionKind}
+use Rattle.pool_types.specs.declared.contents.definition.DefinitionKind.TheVariants as definition
+use Rattle.pool_types.specs.Contents.{Contents, files_of}
 use Rattle.proto_records.specs.Counts.{no_counts, counts_with, counts_in}
 use Rattle.proto_records.specs.Declarations.{declarations}
-use Rattle.proto_types.specs.Labels.{file_at}
+use Rattle.pool_types.specs.Labels.{file_at}
 use Rattle.proto_records.specs.Listed.{declaration_of}
 use Rattle.proto_types.specs.Readers.{text_of}
 use Rattle.proto_records.specs.Shown.{Shown}
-use Rattle.proto_types.specs.Texts.{path_text, placed_text}
+use Rattle.pool_types.specs.Texts.{path_text, placed_text}
 use Rattle.link_script.specs.declared.script.statement.ScriptFault.{ScriptFault}
 use Rattle.link_script.specs.Script.Faults.{fault_words}
 use Rattle.descriptor_pool.specs.FirstPass.{Faults}

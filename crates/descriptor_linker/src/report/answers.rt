@@ -1,8 +1,8 @@
 //! What the commands of a script answer.
 
 ghost use Rattle.std.specs.Prelude.{◌≡◌, ◌++◌, OnOk, string_bytes};
-ghost use Rattle.proto_types.specs.Contents.{files_of};
-ghost use Rattle.proto_types.specs.Labels.{file_at};
+ghost use Rattle.pool_types.specs.Contents.{files_of};
+ghost use Rattle.pool_types.specs.Labels.{file_at};
 ghost use Rattle.proto_types.specs.Readers.{text_of};
 ghost use Rattle.descriptor_linker.specs.Report.Answers as spec;
 

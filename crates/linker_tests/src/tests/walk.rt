@@ -1,7 +1,7 @@
 //! What the walk over files shows.
 
 ghost use Rattle.std.specs.Prelude.{[]};
-ghost use Rattle.proto_types.specs.Contents.{no_contents};
+ghost use Rattle.pool_types.specs.Contents.{no_contents};
 
 use super::made::{field, file, message, small_file};
 use super::whole::{whole_message, whole_service};

@@ -1,12 +1,12 @@
-ghost use Rattle.std.specs.Prelude.{suc, ◌≡◌, ◌<◌, ◌+◌, ◌^◌, [], ◌∷◌, ◌++◌, true, None, Some, OnOk, IfOk, string_bytes};
+ghost use Rattle.std.specs.Prelude.{suc, ◌≡◌, ◌<◌, ◌+◌, ◌^◌, [], ◌∷◌, true, None, Some, OnOk, IfOk};
 ghost use Rattle.proto_types.specs.declared.records.message.DescriptorProto.{out-DescriptorProto};
 ghost use Rattle.proto_types.specs.declared.tag.message.TheConstants.{FIELD, ONEOF_DECL};
 ghost use Rattle.proto_types.specs.declared.tag.enum_.TheConstants.{VALUE};
 ghost use Rattle.proto_types.specs.declared.tag.service.TheConstants.{METHOD};
 ghost use Rattle.proto_records.specs.Counts.{counting, fits_list, lists_fit};
 ghost use Rattle.proto_records.specs.Declarations.{enum_walk, enums_walk, service_walk, services_walk, message_end, messages_walk};
-ghost use Rattle.proto_records.specs.Protos.{of_file, of_message, of_field, of_oneof, of_service, of_method, of_enum, of_value, of_extension};
-ghost use Rattle.proto_records.specs.Shown.{shown, shown_as, parts, row, inside};
+ghost use Rattle.proto_records.specs.Protos.{of_file, of_message, of_field, of_oneof, of_method, of_value, of_extension};
+ghost use Rattle.proto_records.specs.Shown.{shown, parts, row, inside};
 ghost use Rattle.proto_records.specs.Walking.{around, message_opening, number_at, parent_of, proto_of, within_file};
 
 use super::located::Located;

@@ -3,8 +3,8 @@ ghost use Rattle.proto_types.specs.Empty.{no_enum, no_enum_range, no_value};
 ghost use Rattle.proto_types.specs.Readers.{text_of, number_of};
 
 use super::options::{EnumOptions, Options, Unread};
-use crate::items::{Duplicate, Items};
-use crate::text::{self, Text};
+use crate::text;
+use plain_values::{Duplicate, Items, Text};
 use std::alloc::{AllocError, Global};
 
 /// An enum type.

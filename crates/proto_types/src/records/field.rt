@@ -3,8 +3,8 @@ ghost use Rattle.proto_types.specs.Readers.{text_of, number_of, flag_of, label_o
 ghost use Rattle.proto_types.specs.Empty.{no_field};
 
 use super::options::{FieldOptions, Options};
-use crate::items::Duplicate;
-use crate::text::{self, Text};
+use crate::text;
+use plain_values::{Duplicate, Text};
 use std::alloc::{AllocError, Global};
 
 /// A field of a message, or an extension.

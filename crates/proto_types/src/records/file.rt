@@ -8,8 +8,8 @@ use super::message::DescriptorProto;
 use super::options::{Options, Unread};
 use super::service::ServiceDescriptorProto;
 use super::source::SourceCodeInfo;
-use crate::items::{Duplicate, Items};
-use crate::text::{self, Text};
+use crate::text;
+use plain_values::{Duplicate, Items, Text};
 use std::alloc::{AllocError, Global};
 
 /// The files of one description.

@@ -5,8 +5,8 @@ ghost use Rattle.proto_types.specs.Readers.{text_of, number_of};
 use super::enumeration::EnumDescriptorProto;
 use super::field::FieldDescriptorProto;
 use super::options::{Options, Unread};
-use crate::items::{Duplicate, Items};
-use crate::text::{self, Text};
+use crate::text;
+use plain_values::{Duplicate, Items, Text};
 use std::alloc::{AllocError, Global};
 
 /// A message type.

@@ -1,7 +1,7 @@
 ghost use Rattle.std.specs.Prelude.{◌≡◌, IfOk};
 ghost use Rattle.proto_types.specs.Readers.{flag_of};
 
-use crate::Items;
+use plain_values::Items;
 use std::alloc::{AllocError, Global};
 use std::fmt;
 

@@ -3,8 +3,8 @@ ghost use Rattle.proto_types.specs.Empty.{no_service, no_method};
 ghost use Rattle.proto_types.specs.Readers.{text_of};
 
 use super::options::{Options, Unread};
-use crate::items::{Duplicate, Items};
-use crate::text::{self, Text};
+use crate::text;
+use plain_values::{Duplicate, Items, Text};
 use std::alloc::{AllocError, Global};
 
 /// A service.

@@ -1,8 +1,7 @@
 ghost use Rattle.std.specs.Prelude.{◌≡◌, IfOk};
 ghost use Rattle.proto_types.specs.Empty.{no_source, no_location};
 
-use crate::items::{Duplicate, Items};
-use crate::text::Text;
+use plain_values::{Duplicate, Items, Text};
 use std::alloc::{AllocError, Global};
 
 /// Where the declarations of a file stand in its source.

@@ -1,5 +1,5 @@
 use Rattle.std.proofs.Common.{[], ap, ◌∙◌, sym, refl}
-use Rattle.proto_types.specs.Contents.{Contents}
+use Rattle.pool_types.specs.Contents.{Contents}
 use Rattle.proto_records.specs.Declarations.{declarations}
 use Rattle.proto_records.specs.Progress.{Progress}
 use Rattle.proto_records.proofs.Listings.{on-ok}

@@ -1,6 +1,6 @@
 use Rattle.std.proofs.Common.{◌≡◌, ℕ, true, eqb, List, [], ◌∷◌, length, IsOk, Err, refl, ap, subst, sym, ◌∙◌, rules, arith}
 use Rattle.std.proofs.lemmas.Bool.Decides.{nat_tests}
-use Rattle.proto_types.specs.Contents.{Contents}
+use Rattle.pool_types.specs.Contents.{Contents}
 use Rattle.proto_records.specs.Counts.{counts_with, counts_in}
 use Rattle.proto_records.specs.Declarations.{declarations}
 use Rattle.descriptor_pool.specs.Held.{contents_in}

@@ -1,5 +1,5 @@
 use Rattle.std.proofs.Common.{refl, subst, sym, arith}
-use Rattle.proto_types.specs.Contents.{no_contents}
+use Rattle.pool_types.specs.Contents.{no_contents}
 use Rattle.descriptor_pool.specs.Held.{IsHeld}
 use Rattle.descriptor_pool.specs.Pool.{empty}
 use Rattle.descriptor_pool.proofs.pool.DescriptorPool.new.Goals as goal

@@ -1,5 +1,5 @@
 use Rattle.std.proofs.Common.{◌≡◌, ◌==◌, IfOk, List, ℕ, Option, subst, sym}
-use Rattle.proto_types.specs.declared.contents.definition.Definition.{Definition}
+use Rattle.pool_types.specs.declared.contents.definition.Definition.{Definition}
 use Rattle.pool_parts.specs.Resolution.{resolution, resolution_in}
 use Rattle.pool_parts.proofs.NamesFirst.{names_first}
 use Rattle.descriptor_pool.proofs.build.setting.Setting.meaning.Goals as goal

@@ -2,7 +2,7 @@
 use Rattle.std.specs.Prelude.{ℕ, ℤ, List, slice_get, unwrap_or}
 use Rattle.proto_types.specs.Empty.{no_file}
 use Rattle.proto_types.specs.Readers.{text_of}
-use Rattle.proto_types.specs.declared.label.Label.{Label}
+use Rattle.pool_types.specs.declared.label.Label.{Label}
 use Rattle.proto_types.specs.declared.records.file.FileDescriptorProto.{FileDescriptorProto}
 
 -- the file with a number

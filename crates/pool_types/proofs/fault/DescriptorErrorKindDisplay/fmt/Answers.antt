@@ -1,6 +1,6 @@
 use Rattle.std.proofs.Common.{rules}
-use Rattle.proto_types.proofs.PathText.{debug_list-path}
-use Rattle.proto_types.proofs.fault.DescriptorErrorKindDisplay.fmt.Goals as goal
+use Rattle.pool_types.proofs.PathText.{debug_list-path}
+use Rattle.pool_types.proofs.fault.DescriptorErrorKindDisplay.fmt.Goals as goal
 
 -- the path is printed as the library prints it
 pub returns-in-MissingRequiredField-clause-writes :

@@ -1,9 +1,8 @@
 ghost use Rattle.std.specs.Prelude.{◌≡◌, IfOk, drop};
 ghost use Rattle.std.specs.Str.{IsCharBoundary};
 
-use crate::items::Duplicate;
 use crate::numbers::FileDescriptor;
-use crate::{Items, Text};
+use plain_values::{Duplicate, Items, Text};
 use std::alloc::{AllocError, Global};
 
 /// Where a declaration stands, and its name.

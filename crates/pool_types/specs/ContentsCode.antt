@@ -2,13 +2,13 @@
 use Rattle.std.specs.Prelude.{List, refl}
 use Rattle.std.specs.Coded.{Coded, code_by, coded×, coded_ℕ, coded_list}
 use Rattle.std.specs.FinMap as map
-use Rattle.proto_types.specs.Contents.{Contents, ByText}
-use Rattle.proto_types.specs.declared.contents.definition.Definition.{Definition}
-use Rattle.proto_types.specs.declared.contents.file.FileDescriptorInner.{FileDescriptorInner}
-use Rattle.proto_types.specs.declared.contents.message.MessageDescriptorInner.{MessageDescriptorInner}
-use Rattle.proto_types.specs.contracts.contents.definition.Definition as definition
-use Rattle.proto_types.specs.contracts.contents.file.FileDescriptorInner as file
-use Rattle.proto_types.specs.contracts.contents.message.MessageDescriptorInner as message
+use Rattle.pool_types.specs.Contents.{Contents, ByText}
+use Rattle.pool_types.specs.declared.contents.definition.Definition.{Definition}
+use Rattle.pool_types.specs.declared.contents.file.FileDescriptorInner.{FileDescriptorInner}
+use Rattle.pool_types.specs.declared.contents.message.MessageDescriptorInner.{MessageDescriptorInner}
+use Rattle.pool_types.specs.contracts.contents.definition.Definition as definition
+use Rattle.pool_types.specs.contracts.contents.file.FileDescriptorInner as file
+use Rattle.pool_types.specs.contracts.contents.message.MessageDescriptorInner as message
 
 -- the parts, as pairs
 abbrev Parts : Type 0

@@ -1,8 +1,9 @@
 ghost use Rattle.std.specs.Prelude.{◌≡◌};
 ghost use Rattle.std.specs.Option.{option_copied};
-ghost use Rattle.proto_types.specs.Texts.{shown_label};
+ghost use Rattle.pool_types.specs.Texts.{shown_label};
 
-use crate::{Label, Text};
+use crate::Label;
+use plain_values::Text;
 use std::error::Error;
 use std::fmt;
 
@@ -60,7 +61,7 @@ impl DescriptorErrorKind {
 
 impl fmt::Display for DescriptorErrorKind {
     ghost use Rattle.std.specs.Prelude.{Some};
-    ghost use Rattle.proto_types.specs.Texts.{fault_text};
+    ghost use Rattle.pool_types.specs.Texts.{fault_text};
 
     ghost output = { λ kind. Some (fault_text kind) };
 
@@ -106,7 +107,7 @@ impl fmt::Display for DescriptorErrorKind {
 
 impl fmt::Debug for DescriptorErrorKind {
     ghost use Rattle.std.specs.Prelude.{Some};
-    ghost use Rattle.proto_types.specs.Texts.{fault_text};
+    ghost use Rattle.pool_types.specs.Texts.{fault_text};
 
     ghost debug_output = { λ kind. Some (fault_text kind) };
 
@@ -123,7 +124,7 @@ pub struct Placed<'a>(pub &'a DescriptorErrorKind);
 
 impl fmt::Display for Placed<'_> {
     ghost use Rattle.std.specs.Prelude.{Some};
-    ghost use Rattle.proto_types.specs.Texts.{placed_text};
+    ghost use Rattle.pool_types.specs.Texts.{placed_text};
 
     ghost output = { λ placed. Some (placed_text placed.0.now) };
 

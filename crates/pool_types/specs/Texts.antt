@@ -5,9 +5,9 @@ use Rattle.std.specs.Option.{option_map_or, option_and_then}
 use Rattle.std.specs.Str.{bytes_eq}
 use Rattle.std.specs.declared.option.Option.{Option}
 use Rattle.std.specs.declared.option.Option.TheVariants.{None, Some}
-use Rattle.proto_types.specs.declared.label.Label.{Label}
-use Rattle.proto_types.specs.declared.fault.DescriptorErrorKind.{DescriptorErrorKind}
-use Rattle.proto_types.specs.declared.fault.DescriptorErrorKind.TheVariants as fault
+use Rattle.pool_types.specs.declared.label.Label.{Label}
+use Rattle.pool_types.specs.declared.fault.DescriptorErrorKind.{DescriptorErrorKind}
+use Rattle.pool_types.specs.declared.fault.DescriptorErrorKind.TheVariants as fault
 
 -- a text between two others
 abbrev pub between : List ℕ → List ℕ → List ℕ → List ℕ

@@ -1,7 +1,7 @@
 ghost use Rattle.std.specs.Prelude.{◌≡◌, IfOk};
 
-use crate::FileDescriptorProto;
-use crate::items::Duplicate;
+use plain_values::Duplicate;
+use proto_types::FileDescriptorProto;
 use std::alloc::{AllocError, Global};
 
 /// A file, by its linked record.

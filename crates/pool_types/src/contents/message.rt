@@ -2,8 +2,7 @@ ghost use Rattle.std.specs.Prelude.{◌≡◌, IfOk};
 
 use super::definition::Identity;
 use super::field::FieldDescriptorInner;
-use crate::Items;
-use crate::items::Duplicate;
+use plain_values::{Duplicate, Items};
 use std::alloc::{AllocError, Global};
 
 /// A message, with its fields in the order of their places.

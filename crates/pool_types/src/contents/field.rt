@@ -1,8 +1,8 @@
 ghost use Rattle.std.specs.Prelude.{◌≡◌, IfOk};
 
 use super::definition::Identity;
-use crate::items::Duplicate;
 use crate::kinds::{Cardinality, KindIndex};
+use plain_values::Duplicate;
 use std::alloc::{AllocError, Global};
 
 /// A field of a message.

@@ -1,7 +1,9 @@
 ghost use Rattle.std.specs.Prelude.{◌≡◌, ◌<◌, IfOk, length, map};
-ghost use Rattle.proto_types.specs.Labels.{label, label_in};
+ghost use Rattle.pool_types.specs.Labels.{label, label_in};
 
-use crate::{FileDescriptorInner, FileDescriptorProto, Items, Text};
+use crate::FileDescriptorInner;
+use plain_values::{Items, Text};
+use proto_types::FileDescriptorProto;
 use std::alloc::{AllocError, Global};
 
 /// A place in a file, by the file's name and the path there.

@@ -1,0 +1,5 @@
+pub mod Contents
+pub mod ContentsCode
+pub mod Labels
+pub mod Texts
+pub mod Equality
