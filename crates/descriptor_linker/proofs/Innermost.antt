@@ -1,4 +1,4 @@
--- The innermost open record is the last of those held.
+-- The innermost open record is the last of the list.
 use Rattle.std.proofs.Common.{◌≡◌, ℕ, zero, suc, ◌-◌, ◌<◌, List, [], ◌∷◌, ◌++◌, length, slice_index_or, slice_set, reverse, refl, ap, sym, ◌∙◌, arith}
 use Rattle.std.proofs.lemmas.List.{reverse-append}
 
@@ -25,7 +25,7 @@ last_of (a ∷ b ∷ bs) (suc n) x y h e = further a (last_of (b ∷ bs) n x y (
 pub reverse-last : {X : Type 0} (front : List X) (x : X) → reverse (front ++ x ∷ []) ≡ x ∷ reverse front
 reverse-last front x = reverse-append front (x ∷ [])
 
--- x is the innermost of the records held, and y stands there after a write
+-- x is the innermost of the records, and y stands there after a write
 pub record IsInnermost {X : Type 0} (xs : List X) (n : ℕ) (x y : X) : Type 0 where
   pub rest : List X
   pub before : reverse xs ≡ x ∷ rest

@@ -9,9 +9,9 @@ use Rattle.descriptor_linker.specs.Devices.{Took}
 -- a piece went behind what had gone
 pub Took-more : (old mid new : Option (List ℕ)) (went more : List ℕ) → Took old went mid → Took mid more new → Took old (went ++ more) new
 Took-more None None new went more first then = then
-Took-more None (Some held) new went more first then = cc
+Took-more None (Some has) new went more first then = cc
 Took-more (Some had) None new went more first then = cc
-Took-more (Some had) (Some held) new went more first then = cc (append_assoc had went more)
+Took-more (Some had) (Some has) new went more first then = cc (append_assoc had went more)
 
 -- the first bytes of the rest go behind the front
 pub rest-taken : (all front rest : List ℕ) (n : ℕ) → all ≡ front ++ rest → all ≡ (front ++ take n rest) ++ take (length rest - n) (drop n rest)

@@ -1,3 +1,3 @@
 pub mod Answers
 pub mod Session
-pub mod Held
+pub mod Code

@@ -1,4 +1,6 @@
 //! The linker of file descriptors.
+//! It hands on what its calls and its data name: the pool, the script, and the records and contents
+//! that these hold.
 #![tactic(auto)]
 
 mod devices;
@@ -11,13 +13,18 @@ pub use devices::{
     MemoryInput, MemoryOutput, ReaderInput, ReportOutput, ScriptInput, WriterOutput,
 };
 pub use ending::Ending;
-pub use link_script::{Block, Keyword, Script, ScriptFault, Statement, read_script};
+pub use link_script::{Block, Keyword, Open, Script, ScriptFault, Statement, read_script};
+pub use plain_values::{Items, Text};
 pub use pool_parts::DescriptorError;
-pub use proto_records::{
-    Cardinality, CountKind, Counts, Definition, DefinitionKind, DescriptorErrorKind,
-    DescriptorProto, FieldDescriptorInner, FieldDescriptorProto, FileDescriptor,
-    FileDescriptorInner, FileDescriptorProto, Identity, Items, KindIndex, Label, MessageDescriptor,
-    MessageDescriptorInner, Text,
+pub use pool_types::{
+    Cardinality, Definition, DefinitionKind, DescriptorErrorKind, FieldDescriptorInner,
+    FileDescriptor, FileDescriptorInner, Identity, KindIndex, Label, MessageDescriptor,
+    MessageDescriptorInner,
+};
+pub use proto_records::{CountKind, Counts};
+pub use proto_types::{
+    DescriptorProto, EnumDescriptorProto, EnumValueDescriptorProto, FieldDescriptorProto,
+    FileDescriptorProto, Location, MethodDescriptorProto, ServiceDescriptorProto,
 };
 pub use report::{Report, report_of};
 pub use runs::run;

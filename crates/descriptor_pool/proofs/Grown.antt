@@ -5,7 +5,8 @@ use Rattle.proto_records.specs.declared.counts.Counts.{Counts}
 use Rattle.pool_types.specs.declared.contents.definition.Entry.{Entry}
 use Rattle.proto_types.specs.declared.records.file.FileDescriptorProto.{FileDescriptorProto}
 use Rattle.pool_types.specs.Contents.{Contents, files_of}
-use Rattle.proto_records.specs.Counts.{counts_with, no_counts, counts_in}
+use Rattle.proto_records.specs.Counts.{no_counts, counts_in}
+use Rattle.proto_records.specs.Fits.{counts_with}
 use Rattle.proto_records.specs.Declarations.{declarations}
 use Rattle.proto_records.proofs.Room.{room-fits}
 use Rattle.pool_parts.specs.Entries.{names}
@@ -13,7 +14,7 @@ use Rattle.descriptor_pool.specs.ReadDeclarations.{read_declarations}
 use Rattle.descriptor_pool.proofs.ReadWalk.{file_counts, declarations-counted}
 use Rattle.descriptor_pool.specs.Behind.{setting_behind, faults_behind}
 use Rattle.descriptor_pool.specs.FirstPass.{first_pass}
-use Rattle.descriptor_pool.specs.Held.{IsHeld}
+use Rattle.descriptor_pool.specs.Invariant.{IsPool}
 use Rattle.descriptor_pool.specs.declared.error.BuildError.{BuildError}
 use Rattle.descriptor_pool.specs.Passes.{TellsFaults}
 use Rattle.descriptor_pool.specs.Outcome.{Outcome, IsLinked}
@@ -26,8 +27,8 @@ use Rattle.descriptor_pool.proofs.Outline.{linked_from, length-linked}
 use Rattle.descriptor_pool.proofs.SameNames.{same_pass}
 
 -- files that are all new fit as they are
-fits-new : (p : Contents) (fs : List FileDescriptorProto) → new_files p fs ≡ fs → Fits p fs → IsOk (counts_with (counts_in p) (declarations (counts_in p) fs))
-fits-new p fs fresh fits = let P : List FileDescriptorProto → Type 0 = λ new. IsOk (counts_with (counts_in p) (declarations (counts_in p) new)) in subst P fresh fits
+fits-new : (p : Contents) (fs : List FileDescriptorProto) → new_files p fs ≡ fs → Fits p fs → IsOk (counts_with (counts_in p) fs)
+fits-new p fs fresh fits = let P : List FileDescriptorProto → Type 0 = λ new. IsOk (counts_with (counts_in p) new) in subst P fresh fits
 
 -- counts that fit stay below the limits
 record Bounds (p : Contents) (fs : List FileDescriptorProto) : Type 0 where
@@ -36,26 +37,26 @@ record Bounds (p : Contents) (fs : List FileDescriptorProto) : Type 0 where
 
 bounds : (p : Contents) (fs : List FileDescriptorProto) → new_files p fs ≡ fs → Fits p fs → Bounds p fs
 bounds p fs fresh fits =
-    let held = (room-fits (counts_in p) (declarations (counts_in p) fs) (fits-new p fs fresh fits)).held in
+    let within = (room-fits (counts_in p) fs (fits-new p fs fresh fits)).within in
     let counted = declarations-counted (counts_in p) fs in
-    record { files = omega (arith, held.files, counted.0); messages = omega (arith, held.messages, counted.1) }
+    record { files = omega (arith, within.files, counted.0); messages = omega (arith, within.messages, counted.1) }
 
 from-none : (n : _) → 0 + n ≡ n
 from-none n = omega arith
 
--- contents that are held, entries whose names mean the same, and new files that fit
+-- contents of a pool, entries whose names mean the same, and new files that fit
 pub record Ground (p : Contents) (known : List Entry) (fs : List FileDescriptorProto) : Type 0 where
-  pub held : IsHeld p
+  pub pool : IsPool p
   pub known_is : names known ≡ p.names
   pub fresh : new_files p fs ≡ fs
   pub fits : Fits p fs
 
 module _ (p : Contents) (known : List Entry) (fs : List FileDescriptorProto) (ground : Ground p known fs) where
   as_files : names known ≡ names (known_names p)
-  as_files = ground.known_is ∙ ground.held.names_are
+  as_files = ground.known_is ∙ ground.pool.names_are
 
   messages : length p.messages ≡ file_counts (files_of p)
-  messages = ground.held.messages ∙ (declarations-counted no_counts (files_of p)).1 ∙ from-none (file_counts (files_of p))
+  messages = ground.pool.messages ∙ (declarations-counted no_counts (files_of p)).1 ∙ from-none (file_counts (files_of p))
 
   names_faults : faults_of_names p fs ≡ first_pass (files_of p ++ fs) known (read_declarations (counts_in p) fs)
   names_faults =
@@ -82,8 +83,8 @@ module _ (p : Contents) (known : List Entry) (fs : List FileDescriptorProto) (gr
     is_linked : IsLinked p fs q
     is_linked = record { fits = ground.fits; accepted = accepted; is = is ∙ sym link_is }
 
-    is_held : IsHeld q
-    is_held =
+    is_pool : IsPool q
+    is_pool =
         let s = setting_behind p known (counts_in p) fs in
         let with = with_items p s (read_declarations (counts_in p) fs) in
         let within = bounds p fs ground.fresh ground.fits in
@@ -98,7 +99,7 @@ module _ (p : Contents) (known : List Entry) (fs : List FileDescriptorProto) (gr
         ap (λ c. file_counts (files_of c)) is ∙ sym (counts_behind p s fs messages) in
         let counted = declarations-counted no_counts (files_of q) in
         record {
-          made = linked_to fs ground.held.made accepted ground.fits (is ∙ sym link_is);
+          made = linked_to fs ground.pool.made accepted ground.fits (is ∙ sym link_is);
           names_are = ap (λ c. c.names) is ∙ names_linked p s known fs messages as_files ∙ ap (λ c. names (known_names c)) (sym is);
           messages = omega (arith, messages_count, declared, counted.1);
           few_files = omega (arith, files_count, within.files);
@@ -123,19 +124,19 @@ outcome_behind {U = U} p known base fs batch (Err error) q base_is ground same b
     let P : Contents → Type 0 = λ after. Outcome {U = U} p batch (Err error) after in
     subst P (sym behind.err) (told_outcome p fs batch same U error ground.fits told)
 
-pub held_behind : {U : Type 0} (p : Contents) (known : List Entry) (base : Counts) (fs : List FileDescriptorProto) (r : Result U BuildError) (q : Contents)
-    → base ≡ counts_in p → Ground p known fs → IsBehind p known base fs r q → IsHeld q
-held_behind p known base fs (Ok u) q base_is ground behind =
+pub pool_behind : {U : Type 0} (p : Contents) (known : List Entry) (base : Counts) (fs : List FileDescriptorProto) (r : Result U BuildError) (q : Contents)
+    → base ≡ counts_in p → Ground p known fs → IsBehind p known base fs r q → IsPool q
+pool_behind p known base fs (Ok u) q base_is ground behind =
     let none = ap (λ b. faults_behind p known b fs) (sym base_is) ∙ behind.faults_are in
     let is = behind.ok ∙ ap (λ b. with_items p (setting_behind p known b fs) (read_declarations b fs)) base_is in
-    is_held p known fs ground none q is
-held_behind p known base fs (Err error) q base_is ground behind = subst IsHeld (sym behind.err) ground.held
+    is_pool p known fs ground none q is
+pool_behind p known base fs (Err error) q base_is ground behind = subst IsPool (sym behind.err) ground.pool
 
 -- what makes up the ground of a batch, by the new files that were counted
-pub ground_of : (p : Contents) (known : List Entry) (base : Counts) (batch counted fs : Batch) → IsHeld p → names known ≡ p.names → base ≡ counts_in p
-    → counted ≡ new_files p batch → fs ≡ new_files p batch → IsOk (counts_with base (declarations base counted)) → Ground p known fs
-ground_of p known base batch counted fs held known_is base_is counted_is new ok =
+pub ground_of : (p : Contents) (known : List Entry) (base : Counts) (batch counted fs : Batch) → IsPool p → names known ≡ p.names → base ≡ counts_in p
+    → counted ≡ new_files p batch → fs ≡ new_files p batch → IsOk (counts_with base counted) → Ground p known fs
+ground_of p known base batch counted fs pool known_is base_is counted_is new ok =
     let fresh : new_files p fs ≡ fs = ap (new_files p) new ∙ new_of_new p batch ∙ sym new in
-    let P : Counts → Type 0 = λ b. IsOk (counts_with b (declarations b counted)) in
-    let Q : Batch → Type 0 = λ gs. IsOk (counts_with (counts_in p) (declarations (counts_in p) gs)) in
-    record { held = held; known_is = known_is; fresh = fresh; fits = subst Q (counted_is ∙ sym new ∙ sym fresh) (subst P base_is ok) }
+    let P : Counts → Type 0 = λ b. IsOk (counts_with b counted) in
+    let Q : Batch → Type 0 = λ gs. IsOk (counts_with (counts_in p) gs) in
+    record { pool = pool; known_is = known_is; fresh = fresh; fits = subst Q (counted_is ∙ sym new ∙ sym fresh) (subst P base_is ok) }

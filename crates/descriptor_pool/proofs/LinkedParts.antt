@@ -7,19 +7,19 @@ use Rattle.proto_types.specs.Readers.{text_of}
 use Rattle.descriptor_pool.specs.Linked.{linked_message, linked_nested, linked_field, LinkedMessageIs}
 use Rattle.descriptor_pool.specs.Setting.{Setting}
 
-row-linked : {n : _} (s : Setting) (number : ℕ) (scope : List ℕ) (nested : Row_of-DescriptorProto n)
-    → items-the_row-DescriptorProto n (linked_nested s number scope nested) ≡ map (linked_message s number scope) (items-the_row-DescriptorProto n nested)
-row-linked s number scope end_of-DescriptorProto = refl
-row-linked s number scope (more_of-DescriptorProto m rest) = ap (λ ms. linked_message s number scope m ∷ ms) (row-linked s number scope rest)
+row-linked : {n : _} (s : Setting) (index : ℕ) (scope : List ℕ) (nested : Row_of-DescriptorProto n)
+    → items-the_row-DescriptorProto n (linked_nested s index scope nested) ≡ map (linked_message s index scope) (items-the_row-DescriptorProto n nested)
+row-linked s index scope end_of-DescriptorProto = refl
+row-linked s index scope (more_of-DescriptorProto m rest) = ap (λ ms. linked_message s index scope m ∷ ms) (row-linked s index scope rest)
 
 pub linked-message-is : LinkedMessageIs
 unfolding literals
-linked-message-is s number scope (DescriptorProto' name fields n nested enums ranges extensions options oneofs reserved reserved_names) =
+linked-message-is s index scope (DescriptorProto' name fields n nested enums ranges extensions options oneofs reserved reserved_names) =
     let m = DescriptorProto' name fields n nested enums ranges extensions options oneofs reserved reserved_names in
     let within = join scope (text_of name) in
-    let row = linked_nested s number within nested in
-    let l = DescriptorProto' name (map (linked_field s number within) fields) n row enums ranges extensions options oneofs reserved reserved_names in
-    let deeper : (out-DescriptorProto l).nested_type ≡ map (linked_message s number within) (out-DescriptorProto m).nested_type =
-    items_shown-the_row-DescriptorProto-0 n row ∙ row-linked s number within nested ∙ ap (map (linked_message s number within)) (sym (items_shown-the_row-DescriptorProto-0 n nested)) in
+    let row = linked_nested s index within nested in
+    let l = DescriptorProto' name (map (linked_field s index within) fields) n row enums ranges extensions options oneofs reserved reserved_names in
+    let deeper : (out-DescriptorProto l).nested_type ≡ map (linked_message s index within) (out-DescriptorProto m).nested_type =
+    items_shown-the_row-DescriptorProto-0 n row ∙ row-linked s index within nested ∙ ap (map (linked_message s index within)) (sym (items_shown-the_row-DescriptorProto-0 n nested)) in
     sym (roll-out-DescriptorProto l)
-    ∙ ap roll-DescriptorProto (λ i. record (out-DescriptorProto m) { field = map (linked_field s number within) fields; nested_type = deeper i })
+    ∙ ap roll-DescriptorProto (λ i. record (out-DescriptorProto m) { field = map (linked_field s index within) fields; nested_type = deeper i })

@@ -58,7 +58,7 @@ counts-append : (fs gs : List FileDescriptorProto) → file_counts (fs ++ gs) �
 counts-append [] gs = omega arith
 counts-append (f ∷ fs) gs = ap (λ n. file_count f + n) (counts-append fs gs) ∙ omega arith
 
--- and the number of its messages
+-- and the index of its messages
 pub messages_linked : (p : Contents) (s : Setting) (fs : List FileDescriptorProto) → length p.messages ≡ file_counts (files_of p)
     → length (with_items p s (read_declarations (counts_in p) fs)).messages ≡ length p.messages + file_counts fs
 messages_linked p s fs messages =

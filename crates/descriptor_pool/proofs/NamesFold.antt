@@ -16,7 +16,7 @@ use Rattle.descriptor_pool.specs.FirstPass.{Faults, clash_faults, file_name_faul
 use Rattle.descriptor_pool.specs.Passes.{NamesSeen, entered, file_named, named, names_progress}
 
 abbrev raw : List FileDescriptorInner → List FileDescriptorProto
-raw held = map (λ f. f.raw) held
+raw files = map (λ f. f.raw) files
 
 -- entries in turn
 fold-entered : (seen : NamesSeen) (es : List Entry)
@@ -31,17 +31,17 @@ fold-entered seen (e ∷ es) =
 
 -- what is seen after declarations
 abbrev pub seen_after : List FileDescriptorInner → List MessageDescriptorInner → List Entry → List Shown → Faults → NamesSeen
-seen_after held ms known before faults = record { files = held; messages = ms; entries = known ++ entries before; file_names = file_names before; faults = faults }
+seen_after files ms known before faults = record { files = files; messages = ms; entries = known ++ entries before; file_names = file_names before; faults = faults }
 
 push : {A B : Type 0} (f : A → List B) (xs : List A) (x : A) → flat_map f xs ++ f x ≡ flat_map f (xs ++ x ∷ [])
 push f xs x = sym (flat_map-append f xs (x ∷ []) ∙ ap (λ ys. flat_map f xs ++ ys) (append-nil (f x)))
 
 -- one more of a list's entries and names
-grown : (held : List FileDescriptorInner) (ms : List MessageDescriptorInner) (known : List Entry) (before : List Shown) (d : Shown) (faults : Faults)
-    → record { files = held; messages = ms; entries = (known ++ entries before) ++ entries_of d; file_names = file_names before ++ file_names_of d; faults = faults }
-    ≡ seen_after held ms known (before ++ d ∷ []) faults
-grown held ms known before d faults = λ i. record {
-  files = held;
+grown : (files : List FileDescriptorInner) (ms : List MessageDescriptorInner) (known : List Entry) (before : List Shown) (d : Shown) (faults : Faults)
+    → record { files = files; messages = ms; entries = (known ++ entries before) ++ entries_of d; file_names = file_names before ++ file_names_of d; faults = faults }
+    ≡ seen_after files ms known (before ++ d ∷ []) faults
+grown files ms known before d faults = λ i. record {
+  files = files;
   messages = ms;
   entries = (append_assoc known (entries before) (entries_of d) ∙ ap (λ ys. known ++ ys) (push entries_of before d)) i;
   file_names = push file_names_of before d i;
@@ -49,77 +49,77 @@ grown held ms known before d faults = λ i. record {
 }
 
 -- a declaration that enters its own name alone
-own-step : (held : List FileDescriptorInner) (ms : List MessageDescriptorInner) (known : List Entry) (before : List Shown) (faults : Faults) (d : Shown)
-    → entered (seen_after held ms known before faults) (own_entry d) ≡ record {
-      files = held;
+own-step : (files : List FileDescriptorInner) (ms : List MessageDescriptorInner) (known : List Entry) (before : List Shown) (faults : Faults) (d : Shown)
+    → entered (seen_after files ms known before faults) (own_entry d) ≡ record {
+      files = files;
       messages = ms;
       entries = (known ++ entries before) ++ own_entry d ∷ [];
       file_names = file_names before ++ [];
-      faults = faults ++ (clash_faults (raw held) (known ++ entries before) (own_entry d) ++ []);
+      faults = faults ++ (clash_faults (raw files) (known ++ entries before) (own_entry d) ++ []);
     }
-own-step held ms known before faults d = λ i. record {
-  files = held;
+own-step files ms known before faults d = λ i. record {
+  files = files;
   messages = ms;
   entries = (known ++ entries before) ++ own_entry d ∷ [];
   file_names = sym (append-nil (file_names before)) i;
-  faults = faults ++ sym (append-nil (clash_faults (raw held) (known ++ entries before) (own_entry d))) i;
+  faults = faults ++ sym (append-nil (clash_faults (raw files) (known ++ entries before) (own_entry d))) i;
 }
 
-step : (held : List FileDescriptorInner) (ms : List MessageDescriptorInner) (known : List Entry) (before : List Shown) (faults : Faults)
-    (file : ℕ) (parent : Option ℕ) (number : ℕ) (path : List ℤ) (full_name : List ℕ) (p : Proto)
-    → let d : Shown = record { file = file; parent = parent; number = number; path = path; full_name = full_name; proto = p } in
-    named (seen_after held ms known before faults) d ≡ seen_after held ms known (before ++ d ∷ []) (faults ++ first_faults (raw held) known before d)
-step held ms known before faults file parent number path full_name (of_file f) =
-    let d : Shown = record { file = file; parent = parent; number = number; path = path; full_name = full_name; proto = of_file f } in
+step : (files : List FileDescriptorInner) (ms : List MessageDescriptorInner) (known : List Entry) (before : List Shown) (faults : Faults)
+    (file : ℕ) (parent : Option ℕ) (index : ℕ) (path : List ℤ) (full_name : List ℕ) (p : Proto)
+    → let d : Shown = record { file = file; parent = parent; index = index; path = path; full_name = full_name; proto = p } in
+    named (seen_after files ms known before faults) d ≡ seen_after files ms known (before ++ d ∷ []) (faults ++ first_faults (raw files) known before d)
+step files ms known before faults file parent index path full_name (of_file f) =
+    let d : Shown = record { file = file; parent = parent; index = index; path = path; full_name = full_name; proto = of_file f } in
     let own = file_name_faults (file_names before) (text_of f.name) in
-    let clashes = after_each (clash_faults (raw held)) (known ++ entries before) (entries_of d) in
-    fold-entered (file_named (seen_after held ms known before faults) (text_of f.name)) (entries_of d)
-    ∙ ap (λ all. record { files = held; messages = ms; entries = (known ++ entries before) ++ entries_of d; file_names = file_names before ++ file_names_of d; faults = all }) (append_assoc faults own clashes)
-    ∙ grown held ms known before d (faults ++ first_faults (raw held) known before d)
-step held ms known before faults file parent number path full_name (of_message m) =
-    own-step held ms known before faults (record { file = file; parent = parent; number = number; path = path; full_name = full_name; proto = of_message m })
-    ∙ grown held ms known before _ _
-step held ms known before faults file parent number path full_name (of_field f) =
-    own-step held ms known before faults (record { file = file; parent = parent; number = number; path = path; full_name = full_name; proto = of_field f })
-    ∙ grown held ms known before _ _
-step held ms known before faults file parent number path full_name (of_oneof o) =
-    own-step held ms known before faults (record { file = file; parent = parent; number = number; path = path; full_name = full_name; proto = of_oneof o })
-    ∙ grown held ms known before _ _
-step held ms known before faults file parent number path full_name (of_service s) =
-    own-step held ms known before faults (record { file = file; parent = parent; number = number; path = path; full_name = full_name; proto = of_service s })
-    ∙ grown held ms known before _ _
-step held ms known before faults file parent number path full_name (of_method m) =
-    own-step held ms known before faults (record { file = file; parent = parent; number = number; path = path; full_name = full_name; proto = of_method m })
-    ∙ grown held ms known before _ _
-step held ms known before faults file parent number path full_name (of_enum e) =
-    own-step held ms known before faults (record { file = file; parent = parent; number = number; path = path; full_name = full_name; proto = of_enum e })
-    ∙ grown held ms known before _ _
-step held ms known before faults file parent number path full_name (of_value v) =
-    own-step held ms known before faults (record { file = file; parent = parent; number = number; path = path; full_name = full_name; proto = of_value v })
-    ∙ grown held ms known before _ _
-step held ms known before faults file parent number path full_name (of_extension x) =
-    own-step held ms known before faults (record { file = file; parent = parent; number = number; path = path; full_name = full_name; proto = of_extension x })
-    ∙ grown held ms known before _ _
+    let clashes = after_each (clash_faults (raw files)) (known ++ entries before) (entries_of d) in
+    fold-entered (file_named (seen_after files ms known before faults) (text_of f.name)) (entries_of d)
+    ∙ ap (λ all. record { files = files; messages = ms; entries = (known ++ entries before) ++ entries_of d; file_names = file_names before ++ file_names_of d; faults = all }) (append_assoc faults own clashes)
+    ∙ grown files ms known before d (faults ++ first_faults (raw files) known before d)
+step files ms known before faults file parent index path full_name (of_message m) =
+    own-step files ms known before faults (record { file = file; parent = parent; index = index; path = path; full_name = full_name; proto = of_message m })
+    ∙ grown files ms known before _ _
+step files ms known before faults file parent index path full_name (of_field f) =
+    own-step files ms known before faults (record { file = file; parent = parent; index = index; path = path; full_name = full_name; proto = of_field f })
+    ∙ grown files ms known before _ _
+step files ms known before faults file parent index path full_name (of_oneof o) =
+    own-step files ms known before faults (record { file = file; parent = parent; index = index; path = path; full_name = full_name; proto = of_oneof o })
+    ∙ grown files ms known before _ _
+step files ms known before faults file parent index path full_name (of_service s) =
+    own-step files ms known before faults (record { file = file; parent = parent; index = index; path = path; full_name = full_name; proto = of_service s })
+    ∙ grown files ms known before _ _
+step files ms known before faults file parent index path full_name (of_method m) =
+    own-step files ms known before faults (record { file = file; parent = parent; index = index; path = path; full_name = full_name; proto = of_method m })
+    ∙ grown files ms known before _ _
+step files ms known before faults file parent index path full_name (of_enum e) =
+    own-step files ms known before faults (record { file = file; parent = parent; index = index; path = path; full_name = full_name; proto = of_enum e })
+    ∙ grown files ms known before _ _
+step files ms known before faults file parent index path full_name (of_value v) =
+    own-step files ms known before faults (record { file = file; parent = parent; index = index; path = path; full_name = full_name; proto = of_value v })
+    ∙ grown files ms known before _ _
+step files ms known before faults file parent index path full_name (of_extension x) =
+    own-step files ms known before faults (record { file = file; parent = parent; index = index; path = path; full_name = full_name; proto = of_extension x })
+    ∙ grown files ms known before _ _
 
-fold-after : (held : List FileDescriptorInner) (ms : List MessageDescriptorInner) (known : List Entry) (before : List Shown) (faults : Faults) (ds : List Shown)
-    → fold named (seen_after held ms known before faults) ds
-    ≡ seen_after held ms known (before ++ ds) (faults ++ after_each (first_faults (raw held) known) before ds)
-fold-after held ms known before faults [] = λ i. seen_after held ms known (sym (append-nil before) i) (sym (append-nil faults) i)
-fold-after held ms known before faults (d ∷ ds) =
-    ap (λ seen. fold named seen ds) (step held ms known before faults d.file d.parent d.number d.path d.full_name d.proto)
-    ∙ fold-after held ms known (before ++ d ∷ []) (faults ++ first_faults (raw held) known before d) ds
-    ∙ (λ i. seen_after held ms known (append_assoc before (d ∷ []) ds i) (append_assoc faults (first_faults (raw held) known before d) (after_each (first_faults (raw held) known) (before ++ d ∷ []) ds) i))
+fold-after : (files : List FileDescriptorInner) (ms : List MessageDescriptorInner) (known : List Entry) (before : List Shown) (faults : Faults) (ds : List Shown)
+    → fold named (seen_after files ms known before faults) ds
+    ≡ seen_after files ms known (before ++ ds) (faults ++ after_each (first_faults (raw files) known) before ds)
+fold-after files ms known before faults [] = λ i. seen_after files ms known (sym (append-nil before) i) (sym (append-nil faults) i)
+fold-after files ms known before faults (d ∷ ds) =
+    ap (λ seen. fold named seen ds) (step files ms known before faults d.file d.parent d.index d.path d.full_name d.proto)
+    ∙ fold-after files ms known (before ++ d ∷ []) (faults ++ first_faults (raw files) known before d) ds
+    ∙ (λ i. seen_after files ms known (append_assoc before (d ∷ []) ds i) (append_assoc faults (first_faults (raw files) known before d) (after_each (first_faults (raw files) known) (before ++ d ∷ []) ds) i))
 
 -- the whole pass, behind the names that are known
-pub fold_named : (held : List FileDescriptorInner) (ms : List MessageDescriptorInner) (known : List Entry) (ds : List Shown)
-    → fold named (record { files = held; messages = ms; entries = known; file_names = []; faults = [] }) ds
-    ≡ record { files = held; messages = ms; entries = known ++ entries ds; file_names = file_names ds; faults = first_pass (raw held) known ds }
-fold_named held ms known ds =
-    (λ i. fold named (record { files = held; messages = ms; entries = sym (append-nil known) i; file_names = []; faults = [] }) ds)
-    ∙ fold-after held ms known [] [] ds
+pub fold_named : (files : List FileDescriptorInner) (ms : List MessageDescriptorInner) (known : List Entry) (ds : List Shown)
+    → fold named (record { files = files; messages = ms; entries = known; file_names = []; faults = [] }) ds
+    ≡ record { files = files; messages = ms; entries = known ++ entries ds; file_names = file_names ds; faults = first_pass (raw files) known ds }
+fold_named files ms known ds =
+    (λ i. fold named (record { files = files; messages = ms; entries = sym (append-nil known) i; file_names = []; faults = [] }) ds)
+    ∙ fold-after files ms known [] [] ds
 
 -- the same, as progress after a visitor has been shown all
-pub progress_named : (seen : NamesSeen) (held : List FileDescriptorInner) (ms : List MessageDescriptorInner) (known : List Entry) (ds : List Shown)
-    → seen ≡ record { files = held; messages = ms; entries = known; file_names = []; faults = [] }
-    → names_progress (fold named seen ds) ≡ record { contents = record { files = held; messages = ms; names = names (known ++ entries ds) }; faults = first_pass (raw held) known ds; listed = [] }
-progress_named seen held ms known ds is = (λ i. names_progress (fold named (is i) ds)) ∙ ap names_progress (fold_named held ms known ds)
+pub progress_named : (seen : NamesSeen) (files : List FileDescriptorInner) (ms : List MessageDescriptorInner) (known : List Entry) (ds : List Shown)
+    → seen ≡ record { files = files; messages = ms; entries = known; file_names = []; faults = [] }
+    → names_progress (fold named seen ds) ≡ record { contents = record { files = files; messages = ms; names = names (known ++ entries ds) }; faults = first_pass (raw files) known ds; listed = [] }
+progress_named seen files ms known ds is = (λ i. names_progress (fold named (is i) ds)) ∙ ap names_progress (fold_named files ms known ds)

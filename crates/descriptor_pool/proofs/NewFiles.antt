@@ -7,7 +7,8 @@ use Rattle.std.specs.Str.{bytes_eq}
 use Rattle.pool_types.specs.declared.contents.file.FileDescriptorInner.{FileDescriptorInner}
 use Rattle.proto_types.specs.declared.records.file.FileDescriptorProto.{FileDescriptorProto}
 use Rattle.pool_types.specs.Contents.{Contents, files_of}
-use Rattle.proto_records.specs.Counts.{counts_with, no_counts, counts_in}
+use Rattle.proto_records.specs.Counts.{no_counts, counts_in}
+use Rattle.proto_records.specs.Fits.{counts_with}
 use Rattle.proto_records.specs.Declarations.{declarations}
 use Rattle.descriptor_pool.specs.ReadDeclarations.{read_declarations}
 use Rattle.proto_types.specs.Readers.{text_of}
@@ -51,7 +52,7 @@ new_of_new p batch = keep-twice (λ f. not (has_file p (text_of f.name))) batch
 
 module _ (p : Contents) (a b : Batch) (same : new_files p a ≡ new_files p b) where
   pub same_fits : Fits p a → Fits p b
-  same_fits fits = let P : Batch → Type 0 = λ new. IsOk (counts_with (counts_in p) (declarations (counts_in p) new)) in subst P same fits
+  same_fits fits = let P : Batch → Type 0 = λ new. IsOk (counts_with (counts_in p) new) in subst P same fits
 
   pub same_faults : faults p a ≡ faults p b
   same_faults = λ i. first_of_both (first_pass (files_of p ++ same i) (known_names p) (read_declarations (counts_in p) (same i)))
@@ -73,20 +74,20 @@ module _ (p : Contents) (a b : Batch) (same : new_files p a ≡ new_files p b) w
   told_outcome U (Descriptor error) fits told = record { fits = same_fits fits; all = told ∙ same_faults; unchanged = refl }
   told_outcome U OutOfMemory fits told = record { fits = same_fits fits; unchanged = refl }
 
-few_fit : (p : Contents) → length p.files < 2 ^ 32 → length p.messages < 2 ^ 32 → IsOk (counts_with (counts_in p) (declarations (counts_in p) []))
+few_fit : (p : Contents) → length p.files < 2 ^ 32 → length p.messages < 2 ^ 32 → IsOk (counts_with (counts_in p) [])
 few_fit p files messages = grind (arith, nat_tests)
 
 -- a batch without new files leaves the pool as it is
 pub nothing_linked : (p : Contents) (batch : Batch) → new_files p batch ≡ [] → p.names ≡ names (known_names p)
     → length p.files < 2 ^ 32 → length p.messages < 2 ^ 32 → IsLinked p batch p
-nothing_linked p batch none held files messages =
+nothing_linked p batch none names_are files messages =
     let start : IsLinked p [] p = record {
       fits = few_fit p files messages;
       accepted = (refl, refl);
       is = λ i. record {
         files = sym (append-nil p.files) i;
         messages = sym (append-nil p.messages) i;
-        names = (held ∙ ap (λ fs. names (entries (read_declarations no_counts fs))) (sym (append-nil (files_of p)))) i;
+        names = (names_are ∙ ap (λ fs. names (entries (read_declarations no_counts fs))) (sym (append-nil (files_of p)))) i;
       };
     } in
     same_linked p [] batch (sym none) p start

@@ -16,7 +16,7 @@ use Rattle.descriptor_pool.specs.declared.build.resolve.ResolveVisitor.{ResolveV
 use Rattle.descriptor_pool.specs.declared.build.growing.GrowingPool.{GrowingPool}
 use Rattle.descriptor_pool.specs.Entered.{entries}
 use Rattle.descriptor_pool.specs.FirstPass.{Faults, first_pass}
-use Rattle.descriptor_pool.specs.Held.{contents_in}
+use Rattle.descriptor_pool.specs.Invariant.{contents_in}
 use Rattle.descriptor_pool.specs.Growing.{kept_in}
 use Rattle.descriptor_pool.specs.declared.error.BuildError.{BuildError}
 use Rattle.descriptor_pool.specs.declared.error.BuildError.TheVariants.{OutOfMemory}
@@ -44,7 +44,7 @@ module _ (old : GrowingPool) (file_names : List (List ℕ)) (faults : Faults) (n
   pub names_once_shown : {U : Type 0} (pool : GrowingPool) (shown : Result U AllocError) → old ≡ pool
       → OnOk shown (names_progress (names_seen new) ≡ names_progress (fold named start_names ds)) → file_names ≡ [] → faults ≡ [] → OnOk shown (NamesPassed new pool ds)
   names_once_shown pool shown is seen no_file_names no_faults =
-      let P : GrowingPool → Type 0 = λ held. NamesPassed new held ds in
+      let P : GrowingPool → Type 0 = λ pool. NamesPassed new pool ds in
       on-ok shown (λ s. subst P is (names_passed s no_file_names no_faults)) seen
 
 pub record ReferencesPassed (new : ResolveVisitor) (old : GrowingPool) (base : Counts) (fs : List FileDescriptorProto) : Type 0 where
@@ -54,7 +54,7 @@ pub record ReferencesPassed (new : ResolveVisitor) (old : GrowingPool) (base : C
 module _ (old : GrowingPool) (files : List FileDescriptorInner) (messages : List MessageDescriptorInner) (faults : Faults)
     (new : ResolveVisitor) (base : Counts) (fs : List FileDescriptorProto) where
   abbrev pub start_references : ReferencesSeen
-  start_references = record { setting = setting_with old.inner; held = kept_in old; files = files; messages = messages; faults = faults }
+  start_references = record { setting = setting_with old.inner; pool = kept_in old; files = files; messages = messages; faults = faults }
 
   references_passed : references_progress (references_seen new) ≡ references_progress (fold referred start_references (read_declarations base fs))
       → files ≡ [] → messages ≡ [] → faults ≡ [] → ReferencesPassed new old base fs
@@ -68,7 +68,7 @@ module _ (old : GrowingPool) (files : List FileDescriptorInner) (messages : List
       → OnOk shown (references_progress (references_seen new) ≡ references_progress (fold referred start_references (read_declarations base fs)))
       → files ≡ [] → messages ≡ [] → faults ≡ [] → OnOk shown (ReferencesPassed new pool base fs)
   references_once_shown pool shown is seen no_files no_messages no_faults =
-      let P : GrowingPool → Type 0 = λ held. ReferencesPassed new held base fs in
+      let P : GrowingPool → Type 0 = λ pool. ReferencesPassed new pool base fs in
       on-ok shown (λ s. subst P is (references_passed s no_files no_messages no_faults)) seen
 
 -- what a verdict tells are the faults of the pass, unless memory was refused

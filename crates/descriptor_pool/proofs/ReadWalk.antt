@@ -44,21 +44,21 @@ abbrev pub file_counts : List FileDescriptorProto → ℕ
 file_counts [] = 0
 file_counts (f ∷ fs) = file_count f + file_counts fs
 
--- a message, its fields and its nested messages, numbered on from a number
+-- a message, its fields and its nested messages, numbered on from a index
 abbrev mutual
   pub message_read : Surrounding → ℤ → ℕ → ℕ → DescriptorProto → List Shown
-  message_read here tag place k (DescriptorProto' name fields n nested enums ranges extensions options oneofs reserved reserved_names) =
+  message_read here tag position k (DescriptorProto' name fields n nested enums ranges extensions options oneofs reserved reserved_names) =
       let m = DescriptorProto' name fields n nested enums ranges extensions options oneofs reserved reserved_names in
-      let d = shown here tag place k (of_message m) in
+      let d = shown here tag position k (of_message m) in
       d ∷ (parts of_field (inside d) message.FIELD fields ++ nested_read (inside d) 0 (suc k) nested)
 
   pub nested_read : {n : _} → Surrounding → ℕ → ℕ → Row_of-DescriptorProto n → List Shown
-  nested_read here place k end_of-DescriptorProto = []
-  nested_read here place k (more_of-DescriptorProto m rest) = message_read here message.NESTED_TYPE place k m ++ nested_read here (suc place) (k + message_count m) rest
+  nested_read here position k end_of-DescriptorProto = []
+  nested_read here position k (more_of-DescriptorProto m rest) = message_read here message.NESTED_TYPE position k m ++ nested_read here (suc position) (k + message_count m) rest
 
 abbrev pub messages_read : Surrounding → ℤ → ℕ → ℕ → List DescriptorProto → List Shown
-messages_read here tag place k [] = []
-messages_read here tag place k (m ∷ ms) = message_read here tag place k m ++ messages_read here tag (suc place) (k + message_count m) ms
+messages_read here tag position k [] = []
+messages_read here tag position k (m ∷ ms) = message_read here tag position k m ++ messages_read here tag (suc position) (k + message_count m) ms
 
 abbrev pub file_read : ℕ → ℕ → FileDescriptorProto → List Shown
 file_read n k f = file_shown [] n f ∷ messages_read (in_file n f) file.MESSAGE_TYPE 0 k f.message_type
@@ -169,37 +169,37 @@ abbrev more_messages : Counts → ℕ → Counts
 more_messages c n = record c { messages = c.messages + n }
 
 mutual
-  message-counted : (here : Surrounding) (tag : ℤ) (place : ℕ) (base : Counts) (m : DescriptorProto) → Agree (counted base (message_walk here tag place base m)) (more_messages base (message_count m))
-  message-counted here tag place base (DescriptorProto' name fields n nested enums ranges extensions options oneofs reserved reserved_names) =
+  message-counted : (here : Surrounding) (tag : ℤ) (position : ℕ) (base : Counts) (m : DescriptorProto) → Agree (counted base (message_walk here tag position base m)) (more_messages base (message_count m))
+  message-counted here tag position base (DescriptorProto' name fields n nested enums ranges extensions options oneofs reserved reserved_names) =
       let m = DescriptorProto' name fields n nested enums ranges extensions options oneofs reserved reserved_names in
-      let d = shown here tag place base.messages (of_message m) in
+      let d = shown here tag position base.messages (of_message m) in
       let first = counting base (of_message m) in
       let front = message_front (inside d) oneofs fields in
       let deeper = nested_walk (inside d) 0 first nested in
       let after = counted first deeper in
       let ending = message_end (inside d) after enums extensions in
-      let parts : counted base (message_walk here tag place base m) ≡ counted after ending =
+      let parts : counted base (message_walk here tag position base m) ≡ counted after ending =
       counted-append first (front ++ deeper) ending ∙ ap (λ k. counted k ending) (counted-append first front deeper ∙ ap (λ k. counted k deeper) (counted-front first (inside d) oneofs fields)) in
       let tail = end-keep after (inside d) after enums extensions in
       let deep = nested-counted (inside d) 0 first nested in
-      let number : suc base.messages + nested_count nested ≡ base.messages + suc (nested_count nested) = omega arith in
-      (ap (λ (k : Counts). k.files) parts ∙ tail.0 ∙ deep.0, ap (λ (k : Counts). k.messages) parts ∙ tail.1 ∙ deep.1 ∙ number)
+      let index : suc base.messages + nested_count nested ≡ base.messages + suc (nested_count nested) = omega arith in
+      (ap (λ (k : Counts). k.files) parts ∙ tail.0 ∙ deep.0, ap (λ (k : Counts). k.messages) parts ∙ tail.1 ∙ deep.1 ∙ index)
 
-  nested-counted : {n : _} (here : Surrounding) (place : ℕ) (base : Counts) (nested : Row_of-DescriptorProto n) → Agree (counted base (nested_walk here place base nested)) (more_messages base (nested_count nested))
-  nested-counted here place base end_of-DescriptorProto = (refl, omega arith)
-  nested-counted here place base (more_of-DescriptorProto m rest) =
-      let first = message_walk here message.NESTED_TYPE place base m in
-      let one = message-counted here message.NESTED_TYPE place base m in
-      let more = nested-counted here (suc place) (counted base first) rest in
-      let parts = counted-append base first (nested_walk here (suc place) (counted base first) rest) in
-      let number : (counted base first).messages + nested_count rest ≡ base.messages + (message_count m + nested_count rest) = omega (arith, one.1) in
-      (ap (λ (k : Counts). k.files) parts ∙ more.0 ∙ one.0, ap (λ (k : Counts). k.messages) parts ∙ more.1 ∙ number)
+  nested-counted : {n : _} (here : Surrounding) (position : ℕ) (base : Counts) (nested : Row_of-DescriptorProto n) → Agree (counted base (nested_walk here position base nested)) (more_messages base (nested_count nested))
+  nested-counted here position base end_of-DescriptorProto = (refl, omega arith)
+  nested-counted here position base (more_of-DescriptorProto m rest) =
+      let first = message_walk here message.NESTED_TYPE position base m in
+      let one = message-counted here message.NESTED_TYPE position base m in
+      let more = nested-counted here (suc position) (counted base first) rest in
+      let parts = counted-append base first (nested_walk here (suc position) (counted base first) rest) in
+      let index : (counted base first).messages + nested_count rest ≡ base.messages + (message_count m + nested_count rest) = omega (arith, one.1) in
+      (ap (λ (k : Counts). k.files) parts ∙ more.0 ∙ one.0, ap (λ (k : Counts). k.messages) parts ∙ more.1 ∙ index)
 
 mutual
-  message-read : (here : Surrounding) (tag : ℤ) (place : ℕ) (base : Counts) (m : DescriptorProto) → read (message_walk here tag place base m) ≡ message_read here tag place base.messages m
-  message-read here tag place base (DescriptorProto' name fields n nested enums ranges extensions options oneofs reserved reserved_names) =
+  message-read : (here : Surrounding) (tag : ℤ) (position : ℕ) (base : Counts) (m : DescriptorProto) → read (message_walk here tag position base m) ≡ message_read here tag position base.messages m
+  message-read here tag position base (DescriptorProto' name fields n nested enums ranges extensions options oneofs reserved reserved_names) =
       let m = DescriptorProto' name fields n nested enums ranges extensions options oneofs reserved reserved_names in
-      let d = shown here tag place base.messages (of_message m) in
+      let d = shown here tag position base.messages (of_message m) in
       let first = counting base (of_message m) in
       let front = message_front (inside d) oneofs fields in
       let deeper = nested_walk (inside d) 0 first nested in
@@ -209,31 +209,31 @@ mutual
       ∙ append-nil (read front ++ read deeper)
       ∙ (λ i. front-read (inside d) oneofs fields i ++ nested-read (inside d) 0 first nested i))
 
-  nested-read : {n : _} (here : Surrounding) (place : ℕ) (base : Counts) (nested : Row_of-DescriptorProto n) → read (nested_walk here place base nested) ≡ nested_read here place base.messages nested
-  nested-read here place base end_of-DescriptorProto = refl
-  nested-read here place base (more_of-DescriptorProto m rest) =
-      let first = message_walk here message.NESTED_TYPE place base m in
-      read-append first (nested_walk here (suc place) (counted base first) rest)
-      ∙ (λ i. message-read here message.NESTED_TYPE place base m i ++ nested-read here (suc place) (counted base first) rest i)
-      ∙ ap (λ k. message_read here message.NESTED_TYPE place base.messages m ++ nested_read here (suc place) k rest) (message-counted here message.NESTED_TYPE place base m).1
+  nested-read : {n : _} (here : Surrounding) (position : ℕ) (base : Counts) (nested : Row_of-DescriptorProto n) → read (nested_walk here position base nested) ≡ nested_read here position base.messages nested
+  nested-read here position base end_of-DescriptorProto = refl
+  nested-read here position base (more_of-DescriptorProto m rest) =
+      let first = message_walk here message.NESTED_TYPE position base m in
+      read-append first (nested_walk here (suc position) (counted base first) rest)
+      ∙ (λ i. message-read here message.NESTED_TYPE position base m i ++ nested-read here (suc position) (counted base first) rest i)
+      ∙ ap (λ k. message_read here message.NESTED_TYPE position base.messages m ++ nested_read here (suc position) k rest) (message-counted here message.NESTED_TYPE position base m).1
 
-messages-counted : (here : Surrounding) (tag : ℤ) (place : ℕ) (base : Counts) (ms : List DescriptorProto) → Agree (counted base (messages_walk here tag place base ms)) (more_messages base (message_counts ms))
-messages-counted here tag place base [] = (refl, omega arith)
-messages-counted here tag place base (m ∷ ms) =
-    let first = message_walk here tag place base m in
-    let one = message-counted here tag place base m in
-    let more = messages-counted here tag (suc place) (counted base first) ms in
-    let parts = counted-append base first (messages_walk here tag (suc place) (counted base first) ms) in
-    let number : (counted base first).messages + message_counts ms ≡ base.messages + (message_count m + message_counts ms) = omega (arith, one.1) in
-    (ap (λ (k : Counts). k.files) parts ∙ more.0 ∙ one.0, ap (λ (k : Counts). k.messages) parts ∙ more.1 ∙ number)
+messages-counted : (here : Surrounding) (tag : ℤ) (position : ℕ) (base : Counts) (ms : List DescriptorProto) → Agree (counted base (messages_walk here tag position base ms)) (more_messages base (message_counts ms))
+messages-counted here tag position base [] = (refl, omega arith)
+messages-counted here tag position base (m ∷ ms) =
+    let first = message_walk here tag position base m in
+    let one = message-counted here tag position base m in
+    let more = messages-counted here tag (suc position) (counted base first) ms in
+    let parts = counted-append base first (messages_walk here tag (suc position) (counted base first) ms) in
+    let index : (counted base first).messages + message_counts ms ≡ base.messages + (message_count m + message_counts ms) = omega (arith, one.1) in
+    (ap (λ (k : Counts). k.files) parts ∙ more.0 ∙ one.0, ap (λ (k : Counts). k.messages) parts ∙ more.1 ∙ index)
 
-messages-read : (here : Surrounding) (tag : ℤ) (place : ℕ) (base : Counts) (ms : List DescriptorProto) → read (messages_walk here tag place base ms) ≡ messages_read here tag place base.messages ms
-messages-read here tag place base [] = refl
-messages-read here tag place base (m ∷ ms) =
-    let first = message_walk here tag place base m in
-    read-append first (messages_walk here tag (suc place) (counted base first) ms)
-    ∙ (λ i. message-read here tag place base m i ++ messages-read here tag (suc place) (counted base first) ms i)
-    ∙ ap (λ k. message_read here tag place base.messages m ++ messages_read here tag (suc place) k ms) (message-counted here tag place base m).1
+messages-read : (here : Surrounding) (tag : ℤ) (position : ℕ) (base : Counts) (ms : List DescriptorProto) → read (messages_walk here tag position base ms) ≡ messages_read here tag position base.messages ms
+messages-read here tag position base [] = refl
+messages-read here tag position base (m ∷ ms) =
+    let first = message_walk here tag position base m in
+    read-append first (messages_walk here tag (suc position) (counted base first) ms)
+    ∙ (λ i. message-read here tag position base m i ++ messages-read here tag (suc position) (counted base first) ms i)
+    ∙ ap (λ k. message_read here tag position base.messages m ++ messages_read here tag (suc position) k ms) (message-counted here tag position base m).1
 
 -- a file's declarations that are read, and the counts behind a file
 module _ (base : Counts) (f : FileDescriptorProto) where

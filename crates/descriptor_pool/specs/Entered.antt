@@ -11,18 +11,18 @@ use Rattle.proto_types.specs.Readers.{text_of}
 use Rattle.proto_records.specs.Protos.{of_file, of_message, of_field, of_oneof, of_service, of_method, of_enum, of_value, of_extension}
 use Rattle.proto_records.specs.Shown.{Shown}
 
--- what a declaration's name means; a part holds the number of its message, service or enum
+-- what a declaration's name means; a part holds the index of its message, service or enum
 abbrev pub definition_kind : Shown → DefinitionKind
 definition_kind d = elim d.proto [
   | of_file _ ↦ definition.Package
-  | of_message _ ↦ definition.Message d.number
+  | of_message _ ↦ definition.Message d.index
   | of_field _ ↦ definition.Field (unwrap_or d.parent 0)
   | of_oneof _ ↦ definition.Oneof (unwrap_or d.parent 0)
-  | of_service _ ↦ definition.Service d.number
+  | of_service _ ↦ definition.Service d.index
   | of_method _ ↦ definition.Method (unwrap_or d.parent 0)
-  | of_enum _ ↦ definition.Enum d.number
+  | of_enum _ ↦ definition.Enum d.index
   | of_value _ ↦ definition.EnumValue (unwrap_or d.parent 0)
-  | of_extension _ ↦ definition.Extension d.number
+  | of_extension _ ↦ definition.Extension d.index
 ]
 
 -- a package's name, at the package of its file

@@ -1,4 +1,4 @@
--- The faults of the first pass: of file names, and of names that are held already.
+-- The faults of the first pass: of file names, and of names that are defined already.
 use Rattle.std.specs.Prelude.{ℕ, List, [], ◌∷◌, ◌++◌}
 use Rattle.std.specs.List.{list_any, flat_map}
 use Rattle.std.specs.Option.{option_map}

@@ -18,20 +18,20 @@ use Rattle.descriptor_pool.specs.FieldTypes.{field_kind}
 abbrev pub identity : Shown → Identity
 identity d = record { file = d.file; path = d.path; full_name = d.full_name; name_index = length d.full_name - length (name_of d.proto) }
 
--- a field's number as an item holds it; a negative one, which is a fault, is held as itself plus 2 ^ 32
-abbrev pub held : ℤ → ℕ
-held (pos n) = n
-held (negsuc n) = 2 ^ 32 - suc n
+-- a field's number as an item has it; a negative one, which is a fault, stands there as itself plus 2 ^ 32
+abbrev pub item_number : ℤ → ℕ
+item_number (pos n) = n
+item_number (negsuc n) = 2 ^ 32 - suc n
 
 abbrev pub field_item : Setting → Shown → FieldDescriptorProto → FieldDescriptorInner
 field_item s d f = record {
   id = identity d;
-  number = held (number_of f.number);
+  number = item_number (number_of f.number);
   kind = unwrap_or (field_kind s d f) Double;
   cardinality = cardinality_of (label_of f.label);
 }
 
--- the fields in the order of their places
+-- the fields in the order of their positions
 abbrev pub message_item : Setting → Shown → DescriptorProto → MessageDescriptorInner
 message_item s d m = record {
   id = identity d;

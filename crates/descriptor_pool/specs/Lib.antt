@@ -9,7 +9,7 @@ pub mod SecondPass
 pub mod Pool
 pub mod Passes
 pub mod Seen
-pub mod Held
+pub mod Invariant
 pub mod Growing
 pub mod Behind
 pub mod Outcome

@@ -34,34 +34,34 @@ typed r f = record f {
   type_ = option_map_or (λ kind. type_number (type_of f.type_) kind f.type_) (kind_found r) f.type_;
 }
 
--- a field of a file with a number, in a scope
+-- a field of a file with an index, in a scope
 abbrev pub linked_field : Setting → ℕ → List ℕ → FieldDescriptorProto → FieldDescriptorProto
-linked_field s number scope f = elim (text_of f.type_name) [
+linked_field s index scope f = elim (text_of f.type_name) [
   | [] ↦ f
-  | _ ∷ _ ↦ typed (meaning s number (join scope (text_of f.name)) AnyType (text_of f.type_name)) f
+  | _ ∷ _ ↦ typed (meaning s index (join scope (text_of f.name)) AnyType (text_of f.type_name)) f
 ]
 
 -- a message with its fields, and with its nested messages, in a scope
 abbrev mutual
   pub linked_message : Setting → ℕ → List ℕ → DescriptorProto → DescriptorProto
-  linked_message s number scope (DescriptorProto' name fields n nested enums ranges extensions options oneofs reserved reserved_names) =
+  linked_message s index scope (DescriptorProto' name fields n nested enums ranges extensions options oneofs reserved reserved_names) =
       let within = join scope (text_of name) in
-      DescriptorProto' name (map (linked_field s number within) fields) n (linked_nested s number within nested) enums ranges extensions options oneofs reserved reserved_names
+      DescriptorProto' name (map (linked_field s index within) fields) n (linked_nested s index within nested) enums ranges extensions options oneofs reserved reserved_names
 
   pub linked_nested : {n : _} → Setting → ℕ → List ℕ → Row_of-DescriptorProto n → Row_of-DescriptorProto n
-  linked_nested s number scope end_of-DescriptorProto = end_of-DescriptorProto
-  linked_nested s number scope (more_of-DescriptorProto m rest) = more_of-DescriptorProto (linked_message s number scope m) (linked_nested s number scope rest)
+  linked_nested s index scope end_of-DescriptorProto = end_of-DescriptorProto
+  linked_nested s index scope (more_of-DescriptorProto m rest) = more_of-DescriptorProto (linked_message s index scope m) (linked_nested s index scope rest)
 
 -- law: a linked message by its parts
 abbrev pub LinkedMessageIs : Type 0
-LinkedMessageIs = (s : Setting) (number : ℕ) (scope : List ℕ) (m : DescriptorProto) →
+LinkedMessageIs = (s : Setting) (index : ℕ) (scope : List ℕ) (m : DescriptorProto) →
     let written = out-DescriptorProto m in
     let within = join scope (text_of written.name) in
-    linked_message s number scope m ≡ roll-DescriptorProto (record written {
-      field = map (linked_field s number within) written.field;
-      nested_type = map (linked_message s number within) written.nested_type;
+    linked_message s index scope m ≡ roll-DescriptorProto (record written {
+      field = map (linked_field s index within) written.field;
+      nested_type = map (linked_message s index within) written.nested_type;
     })
 
--- the file with a number
+-- the file with an index
 abbrev pub linked : Setting → ℕ → FileDescriptorProto → FileDescriptorProto
-linked s number f = record f { message_type = map (linked_message s number (text_of f.«package»)) f.message_type }
+linked s index f = record f { message_type = map (linked_message s index (text_of f.«package»)) f.message_type }

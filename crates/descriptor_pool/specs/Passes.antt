@@ -53,7 +53,7 @@ names_progress seen = record {
 -- of the second pass: what references are read against, what the pool holds, the items of new files and messages, and the faults so far
 pub record ReferencesSeen : Type 0 where
   pub setting : Setting
-  pub held : Contents
+  pub pool : Contents
   pub files : List FileDescriptorInner
   pub messages : List MessageDescriptorInner
   pub faults : Faults
@@ -79,7 +79,7 @@ referred seen d = elim d.proto [
 
 abbrev pub references_progress : ReferencesSeen → Progress
 references_progress seen = record {
-  contents = record { files = seen.held.files ++ seen.files; messages = seen.held.messages ++ seen.messages; names = seen.setting.names };
+  contents = record { files = seen.pool.files ++ seen.files; messages = seen.pool.messages ++ seen.messages; names = seen.setting.names };
   faults = seen.faults;
   listed = [];
 }

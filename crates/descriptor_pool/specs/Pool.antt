@@ -9,7 +9,8 @@ use Rattle.pool_types.specs.declared.contents.definition.Entry.{Entry}
 use Rattle.proto_types.specs.declared.records.file.FileDescriptorProto.{FileDescriptorProto}
 use Rattle.pool_types.specs.declared.contents.file.FileDescriptorInner.{FileDescriptorInner}
 use Rattle.pool_types.specs.Contents.{Contents, no_contents, files_of}
-use Rattle.proto_records.specs.Counts.{no_counts, counts_with, counts_in}
+use Rattle.proto_records.specs.Counts.{no_counts, counts_in}
+use Rattle.proto_records.specs.Fits.{counts_with}
 use Rattle.proto_records.specs.Declarations.{declarations}
 use Rattle.descriptor_pool.specs.ReadDeclarations.{read_declarations}
 use Rattle.proto_records.specs.Protos.{as_file, as_message}
@@ -63,13 +64,13 @@ Accepts p batch = (faults_of_names p batch ≡ []) × (faults_of_references p ba
 
 -- the counts after the batch, or what there is too much of: in the new files alone, else together with the pool
 abbrev pub counts_after : Contents → Batch → Result Counts CountKind
-counts_after p batch = counts_with (counts_in p) (declarations (counts_in p) (new_files p batch))
+counts_after p batch = counts_with (counts_in p) (new_files p batch)
 
 abbrev pub Fits : Contents → Batch → Type 0
 Fits p batch = IsOk (counts_after p batch)
 
 abbrev pub file_item : Setting → Shown → FileDescriptorProto → FileDescriptorInner
-file_item s d f = record { raw = linked s d.number f }
+file_item s d f = record { raw = linked s d.index f }
 
 -- the pool with the items of declarations added
 abbrev pub with_items : Contents → Setting → List Shown → Contents

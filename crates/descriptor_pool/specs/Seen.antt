@@ -2,14 +2,14 @@
 use Rattle.std.specs.Prelude.{map}
 use Rattle.descriptor_pool.specs.declared.build.names.NameVisitor.{NameVisitor}
 use Rattle.descriptor_pool.specs.declared.build.resolve.ResolveVisitor.{ResolveVisitor}
-use Rattle.descriptor_pool.specs.declared.build.setting.Setting.{Setting as Held}
+use Rattle.descriptor_pool.specs.declared.build.setting.Setting.{Setting as Borrowed}
 use Rattle.descriptor_pool.specs.declared.inner.DescriptorPoolInner.{DescriptorPoolInner}
 use Rattle.pool_parts.specs.Entries.{names}
 use Rattle.descriptor_pool.specs.Growing.{kept_in}
 use Rattle.descriptor_pool.specs.Passes.{NamesSeen, ReferencesSeen}
 use Rattle.descriptor_pool.specs.Setting.{Setting}
 
-abbrev pub setting_in : Held → Setting
+abbrev pub setting_in : Borrowed → Setting
 setting_in s = record { files = map (λ f. f.raw) s.files.now; names = names s.entries.now }
 
 -- what is read against the files and the names of a pool
@@ -28,7 +28,7 @@ names_seen v = record {
 abbrev pub references_seen : ResolveVisitor → ReferencesSeen
 references_seen v = record {
   setting = setting_with v.pool.inner;
-  held = kept_in v.pool;
+  pool = kept_in v.pool;
   files = v.files.items;
   messages = v.messages.items;
   faults = v.faults.items;

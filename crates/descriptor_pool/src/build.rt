@@ -2,7 +2,7 @@
 
 ghost use Rattle.std.specs.Prelude.{◌≡◌, ◌++◌, [], IsOk, IfOk, IfErr, OnOk, OnErr, MatchResult, map};
 ghost use Rattle.std.specs.List.{fold};
-ghost use Rattle.proto_records.specs.Counts.{counts_with};
+ghost use Rattle.proto_records.specs.Fits.{counts_with};
 ghost use Rattle.proto_records.specs.Declarations.{declarations};
 ghost use Rattle.pool_parts.specs.Entries.{names};
 ghost use Rattle.descriptor_pool.specs.declared.error.BuildError.TheVariants.{OutOfMemory};
@@ -10,7 +10,7 @@ ghost use Rattle.descriptor_pool.specs.Behind.{setting_behind, faults_behind};
 ghost use Rattle.descriptor_pool.specs.Entered.{entries};
 ghost use Rattle.descriptor_pool.specs.FirstPass.{first_pass};
 ghost use Rattle.descriptor_pool.specs.Growing.{kept_in};
-ghost use Rattle.descriptor_pool.specs.Held.{contents_in};
+ghost use Rattle.descriptor_pool.specs.Invariant.{contents_in};
 ghost use Rattle.descriptor_pool.specs.Passes.{TellsFaults, named, names_progress, referred, references_progress};
 ghost use Rattle.descriptor_pool.specs.Pool.{with_items};
 ghost use Rattle.descriptor_pool.specs.ReadDeclarations.{read_declarations};
@@ -28,8 +28,10 @@ use crate::error::BuildError;
 use crate::inner::DescriptorPoolInner;
 use growing::GrowingPool;
 pub use names::NameVisitor;
-use pool_parts::{DescriptorError, DescriptorErrorKind, FileDescriptorInner};
-use proto_records::{Counts, FileDescriptorProto, visit};
+use pool_parts::DescriptorError;
+use pool_types::{DescriptorErrorKind, FileDescriptorInner};
+use proto_records::{Counts, visit};
+use proto_types::FileDescriptorProto;
 pub use resolve::ResolveVisitor;
 pub(crate) use setting::Setting;
 use std::alloc::{AllocError, Global};
@@ -42,14 +44,14 @@ pub(crate) fn link(
     pool: &mut DescriptorPoolInner,
     new: &[FileDescriptorProto],
 ) -> Result<(), BuildError>
-    requires { IsOk (counts_with base (declarations base new.now)) }
+    requires { IsOk (counts_with base new.now) }
     ensures ok { OnOk result (contents_in pool.new
         ≡ with_items (contents_in pool.old) (setting_behind (contents_in pool.old) pool.old.entries.items base new.now) (read_declarations base new.now)) }
     ensures faults { MatchResult result (λ _. faults_behind (contents_in pool.old) pool.old.entries.items base new.now ≡ []) (λ error. TellsFaults error (faults_behind (contents_in pool.old) pool.old.entries.items base new.now)) }
     ensures err { OnErr result (contents_in pool.new ≡ contents_in pool.old) }
 {
-    let held = mem::replace(pool, DescriptorPoolInner::new(alloc));
-    let mut growing = GrowingPool::new(held);
+    let before = mem::replace(pool, DescriptorPoolInner::new(alloc));
+    let mut growing = GrowingPool::new(before);
     let linked = link_behind(alloc, base, &mut growing, new);
     if linked.is_err() {
         growing.rollback();
@@ -66,7 +68,7 @@ fn link_behind(
     pool: &mut GrowingPool,
     new: &[FileDescriptorProto],
 ) -> Result<(), BuildError>
-    requires { IsOk (counts_with base (declarations base new.now)) }
+    requires { IsOk (counts_with base new.now) }
     ensures ok { OnOk result (contents_in pool.new.inner
         ≡ with_items (kept_in pool.old) (setting_behind (contents_in pool.old.inner) pool.old.inner.entries.items base new.now) (read_declarations base new.now)) }
     ensures faults { MatchResult result (λ _. faults_behind (contents_in pool.old.inner) pool.old.inner.entries.items base new.now ≡ []) (λ error. TellsFaults error (faults_behind (contents_in pool.old.inner) pool.old.inner.entries.items base new.now)) }
@@ -79,7 +81,7 @@ fn link_behind(
     Ok(())
 }
 
-/// The records of files as they are, which labels name until the linked ones take their place.
+/// The records of files as they are, which labels name until the linked ones replace them.
 fn unlinked_files(
     alloc: Global,
     new: &[FileDescriptorProto],
@@ -103,7 +105,7 @@ fn enter_names(
     pool: &mut GrowingPool,
     new: &[FileDescriptorProto],
 ) -> Result<(), BuildError>
-    requires { IsOk (counts_with base (declarations base new.now)) }
+    requires { IsOk (counts_with base new.now) }
     ensures entered { OnOk result (contents_in pool.new.inner
         ≡ record (contents_in pool.old.inner) { names = names (pool.old.inner.entries.items ++ entries (read_declarations base new.now)) }) }
     ensures faults { MatchResult result (λ _. first_pass (map (λ f. f.raw) pool.old.inner.files.items) pool.old.inner.entries.items (read_declarations base new.now) ≡ [])
@@ -133,7 +135,7 @@ fn show_names(
     new: &[FileDescriptorProto],
     visitor: &mut NameVisitor,
 ) -> Result<(), AllocError>
-    requires { IsOk (counts_with base (declarations base new.now)) }
+    requires { IsOk (counts_with base new.now) }
     ensures ok { OnOk result (names_progress (names_seen visitor.new) ≡ names_progress (fold named (names_seen visitor.old) (read_declarations base new.now))) }
     ensures kept { kept_in visitor.new.pool ≡ kept_in visitor.old.pool }
 {
@@ -148,7 +150,7 @@ fn make_items(
     pool: &mut GrowingPool,
     new: &[FileDescriptorProto],
 ) -> Result<(), BuildError>
-    requires { IsOk (counts_with base (declarations base new.now)) }
+    requires { IsOk (counts_with base new.now) }
     ensures made { OnOk result (contents_in pool.new.inner ≡ with_items (kept_in pool.old) (setting_with pool.old.inner) (read_declarations base new.now)) }
     ensures faults { MatchResult result (λ _. second_pass (setting_with pool.old.inner) (read_declarations base new.now) ≡ [])
         (λ error. TellsFaults error (second_pass (setting_with pool.old.inner) (read_declarations base new.now))) }
@@ -181,7 +183,7 @@ fn show_references(
     new: &[FileDescriptorProto],
     visitor: &mut ResolveVisitor,
 ) -> Result<(), AllocError>
-    requires { IsOk (counts_with base (declarations base new.now)) }
+    requires { IsOk (counts_with base new.now) }
     ensures ok { OnOk result (references_progress (references_seen visitor.new)
         ≡ references_progress (fold referred (references_seen visitor.old) (read_declarations base new.now))) }
     ensures kept { kept_in visitor.new.pool ≡ kept_in visitor.old.pool }

@@ -1,13 +1,13 @@
 ghost use Rattle.std.specs.Prelude.{◌≡◌};
 ghost use Rattle.pool_types.specs.Contents.{no_contents};
-ghost use Rattle.descriptor_pool.specs.Held.{contents_in};
+ghost use Rattle.descriptor_pool.specs.Invariant.{contents_in};
 ghost use Rattle.descriptor_pool.specs.Seen.{setting_in, setting_with};
 
 use crate::build::Setting;
-use pool_parts::{Entry, FileDescriptorInner, MessageDescriptorInner};
+use pool_types::{Entry, FileDescriptorInner, MessageDescriptorInner};
 use std::alloc::Global;
 
-/// What a pool holds: files and messages in the order of their numbers, and the names that these
+/// What a pool holds: files and messages in the order of their indexes, and the names that these
 /// enter.
 #[derive(Drop)]
 pub(crate) struct DescriptorPoolInner {

@@ -9,10 +9,3 @@ mod pool;
 pub use build::{NameVisitor, ResolveVisitor};
 pub use error::BuildError;
 pub use pool::DescriptorPool;
-pub use pool_parts::DescriptorError;
-pub use proto_records::{
-    Cardinality, CountKind, Counts, Definition, DefinitionKind, DescriptorErrorKind,
-    DescriptorProto, FieldDescriptorInner, FieldDescriptorProto, FileDescriptor,
-    FileDescriptorInner, FileDescriptorProto, Identity, Items, KindIndex, Label, MessageDescriptor,
-    MessageDescriptorInner, Text,
-};

@@ -8,15 +8,16 @@ ghost use Rattle.descriptor_pool.specs.LookUps.{without_dot};
 use crate::build::link;
 use crate::error::BuildError;
 use crate::inner::DescriptorPoolInner;
-use pool_parts::{
+use pool_parts::first_definition;
+use pool_types::{
     Definition, FileDescriptor, FileDescriptorInner, MessageDescriptor, MessageDescriptorInner,
-    first_definition,
 };
-use proto_records::{Counts, FileDescriptorProto};
+use proto_records::Counts;
+use proto_types::FileDescriptorProto;
 use std::alloc::{AllocError, Global};
 use std::marker::Model;
 
-/// Linked files and what they declare, each known by a number and by its full name.
+/// Linked files and what they declare, each known by an index and by its full name.
 #[derive(Drop)]
 pub struct DescriptorPool {
     alloc: Global,
@@ -31,11 +32,11 @@ impl Model for DescriptorPool {
 
     ghost coded = { contents_code };
 
-    ghost use Rattle.descriptor_pool.specs.Held.{contents_in, IsHeld};
+    ghost use Rattle.descriptor_pool.specs.Invariant.{contents_in, IsPool};
 
     ghost view = { λ p. contents_in p.inner };
 
-    ghost invariant = { λ p. IsHeld (contents_in p.inner) };
+    ghost invariant = { λ p. IsPool (contents_in p.inner) };
 }
 
 impl DescriptorPool {
@@ -62,14 +63,14 @@ impl DescriptorPool {
         first_definition(&self.inner.entries, without_dot(name))
     }
 
-    /// The file with a number, or none past the end.
+    /// The file with an index, or none past the end.
     pub fn file(&self, file: FileDescriptor) -> Option<&FileDescriptorInner>
         ensures { option_copied result ≡ slice_get self.now.files file.index }
     {
         self.inner.files.get(file.index() as usize)
     }
 
-    /// The message with a number, or none past the end.
+    /// The message with an index, or none past the end.
     pub fn message(&self, message: MessageDescriptor) -> Option<&MessageDescriptorInner>
         ensures { option_copied result ≡ slice_get self.now.messages message.index }
     {

@@ -44,7 +44,7 @@ more_said (say.Packed packed) f = record f { options = Some (record { encoded = 
 more_said (say.Default text) f = record f { default_value = Some text }
 more_said _ f = f
 
--- the places that are told of a file
+-- the locations of a file
 abbrev pub locations_of : Option SourceCodeInfo → List Location
 locations_of source = option_map_or (λ s. s.location) source []
 
@@ -52,8 +52,8 @@ abbrev pub in_file : Statement → FileDescriptorProto → FileDescriptorProto
 in_file (say.Package name) f = record f { «package» = name }
 in_file (say.Syntax name) f = record f { syntax = name }
 in_file (say.Import name) f = record f { dependency = f.dependency ++ name ∷ [] }
-in_file (say.Public place) f = record f { public_dependency = f.public_dependency ++ place ∷ [] }
-in_file (say.Weak place) f = record f { weak_dependency = f.weak_dependency ++ place ∷ [] }
+in_file (say.Public position) f = record f { public_dependency = f.public_dependency ++ position ∷ [] }
+in_file (say.Weak position) f = record f { weak_dependency = f.weak_dependency ++ position ∷ [] }
 in_file (say.At location) f = record f { source_code_info = Some (record { location = locations_of f.source_code_info ++ location ∷ [] }) }
 in_file (say.Extend field) f = record f { extension = f.extension ++ field ∷ [] }
 in_file said f = record f { extension = change_last (more_said said) f.extension }

@@ -6,10 +6,11 @@ ghost use Rattle.link_script.specs.declared.script.statement.Statement.TheVarian
 ghost use Rattle.link_script.specs.Building.{change_last, more_said, in_file, in_message, in_enum, in_service};
 
 use crate::script::Statement;
-use proto_records::{
+use plain_values::{Items, Text};
+use proto_types::{
     DescriptorProto, EnumDescriptorProto, EnumOptions, EnumReservedRange, ExtensionRange,
-    FieldDescriptorProto, FieldOptions, FileDescriptorProto, Items, Location, OneofDescriptorProto,
-    Options, ReservedRange, ServiceDescriptorProto, SourceCodeInfo, Text,
+    FieldDescriptorProto, FieldOptions, FileDescriptorProto, Location, OneofDescriptorProto,
+    Options, ReservedRange, ServiceDescriptorProto, SourceCodeInfo,
 };
 use std::alloc::{AllocError, Global};
 
@@ -129,8 +130,8 @@ fn state_in_file(
         Statement::Package(name) => file.package = name,
         Statement::Syntax(name) => file.syntax = name,
         Statement::Import(name) => file.dependency.push(name)?,
-        Statement::Public(place) => file.public_dependency.push(place)?,
-        Statement::Weak(place) => file.weak_dependency.push(place)?,
+        Statement::Public(position) => file.public_dependency.push(position)?,
+        Statement::Weak(position) => file.weak_dependency.push(position)?,
         Statement::At(location) => add_location(alloc, file, location)?,
         Statement::Extend(field) => file.extension.push(field)?,
         more => say_more(alloc, &mut file.extension, more)?,
@@ -138,7 +139,7 @@ fn state_in_file(
     Ok(())
 }
 
-/// Puts a place behind those that are told of a file.
+/// Puts a location behind the others of a file.
 fn add_location(
     alloc: Global,
     file: &mut FileDescriptorProto,

@@ -5,8 +5,4 @@ mod building;
 mod script;
 
 pub use building::Open;
-pub use proto_records::{
-    DescriptorProto, EnumDescriptorProto, EnumValueDescriptorProto, FieldDescriptorProto,
-    FileDescriptorProto, Items, Location, MethodDescriptorProto, ServiceDescriptorProto, Text,
-};
 pub use script::{Block, Keyword, Script, ScriptFault, Statement, read_script};

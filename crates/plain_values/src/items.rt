@@ -110,6 +110,22 @@ pub fn duplicates<T: Duplicate>(alloc: Global, items: &[T]) -> Result<Vec<T>, Al
     Ok(copies)
 }
 
+/// A copy of a value that may be missing.
+///
+/// # Errors
+/// `AllocError` where memory was refused.
+pub fn duplicate_given<T: Duplicate>(
+    alloc: Global,
+    value: &Option<T>,
+) -> Result<Option<T>, AllocError>
+    ensures { IfOk result (λ copy. copy ≡ value.now) }
+{
+    match value {
+        Some(value) => Ok(Some(value.duplicate(alloc)?)),
+        None => Ok(None),
+    }
+}
+
 impl<T: PartialEq> PartialEq for Items<T> {
     ghost use Rattle.std.specs.Cmp.Lexicographic.{pointwise, lists_per};
 

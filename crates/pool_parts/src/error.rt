@@ -2,8 +2,8 @@ ghost use Rattle.std.specs.Prelude.{◌≡◌, ◌≢◌, []};
 ghost use Rattle.std.specs.Option.{option_copied, option_map};
 ghost use Rattle.pool_types.specs.Texts.{first_label};
 
-use pool_types::{DescriptorErrorKind, Label, Placed};
-use proto_types::Items;
+use plain_values::Items;
+use pool_types::{DescriptorErrorKind, Label, Labelled};
 use std::error::Error;
 use std::fmt;
 
@@ -32,7 +32,7 @@ impl DescriptorError {
         self.errors.as_slice()
     }
 
-    /// The name of the file that the first fault shows, or none where it shows no place.
+    /// The name of the file that the first fault shows, or none where it shows no label.
     pub fn file(&self) -> Option<&str>
         ensures { option_copied result ≡ option_map (λ l. l.file) (first_label self.now.errors) }
     {
@@ -42,7 +42,7 @@ impl DescriptorError {
         }
     }
 
-    /// The path that the first fault shows, or none where it shows no place.
+    /// The path that the first fault shows, or none where it shows no label.
     pub fn path(&self) -> Option<&[i32]>
         ensures { option_copied result ≡ option_map (λ l. l.path) (first_label self.now.errors) }
     {
@@ -75,14 +75,14 @@ impl fmt::Display for DescriptorError {
 
 impl fmt::Debug for DescriptorError {
     ghost use Rattle.std.specs.Prelude.{Some};
-    ghost use Rattle.pool_types.specs.Texts.{first_placed_text};
+    ghost use Rattle.pool_types.specs.Texts.{first_labelled_text};
 
-    ghost debug_output = { λ e. Some (first_placed_text e.errors) };
+    ghost debug_output = { λ e. Some (first_labelled_text e.errors) };
 
     fn fmt<W: fmt::Write>(&self, f: &mut fmt::Formatter<W>) -> fmt::Result {
         match self.errors().first() {
             Some(first) => {
-                let first = Placed(first);
+                let first = Labelled(first);
                 write!(f, "{first}")
             }
             None => Ok(()),

@@ -34,11 +34,11 @@ pub fn named_kind(written: FieldType, definition: DefinitionKind) -> Option<Kind
     ensures { result ≡ named_kind written definition }
 {
     match definition {
-        DefinitionKind::Message(number) => match written {
-            FieldType::Group => Some(KindIndex::Group(number)),
-            _ => Some(KindIndex::Message(number)),
+        DefinitionKind::Message(index) => match written {
+            FieldType::Group => Some(KindIndex::Group(index)),
+            _ => Some(KindIndex::Message(index)),
         },
-        DefinitionKind::Enum(number) => Some(KindIndex::Enum(number)),
+        DefinitionKind::Enum(index) => Some(KindIndex::Enum(index)),
         _ => None,
     }
 }

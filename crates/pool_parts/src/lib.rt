@@ -1,4 +1,5 @@
 //! The parts of a pool: what a name means, which numbers a field may have, and a batch's faults.
+//! It hands on the data of a pool's contents, which stand in `pool_types`.
 #![tactic(auto)]
 
 mod error;

@@ -6,8 +6,8 @@ ghost use Rattle.pool_parts.specs.References.{reference_fault};
 use crate::files::label_at;
 use crate::filter::ResolveNameFilter;
 use crate::names::first_definition;
+use plain_values::Text;
 use pool_types::{Definition, DescriptorErrorKind, Entry, FileDescriptorInner};
-use proto_types::Text;
 use std::alloc::{AllocError, Global};
 
 /// What a reference means.
@@ -24,7 +24,7 @@ pub enum ResolveNameResult<'a> {
         def: &'a Definition,
         filter: ResolveNameFilter,
     },
-    /// A full name, and the number of its file, which isn't seen.
+    /// A full name, and the index of its file, which isn't seen.
     NotImported {
         name: Text,
         file: u32,
@@ -86,7 +86,7 @@ impl ResolveNameResult<'_> {
         matches!(self, ResolveNameResult::Found { .. })
     }
 
-    /// The fault of a reference as it is written, at a path of the file with a number; none where
+    /// The fault of a reference as it is written, at a path of the file with an index; none where
     /// it is found.
     pub fn fault(
         &self,

@@ -5,13 +5,13 @@ use Rattle.proto_types.specs.Readers.{text_of}
 use Rattle.pool_types.specs.declared.label.Label.{Label}
 use Rattle.proto_types.specs.declared.records.file.FileDescriptorProto.{FileDescriptorProto}
 
--- the file with a number
+-- the file with an index
 abbrev pub file_at : List FileDescriptorProto → ℕ → FileDescriptorProto
 file_at files n = unwrap_or (slice_get files n) no_file
 
 abbrev pub label : FileDescriptorProto → List ℤ → Label
 label f path = record { file = text_of f.name; path = path }
 
--- in the file with a number
+-- in the file with an index
 abbrev pub label_in : List FileDescriptorProto → ℕ → List ℤ → Label
 label_in files file path = label (file_at files file) path

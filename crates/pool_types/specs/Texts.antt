@@ -48,11 +48,11 @@ fault_text (fault.InvalidType name expected found defined) = between (codes "'")
 abbrev label_text : Label → List ℕ
 label_text label = label.file ++ codes ": "
 
--- a fault behind the place where it is shown
-abbrev pub placed_text : DescriptorErrorKind → List ℕ
-placed_text kind = option_map_or label_text (shown_label kind) [] ++ fault_text kind
+-- a fault behind the label that it shows
+abbrev pub labelled_text : DescriptorErrorKind → List ℕ
+labelled_text kind = option_map_or label_text (shown_label kind) [] ++ fault_text kind
 
--- of the first of some faults: its label, its text, and its text behind the place where it is shown
+-- of the first of some faults: its label, its text, and its text behind that label
 abbrev first_fault : List DescriptorErrorKind → Option DescriptorErrorKind
 first_fault faults = slice_get faults 0
 
@@ -62,5 +62,5 @@ first_label faults = option_and_then shown_label (first_fault faults)
 abbrev pub first_text : List DescriptorErrorKind → List ℕ
 first_text faults = option_map_or fault_text (first_fault faults) []
 
-abbrev pub first_placed_text : List DescriptorErrorKind → List ℕ
-first_placed_text faults = option_map_or placed_text (first_fault faults) []
+abbrev pub first_labelled_text : List DescriptorErrorKind → List ℕ
+first_labelled_text faults = option_map_or labelled_text (first_fault faults) []

@@ -1,4 +1,4 @@
-//! What a pool holds: each declaration's record, with all references as numbers.
+//! What a pool holds: each declaration's record, with all references as indexes.
 
 mod definition;
 mod field;

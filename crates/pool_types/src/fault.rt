@@ -18,7 +18,7 @@ pub enum DescriptorErrorKind {
     DuplicateFileName {
         name: Text,
     },
-    /// A name is held already.
+    /// A name is defined already.
     DuplicateName {
         name: Text,
         first: Label,
@@ -44,7 +44,7 @@ pub enum DescriptorErrorKind {
 }
 
 impl DescriptorErrorKind {
-    /// The place that the fault shows, or none where it has none.
+    /// The label that the fault shows, or none where it shows none.
     pub fn label(&self) -> Option<&Label>
         ensures { option_copied result ≡ shown_label self.now }
     {
@@ -118,15 +118,15 @@ impl fmt::Debug for DescriptorErrorKind {
 
 impl Error for DescriptorErrorKind {}
 
-/// A fault behind the place that it shows.
+/// A fault behind the label that it shows.
 #[derive(Clone, Copy)]
-pub struct Placed<'a>(pub &'a DescriptorErrorKind);
+pub struct Labelled<'a>(pub &'a DescriptorErrorKind);
 
-impl fmt::Display for Placed<'_> {
+impl fmt::Display for Labelled<'_> {
     ghost use Rattle.std.specs.Prelude.{Some};
-    ghost use Rattle.pool_types.specs.Texts.{placed_text};
+    ghost use Rattle.pool_types.specs.Texts.{labelled_text};
 
-    ghost output = { λ placed. Some (placed_text placed.0.now) };
+    ghost output = { λ labelled. Some (labelled_text labelled.0.now) };
 
     fn fmt<W: fmt::Write>(&self, f: &mut fmt::Formatter<W>) -> fmt::Result {
         let fault = self.0;

@@ -6,7 +6,7 @@ pub enum Cardinality {
     Repeated,
 }
 
-/// The type of a field, a message or an enum by its number.
+/// The type of a field, a message or an enum by its index in the pool.
 #[derive(Clone, Copy, PartialEq)]
 pub enum KindIndex {
     Double,

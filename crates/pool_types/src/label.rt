@@ -6,7 +6,7 @@ use plain_values::{Items, Text};
 use proto_types::FileDescriptorProto;
 use std::alloc::{AllocError, Global};
 
-/// A place in a file, by the file's name and the path there.
+/// Where something stands: the name of a file, and the path in its record.
 #[derive(PartialEq, Drop)]
 pub struct Label {
     pub file: Text,
@@ -14,7 +14,10 @@ pub struct Label {
 }
 
 impl Label {
-    /// The place at a path of the file with a number, from 0 in the order of linking.
+    /// The label of a path in the file with an index, from 0 in the order of linking.
+    ///
+    /// # Errors
+    /// `AllocError` where memory was refused.
     pub fn new(
         alloc: Global,
         files: &[FileDescriptorInner],
@@ -27,7 +30,10 @@ impl Label {
         Label::in_record(alloc, &files[file as usize].raw, path)
     }
 
-    /// The place at a path of a file's record.
+    /// The label of a path in a file's record.
+    ///
+    /// # Errors
+    /// `AllocError` where memory was refused.
     pub fn in_record(
         alloc: Global,
         file: &FileDescriptorProto,
@@ -48,7 +54,7 @@ impl Label {
         self.file.as_str()
     }
 
-    /// Field numbers and places, from the file on.
+    /// Field numbers and positions, from the file on.
     pub fn path(&self) -> &[i32]
         ensures { result.now ≡ self.now.path }
     {

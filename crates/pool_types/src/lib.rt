@@ -4,15 +4,15 @@
 mod contents;
 mod exact;
 mod fault;
+mod indexes;
 mod kinds;
 mod label;
-mod numbers;
 
 pub use contents::{
     Definition, DefinitionKind, Entry, FieldDescriptorInner, FileDescriptorInner, Identity,
     MessageDescriptorInner,
 };
-pub use fault::{DescriptorErrorKind, Placed};
+pub use fault::{DescriptorErrorKind, Labelled};
+pub use indexes::{FileDescriptor, MessageDescriptor};
 pub use kinds::{Cardinality, KindIndex};
 pub use label::Label;
-pub use numbers::{FileDescriptor, MessageDescriptor};

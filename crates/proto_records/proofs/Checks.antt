@@ -51,7 +51,7 @@ whole_file = record no_file {
 }
 
 abbrev line : Shown → ℕ × List ℕ × List ℤ × Option ℕ
-line d = (d.number, d.full_name, d.path, d.parent)
+line d = (d.index, d.full_name, d.path, d.parent)
 
 pub walk_of_each_kind : map line (declarations no_counts (whole_file ∷ [])) ≡
     (0, codes "a.proto", [], None)

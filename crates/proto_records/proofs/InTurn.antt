@@ -39,7 +39,7 @@ module _ {X : Type 0} (R : X → X → Type 0) where
   stops-here (suc n) (x ∷ xs) [] c done within = absurd done
   stops-here (suc n) (x ∷ xs) (y ∷ ys) c done within = (done.0, stops-here n xs ys c done.1 (omega arith))
 
-  -- what holds of each of the first list holds of the one at the place
+  -- what holds of each of the first list holds of the one at the position
   pub holds-here : (P : X → Type 0) (n : ℕ) (xs ys : List X) (b : X) → FirstBecame R n xs ys → n < length ys → b ≡ get_or ys n b → AllByRecursion P xs → P b
   holds-here P zero xs [] b same within is all = absurd (omega arith)
   holds-here P zero [] (y ∷ ys) b same within is all = cc

@@ -22,33 +22,33 @@ use Rattle.proto_records.specs.Declarations.{in_file, enum_walk, enums_walk, ser
 use Rattle.proto_records.specs.Leads.{leads, leads_in_message, leads_in_enum, leads_in_service, PathsLead}
 
 -- a message's walk by its parts
-row-walk : {n : _} (here : Surrounding) (place : ℕ) (base : Counts) (nested : Row_of-DescriptorProto n)
-    → nested_walk here place base nested ≡ messages_walk here message.NESTED_TYPE place base (items-the_row-DescriptorProto n nested)
-row-walk here place base end_of-DescriptorProto = refl
-row-walk here place base (more_of-DescriptorProto m rest) =
-    let first = message_walk here message.NESTED_TYPE place base m in ap (λ ds. first ++ ds) (row-walk here (suc place) (counted base first) rest)
+row-walk : {n : _} (here : Surrounding) (position : ℕ) (base : Counts) (nested : Row_of-DescriptorProto n)
+    → nested_walk here position base nested ≡ messages_walk here message.NESTED_TYPE position base (items-the_row-DescriptorProto n nested)
+row-walk here position base end_of-DescriptorProto = refl
+row-walk here position base (more_of-DescriptorProto m rest) =
+    let first = message_walk here message.NESTED_TYPE position base m in ap (λ ds. first ++ ds) (row-walk here (suc position) (counted base first) rest)
 
 pub message-walk-opens : MessageWalkOpens
 unfolding literals
-message-walk-opens here tag place base (DescriptorProto' name fields n nested enums ranges extensions options oneofs reserved reserved_names) =
+message-walk-opens here tag position base (DescriptorProto' name fields n nested enums ranges extensions options oneofs reserved reserved_names) =
     let m = DescriptorProto' name fields n nested enums ranges extensions options oneofs reserved reserved_names in
-    let d = shown here tag place base.messages (of_message m) in
+    let d = shown here tag position base.messages (of_message m) in
     let first = counting base (of_message m) in
     ap (λ deeper. d ∷ (message_front (inside d) oneofs fields ++ deeper ++ message_end (inside d) (counted first deeper) enums extensions))
     (row-walk (inside d) 0 first nested ∙ ap (messages_walk (inside d) message.NESTED_TYPE 0 first) (sym (items_shown-the_row-DescriptorProto-0 n nested)))
 
--- the rest of a list from a place on
+-- the rest of a list from a position on
 abbrev From : {X : Type 0} → List X → ℕ → List X → Type 0
-From all place rest = (i : ℕ) → slice_get all (place + i) ≡ slice_get rest i
+From all position rest = (i : ℕ) → slice_get all (position + i) ≡ slice_get rest i
 
 from-start : {X : Type 0} (xs : List X) → From xs 0 xs
 from-start xs = λ i. let same : 0 + i ≡ i = omega arith in ap (slice_get xs) same
 
-from-next : {X : Type 0} (all : List X) (place : ℕ) (x : X) (rest : List X) → From all place (x ∷ rest) → From all (suc place) rest
-from-next all place x rest from = λ i. let moved : suc place + i ≡ place + suc i = omega arith in ap (slice_get all) moved ∙ from (suc i)
+from-next : {X : Type 0} (all : List X) (position : ℕ) (x : X) (rest : List X) → From all position (x ∷ rest) → From all (suc position) rest
+from-next all position x rest from = λ i. let moved : suc position + i ≡ position + suc i = omega arith in ap (slice_get all) moved ∙ from (suc i)
 
-first-of : {X : Type 0} (all : List X) (place : ℕ) (x : X) (rest : List X) → From all place (x ∷ rest) → slice_get all place ≡ Some x
-first-of all place x rest from = let here : place ≡ place + 0 = omega arith in ap (slice_get all) here ∙ from 0
+first-of : {X : Type 0} (all : List X) (position : ℕ) (x : X) (rest : List X) → From all position (x ∷ rest) → slice_get all position ≡ Some x
+first-of all position x rest from = let here : position ≡ position + 0 = omega arith in ap (slice_get all) here ∙ from 0
 
 -- of the declarations of one file
 module _ (f : FileDescriptorProto) where
@@ -69,54 +69,54 @@ module _ (f : FileDescriptorProto) where
   itself path on known = ap (leads f) (sym (append-nil path)) ∙ known []
 
   entry : {X : Type 0} (on : X → List ℤ → Option Proto) (here : Surrounding) (tag : ℤ) (all : List X) → LeadsInto on here tag all
-      → (place : ℕ) (x : X) (rest : List X) → From all place (x ∷ rest) → LeadsOn (step here.path tag place) (on x)
-  entry on here tag all known place x rest from path =
-      ap (leads f) (append_assoc here.path (tag ∷ pos place ∷ []) path) ∙ known place path ∙ ap (option_and_then (λ y. on y path)) (first-of all place x rest from)
+      → (position : ℕ) (x : X) (rest : List X) → From all position (x ∷ rest) → LeadsOn (step here.path tag position) (on x)
+  entry on here tag all known position x rest from path =
+      ap (leads f) (append_assoc here.path (tag ∷ pos position ∷ []) path) ∙ known position path ∙ ap (option_and_then (λ y. on y path)) (first-of all position x rest from)
 
   -- entries that nothing more stands in
   row-leads : {X : Type 0} (of : X → Proto) (here : Surrounding) (tag : ℤ) (all : List X) → ((k : ℕ) → leads f (step here.path tag k) ≡ option_map of (slice_get all k))
-      → (place number : ℕ) (rest : List X) → From all place rest → All Leads (row of here tag place number rest)
-  row-leads of here tag all known place number [] from = All-nil Leads
-  row-leads of here tag all known place number (x ∷ rest) from =
-      All-cons Leads (shown here tag place number (of x)) (row of here tag (suc place) (suc number) rest)
-      (known place ∙ ap (option_map of) (first-of all place x rest from))
-      (row-leads of here tag all known (suc place) (suc number) rest (from-next all place x rest from))
+      → (position index : ℕ) (rest : List X) → From all position rest → All Leads (row of here tag position index rest)
+  row-leads of here tag all known position index [] from = All-nil Leads
+  row-leads of here tag all known position index (x ∷ rest) from =
+      All-cons Leads (shown here tag position index (of x)) (row of here tag (suc position) (suc index) rest)
+      (known position ∙ ap (option_map of) (first-of all position x rest from))
+      (row-leads of here tag all known (suc position) (suc index) rest (from-next all position x rest from))
 
   -- enums and their values
   enums-lead : (here : Surrounding) (tag : ℤ) (all : List EnumDescriptorProto) → LeadsInto leads_in_enum here tag all
-      → (place number : ℕ) (rest : List EnumDescriptorProto) → From all place rest → All Leads (enums_walk here tag place number rest)
-  enums-lead here tag all known place number [] from = All-nil Leads
-  enums-lead here tag all known place number (e ∷ rest) from =
-      let d = shown here tag place number (of_enum e) in
-      let on = entry leads_in_enum here tag all known place e rest from in
-      All-append Leads (enum_walk here tag place number e) (enums_walk here tag (suc place) (suc number) rest)
+      → (position index : ℕ) (rest : List EnumDescriptorProto) → From all position rest → All Leads (enums_walk here tag position index rest)
+  enums-lead here tag all known position index [] from = All-nil Leads
+  enums-lead here tag all known position index (e ∷ rest) from =
+      let d = shown here tag position index (of_enum e) in
+      let on = entry leads_in_enum here tag all known position e rest from in
+      All-append Leads (enum_walk here tag position index e) (enums_walk here tag (suc position) (suc index) rest)
       (All-cons Leads d (parts of_value (beside here.scope d) enumeration.VALUE e.value) (itself d.path (leads_in_enum e) on)
       (row-leads of_value (beside here.scope d) enumeration.VALUE e.value (λ k. on (enumeration.VALUE ∷ pos k ∷ [])) 0 0 e.value (from-start e.value)))
-      (enums-lead here tag all known (suc place) (suc number) rest (from-next all place e rest from))
+      (enums-lead here tag all known (suc position) (suc index) rest (from-next all position e rest from))
 
   -- services and their methods
   services-lead : (here : Surrounding) (all : List ServiceDescriptorProto) → LeadsInto leads_in_service here file.SERVICE all
-      → (place number : ℕ) (rest : List ServiceDescriptorProto) → From all place rest → All Leads (services_walk here place number rest)
-  services-lead here all known place number [] from = All-nil Leads
-  services-lead here all known place number (s ∷ rest) from =
-      let d = shown here file.SERVICE place number (of_service s) in
-      let on = entry leads_in_service here file.SERVICE all known place s rest from in
-      All-append Leads (service_walk here place number s) (services_walk here (suc place) (suc number) rest)
+      → (position index : ℕ) (rest : List ServiceDescriptorProto) → From all position rest → All Leads (services_walk here position index rest)
+  services-lead here all known position index [] from = All-nil Leads
+  services-lead here all known position index (s ∷ rest) from =
+      let d = shown here file.SERVICE position index (of_service s) in
+      let on = entry leads_in_service here file.SERVICE all known position s rest from in
+      All-append Leads (service_walk here position index s) (services_walk here (suc position) (suc index) rest)
       (All-cons Leads d (parts of_method (inside d) service.METHOD s.method) (itself d.path (leads_in_service s) on)
       (row-leads of_method (inside d) service.METHOD s.method (λ k. on (service.METHOD ∷ pos k ∷ [])) 0 0 s.method (from-start s.method)))
-      (services-lead here all known (suc place) (suc number) rest (from-next all place s rest from))
+      (services-lead here all known (suc position) (suc index) rest (from-next all position s rest from))
 
   -- messages and all that stands in them, smaller ones before those that they stand in
   abbrev MessagesLead : ℕ → Type 0
   MessagesLead n = (here : Surrounding) (tag : ℤ) (all : List DescriptorProto) → LeadsInto leads_in_message here tag all
-      → (place : ℕ) (base : Counts) (rest : List DescriptorProto) → most size-DescriptorProto rest < n → From all place rest → All Leads (messages_walk here tag place base rest)
+      → (position : ℕ) (base : Counts) (rest : List DescriptorProto) → most size-DescriptorProto rest < n → From all position rest → All Leads (messages_walk here tag position base rest)
 
-  message-leads : (n : ℕ) → MessagesLead n → (here : Surrounding) (tag : ℤ) (place : ℕ) (base : Counts) (m : DescriptorProto) → size-DescriptorProto m < suc n
-      → LeadsOn (step here.path tag place) (leads_in_message m) → All Leads (message_walk here tag place base m)
-  message-leads n smaller here tag place base m small on =
+  message-leads : (n : ℕ) → MessagesLead n → (here : Surrounding) (tag : ℤ) (position : ℕ) (base : Counts) (m : DescriptorProto) → size-DescriptorProto m < suc n
+      → LeadsOn (step here.path tag position) (leads_in_message m) → All Leads (message_walk here tag position base m)
+  message-leads n smaller here tag position base m small on =
       let o = out-DescriptorProto m in
       let size = size_is-DescriptorProto m in
-      let d = shown here tag place base.messages (of_message m) in
+      let d = shown here tag position base.messages (of_message m) in
       let first = counting base (of_message m) in
       let oneofs = parts of_oneof (inside d) message.ONEOF_DECL o.oneof_decl in
       let fields = parts of_field (inside d) message.FIELD o.field in
@@ -124,7 +124,7 @@ module _ (f : FileDescriptorProto) where
       let after = counted first deeper in
       let enums = enums_walk (inside d) message.ENUM_TYPE 0 after.enums o.enum_type in
       let extensions = row of_extension (inside d) message.EXTENSION 0 after.extensions o.extension in
-      subst (All Leads) (sym (message-walk-opens here tag place base m))
+      subst (All Leads) (sym (message-walk-opens here tag position base m))
       (All-cons Leads d (oneofs ++ fields ++ deeper ++ (enums ++ extensions)) (itself d.path (leads_in_message m) on)
       (All-append Leads (oneofs ++ fields ++ deeper) (enums ++ extensions)
       (All-append Leads (oneofs ++ fields) deeper
@@ -137,13 +137,13 @@ module _ (f : FileDescriptorProto) where
       (row-leads of_extension (inside d) message.EXTENSION o.extension (λ k. on (message.EXTENSION ∷ pos k ∷ [])) 0 after.extensions o.extension (from-start o.extension)))))
 
   messages-lead : (n : ℕ) → MessagesLead n
-  messages-lead zero here tag all known place base rest small from = absurd (omega arith)
-  messages-lead (suc n) here tag all known place base [] small from = All-nil Leads
-  messages-lead (suc n) here tag all known place base (m ∷ rest) small from =
-      let first = message_walk here tag place base m in
-      All-append Leads first (messages_walk here tag (suc place) (counted base first) rest)
-      (message-leads n (messages-lead n) here tag place base m (omega arith) (entry leads_in_message here tag all known place m rest from))
-      (messages-lead (suc n) here tag all known (suc place) (counted base first) rest (omega arith) (from-next all place m rest from))
+  messages-lead zero here tag all known position base rest small from = absurd (omega arith)
+  messages-lead (suc n) here tag all known position base [] small from = All-nil Leads
+  messages-lead (suc n) here tag all known position base (m ∷ rest) small from =
+      let first = message_walk here tag position base m in
+      All-append Leads first (messages_walk here tag (suc position) (counted base first) rest)
+      (message-leads n (messages-lead n) here tag position base m (omega arith) (entry leads_in_message here tag all known position m rest from))
+      (messages-lead (suc n) here tag all known (suc position) (counted base first) rest (omega arith) (from-next all position m rest from))
 
 -- a file and all that it declares
 pub paths-lead : PathsLead

@@ -1,9 +1,10 @@
 pub mod Checks
 pub mod Counted
 pub mod Tallies
-pub mod Held
+pub mod Saturated
 pub mod Finding
 pub mod Leading
+pub mod Walks
 pub mod Listings
 pub mod Turns
 pub mod Showing

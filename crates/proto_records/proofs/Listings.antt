@@ -3,12 +3,12 @@ use Rattle.std.proofs.Common.{Option, Result, Ok, Err, OnOk, string_bytes, to_z,
 use Rattle.std.proofs.Math.Seq.{drop-cons}
 use Rattle.std.specs.List.{list_all}
 use Rattle.proto_records.specs.declared.counts.Counts.{Counts}
-use Rattle.proto_records.specs.declared.walk.place.Place.{Place}
+use Rattle.proto_records.specs.declared.walk.site.Site.{Site}
 use Rattle.proto_records.specs.declared.walk.listing.Listing.{Listing}
 use Rattle.proto_records.specs.Protos.{Proto, of_file, of_message, of_field, of_oneof, of_service, of_method, of_enum, of_value, of_extension}
 use Rattle.proto_records.specs.Shown.{Shown, Surrounding, shown, row}
 use Rattle.proto_records.specs.Counts.{counted, counting, lists_fit}
-use Rattle.proto_records.specs.Walking.{around, Held, Lists, Room, located}
+use Rattle.proto_records.specs.Walking.{around, WithinLimits, Lists, Room, located}
 use Rattle.proto_records.proofs.Counted.{counted-append}
 
 pub first-true : (b c : Bool) → (b && c) ≡ true → b ≡ true
@@ -59,30 +59,30 @@ counted-grows c (d ∷ ds) =
       extensions = omega (arith, one.extensions, more.extensions);
     }
 
-held-below : {a b : Counts} → AtMost a b → Held b → Held a
-held-below {a} {b} less held = record {
-  files = omega (arith, less.files, held.files);
-  messages = omega (arith, less.messages, held.messages);
-  enums = omega (arith, less.enums, held.enums);
-  services = omega (arith, less.services, held.services);
-  extensions = omega (arith, less.extensions, held.extensions);
+within-below : {a b : Counts} → AtMost a b → WithinLimits b → WithinLimits a
+within-below {a} {b} less within = record {
+  files = omega (arith, less.files, within.files);
+  messages = omega (arith, less.messages, within.messages);
+  enums = omega (arith, less.enums, within.enums);
+  services = omega (arith, less.services, within.services);
+  extensions = omega (arith, less.extensions, within.extensions);
 }
 
--- the counts so far can be held
-pub held-now : {c : Counts} {ds : List Shown} → Room c ds → Held c
-held-now {c} {ds} room = held-below (counted-grows c ds) room.held
+-- the counts so far are within the limits
+pub within-now : {c : Counts} {ds : List Shown} → Room c ds → WithinLimits c
+within-now {c} {ds} room = within-below (counted-grows c ds) room.within
 
 -- where there is room for two lists in a row, there is room for the first, and then for the second
 pub room-front : {c : Counts} (ds es : List Shown) → Room c (ds ++ es) → Room c ds
 room-front {c} ds es room = record {
   short = all-front ds es room.short;
-  held = held-below (counted-grows (counted c ds) es) (subst Held (counted-append c ds es) room.held);
+  within = within-below (counted-grows (counted c ds) es) (subst WithinLimits (counted-append c ds es) room.within);
 }
 
 pub room-back : {c : Counts} (ds es : List Shown) → Room c (ds ++ es) → Room (counted c ds) es
 room-back {c} ds es room = record {
   short = all-back ds es room.short;
-  held = subst Held (counted-append c ds es) room.held;
+  within = subst WithinLimits (counted-append c ds es) room.within;
 }
 
 -- what is left to be listed of all declarations, and that there is room for it
@@ -119,14 +119,14 @@ on-ok (Ok x) f p = f p
 on-ok (Err e) f p = tt
 
 -- where the parts of a declaration stand
-pub place-is : (p : Place) (parent : Option ℕ) (s : Surrounding) → p.file ≡ s.file → p.path.items ≡ s.path → string_bytes p.name ≡ s.scope → parent ≡ s.parent → around p parent ≡ s
-place-is p parent s file path name up = λ i. record { file = file i; path = path i; scope = name i; parent = up i }
+pub site-is : (p : Site) (parent : Option ℕ) (s : Surrounding) → p.file ≡ s.file → p.path.items ≡ s.path → string_bytes p.name ≡ s.scope → parent ≡ s.parent → around p parent ≡ s
+site-is p parent s file path name up = λ i. record { file = file i; path = path i; scope = name i; parent = up i }
 
 -- a number as a register holds it
-abbrev pub held_int : ℤ → ℤ
-held_int z = to_z w32 (of_z w32 z)
+abbrev pub carried_int : ℤ → ℤ
+carried_int z = to_z w32 (of_z w32 z)
 
--- what is left of a list begins with the item at the place
+-- what is left of a list begins with the item at the position
 pub next : {X : Type 0} (xs : List X) (i : ℕ) (x : X) → i < length xs → x ≡ get_or xs i x → drop i xs ≡ x ∷ drop (i + 1) xs
 next xs i x within is = rw add-one (drop-cons xs i x within ∙ ap (λ y. y ∷ drop (suc i) xs) (sym is))
 
@@ -136,9 +136,9 @@ pub row-next : {X : Type 0} (of : X → Proto) (here : Surrounding) (tag : ℤ) 
 row-next of here tag n xs i x within is =
     ap (row of here tag i n) (next xs i x within is) ∙ (λ j. shown here tag i n (of x) ∷ row of here tag (sym (add-one i) j) (sym (add-one n) j) (drop (i + 1) xs))
 
--- the counts after the first of what there is room for can be held
-pub held-first : {c : Counts} {d : Shown} {ds : List Shown} → Room c (d ∷ ds) → Held (counting c d.proto)
-held-first {c} {d} {ds} room = held-below (counted-grows (counting c d.proto) ds) room.held
+-- the counts after the first of what there is room for are within the limits
+pub within-first : {c : Counts} {d : Shown} {ds : List Shown} → Room c (d ∷ ds) → WithinLimits (counting c d.proto)
+within-first {c} {d} {ds} room = within-below (counted-grows (counting c d.proto) ds) room.within
 
 -- the last of what is left is listed
 pub left-last : {old now next : Listing} {all last : List Shown} → Left old now all last → Lists now next last → Lists old next all
@@ -147,6 +147,6 @@ left-last {old} {now} {next} {all} {last} left step = record {
   counts = step.counts ∙ left.counts;
 }
 
--- what is listed at one place, in other words
+-- what is listed at one position, in other words
 pub lists-as : {old now : Listing} {ds es : List Shown} → ds ≡ es → Lists old now ds → Lists old now es
 lists-as {old} {now} e lists = subst (Lists old now) e lists

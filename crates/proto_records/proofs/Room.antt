@@ -10,17 +10,18 @@ use Rattle.proto_records.specs.declared.counts.CountKind.TheVariants.{ListTooLon
 use Rattle.proto_types.specs.declared.records.file.FileDescriptorProto.{FileDescriptorProto}
 use Rattle.proto_records.specs.Protos.{of_file}
 use Rattle.proto_records.specs.Shown.{Shown}
-use Rattle.proto_records.specs.Counts.{no_counts, counted, counting, plus, within_limit, added_to, counts_of, counts_with, lists_fit}
+use Rattle.proto_records.specs.Counts.{no_counts, counted, counting, plus, within_limit, added_to, counts_of, lists_fit}
+use Rattle.proto_records.specs.Fits.{counts_with}
 use Rattle.proto_records.specs.Declarations.{declarations}
 use Rattle.proto_records.specs.Totals.{tally}
-use Rattle.proto_records.specs.Walking.{Held, Room}
+use Rattle.proto_records.specs.Walking.{WithinLimits, Room}
 use Rattle.proto_records.proofs.Counted.{counted-plus, counts_are}
 use Rattle.proto_records.proofs.Tallies.{declarations-tally}
 use Rattle.proto_records.proofs.Listings.{second-true}
 
--- sums within the limit can be held
-held-sum : (base c : Counts) → IsOk (added_to base (within_limit c)) → Held (plus base c)
-held-sum base c ok = record {
+-- sums within the limit are within the limits
+within-sum : (base c : Counts) → IsOk (added_to base (within_limit c)) → WithinLimits (plus base c)
+within-sum base c ok = record {
   files = grind (arith, nat_tests);
   messages = grind (arith, nat_tests);
   enums = grind (arith, nat_tests);
@@ -32,12 +33,12 @@ room-by : (base : Counts) (ds : List Shown) (short : Bool) → list_all (λ d. l
     → IsOk (added_to base (cond short (within_limit (counted no_counts ds)) (Err ListTooLong))) → Room base ds
 room-by base ds true short ok = record {
   short = short;
-  held = subst Held (sym (counted-plus base ds)) (held-sum base (counted no_counts ds) ok);
+  within = subst WithinLimits (sym (counted-plus base ds)) (within-sum base (counted no_counts ds) ok);
 }
 room-by base ds false short ok = absurd (search rules)
 
-pub room-fits : (base : Counts) (ds : List Shown) → IsOk (counts_with base ds) → Room base ds
-room-fits base ds ok = room-by base ds (list_all (λ d. lists_fit d.proto) ds) refl ok
+room-of : (base : Counts) (ds : List Shown) → IsOk (added_to base (counts_of ds)) → Room base ds
+room-of base ds ok = room-by base ds (list_all (λ d. lists_fit d.proto) ds) refl ok
 
 -- a file that is counted behind what it declares is counted as it is before it
 pub counted-file : (base : Counts) (f : FileDescriptorProto) (ds : List Shown)
@@ -50,16 +51,16 @@ counted-file base f ds =
 -- where there is room for a file and what it declares, there is room for what it declares
 pub room-within : (base : Counts) (f : FileDescriptorProto) (d : Shown) (ds : List Shown) → d.proto ≡ of_file f → Room base (d ∷ ds) → Room base ds
 room-within base f d ds is room =
-    let held : Held (record (counted base ds) { files = suc (counted base ds).files }) =
-    subst Held (ap (λ p. counted (counting base p) ds) is ∙ sym (counted-file base f ds)) room.held in
+    let within : WithinLimits (record (counted base ds) { files = suc (counted base ds).files }) =
+    subst WithinLimits (ap (λ p. counted (counting base p) ds) is ∙ sym (counted-file base f ds)) room.within in
     record {
       short = second-true (lists_fit d.proto) _ room.short;
-      held = record {
-        files = omega (arith, held.files);
-        messages = held.messages;
-        enums = held.enums;
-        services = held.services;
-        extensions = held.extensions;
+      within = record {
+        files = omega (arith, within.files);
+        messages = within.messages;
+        enums = within.enums;
+        services = within.services;
+        extensions = within.extensions;
       };
     }
 
@@ -72,9 +73,11 @@ counts_of-tally : (ds : List Shown) → counts_of ds ≡ within (tally ds)
 counts_of-tally ds = elim (list_all (λ d. lists_fit d.proto) ds) as (λ b. cond b (within_limit (counted no_counts ds)) (Err ListTooLong) ≡ within (cond b (Some (counted no_counts ds)) None))
     [ true ↦ refl | false ↦ refl ]
 
--- the counts of files do not go by where the numbers begin
-pub counts_with-is : (base : Counts) (fs : List FileDescriptorProto) (r : Result Counts CountKind) → r ≡ counts_of (declarations no_counts fs)
-    → counts_with base (declarations base fs) ≡ added_to base r
-counts_with-is base fs r is =
-    ap (added_to base) (counts_of-tally (declarations base fs) ∙ ap within (declarations-tally base fs ∙ sym (declarations-tally no_counts fs))
-    ∙ sym (counts_of-tally (declarations no_counts fs)) ∙ sym is)
+-- the counts of files do not go by where the indexes begin
+counts_of-files : (base : Counts) (fs : List FileDescriptorProto) → counts_of (declarations no_counts fs) ≡ counts_of (declarations base fs)
+counts_of-files base fs =
+    counts_of-tally (declarations no_counts fs) ∙ ap within (declarations-tally no_counts fs ∙ sym (declarations-tally base fs))
+    ∙ sym (counts_of-tally (declarations base fs))
+
+pub room-fits : (base : Counts) (fs : List FileDescriptorProto) → IsOk (counts_with base fs) → Room base (declarations base fs)
+room-fits base fs ok = room-of base (declarations base fs) (subst (λ r. IsOk (added_to base r)) (counts_of-files base fs) ok)

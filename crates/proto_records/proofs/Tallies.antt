@@ -21,12 +21,12 @@ use Rattle.proto_records.specs.Totals.{tally}
 use Rattle.proto_records.proofs.Counted.{both, both-nothing, one, summed, tally-append, tally-cons, counts_are}
 
 -- entries of a list that are not counted
-uncounted : {X : Type 0} (of : X → Proto) → ((x : X) → one (of x) ≡ Some no_counts) → (here : Surrounding) (tag : ℤ) (place number : ℕ) (xs : List X)
-    → tally (row of here tag place number xs) ≡ Some no_counts
-uncounted of plain here tag place number [] = refl
-uncounted of plain here tag place number (x ∷ xs) =
-    tally-cons (shown here tag place number (of x)) (row of here tag (suc place) (suc number) xs)
-    ∙ (λ i. both (plain x i) (uncounted of plain here tag (suc place) (suc number) xs i))
+uncounted : {X : Type 0} (of : X → Proto) → ((x : X) → one (of x) ≡ Some no_counts) → (here : Surrounding) (tag : ℤ) (position index : ℕ) (xs : List X)
+    → tally (row of here tag position index xs) ≡ Some no_counts
+uncounted of plain here tag position index [] = refl
+uncounted of plain here tag position index (x ∷ xs) =
+    tally-cons (shown here tag position index (of x)) (row of here tag (suc position) (suc index) xs)
+    ∙ (λ i. both (plain x i) (uncounted of plain here tag (suc position) (suc index) xs i))
 
 -- so many extensions, enums, services
 abbrev pub so_many_extensions : ℕ → Counts
@@ -38,12 +38,12 @@ so_many_enums n = record no_counts { enums = n }
 abbrev pub so_many_services : ℕ → Counts
 so_many_services n = record no_counts { services = n }
 
-extensions-tally : (here : Surrounding) (tag : ℤ) (place number : ℕ) (xs : List FieldDescriptorProto)
-    → tally (row of_extension here tag place number xs) ≡ Some (so_many_extensions (length xs))
-extensions-tally here tag place number [] = refl
-extensions-tally here tag place number (x ∷ xs) =
-    tally-cons (shown here tag place number (of_extension x)) (row of_extension here tag (suc place) (suc number) xs)
-    ∙ ap (both (one (of_extension x))) (extensions-tally here tag (suc place) (suc number) xs)
+extensions-tally : (here : Surrounding) (tag : ℤ) (position index : ℕ) (xs : List FieldDescriptorProto)
+    → tally (row of_extension here tag position index xs) ≡ Some (so_many_extensions (length xs))
+extensions-tally here tag position index [] = refl
+extensions-tally here tag position index (x ∷ xs) =
+    tally-cons (shown here tag position index (of_extension x)) (row of_extension here tag (suc position) (suc index) xs)
+    ∙ ap (both (one (of_extension x))) (extensions-tally here tag (suc position) (suc index) xs)
     ∙ ap Some (counts_are _ _ refl refl refl refl (omega arith))
 
 abbrev pub enum_fits : EnumDescriptorProto → Bool
@@ -52,9 +52,9 @@ enum_fits e = lists_fit (of_enum e)
 abbrev pub service_fits : ServiceDescriptorProto → Bool
 service_fits s = lists_fit (of_service s)
 
-one_enum : (here : Surrounding) (tag : ℤ) (place number : ℕ) (e : EnumDescriptorProto) → tally (enum_walk here tag place number e) ≡ cond (enum_fits e) (Some (so_many_enums 1)) None
-one_enum here tag place number e =
-    let d = shown here tag place number (of_enum e) in
+one_enum : (here : Surrounding) (tag : ℤ) (position index : ℕ) (e : EnumDescriptorProto) → tally (enum_walk here tag position index e) ≡ cond (enum_fits e) (Some (so_many_enums 1)) None
+one_enum here tag position index e =
+    let d = shown here tag position index (of_enum e) in
     tally-cons d (parts of_value (beside here.scope d) enumeration.VALUE e.value)
     ∙ ap (both (one (of_enum e))) (uncounted of_value (λ _. refl) (beside here.scope d) enumeration.VALUE 0 0 e.value)
     ∙ (elim (enum_fits e) as (λ b. both (cond b (Some (counting no_counts (of_enum e))) None) (Some no_counts) ≡ cond b (Some (so_many_enums 1)) None) [ true ↦ refl | false ↦ refl ])
@@ -64,17 +64,17 @@ enum-more true true n = ap Some (counts_are _ _ refl refl (omega arith) refl ref
 enum-more true false n = refl
 enum-more false q n = refl
 
-pub enums-tally : (here : Surrounding) (tag : ℤ) (place number : ℕ) (es : List EnumDescriptorProto)
-    → tally (enums_walk here tag place number es) ≡ cond (list_all enum_fits es) (Some (so_many_enums (length es))) None
-enums-tally here tag place number [] = refl
-enums-tally here tag place number (e ∷ es) =
-    tally-append (enum_walk here tag place number e) (enums_walk here tag (suc place) (suc number) es)
-    ∙ (λ i. both (one_enum here tag place number e i) (enums-tally here tag (suc place) (suc number) es i))
+pub enums-tally : (here : Surrounding) (tag : ℤ) (position index : ℕ) (es : List EnumDescriptorProto)
+    → tally (enums_walk here tag position index es) ≡ cond (list_all enum_fits es) (Some (so_many_enums (length es))) None
+enums-tally here tag position index [] = refl
+enums-tally here tag position index (e ∷ es) =
+    tally-append (enum_walk here tag position index e) (enums_walk here tag (suc position) (suc index) es)
+    ∙ (λ i. both (one_enum here tag position index e i) (enums-tally here tag (suc position) (suc index) es i))
     ∙ enum-more (enum_fits e) (list_all enum_fits es) (length es)
 
-one_service : (here : Surrounding) (place number : ℕ) (s : ServiceDescriptorProto) → tally (service_walk here place number s) ≡ cond (service_fits s) (Some (so_many_services 1)) None
-one_service here place number s =
-    let d = shown here file.SERVICE place number (of_service s) in
+one_service : (here : Surrounding) (position index : ℕ) (s : ServiceDescriptorProto) → tally (service_walk here position index s) ≡ cond (service_fits s) (Some (so_many_services 1)) None
+one_service here position index s =
+    let d = shown here file.SERVICE position index (of_service s) in
     tally-cons d (parts of_method (inside d) service.METHOD s.method)
     ∙ ap (both (one (of_service s))) (uncounted of_method (λ _. refl) (inside d) service.METHOD 0 0 s.method)
     ∙ (elim (service_fits s) as (λ b. both (cond b (Some (counting no_counts (of_service s))) None) (Some no_counts) ≡ cond b (Some (so_many_services 1)) None) [ true ↦ refl | false ↦ refl ])
@@ -84,12 +84,12 @@ service-more true true n = ap Some (counts_are _ _ refl refl refl (omega arith) 
 service-more true false n = refl
 service-more false q n = refl
 
-pub services-tally : (here : Surrounding) (place number : ℕ) (ss : List ServiceDescriptorProto)
-    → tally (services_walk here place number ss) ≡ cond (list_all service_fits ss) (Some (so_many_services (length ss))) None
-services-tally here place number [] = refl
-services-tally here place number (s ∷ ss) =
-    tally-append (service_walk here place number s) (services_walk here (suc place) (suc number) ss)
-    ∙ (λ i. both (one_service here place number s i) (services-tally here (suc place) (suc number) ss i))
+pub services-tally : (here : Surrounding) (position index : ℕ) (ss : List ServiceDescriptorProto)
+    → tally (services_walk here position index ss) ≡ cond (list_all service_fits ss) (Some (so_many_services (length ss))) None
+services-tally here position index [] = refl
+services-tally here position index (s ∷ ss) =
+    tally-append (service_walk here position index s) (services_walk here (suc position) (suc index) ss)
+    ∙ (λ i. both (one_service here position index s i) (services-tally here (suc position) (suc index) ss i))
     ∙ service-more (service_fits s) (list_all service_fits ss) (length ss)
 
 -- of enums, wherever they stand
@@ -126,10 +126,10 @@ end-tally here after enums extensions =
     ∙ (λ i. both (enums-tally here message.ENUM_TYPE 0 after.enums enums i) (extensions-tally here message.EXTENSION 0 after.extensions extensions i))
 
 mutual
-  pub message-tally : (here : Surrounding) (tag : ℤ) (place : ℕ) (base : Counts) (m : DescriptorProto) → tally (message_walk here tag place base m) ≡ message_tally m
-  message-tally here tag place base (DescriptorProto' name fields n nested enums ranges extensions options oneofs reserved reserved_names) =
+  pub message-tally : (here : Surrounding) (tag : ℤ) (position : ℕ) (base : Counts) (m : DescriptorProto) → tally (message_walk here tag position base m) ≡ message_tally m
+  message-tally here tag position base (DescriptorProto' name fields n nested enums ranges extensions options oneofs reserved reserved_names) =
       let m = DescriptorProto' name fields n nested enums ranges extensions options oneofs reserved reserved_names in
-      let d = shown here tag place base.messages (of_message m) in
+      let d = shown here tag position base.messages (of_message m) in
       let first = counting base (of_message m) in
       let deeper = nested_walk (inside d) 0 first nested in
       let after = counted first deeper in
@@ -140,17 +140,17 @@ mutual
       ∙ (λ j. both (front-tally (inside d) oneofs fields j) (nested-tally (inside d) 0 first nested j))
       ∙ both-nothing (row_tally nested)) i) (end-tally (inside d) after enums extensions i)))
 
-  nested-tally : {n : _} (here : Surrounding) (place : ℕ) (base : Counts) (nested : Row_of-DescriptorProto n) → tally (nested_walk here place base nested) ≡ row_tally nested
-  nested-tally here place base end_of-DescriptorProto = refl
-  nested-tally here place base (more_of-DescriptorProto m rest) =
-      tally-append (message_walk here message.NESTED_TYPE place base m) (nested_walk here (suc place) (counted base (message_walk here message.NESTED_TYPE place base m)) rest)
-      ∙ (λ i. both (message-tally here message.NESTED_TYPE place base m i) (nested-tally here (suc place) (counted base (message_walk here message.NESTED_TYPE place base m)) rest i))
+  nested-tally : {n : _} (here : Surrounding) (position : ℕ) (base : Counts) (nested : Row_of-DescriptorProto n) → tally (nested_walk here position base nested) ≡ row_tally nested
+  nested-tally here position base end_of-DescriptorProto = refl
+  nested-tally here position base (more_of-DescriptorProto m rest) =
+      tally-append (message_walk here message.NESTED_TYPE position base m) (nested_walk here (suc position) (counted base (message_walk here message.NESTED_TYPE position base m)) rest)
+      ∙ (λ i. both (message-tally here message.NESTED_TYPE position base m i) (nested-tally here (suc position) (counted base (message_walk here message.NESTED_TYPE position base m)) rest i))
 
-pub messages-tally : (here : Surrounding) (tag : ℤ) (place : ℕ) (base : Counts) (ms : List DescriptorProto) → tally (messages_walk here tag place base ms) ≡ messages_tally ms
-messages-tally here tag place base [] = refl
-messages-tally here tag place base (m ∷ ms) =
-    tally-append (message_walk here tag place base m) (messages_walk here tag (suc place) (counted base (message_walk here tag place base m)) ms)
-    ∙ (λ i. both (message-tally here tag place base m i) (messages-tally here tag (suc place) (counted base (message_walk here tag place base m)) ms i))
+pub messages-tally : (here : Surrounding) (tag : ℤ) (position : ℕ) (base : Counts) (ms : List DescriptorProto) → tally (messages_walk here tag position base ms) ≡ messages_tally ms
+messages-tally here tag position base [] = refl
+messages-tally here tag position base (m ∷ ms) =
+    tally-append (message_walk here tag position base m) (messages_walk here tag (suc position) (counted base (message_walk here tag position base m)) ms)
+    ∙ (λ i. both (message-tally here tag position base m i) (messages-tally here tag (suc position) (counted base (message_walk here tag position base m)) ms i))
 
 row-messages : {n : _} (nested : Row_of-DescriptorProto n) → row_tally nested ≡ messages_tally (items-the_row-DescriptorProto n nested)
 row-messages end_of-DescriptorProto = refl

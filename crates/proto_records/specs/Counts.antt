@@ -71,13 +71,10 @@ within_limit c =
 abbrev pub counts_of : List Shown → Result Counts CountKind
 counts_of ds = if list_all (λ d. lists_fit d.proto) ds then within_limit (counted no_counts ds) else Err ListTooLong
 
+-- counts that are added to others; what they alone have too much of comes first
 abbrev pub added_to : Counts → Result Counts CountKind → Result Counts CountKind
 added_to base (Ok c) = within_limit (plus base c)
 added_to base (Err kind) = Err kind
-
--- the counts together with those of declarations; what these alone have too much of comes first
-abbrev pub counts_with : Counts → List Shown → Result Counts CountKind
-counts_with base ds = added_to base (counts_of ds)
 
 abbrev pub counts_in : Contents → Counts
 counts_in p = record { files = length p.files; messages = length p.messages; enums = 0; services = 0; extensions = 0 }

@@ -20,21 +20,21 @@ use Rattle.proto_records.specs.Counts.{counted, counting}
 
 -- an enum and its values
 abbrev pub enum_walk : Surrounding → ℤ → ℕ → ℕ → EnumDescriptorProto → List Shown
-enum_walk here tag place number e =
-    let d = shown here tag place number (of_enum e) in d ∷ parts of_value (beside here.scope d) enumeration.VALUE e.value
+enum_walk here tag position index e =
+    let d = shown here tag position index (of_enum e) in d ∷ parts of_value (beside here.scope d) enumeration.VALUE e.value
 
 abbrev pub enums_walk : Surrounding → ℤ → ℕ → ℕ → List EnumDescriptorProto → List Shown
-enums_walk here tag place number [] = []
-enums_walk here tag place number (e ∷ es) = enum_walk here tag place number e ++ enums_walk here tag (suc place) (suc number) es
+enums_walk here tag position index [] = []
+enums_walk here tag position index (e ∷ es) = enum_walk here tag position index e ++ enums_walk here tag (suc position) (suc index) es
 
 -- a service and its methods
 abbrev pub service_walk : Surrounding → ℕ → ℕ → ServiceDescriptorProto → List Shown
-service_walk here place number s =
-    let d = shown here file.SERVICE place number (of_service s) in d ∷ parts of_method (inside d) service.METHOD s.method
+service_walk here position index s =
+    let d = shown here file.SERVICE position index (of_service s) in d ∷ parts of_method (inside d) service.METHOD s.method
 
 abbrev pub services_walk : Surrounding → ℕ → ℕ → List ServiceDescriptorProto → List Shown
-services_walk here place number [] = []
-services_walk here place number (s ∷ ss) = service_walk here place number s ++ services_walk here (suc place) (suc number) ss
+services_walk here position index [] = []
+services_walk here position index (s ∷ ss) = service_walk here position index s ++ services_walk here (suc position) (suc index) ss
 
 -- what stands before the nested messages of a message, and what follows them, numbered on from counts
 abbrev pub message_front : Surrounding → List OneofDescriptorProto → List FieldDescriptorProto → List Shown
@@ -47,37 +47,37 @@ message_end here after enums extensions =
 -- a message and all that stands in it, and the same of its nested messages, from counts on
 abbrev mutual
   pub message_walk : Surrounding → ℤ → ℕ → Counts → DescriptorProto → List Shown
-  message_walk here tag place base (DescriptorProto' name fields n nested enums ranges extensions options oneofs reserved reserved_names) =
+  message_walk here tag position base (DescriptorProto' name fields n nested enums ranges extensions options oneofs reserved reserved_names) =
       let m = DescriptorProto' name fields n nested enums ranges extensions options oneofs reserved reserved_names in
-      let d = shown here tag place base.messages (of_message m) in
+      let d = shown here tag position base.messages (of_message m) in
       let deeper = nested_walk (inside d) 0 (counting base (of_message m)) nested in
       d ∷ (message_front (inside d) oneofs fields ++ deeper
       ++ message_end (inside d) (counted (counting base (of_message m)) deeper) enums extensions)
 
   pub nested_walk : {n : _} → Surrounding → ℕ → Counts → Row_of-DescriptorProto n → List Shown
-  nested_walk here place base end_of-DescriptorProto = []
-  nested_walk here place base (more_of-DescriptorProto m rest) =
-      let first = message_walk here message.NESTED_TYPE place base m in
-      first ++ nested_walk here (suc place) (counted base first) rest
+  nested_walk here position base end_of-DescriptorProto = []
+  nested_walk here position base (more_of-DescriptorProto m rest) =
+      let first = message_walk here message.NESTED_TYPE position base m in
+      first ++ nested_walk here (suc position) (counted base first) rest
 
 abbrev pub messages_walk : Surrounding → ℤ → ℕ → Counts → List DescriptorProto → List Shown
-messages_walk here tag place base [] = []
-messages_walk here tag place base (m ∷ ms) =
-    let first = message_walk here tag place base m in
-    first ++ messages_walk here tag (suc place) (counted base first) ms
+messages_walk here tag position base [] = []
+messages_walk here tag position base (m ∷ ms) =
+    let first = message_walk here tag position base m in
+    first ++ messages_walk here tag (suc position) (counted base first) ms
 
 -- law: a message's walk by its parts
 abbrev pub MessageWalkOpens : Type 0
-MessageWalkOpens = (here : Surrounding) (tag : ℤ) (place : ℕ) (base : Counts) (m : DescriptorProto) →
-    let d = shown here tag place base.messages (of_message m) in
+MessageWalkOpens = (here : Surrounding) (tag : ℤ) (position : ℕ) (base : Counts) (m : DescriptorProto) →
+    let d = shown here tag position base.messages (of_message m) in
     let deeper = messages_walk (inside d) message.NESTED_TYPE 0 (counting base (of_message m)) (out-DescriptorProto m).nested_type in
-    message_walk here tag place base m
+    message_walk here tag position base m
     ≡ d ∷ (message_front (inside d) (out-DescriptorProto m).oneof_decl (out-DescriptorProto m).field ++ deeper
     ++ message_end (inside d) (counted (counting base (of_message m)) deeper) (out-DescriptorProto m).enum_type (out-DescriptorProto m).extension)
 
 -- what stands in a file: the scope is its package
 abbrev pub in_file : ℕ → FileDescriptorProto → Surrounding
-in_file number f = record { file = number; path = []; scope = text_of f.«package»; parent = None }
+in_file index f = record { file = index; path = []; scope = text_of f.«package»; parent = None }
 
 abbrev pub file_walk : Counts → FileDescriptorProto → List Shown
 file_walk base f =

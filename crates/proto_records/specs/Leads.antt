@@ -1,4 +1,4 @@
--- The record that a path of field numbers and places leads to.
+-- The record that a path of field numbers and positions leads to.
 use Rattle.std.specs.Prelude.{◌≡◌, ℤ, List, [], ◌∷◌, if◌then◌else◌}
 use Rattle.std.specs.List.{All}
 use Rattle.std.specs.Ordering.{int_eq}
@@ -18,44 +18,44 @@ use Rattle.proto_types.specs.Lists.{at}
 use Rattle.proto_records.specs.Protos.{Proto, of_file, of_message, of_field, of_oneof, of_service, of_method, of_enum, of_value, of_extension}
 use Rattle.proto_records.specs.Declarations.{file_walk}
 
--- the entry of a list at a place, where the path ends there
+-- the entry of a list at a position, where the path ends there
 abbrev pub last_entry : {X : Type 0} → List X → ℤ → List ℤ → Option X
-last_entry xs place [] = at xs place
-last_entry xs place (_ ∷ _) = None
+last_entry xs position [] = at xs position
+last_entry xs position (_ ∷ _) = None
 
 -- an entry of a list of records that nothing more stands in
 abbrev pub leaf : {X : Type 0} → (X → Proto) → List X → ℤ → List ℤ → Option Proto
-leaf of xs place path = option_map of (last_entry xs place path)
+leaf of xs position path = option_map of (last_entry xs position path)
 
 abbrev pub leads_in_enum : EnumDescriptorProto → List ℤ → Option Proto
 leads_in_enum e [] = Some (of_enum e)
 leads_in_enum e (_ ∷ []) = None
-leads_in_enum e (tag ∷ place ∷ path) = if int_eq tag enumeration.VALUE then leaf of_value e.value place path else None
+leads_in_enum e (tag ∷ position ∷ path) = if int_eq tag enumeration.VALUE then leaf of_value e.value position path else None
 
 abbrev pub leads_in_service : ServiceDescriptorProto → List ℤ → Option Proto
 leads_in_service s [] = Some (of_service s)
 leads_in_service s (_ ∷ []) = None
-leads_in_service s (tag ∷ place ∷ path) = if int_eq tag service.METHOD then leaf of_method s.method place path else None
+leads_in_service s (tag ∷ position ∷ path) = if int_eq tag service.METHOD then leaf of_method s.method position path else None
 
 abbrev pub leads_in_message : DescriptorProto → List ℤ → Option Proto
 leads_in_message m [] = Some (of_message m)
 leads_in_message m (_ ∷ []) = None
-leads_in_message m (tag ∷ place ∷ path) =
-    if int_eq tag message.FIELD then leaf of_field (out-DescriptorProto m).field place path
-    else (if int_eq tag message.NESTED_TYPE then option_and_then (λ n. leads_in_message n path) (at (out-DescriptorProto m).nested_type place)
-    else (if int_eq tag message.ENUM_TYPE then option_and_then (λ e. leads_in_enum e path) (at (out-DescriptorProto m).enum_type place)
-    else (if int_eq tag message.EXTENSION then leaf of_extension (out-DescriptorProto m).extension place path
-    else (if int_eq tag message.ONEOF_DECL then leaf of_oneof (out-DescriptorProto m).oneof_decl place path
+leads_in_message m (tag ∷ position ∷ path) =
+    if int_eq tag message.FIELD then leaf of_field (out-DescriptorProto m).field position path
+    else (if int_eq tag message.NESTED_TYPE then option_and_then (λ n. leads_in_message n path) (at (out-DescriptorProto m).nested_type position)
+    else (if int_eq tag message.ENUM_TYPE then option_and_then (λ e. leads_in_enum e path) (at (out-DescriptorProto m).enum_type position)
+    else (if int_eq tag message.EXTENSION then leaf of_extension (out-DescriptorProto m).extension position path
+    else (if int_eq tag message.ONEOF_DECL then leaf of_oneof (out-DescriptorProto m).oneof_decl position path
     else None))))
 
 abbrev pub leads : FileDescriptorProto → List ℤ → Option Proto
 leads f [] = Some (of_file f)
 leads f (_ ∷ []) = None
-leads f (tag ∷ place ∷ path) =
-    if int_eq tag file.MESSAGE_TYPE then option_and_then (λ m. leads_in_message m path) (at f.message_type place)
-    else (if int_eq tag file.ENUM_TYPE then option_and_then (λ e. leads_in_enum e path) (at f.enum_type place)
-    else (if int_eq tag file.SERVICE then option_and_then (λ s. leads_in_service s path) (at f.service place)
-    else (if int_eq tag file.EXTENSION then leaf of_extension f.extension place path
+leads f (tag ∷ position ∷ path) =
+    if int_eq tag file.MESSAGE_TYPE then option_and_then (λ m. leads_in_message m path) (at f.message_type position)
+    else (if int_eq tag file.ENUM_TYPE then option_and_then (λ e. leads_in_enum e path) (at f.enum_type position)
+    else (if int_eq tag file.SERVICE then option_and_then (λ s. leads_in_service s path) (at f.service position)
+    else (if int_eq tag file.EXTENSION then leaf of_extension f.extension position path
     else None)))
 
 -- law: the path of each declaration of a file leads to its record

@@ -17,7 +17,7 @@ pub record HasSeen (after : List Shown → Progress) (ready : List Shown → Typ
   pub after_is : (rest : List Shown) → after-now rest ≡ after (ds ++ rest)
   pub ready_is : (rest : List Shown) → ready-now rest ↔ ready (ds ++ rest)
 
--- each of a list before the place became what R says, and each behind it is as it was
+-- each of a list before the position became what R says, and each behind it is as it was
 abbrev pub StopsAt : {X : Type 0} → (X → X → Type 0) → ℕ → List X → List X → Type 0
 StopsAt R zero (x ∷ xs) (y ∷ ys) = ys ≡ xs
 StopsAt R (suc n) (x ∷ xs) (y ∷ ys) = R x y × StopsAt R n xs ys

@@ -15,16 +15,16 @@ use Rattle.proto_types.specs.declared.tag.file.TheConstants.{MESSAGE_TYPE, ENUM_
 use Rattle.proto_records.specs.Declarations.{enums_walk, services_walk, message_walk, messages_walk, file_walk, declarations}
 use Rattle.proto_records.specs.Shown.{Shown, Surrounding}
 
-abbrev most_held : ℕ
-most_held = 2 ^ 64 - 1
+abbrev greatest : ℕ
+greatest = 2 ^ 64 - 1
 
 abbrev pub saturated : Counts → Totals
 saturated c = record {
-  files = min c.files most_held;
-  messages = min c.messages most_held;
-  enums = min c.enums most_held;
-  services = min c.services most_held;
-  extensions = min c.extensions most_held;
+  files = min c.files greatest;
+  messages = min c.messages greatest;
+  enums = min c.enums greatest;
+  services = min c.services greatest;
+  extensions = min c.extensions greatest;
 }
 
 abbrev pub unsaturated : Totals → Counts
@@ -43,7 +43,7 @@ both_sums None _ = None
 abbrev pub tally : List Shown → Option Counts
 tally ds = if list_all (λ d. lists_fit d.proto) ds then Some (counted no_counts ds) else None
 
--- the same, as it is held
+-- the same, in 64 bits
 abbrev pub totals : List Shown → Option Totals
 totals ds = option_map saturated (tally ds)
 

@@ -6,7 +6,7 @@ use Rattle.std.specs.declared.option.Option.TheVariants.{None, Some}
 use Rattle.proto_records.specs.declared.counts.Counts.{Counts}
 use Rattle.proto_records.specs.declared.walk.part.Part.{Part}
 use Rattle.proto_records.specs.declared.walk.part.Part.TheVariants as part
-use Rattle.proto_records.specs.declared.walk.place.Place.{Place}
+use Rattle.proto_records.specs.declared.walk.site.Site.{Site}
 use Rattle.proto_records.specs.declared.walk.located.Located.{Located}
 use Rattle.proto_records.specs.declared.walk.listing.Listing.{Listing}
 use Rattle.proto_records.specs.Counts.{counted, count_limit, lists_fit}
@@ -37,32 +37,32 @@ parent_of (part.Enum parent _) = parent
 parent_of (part.EnumValue parent _) = Some parent
 parent_of (part.Extension parent _) = parent
 
--- the number of the next of a kind: how many were counted, or the place where none is
-abbrev pub number_at : Counts → ℕ → Proto → ℕ
-number_at c place (of_file _) = c.files
-number_at c place (of_message _) = c.messages
-number_at c place (of_enum _) = c.enums
-number_at c place (of_service _) = c.services
-number_at c place (of_extension _) = c.extensions
-number_at c place _ = place
+-- the index of the next of a kind: how many were counted, or the position where none is
+abbrev pub index_at : Counts → ℕ → Proto → ℕ
+index_at c position (of_file _) = c.files
+index_at c position (of_message _) = c.messages
+index_at c position (of_enum _) = c.enums
+index_at c position (of_service _) = c.services
+index_at c position (of_extension _) = c.extensions
+index_at c position _ = position
 
 -- a listed record as a declaration
 abbrev pub located : Located → Shown
-located l = shown_as l.place.path.items (string_bytes l.place.name) l.place.file (parent_of l.part) l.number (proto_of l.part)
+located l = shown_as l.site.path.items (string_bytes l.site.name) l.site.file (parent_of l.part) l.index (proto_of l.part)
 
--- what stands in a place
-abbrev pub around : Place → Option ℕ → Surrounding
+-- what stands in a position
+abbrev pub around : Site → Option ℕ → Surrounding
 around p parent = record { file = p.file; path = p.path.items; scope = string_bytes p.name; parent = parent }
 
 -- a message, its oneofs and its fields
 abbrev pub message_opening : Surrounding → ℤ → ℕ → ℕ → DescriptorProto → List Shown
-message_opening here tag place number m =
-    let d = shown here tag place number (of_message m) in d ∷ message_front (inside d) (out-DescriptorProto m).oneof_decl (out-DescriptorProto m).field
+message_opening here tag position index m =
+    let d = shown here tag position index (of_message m) in d ∷ message_front (inside d) (out-DescriptorProto m).oneof_decl (out-DescriptorProto m).field
 
--- all that stands in the file with a number
+-- all that stands in the file with an index
 abbrev pub within_file : ℕ → Counts → FileDescriptorProto → List Shown
-within_file number base f =
-    let here = in_file number f in
+within_file index base f =
+    let here = in_file index f in
     let messages = messages_walk here file.MESSAGE_TYPE 0 base f.message_type in
     let after = counted base messages in
     messages ++ enums_walk here file.ENUM_TYPE 0 after.enums f.enum_type ++ services_walk here 0 after.services f.service
@@ -74,14 +74,14 @@ pub record Lists (old new : Listing) (ds : List Shown) : Type 0 where
   pub counts : new.counts ≡ counted old.counts ds
 
 -- each count is one that a pool can hold
-pub record Held (c : Counts) : Type 0 where
+pub record WithinLimits (c : Counts) : Type 0 where
   pub files : c.files ≤ count_limit
   pub messages : c.messages ≤ count_limit
   pub enums : c.enums ≤ count_limit
   pub services : c.services ≤ count_limit
   pub extensions : c.extensions ≤ count_limit
 
--- no list is too long, and the counts after these declarations can be held
+-- no list is too long, and the counts after these declarations are within the limits
 pub record Room (base : Counts) (ds : List Shown) : Type 0 where
   pub short : list_all (λ d. lists_fit d.proto) ds ≡ true
-  pub held : Held (counted base ds)
+  pub within : WithinLimits (counted base ds)

@@ -26,7 +26,8 @@ pub enum CountKind {
 
 impl Counts {
     ghost use Rattle.std.specs.Prelude.{◌≡◌};
-    ghost use Rattle.proto_records.specs.Counts.{no_counts, counts_of, counts_with, within_limit, plus as sums};
+    ghost use Rattle.proto_records.specs.Counts.{no_counts, counts_of, within_limit, plus as sums};
+    ghost use Rattle.proto_records.specs.Fits.{counts_with};
     ghost use Rattle.proto_records.specs.Declarations.{declarations};
 
     /// The counts of all that files declare, or the first kind of which there is too much: a list
@@ -52,7 +53,7 @@ impl Counts {
     /// These counts together with those of all that files declare, or what there is too much of: in the files alone,
     /// as `of` tells it, or else in the sums.
     pub fn with_files(&self, files: &[FileDescriptorProto]) -> Result<Counts, CountKind>
-        ensures { result ≡ counts_with self.now (declarations self.now files.now) }
+        ensures { result ≡ counts_with self.now files.now }
     {
         self.plus(&Counts::of(files)?)
     }

@@ -1,4 +1,4 @@
-use proto_types::{Items, Text};
+use plain_values::{Items, Text};
 
 /// What kind of record declares something.
 #[derive(Clone, Copy, PartialEq, Debug)]
@@ -18,14 +18,14 @@ pub enum DeclarationKind {
 #[derive(PartialEq, Drop)]
 pub struct Declaration {
     pub kind: DeclarationKind,
-    /// The number of the file, from 0 in the order of linking.
+    /// The index of the file, from 0 in the order of linking.
     pub file: u32,
-    /// The number of the innermost message, enum or service around it.
+    /// The index of the innermost message, enum or service around it.
     pub parent: Option<u32>,
-    /// The number of a file, message, enum, service or extension in the pool, and the place of any other in its
+    /// The index of a file, message, enum, service or extension in the pool, and the position of any other in its
     /// list, both from 0.
     pub index: u32,
-    /// Field numbers and places, from the file to the declaration.
+    /// Field numbers and positions, from the file to the declaration.
     pub path: Items<i32>,
     pub full_name: Text,
 }

@@ -1,4 +1,4 @@
-//! The records that paths lead to. A path has a field number of descriptor.proto and a place,
+//! The records that paths lead to. A path has a field number of descriptor.proto and a position,
 //! from 0, for each step from the file on.
 
 ghost use Rattle.std.specs.Prelude.{◌≡◌};

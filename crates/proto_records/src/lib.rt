@@ -1,5 +1,6 @@
 //! What the records of descriptor.proto declare: counts, finders, the list of all declarations and its walk.
-//! The records themselves are those of `proto_types`, and the data of a pool's contents that of `pool_types`.
+//! It hands on the names of the crates that it stands on: of `plain_values` texts and lists, of
+//! `proto_types` the records, of `pool_types` the data of a pool's contents.
 #![tactic(auto)]
 
 mod counts;
@@ -16,17 +17,17 @@ pub use find::{
     find_method_proto, find_oneof_proto, find_service_proto,
 };
 pub use lister::{Lister, list_declarations};
+pub use plain_values::{Duplicate, ExactEq, Items, Text, duplicate_given, duplicates, same};
 pub use pool_types::{
     Cardinality, Definition, DefinitionKind, DescriptorErrorKind, Entry, FieldDescriptorInner,
-    FileDescriptor, FileDescriptorInner, Identity, KindIndex, Label, MessageDescriptor,
-    MessageDescriptorInner, Placed,
+    FileDescriptor, FileDescriptorInner, Identity, KindIndex, Label, Labelled, MessageDescriptor,
+    MessageDescriptorInner,
 };
 pub use proto_types::{
-    DescriptorProto, Duplicate, EnumDescriptorProto, EnumOptions, EnumReservedRange,
-    EnumValueDescriptorProto, ExactEq, ExtensionRange, FieldDescriptorProto, FieldLabel,
-    FieldOptions, FieldType, FileDescriptorProto, FileDescriptorSet, Items, Location,
-    MethodDescriptorProto, OneofDescriptorProto, Options, ReservedRange, ServiceDescriptorProto,
-    SourceCodeInfo, Text, Unread, duplicates, same, tag,
+    DescriptorProto, EnumDescriptorProto, EnumOptions, EnumReservedRange, EnumValueDescriptorProto,
+    ExtensionRange, FieldDescriptorProto, FieldLabel, FieldOptions, FieldType, FileDescriptorProto,
+    FileDescriptorSet, Location, MethodDescriptorProto, OneofDescriptorProto, Options,
+    ReservedRange, ServiceDescriptorProto, SourceCodeInfo, Unread, join, tag,
 };
 pub use visitor::Visitor;
-pub use walk::{join, visit, visit_each};
+pub use walk::{visit, visit_each};

@@ -1,5 +1,5 @@
 ghost use Rattle.std.specs.Prelude.{◌≡◌, [], ◌∷◌, ◌++◌, map, IsOk, IfOk, OnOk};
-ghost use Rattle.proto_records.specs.Counts.{counts_with};
+ghost use Rattle.proto_records.specs.Fits.{counts_with};
 ghost use Rattle.proto_records.specs.Declarations.{declarations};
 ghost use Rattle.proto_records.specs.Listed.{declaration_of};
 
@@ -7,10 +7,10 @@ use crate::counts::Counts;
 use crate::declaration::{Declaration, DeclarationKind};
 use crate::visitor::Visitor;
 use crate::walk::visit;
+use plain_values::{Items, Text};
 use proto_types::{
     DescriptorProto, EnumDescriptorProto, EnumValueDescriptorProto, FieldDescriptorProto,
-    FileDescriptorProto, Items, MethodDescriptorProto, OneofDescriptorProto,
-    ServiceDescriptorProto, Text,
+    FileDescriptorProto, MethodDescriptorProto, OneofDescriptorProto, ServiceDescriptorProto,
 };
 use std::alloc::{AllocError, Global};
 
@@ -202,7 +202,7 @@ pub fn list_declarations(
     base: Counts,
     files: &[FileDescriptorProto],
 ) -> Result<Vec<Declaration>, AllocError>
-    requires fits { IsOk (counts_with base (declarations base files.now)) }
+    requires fits { IsOk (counts_with base files.now) }
     ensures { IfOk result (λ list. list.items ≡ map declaration_of (declarations base files.now)) }
 {
     let mut lister = Lister::new(alloc);
@@ -217,7 +217,7 @@ fn show_lister(
     files: &[FileDescriptorProto],
     lister: &mut Lister,
 ) -> Result<(), AllocError>
-    requires fits { IsOk (counts_with base (declarations base files.now)) }
+    requires fits { IsOk (counts_with base files.now) }
     ensures { OnOk result (lister.new.list.items ≡ lister.old.list.items ++ map declaration_of (declarations base files.now)) }
 {
     visit(alloc, base, files, lister)

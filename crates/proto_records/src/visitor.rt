@@ -12,9 +12,9 @@ use std::alloc::AllocError;
 
 /// What is shown the declarations of files, one after another.
 ///
-/// A path is the field numbers and places, from 0, from the file to the declaration. `file` is the number of its file,
-/// `parent` that of the innermost message, enum or service around it, and `index` its own number in the pool; for a
-/// field, oneof, method or value it is the place in its list. All count from 0.
+/// A path is the field numbers and positions, from 0, from the file to the declaration. `file` is the index of its file,
+/// `parent` that of the innermost message, enum or service around it, and `index` its own index in the pool; for a
+/// field, oneof, method or value it is the position in its list. All count from 0.
 ///
 /// Each call may answer `AllocError` where memory was refused.
 pub trait Visitor: Drop {

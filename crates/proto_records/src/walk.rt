@@ -1,6 +1,7 @@
 ghost use Rattle.std.specs.Prelude.{◌≡◌, [], ℕ, IsOk, IfOk, OnOk, OnErr};
 ghost use Rattle.std.specs.List.{AllByRecursion, AllZip};
-ghost use Rattle.proto_records.specs.Counts.{counted, counts_with};
+ghost use Rattle.proto_records.specs.Counts.{counted};
+ghost use Rattle.proto_records.specs.Fits.{counts_with};
 ghost use Rattle.proto_records.specs.Declarations.{declarations, file_walk};
 ghost use Rattle.proto_records.specs.Progress.{HasSeen, StopsAt};
 ghost use Rattle.proto_records.specs.Walking.{Room};
@@ -8,13 +9,12 @@ ghost use Rattle.proto_records.specs.Walking.{Room};
 mod listing;
 mod located;
 mod part;
-mod place;
+mod site;
 
 use crate::counts::Counts;
 use crate::visitor::Visitor;
 use listing::Listing;
 use located::{show_all, show_file};
-pub use place::join;
 use proto_types::FileDescriptorProto;
 use std::alloc::{AllocError, Global};
 
@@ -35,7 +35,7 @@ pub fn visit(
     files: &[FileDescriptorProto],
     visitor: &mut dyn Visitor,
 ) -> Result<(), AllocError>
-    requires fits { IsOk (counts_with base (declarations base files.now)) }
+    requires fits { IsOk (counts_with base files.now) }
     requires ready { ready visitor.old (declarations base files.now) }
     ensures ok { OnOk result (HasSeen (after visitor.old) (ready visitor.old) (after visitor.new) (ready visitor.new) (declarations base files.now)) }
     ensures after { OnOk result (after visitor.new [] ≡ after visitor.old (declarations base files.now)) }
@@ -79,15 +79,15 @@ pub fn visit_each(
     files: &[FileDescriptorProto],
     visitors: &mut Vec<Box<dyn Visitor>>,
 ) -> Result<(), AllocError>
-    requires fits { IsOk (counts_with base (declarations base files.now)) }
+    requires fits { IsOk (counts_with base files.now) }
     requires ready { AllByRecursion (λ v. ready v (declarations base files.now)) visitors.old.items }
     ensures ok { OnOk result (AllZip (λ v w. HasSeen (after v) (ready v) (after w) (ready w) (declarations base files.now)) visitors.old.items visitors.new.items) }
-    ensures err { OnErr result ((place : ℕ) × StopsAt (λ v w. HasSeen (after v) (ready v) (after w) (ready w) (declarations base files.now))
-        place visitors.old.items visitors.new.items) }
+    ensures err { OnErr result ((position : ℕ) × StopsAt (λ v w. HasSeen (after v) (ready v) (after w) (ready w) (declarations base files.now))
+        position visitors.old.items visitors.new.items) }
     ensures kept { AllZip (λ v w. kept w ≡ kept v) visitors.old.items visitors.new.items }
 {
-    for place in 0..visitors.len() {
-        visit_boxed(alloc, base, files, &mut visitors[place])?;
+    for position in 0..visitors.len() {
+        visit_boxed(alloc, base, files, &mut visitors[position])?;
     }
     Ok(())
 }
@@ -98,7 +98,7 @@ fn visit_boxed(
     files: &[FileDescriptorProto],
     visitor: &mut Box<dyn Visitor>,
 ) -> Result<(), AllocError>
-    requires fits { IsOk (counts_with base (declarations base files.now)) }
+    requires fits { IsOk (counts_with base files.now) }
     requires ready { ready visitor.old (declarations base files.now) }
     ensures ok { OnOk result (HasSeen (after visitor.old) (ready visitor.old) (after visitor.new) (ready visitor.new) (declarations base files.now)) }
     ensures kept { kept visitor.new ≡ kept visitor.old }

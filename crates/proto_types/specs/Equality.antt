@@ -74,7 +74,7 @@ method-exact = by-parts (λ m. (m.name, (m.input_type, (m.output_type, (m.option
 pub service-exact : Exact service.ghosts.eq
 service-exact = by-parts (λ s. (s.name, (s.method, s.options))) (λ a b e. search rules) (given-text and items-exact method-exact and given-unread)
 
--- places in a source
+-- locations in a source
 pub location-exact : Exact location.ghosts.eq
 location-exact = by-parts (λ l. (l.path, (l.span, (l.leading_comments, (l.trailing_comments, l.leading_detached_comments))))) (λ a b e. search rules)
     (numbers-exact and numbers-exact and given-text and given-text and texts-exact)

@@ -1,13 +1,14 @@
-//! The records of descriptor.proto, and the numbers of its fields.
-//! Their texts and lists are those of `plain_values`.
+//! The records of descriptor.proto, the numbers of its fields, and names in scopes.
+//! Texts and lists in records are those of `plain_values`.
 #![tactic(auto)]
 
 mod exact;
+mod names;
 mod records;
 pub mod tag;
 mod text;
 
-pub use plain_values::{Duplicate, ExactEq, Items, Text, duplicates, same};
+pub use names::join;
 pub use records::{
     DescriptorProto, EnumDescriptorProto, EnumOptions, EnumReservedRange, EnumValueDescriptorProto,
     ExtensionRange, FieldDescriptorProto, FieldLabel, FieldOptions, FieldType, FileDescriptorProto,

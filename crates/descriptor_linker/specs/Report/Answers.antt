@@ -15,13 +15,14 @@ use Rattle.pool_types.specs.declared.contents.definition.Definition.{Definition}
 use Rattle.pool_types.specs.declared.contents.definition.DefinitionKind.{DefinitionKind}
 use Rattle.pool_types.specs.declared.contents.definition.DefinitionKind.TheVariants as definition
 use Rattle.pool_types.specs.Contents.{Contents, files_of}
-use Rattle.proto_records.specs.Counts.{no_counts, counts_with, counts_in}
+use Rattle.proto_records.specs.Counts.{no_counts, counts_in}
+use Rattle.proto_records.specs.Fits.{counts_with}
 use Rattle.proto_records.specs.Declarations.{declarations}
 use Rattle.pool_types.specs.Labels.{file_at}
 use Rattle.proto_records.specs.Listed.{declaration_of}
 use Rattle.proto_types.specs.Readers.{text_of}
 use Rattle.proto_records.specs.Shown.{Shown}
-use Rattle.pool_types.specs.Texts.{path_text, placed_text}
+use Rattle.pool_types.specs.Texts.{path_text, labelled_text}
 use Rattle.link_script.specs.declared.script.statement.ScriptFault.{ScriptFault}
 use Rattle.link_script.specs.Script.Faults.{fault_words}
 use Rattle.descriptor_pool.specs.FirstPass.{Faults}
@@ -44,7 +45,7 @@ counts_line p = let c = counts_in p in line (codes "ok" ∷ decimal c.files ∷ 
 
 -- how many faults there are, and a line for each
 abbrev pub refused_lines : Faults → List ℕ
-refused_lines faults = line (codes "refused" ∷ decimal (length faults) ∷ []) ++ flat_map (λ f. line (placed_text f ∷ [])) faults
+refused_lines faults = line (codes "refused" ∷ decimal (length faults) ∷ []) ++ flat_map (λ f. line (labelled_text f ∷ [])) faults
 
 -- what there is too much of, in the plural
 abbrev pub count_word : CountKind → List ℕ
@@ -58,7 +59,7 @@ count_word too_many.Extensions = codes "extensions"
 abbrev pub too_many_line : CountKind → List ℕ
 too_many_line kind = line (codes "too" ∷ codes "many" ∷ count_word kind ∷ [])
 
--- a kind and the number that it holds
+-- a kind and the index that it holds
 abbrev pub kind_words : DefinitionKind → List ℕ
 kind_words definition.Package = codes "package"
 kind_words (definition.Message m) = codes "message " ++ decimal m
@@ -94,7 +95,7 @@ declared_word declared.Enum = codes "enum"
 declared_word declared.EnumValue = codes "value"
 declared_word declared.Extension = codes "extension"
 
--- a declaration's kind, its own number, its full name and its path
+-- a declaration's kind, its own index, its full name and its path
 abbrev pub declaration_line : Declaration → List ℕ
 declaration_line d = line (declared_word d.kind ∷ decimal d.index ∷ alone d.full_name ∷ path_text d.path ∷ [])
 
@@ -108,7 +109,7 @@ walked ds (Err kind) = too_many_line kind
 
 -- what the pool's files declare, where their counts fit
 abbrev pub walk_answer : Contents → List ℕ
-walk_answer p = let ds = declarations no_counts (files_of p) in walked ds (counts_with no_counts ds)
+walk_answer p = walked (declarations no_counts (files_of p)) (counts_with no_counts (files_of p))
 
 -- the last line of a report, where the script has a fault
 abbrev pub fault_line : ℕ × ScriptFault → List ℕ

@@ -8,8 +8,8 @@ ghost use Rattle.descriptor_linker.specs.Report.Answers as spec;
 
 use descriptor_pool::DescriptorPool;
 use link_script::ScriptFault;
-use pool_parts::{DefinitionKind, DescriptorErrorKind, FileDescriptor};
-use proto_records::{CountKind, Counts, Declaration, DeclarationKind, Placed, list_declarations};
+use pool_types::{DefinitionKind, DescriptorErrorKind, FileDescriptor, Labelled};
+use proto_records::{CountKind, Counts, Declaration, DeclarationKind, list_declarations};
 use std::alloc::{AllocError, Global};
 use std::fmt;
 
@@ -20,7 +20,7 @@ fn alone(name: &str) -> &str
     if name.is_empty() { "''" } else { name }
 }
 
-/// A kind, with the number that it holds.
+/// A kind, with the index that it holds.
 #[derive(Clone, Copy)]
 struct KindWords(DefinitionKind);
 
@@ -33,14 +33,14 @@ impl fmt::Display for KindWords {
     fn fmt<W: fmt::Write>(&self, f: &mut fmt::Formatter<W>) -> fmt::Result {
         match self.0 {
             DefinitionKind::Package => write!(f, "package"),
-            DefinitionKind::Message(number) => write!(f, "message {number}"),
+            DefinitionKind::Message(index) => write!(f, "message {index}"),
             DefinitionKind::Field(message) => write!(f, "field {message}"),
             DefinitionKind::Oneof(message) => write!(f, "oneof {message}"),
-            DefinitionKind::Service(number) => write!(f, "service {number}"),
+            DefinitionKind::Service(index) => write!(f, "service {index}"),
             DefinitionKind::Method(service) => write!(f, "method {service}"),
-            DefinitionKind::Enum(number) => write!(f, "enum {number}"),
-            DefinitionKind::EnumValue(number) => write!(f, "value {number}"),
-            DefinitionKind::Extension(number) => write!(f, "extension {number}"),
+            DefinitionKind::Enum(index) => write!(f, "enum {index}"),
+            DefinitionKind::EnumValue(index) => write!(f, "value {index}"),
+            DefinitionKind::Extension(index) => write!(f, "extension {index}"),
         }
     }
 }
@@ -94,13 +94,13 @@ pub(super) fn tell_refused(
     let count = faults.len();
     writeln!(told, "refused {count}")?;
     for fault in faults {
-        let fault = Placed(fault);
+        let fault = Labelled(fault);
         writeln!(told, "{fault}")?;
     }
     Ok(())
 }
 
-/// The name of the file with a number, or the empty text where there is none.
+/// The name of the file with an index, or the empty text where there is none.
 fn file_name(pool: &DescriptorPool, file: u32) -> &str
     ensures { result.now ≡ text_of (file_at (files_of pool.now) file).name }
 {
@@ -144,7 +144,7 @@ fn declared_word(kind: DeclarationKind) -> &'static str
     }
 }
 
-/// Tells a declaration: its kind, its own number, its full name and its path.
+/// Tells a declaration: its kind, its own index, its full name and its path.
 fn tell_declaration(told: &mut String, declaration: &Declaration) -> Result<(), AllocError>
     ensures { OnOk result (string_bytes told.new ≡ string_bytes told.old ++ spec.declaration_line declaration.now) }
 {

@@ -7,7 +7,7 @@ ghost use Rattle.descriptor_linker.specs.Report.Session.{new_session, opening, s
 use super::answers::{tell_counts, tell_found, tell_refused, tell_too_many, tell_walk};
 use descriptor_pool::{BuildError, DescriptorPool};
 use link_script::{Open, Statement};
-use proto_records::FileDescriptorProto;
+use proto_types::FileDescriptorProto;
 use std::alloc::{AllocError, Global};
 use std::mem;
 
@@ -26,7 +26,7 @@ pub(super) struct Session {
 }
 
 impl Session {
-    ghost use Rattle.descriptor_linker.specs.Report.Held.{session_in};
+    ghost use Rattle.descriptor_linker.specs.Report.Code.{session_in};
 
     /// A session before the first statement, which takes no memory.
     pub(super) fn new(alloc: Global) -> Session

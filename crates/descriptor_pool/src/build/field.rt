@@ -3,18 +3,21 @@ ghost use Rattle.proto_types.specs.Lists.{listed};
 ghost use Rattle.proto_records.specs.Protos.{of_field};
 ghost use Rattle.proto_records.specs.Shown.{shown_as};
 ghost use Rattle.descriptor_pool.specs.FieldTypes.{field_kind, type_faults};
-ghost use Rattle.descriptor_pool.specs.Items.{held, field_item};
+ghost use Rattle.descriptor_pool.specs.Items.{item_number, field_item};
 ghost use Rattle.descriptor_pool.specs.Passes.{with_field};
 ghost use Rattle.descriptor_pool.specs.SecondPass.{number_faults, second_faults};
 ghost use Rattle.descriptor_pool.specs.Seen.{setting_in};
 
 use super::setting::Setting;
+use plain_values::{Items, Text};
 use pool_parts::{
-    DescriptorErrorKind, FieldDescriptorInner, Identity, KindIndex, MessageDescriptorInner,
     ResolveNameFilter, ResolveNameResult, cardinality_of, is_valid_number, label_at, named_kind,
     simple_kind,
 };
-use proto_records::{FieldDescriptorProto, Items, Text, tag};
+use pool_types::{
+    DescriptorErrorKind, FieldDescriptorInner, Identity, KindIndex, MessageDescriptorInner,
+};
+use proto_types::{FieldDescriptorProto, tag};
 use std::alloc::{AllocError, Global};
 
 /// Where a declaration stands, whose name ends its full name.
@@ -59,7 +62,7 @@ pub(crate) fn read_field(
     let (kind, type_fault) = field_type(alloc, setting, path, full_name, file, field)?;
     let item = FieldDescriptorInner {
         id: identity(alloc, path, full_name, file, field.name())?,
-        number: held(field.number()),
+        number: item_number(field.number()),
         kind: kind.unwrap_or(KindIndex::Double),
         cardinality: cardinality_of(field.label()),
     };
@@ -70,9 +73,9 @@ pub(crate) fn read_field(
     })
 }
 
-/// A field's number as an item holds it; a negative one as itself plus 2 to the 32nd.
-fn held(number: i32) -> u32
-    ensures { result ≡ held number }
+/// A field's number as an item has it; a negative one as itself plus 2 to the 32nd.
+fn item_number(number: i32) -> u32
+    ensures { result ≡ item_number number }
 {
     number.cast_unsigned()
 }

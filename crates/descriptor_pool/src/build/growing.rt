@@ -1,10 +1,10 @@
 ghost use Rattle.std.specs.Prelude.{◌≡◌, ◌≤◌, ◌++◌, OnOk, OnErr, length};
 
 use crate::inner::DescriptorPoolInner;
-use pool_parts::{FileDescriptorInner, MessageDescriptorInner};
+use pool_types::{FileDescriptorInner, MessageDescriptorInner};
 use std::alloc::AllocError;
 
-/// How much a pool held before a batch came.
+/// How much a pool had before a batch came.
 #[derive(Clone, Copy)]
 pub(crate) struct DescriptorPoolOffsets {
     pub(crate) files: usize,
@@ -12,7 +12,7 @@ pub(crate) struct DescriptorPoolOffsets {
     pub(crate) entries: usize,
 }
 
-/// What a pool holds while a batch is linked into it, and how much it held before.
+/// What a pool holds while a batch is linked into it, and how much it had before.
 #[derive(Drop)]
 pub(crate) struct GrowingPool {
     pub(crate) inner: DescriptorPoolInner,
@@ -24,7 +24,7 @@ pub(crate) struct GrowingPool {
 
 impl GrowingPool {
     ghost use Rattle.pool_parts.specs.Entries.{names};
-    ghost use Rattle.descriptor_pool.specs.Held.{contents_in};
+    ghost use Rattle.descriptor_pool.specs.Invariant.{contents_in};
     ghost use Rattle.descriptor_pool.specs.Growing.{kept_in};
 
     /// A pool before anything of a batch came.
@@ -40,7 +40,7 @@ impl GrowingPool {
         GrowingPool { inner, offsets }
     }
 
-    /// Puts items in the place of the files and messages that came.
+    /// Replaces the files and messages that came by items.
     pub(crate) fn put_items(
         &mut self,
         mut files: Vec<FileDescriptorInner>,

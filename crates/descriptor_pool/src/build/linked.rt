@@ -3,39 +3,38 @@ ghost use Rattle.descriptor_pool.specs.Linked.{linked, linked_message, linked_fi
 ghost use Rattle.descriptor_pool.specs.Seen.{setting_in};
 
 use super::setting::Setting;
-use pool_parts::{DefinitionKind, ResolveNameFilter, ResolveNameResult};
-use proto_records::{
-    DescriptorProto, FieldDescriptorProto, FieldType, FileDescriptorProto, Items, Options,
-    SourceCodeInfo, Text, join,
-};
+use plain_values::{Items, Text, duplicate_given};
+use pool_parts::{ResolveNameFilter, ResolveNameResult};
+use pool_types::DefinitionKind;
+use proto_types::{DescriptorProto, FieldDescriptorProto, FieldType, FileDescriptorProto, join};
 use std::alloc::{AllocError, Global};
 
-/// The record of the file with a number, with each type name that is found as a dot and a full name.
+/// The record of the file with an index, with each type name that is found as a dot and a full name.
 pub(crate) fn linked_file(
     alloc: Global,
     setting: Setting,
-    number: u32,
+    index: u32,
     file: &FileDescriptorProto,
 ) -> Result<FileDescriptorProto, AllocError>
-    ensures { IfOk result (λ f. f ≡ linked (setting_in setting.entry) number file.now) }
+    ensures { IfOk result (λ f. f ≡ linked (setting_in setting.entry) index file.now) }
 {
     let mut message_type = Items::new(alloc);
     for message in file.message_type.as_slice() {
-        message_type.push(linked_message(alloc, setting, number, file.package(), message)?)?;
+        message_type.push(linked_message(alloc, setting, index, file.package(), message)?)?;
     }
     Ok(FileDescriptorProto {
-        name: Text::clone_given(alloc, &file.name)?,
-        package: Text::clone_given(alloc, &file.package)?,
+        name: duplicate_given(alloc, &file.name)?,
+        package: duplicate_given(alloc, &file.package)?,
         dependency: file.dependency.clone(alloc)?,
         message_type,
         enum_type: file.enum_type.clone(alloc)?,
         service: file.service.clone(alloc)?,
         extension: file.extension.clone(alloc)?,
-        options: Options::clone_given(alloc, &file.options)?,
-        source_code_info: SourceCodeInfo::clone_given(alloc, &file.source_code_info)?,
+        options: duplicate_given(alloc, &file.options)?,
+        source_code_info: duplicate_given(alloc, &file.source_code_info)?,
         public_dependency: Items::from_slice(alloc, file.public_dependency.as_slice())?,
         weak_dependency: Items::from_slice(alloc, file.weak_dependency.as_slice())?,
-        syntax: Text::clone_given(alloc, &file.syntax)?,
+        syntax: duplicate_given(alloc, &file.syntax)?,
     })
 }
 
@@ -43,26 +42,26 @@ pub(crate) fn linked_file(
 fn linked_message(
     alloc: Global,
     setting: Setting,
-    number: u32,
+    index: u32,
     scope: &str,
     message: &DescriptorProto,
 ) -> Result<DescriptorProto, AllocError>
-    ensures { IfOk result (λ m. m ≡ linked_message (setting_in setting.entry) number scope.now message.now) }
+    ensures { IfOk result (λ m. m ≡ linked_message (setting_in setting.entry) index scope.now message.now) }
 {
     let within = join(alloc, scope, message.name())?;
-    let field = linked_fields(alloc, setting, number, &within, message.field.as_slice())?;
+    let field = linked_fields(alloc, setting, index, &within, message.field.as_slice())?;
     let mut nested_type = Items::new(alloc);
     for nested in message.nested_type.as_slice() {
-        nested_type.push(linked_message(alloc, setting, number, &within, nested)?)?;
+        nested_type.push(linked_message(alloc, setting, index, &within, nested)?)?;
     }
     Ok(DescriptorProto {
-        name: Text::clone_given(alloc, &message.name)?,
+        name: duplicate_given(alloc, &message.name)?,
         field,
         nested_type,
         enum_type: message.enum_type.clone(alloc)?,
         extension_range: message.extension_range.clone(alloc)?,
         extension: message.extension.clone(alloc)?,
-        options: Options::clone_given(alloc, &message.options)?,
+        options: duplicate_given(alloc, &message.options)?,
         oneof_decl: message.oneof_decl.clone(alloc)?,
         reserved_range: message.reserved_range.clone(alloc)?,
         reserved_name: message.reserved_name.clone(alloc)?,
@@ -72,15 +71,15 @@ fn linked_message(
 fn linked_fields(
     alloc: Global,
     setting: Setting,
-    number: u32,
+    index: u32,
     scope: &str,
     fields: &[FieldDescriptorProto],
 ) -> Result<Items<FieldDescriptorProto>, AllocError>
-    ensures { IfOk result (λ linked. linked ≡ map (linked_field (setting_in setting.entry) number scope.now) fields.now) }
+    ensures { IfOk result (λ linked. linked ≡ map (linked_field (setting_in setting.entry) index scope.now) fields.now) }
 {
     let mut linked = Items::new(alloc);
     for field in fields {
-        linked.push(linked_field(alloc, setting, number, scope, field)?)?;
+        linked.push(linked_field(alloc, setting, index, scope, field)?)?;
     }
     Ok(linked)
 }
@@ -88,11 +87,11 @@ fn linked_fields(
 fn linked_field(
     alloc: Global,
     setting: Setting,
-    number: u32,
+    index: u32,
     scope: &str,
     field: &FieldDescriptorProto,
 ) -> Result<FieldDescriptorProto, AllocError>
-    ensures { IfOk result (λ f. f ≡ linked_field (setting_in setting.entry) number scope.now field.now) }
+    ensures { IfOk result (λ f. f ≡ linked_field (setting_in setting.entry) index scope.now field.now) }
 {
     let mut linked = field.clone(alloc)?;
     if field.type_name().is_empty() {
@@ -100,7 +99,7 @@ fn linked_field(
     }
     let full_name = join(alloc, scope, field.name())?;
     let filter = ResolveNameFilter::FieldType;
-    let meaning = setting.meaning(alloc, number, &full_name, filter, field.type_name())?;
+    let meaning = setting.meaning(alloc, index, &full_name, filter, field.type_name())?;
     if let ResolveNameResult::Found { name, def } = &meaning {
         let name = name.as_str();
         linked.type_name = Some(Text::from_string(format!(in alloc; ".{name}")?));

@@ -8,14 +8,13 @@ ghost use Rattle.descriptor_pool.specs.Entered.{packages, package_entry};
 ghost use Rattle.descriptor_pool.specs.FirstPass.{clash_faults};
 
 use super::growing::GrowingPool;
-use pool_parts::{
-    Definition, DefinitionKind, DescriptorErrorKind, Entry, FileDescriptorInner, first_definition,
-    label_at,
-};
-use proto_records::{
+use plain_values::{Items, Text};
+use pool_parts::{first_definition, label_at};
+use pool_types::{Definition, DefinitionKind, DescriptorErrorKind, Entry, FileDescriptorInner};
+use proto_records::Visitor;
+use proto_types::{
     DescriptorProto, EnumDescriptorProto, EnumValueDescriptorProto, FieldDescriptorProto,
-    FileDescriptorProto, Items, MethodDescriptorProto, OneofDescriptorProto,
-    ServiceDescriptorProto, Text, Visitor, tag,
+    FileDescriptorProto, MethodDescriptorProto, OneofDescriptorProto, ServiceDescriptorProto, tag,
 };
 use std::alloc::{AllocError, Global};
 
@@ -241,7 +240,7 @@ impl Visitor for NameVisitor {
     }
 }
 
-/// The fault of an entry whose name is held already; a package may be entered again as a package.
+/// The fault of an entry whose name is defined already; a package may be entered again as a package.
 fn clash(
     alloc: Global,
     files: &[FileDescriptorInner],

@@ -1,11 +1,12 @@
 use super::field::{add_field, add_given, identity, read_field};
 use super::growing::GrowingPool;
 use super::linked::linked_file;
-use pool_parts::{DescriptorErrorKind, FileDescriptorInner, MessageDescriptorInner};
-use proto_records::{
+use plain_values::Items;
+use pool_types::{DescriptorErrorKind, FileDescriptorInner, MessageDescriptorInner};
+use proto_records::Visitor;
+use proto_types::{
     DescriptorProto, EnumDescriptorProto, EnumValueDescriptorProto, FieldDescriptorProto,
-    FileDescriptorProto, Items, MethodDescriptorProto, OneofDescriptorProto,
-    ServiceDescriptorProto, Visitor,
+    FileDescriptorProto, MethodDescriptorProto, OneofDescriptorProto, ServiceDescriptorProto,
 };
 use std::alloc::{AllocError, Global};
 

@@ -2,7 +2,8 @@ ghost use Rattle.std.specs.Prelude.{IfOk, ◌≡◌};
 ghost use Rattle.pool_parts.specs.Resolution.{resolution_in};
 ghost use Rattle.descriptor_pool.specs.Setting.{meaning};
 
-use pool_parts::{Entry, FileDescriptorInner, ResolveNameFilter, ResolveNameResult, resolve_name};
+use pool_parts::{ResolveNameFilter, ResolveNameResult, resolve_name};
+use pool_types::{Entry, FileDescriptorInner};
 use std::alloc::{AllocError, Global};
 
 /// What a batch is read against: the files of the pool and its own, and the names that these enter.

@@ -7,7 +7,7 @@ use Rattle.link_script.specs.declared.script.statement.Statement.{Statement}
 use Rattle.link_script.specs.declared.script.statement.ScriptFault.{ScriptFault}
 use Rattle.link_script.specs.declared.script.line_error.LineError.{LineError}
 use Rattle.link_script.specs.declared.script.line_error.LineError.TheVariants.{Fault, OutOfMemory}
-use Rattle.link_script.specs.declared.script.standing.Standing.{Standing as Held}
+use Rattle.link_script.specs.declared.script.standing.Standing.{Standing as Code}
 use Rattle.link_script.specs.Script.Keywords.{Standing, standing_after}
 use Rattle.link_script.specs.Script.Reading.{Line}
 
@@ -23,8 +23,8 @@ after_line (Err fault) statements here = Err fault
 after_line (Ok None) statements here = Ok (statements, here)
 after_line (Ok (Some s)) statements here = Ok (statements ++ s.1 ∷ [], standing_after here s.0)
 
--- what is held of what stands before a statement, the innermost block last
-abbrev pub standing_in : Held → Standing
+-- what the code has of what stands before a statement, the innermost block last
+abbrev pub standing_in : Code → Standing
 standing_in h = record { blocks = reverse h.blocks.items; more = h.more }
 
 -- the line's fault, behind which a fact holds, unless memory was refused

@@ -8,8 +8,9 @@ use super::line_error::LineError;
 use super::rest::rest;
 use super::statement::{Keyword, ScriptFault, Statement};
 use super::values::{given_number, given_text, label_of, number_of, numbers, text, truth, type_of};
-use proto_records::{
-    EnumValueDescriptorProto, FieldDescriptorProto, Location, MethodDescriptorProto, Text,
+use plain_values::Text;
+use proto_types::{
+    EnumValueDescriptorProto, FieldDescriptorProto, Location, MethodDescriptorProto,
 };
 use std::alloc::Global;
 

@@ -11,7 +11,7 @@ use super::line_error::LineError;
 use super::standing::Standing;
 use super::statement::{Keyword, Script, ScriptFault, Statement};
 use super::words::{lines, words};
-use proto_records::Items;
+use plain_values::Items;
 use std::alloc::{AllocError, Global};
 
 /// Whether a line that begins with a word is a comment.

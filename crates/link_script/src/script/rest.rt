@@ -7,7 +7,7 @@ ghost use Rattle.link_script.specs.Script.Answers.{IsAnswer};
 
 use super::line_error::LineError;
 use super::statement::ScriptFault;
-use proto_records::Text;
+use plain_values::Text;
 use std::alloc::Global;
 
 /// A line behind its leading spaces.

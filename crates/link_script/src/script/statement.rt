@@ -1,5 +1,6 @@
-use proto_records::{
-    EnumValueDescriptorProto, FieldDescriptorProto, Items, Location, MethodDescriptorProto, Text,
+use plain_values::{Items, Text};
+use proto_types::{
+    EnumValueDescriptorProto, FieldDescriptorProto, Location, MethodDescriptorProto,
 };
 use std::fmt;
 

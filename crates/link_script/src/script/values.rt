@@ -7,7 +7,7 @@ ghost use Rattle.link_script.specs.Script.Answers.{IsAnswer};
 
 use super::line_error::LineError;
 use super::statement::ScriptFault;
-use proto_records::{Items, Text};
+use plain_values::{Items, Text};
 use std::alloc::{AllocError, Global};
 
 /// The labels, in the order of their numbers from 1 on.
@@ -56,7 +56,7 @@ pub(super) fn number_of(word: &str) -> Result<Option<i32>, ScriptFault>
     Ok(Some(given_number(word)?))
 }
 
-/// The place of a word among names, counted from 1, or else the number that it writes.
+/// The position of a word among names, counted from 1, or else the number that it writes.
 fn named(names: &[&str], word: &str) -> Option<i32>
     requires { length names.now < 100 }
     ensures { result ≡ spec.named_in (map (λ name. name.now) names.now) word.now }

@@ -1,7 +1,7 @@
 ghost use Rattle.std.specs.Prelude.{◌≡◌, IfOk, drop};
 ghost use Rattle.std.specs.Str.{IsCharBoundary};
 
-use crate::numbers::FileDescriptor;
+use crate::indexes::FileDescriptor;
 use plain_values::{Duplicate, Items, Text};
 use std::alloc::{AllocError, Global};
 
@@ -9,7 +9,7 @@ use std::alloc::{AllocError, Global};
 #[derive(PartialEq, Drop)]
 pub struct Identity {
     pub file: u32,
-    /// Field numbers and places, from the file to the declaration.
+    /// Field numbers and positions, from the file to the declaration.
     pub path: Items<i32>,
     pub full_name: Text,
     /// The byte of the full name at which the declared name begins, from 0.
@@ -25,7 +25,7 @@ pub struct Definition {
     pub kind: DefinitionKind,
 }
 
-/// What kind of thing it is, with its own number, or for a part the number of its message, service or enum.
+/// What kind of thing it is, with its own index, or for a part the index of its message, service or enum.
 #[derive(Clone, Copy, PartialEq)]
 pub enum DefinitionKind {
     Package,

@@ -5,11 +5,11 @@ use super::field::FieldDescriptorInner;
 use plain_values::{Duplicate, Items};
 use std::alloc::{AllocError, Global};
 
-/// A message, with its fields in the order of their places.
+/// A message, with its fields in the order of their positions.
 #[derive(PartialEq, Drop)]
 pub struct MessageDescriptorInner {
     pub id: Identity,
-    /// The number of the message around it; none by now, since nested messages are not read.
+    /// The index of the message around it, where it is nested.
     pub parent: Option<u32>,
     pub fields: Items<FieldDescriptorInner>,
 }

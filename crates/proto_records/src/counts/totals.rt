@@ -6,8 +6,9 @@ ghost use Rattle.proto_records.specs.Counts.{lists_fit, fits_list};
 ghost use Rattle.proto_records.specs.Protos.{of_file, of_message, of_enum, of_service};
 
 use super::{CountKind, Counts};
+use plain_values::Items;
 use proto_types::{
-    DescriptorProto, EnumDescriptorProto, FileDescriptorProto, Items, ServiceDescriptorProto,
+    DescriptorProto, EnumDescriptorProto, FileDescriptorProto, ServiceDescriptorProto,
 };
 
 /// The most entries of a list.

@@ -3,11 +3,11 @@ ghost use Rattle.std.specs.Option.{option_copied};
 ghost use Rattle.proto_records.specs.Leads.{last_entry};
 ghost use Rattle.proto_types.specs.Lists.{at};
 
+use plain_values::Items;
 use proto_types::tag::{enum_, file, message, service};
 use proto_types::{
     DescriptorProto, EnumDescriptorProto, EnumValueDescriptorProto, FieldDescriptorProto,
-    FileDescriptorProto, Items, MethodDescriptorProto, OneofDescriptorProto,
-    ServiceDescriptorProto,
+    FileDescriptorProto, MethodDescriptorProto, OneofDescriptorProto, ServiceDescriptorProto,
 };
 
 /// A borrowed record that declares something.
@@ -33,14 +33,14 @@ impl<'a> Record<'a> {
     pub(super) fn at(root: &'a FileDescriptorProto, path: &[i32]) -> Option<Record<'a>>
         ensures { option_map proto_in result ≡ leads root.now path.now }
     {
-        let [tag, place, rest @ ..] = path else {
+        let [tag, position, rest @ ..] = path else {
             return path.is_empty().then_some(Record::File(root));
         };
         match *tag {
-            file::MESSAGE_TYPE => Record::in_message(entry(&root.message_type, *place)?, rest),
-            file::ENUM_TYPE => Record::in_enum(entry(&root.enum_type, *place)?, rest),
-            file::SERVICE => Record::in_service(entry(&root.service, *place)?, rest),
-            file::EXTENSION => Some(Record::Extension(leaf(&root.extension, *place, rest)?)),
+            file::MESSAGE_TYPE => Record::in_message(entry(&root.message_type, *position)?, rest),
+            file::ENUM_TYPE => Record::in_enum(entry(&root.enum_type, *position)?, rest),
+            file::SERVICE => Record::in_service(entry(&root.service, *position)?, rest),
+            file::EXTENSION => Some(Record::Extension(leaf(&root.extension, *position, rest)?)),
             _ => None,
         }
     }
@@ -49,15 +49,15 @@ impl<'a> Record<'a> {
     fn in_message(root: &'a DescriptorProto, path: &[i32]) -> Option<Record<'a>>
         ensures { option_map proto_in result ≡ leads_in_message root.now path.now }
     {
-        let [tag, place, rest @ ..] = path else {
+        let [tag, position, rest @ ..] = path else {
             return path.is_empty().then_some(Record::Message(root));
         };
         match *tag {
-            message::FIELD => Some(Record::Field(leaf(&root.field, *place, rest)?)),
-            message::NESTED_TYPE => Record::in_message(entry(&root.nested_type, *place)?, rest),
-            message::ENUM_TYPE => Record::in_enum(entry(&root.enum_type, *place)?, rest),
-            message::EXTENSION => Some(Record::Extension(leaf(&root.extension, *place, rest)?)),
-            message::ONEOF_DECL => Some(Record::Oneof(leaf(&root.oneof_decl, *place, rest)?)),
+            message::FIELD => Some(Record::Field(leaf(&root.field, *position, rest)?)),
+            message::NESTED_TYPE => Record::in_message(entry(&root.nested_type, *position)?, rest),
+            message::ENUM_TYPE => Record::in_enum(entry(&root.enum_type, *position)?, rest),
+            message::EXTENSION => Some(Record::Extension(leaf(&root.extension, *position, rest)?)),
+            message::ONEOF_DECL => Some(Record::Oneof(leaf(&root.oneof_decl, *position, rest)?)),
             _ => None,
         }
     }
@@ -68,7 +68,7 @@ impl<'a> Record<'a> {
     {
         match path {
             [] => Some(Record::Enum(root)),
-            [enum_::VALUE, place] => Some(Record::EnumValue(entry(&root.value, *place)?)),
+            [enum_::VALUE, position] => Some(Record::EnumValue(entry(&root.value, *position)?)),
             _ => None,
         }
     }
@@ -79,25 +79,25 @@ impl<'a> Record<'a> {
     {
         match path {
             [] => Some(Record::Service(root)),
-            [service::METHOD, place] => Some(Record::Method(entry(&root.method, *place)?)),
+            [service::METHOD, position] => Some(Record::Method(entry(&root.method, *position)?)),
             _ => None,
         }
     }
 }
 
-/// The entry of a list at a place, or none where there is none.
-fn entry<'a, T>(items: &'a Items<T>, place: i32) -> Option<&'a T>
-    ensures { option_copied result ≡ at items.now place }
+/// The entry of a list at a position, or none where there is none.
+fn entry<'a, T>(items: &'a Items<T>, position: i32) -> Option<&'a T>
+    ensures { option_copied result ≡ at items.now position }
 {
-    items.as_slice().get(usize::try_from(place).ok()?)
+    items.as_slice().get(usize::try_from(position).ok()?)
 }
 
-/// The entry at a place, where the path ends with it.
-fn leaf<'a, T>(items: &'a Items<T>, place: i32, rest: &[i32]) -> Option<&'a T>
-    ensures { option_copied result ≡ last_entry items.now place rest.now }
+/// The entry at a position, where the path ends with it.
+fn leaf<'a, T>(items: &'a Items<T>, position: i32, rest: &[i32]) -> Option<&'a T>
+    ensures { option_copied result ≡ last_entry items.now position rest.now }
 {
     if rest.is_empty() {
-        entry(items, place)
+        entry(items, position)
     } else {
         None
     }

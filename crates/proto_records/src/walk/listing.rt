@@ -7,11 +7,11 @@ ghost use Rattle.proto_records.specs.Counts.{counting, fits_list, lists_fit};
 ghost use Rattle.proto_records.specs.Declarations.{enum_walk, enums_walk, service_walk, services_walk, message_end, messages_walk};
 ghost use Rattle.proto_records.specs.Protos.{of_file, of_message, of_field, of_oneof, of_method, of_value, of_extension};
 ghost use Rattle.proto_records.specs.Shown.{shown, parts, row, inside};
-ghost use Rattle.proto_records.specs.Walking.{around, message_opening, number_at, parent_of, proto_of, within_file};
+ghost use Rattle.proto_records.specs.Walking.{around, message_opening, index_at, parent_of, proto_of, within_file};
 
 use super::located::Located;
 use super::part::Part;
-use super::place::Place;
+use super::site::Site;
 use crate::counts::Counts;
 use proto_types::{
     DescriptorProto, EnumDescriptorProto, EnumValueDescriptorProto, FieldDescriptorProto,
@@ -28,7 +28,7 @@ pub(crate) struct Listing<'a> {
 }
 
 impl<'a> Listing<'a> {
-    ghost use Rattle.proto_records.specs.Walking.{Held, Lists, Room};
+    ghost use Rattle.proto_records.specs.Walking.{WithinLimits, Lists, Room};
 
     /// Nothing is listed yet, and no memory is taken.
     pub(crate) fn new(alloc: Global, counts: Counts) -> Listing<'a>
@@ -55,19 +55,19 @@ impl<'a> Listing<'a> {
     /// Lists an entry of the list with this field number.
     fn add(
         &mut self,
-        here: &Place,
+        here: &Site,
         tag: i32,
-        place: usize,
+        position: usize,
         part: Part<'a>,
     ) -> Result<(), AllocError>
-        requires place { place < 2 ^ 31 }
-        requires held { Held (counting self.old.counts (proto_of part)) }
+        requires position { position < 2 ^ 31 }
+        requires within { WithinLimits (counting self.old.counts (proto_of part)) }
         ensures { OnOk result (Lists self.old self.new
-            (shown (around here.now (parent_of part.entry)) tag place (number_at self.old.counts place (proto_of part.entry)) (proto_of part.entry) ∷ [])) }
+            (shown (around here.now (parent_of part.entry)) tag position (index_at self.old.counts position (proto_of part.entry)) (proto_of part.entry) ∷ [])) }
     {
         self.list.push(Located {
-            place: here.entry(self.alloc, tag, place, part.name())?,
-            number: part.number(self.counts, place),
+            site: here.entry(self.alloc, tag, position, part.name())?,
+            index: part.index(self.counts, position),
             part,
         })?;
         self.counts = part.counted(self.counts);
@@ -76,7 +76,7 @@ impl<'a> Listing<'a> {
 
     fn list_oneofs(
         &mut self,
-        here: &Place,
+        here: &Site,
         parent: u32,
         oneofs: &'a [OneofDescriptorProto],
     ) -> Result<(), AllocError>
@@ -84,11 +84,11 @@ impl<'a> Listing<'a> {
         requires room { Room self.old.counts (parts of_oneof (around here.now (Some parent)) ONEOF_DECL oneofs.now) }
         ensures { OnOk result (Lists self.old self.new (parts of_oneof (around here.now (Some parent)) ONEOF_DECL oneofs.now)) }
     {
-        for (place, oneof) in oneofs.iter().enumerate() {
+        for (position, oneof) in oneofs.iter().enumerate() {
             self.add(
                 here,
                 tag::message::ONEOF_DECL,
-                place,
+                position,
                 Part::Oneof(parent, oneof),
             )?;
         }
@@ -97,7 +97,7 @@ impl<'a> Listing<'a> {
 
     fn list_fields(
         &mut self,
-        here: &Place,
+        here: &Site,
         parent: u32,
         fields: &'a [FieldDescriptorProto],
     ) -> Result<(), AllocError>
@@ -105,15 +105,20 @@ impl<'a> Listing<'a> {
         requires room { Room self.old.counts (parts of_field (around here.now (Some parent)) FIELD fields.now) }
         ensures { OnOk result (Lists self.old self.new (parts of_field (around here.now (Some parent)) FIELD fields.now)) }
     {
-        for (place, field) in fields.iter().enumerate() {
-            self.add(here, tag::message::FIELD, place, Part::Field(parent, field))?;
+        for (position, field) in fields.iter().enumerate() {
+            self.add(
+                here,
+                tag::message::FIELD,
+                position,
+                Part::Field(parent, field),
+            )?;
         }
         Ok(())
     }
 
     fn list_methods(
         &mut self,
-        here: &Place,
+        here: &Site,
         parent: u32,
         methods: &'a [MethodDescriptorProto],
     ) -> Result<(), AllocError>
@@ -121,11 +126,11 @@ impl<'a> Listing<'a> {
         requires room { Room self.old.counts (parts of_method (around here.now (Some parent)) METHOD methods.now) }
         ensures { OnOk result (Lists self.old self.new (parts of_method (around here.now (Some parent)) METHOD methods.now)) }
     {
-        for (place, method) in methods.iter().enumerate() {
+        for (position, method) in methods.iter().enumerate() {
             self.add(
                 here,
                 tag::service::METHOD,
-                place,
+                position,
                 Part::Method(parent, method),
             )?;
         }
@@ -134,7 +139,7 @@ impl<'a> Listing<'a> {
 
     fn list_values(
         &mut self,
-        here: &Place,
+        here: &Site,
         parent: u32,
         values: &'a [EnumValueDescriptorProto],
     ) -> Result<(), AllocError>
@@ -142,11 +147,11 @@ impl<'a> Listing<'a> {
         requires room { Room self.old.counts (parts of_value (around here.now (Some parent)) VALUE values.now) }
         ensures { OnOk result (Lists self.old self.new (parts of_value (around here.now (Some parent)) VALUE values.now)) }
     {
-        for (place, value) in values.iter().enumerate() {
+        for (position, value) in values.iter().enumerate() {
             self.add(
                 here,
                 tag::enum_::VALUE,
-                place,
+                position,
                 Part::EnumValue(parent, value),
             )?;
         }
@@ -155,7 +160,7 @@ impl<'a> Listing<'a> {
 
     fn list_extensions(
         &mut self,
-        here: &Place,
+        here: &Site,
         parent: Option<u32>,
         tag: i32,
         extensions: &'a [FieldDescriptorProto],
@@ -164,8 +169,8 @@ impl<'a> Listing<'a> {
         requires room { Room self.old.counts (row of_extension (around here.now parent) tag 0 self.old.counts.extensions extensions.now) }
         ensures { OnOk result (Lists self.old self.new (row of_extension (around here.now parent) tag 0 self.old.counts.extensions extensions.now)) }
     {
-        for (place, extension) in extensions.iter().enumerate() {
-            self.add(here, tag, place, Part::Extension(parent, extension))?;
+        for (position, extension) in extensions.iter().enumerate() {
+            self.add(here, tag, position, Part::Extension(parent, extension))?;
         }
         Ok(())
     }
@@ -173,25 +178,25 @@ impl<'a> Listing<'a> {
     /// Lists an enum and its values, which are named in the scope around it.
     fn list_enum(
         &mut self,
-        here: &Place,
+        here: &Site,
         parent: Option<u32>,
         tag: i32,
-        place: usize,
+        position: usize,
         enumeration: &'a EnumDescriptorProto,
     ) -> Result<(), AllocError>
-        requires place { place < 2 ^ 31 }
-        requires room { Room self.old.counts (enum_walk (around here.now parent) tag place self.old.counts.enums enumeration.now) }
-        ensures { OnOk result (Lists self.old self.new (enum_walk (around here.now parent) tag place self.old.counts.enums enumeration.now)) }
+        requires position { position < 2 ^ 31 }
+        requires room { Room self.old.counts (enum_walk (around here.now parent) tag position self.old.counts.enums enumeration.now) }
+        ensures { OnOk result (Lists self.old self.new (enum_walk (around here.now parent) tag position self.old.counts.enums enumeration.now)) }
     {
-        let number = self.counts.enums;
-        self.add(here, tag, place, Part::Enum(parent, enumeration))?;
-        let values = here.beside(self.alloc, tag, place)?;
-        self.list_values(&values, number, enumeration.value.as_slice())
+        let index = self.counts.enums;
+        self.add(here, tag, position, Part::Enum(parent, enumeration))?;
+        let values = here.beside(self.alloc, tag, position)?;
+        self.list_values(&values, index, enumeration.value.as_slice())
     }
 
     fn list_enums(
         &mut self,
-        here: &Place,
+        here: &Site,
         parent: Option<u32>,
         tag: i32,
         enums: &'a [EnumDescriptorProto],
@@ -200,8 +205,8 @@ impl<'a> Listing<'a> {
         requires room { Room self.old.counts (enums_walk (around here.now parent) tag 0 self.old.counts.enums enums.now) }
         ensures { OnOk result (Lists self.old self.new (enums_walk (around here.now parent) tag 0 self.old.counts.enums enums.now)) }
     {
-        for (place, enumeration) in enums.iter().enumerate() {
-            self.list_enum(here, parent, tag, place, enumeration)?;
+        for (position, enumeration) in enums.iter().enumerate() {
+            self.list_enum(here, parent, tag, position, enumeration)?;
         }
         Ok(())
     }
@@ -209,31 +214,31 @@ impl<'a> Listing<'a> {
     /// Lists a service and its methods.
     fn list_service(
         &mut self,
-        here: &Place,
-        place: usize,
+        here: &Site,
+        position: usize,
         service: &'a ServiceDescriptorProto,
     ) -> Result<(), AllocError>
-        requires place { place < 2 ^ 31 }
-        requires room { Room self.old.counts (service_walk (around here.now None) place self.old.counts.services service.now) }
-        ensures { OnOk result (Lists self.old self.new (service_walk (around here.now None) place self.old.counts.services service.now)) }
+        requires position { position < 2 ^ 31 }
+        requires room { Room self.old.counts (service_walk (around here.now None) position self.old.counts.services service.now) }
+        ensures { OnOk result (Lists self.old self.new (service_walk (around here.now None) position self.old.counts.services service.now)) }
     {
-        let number = self.counts.services;
-        self.add(here, tag::file::SERVICE, place, Part::Service(service))?;
-        let inside = here.entry(self.alloc, tag::file::SERVICE, place, service.name())?;
-        self.list_methods(&inside, number, service.method.as_slice())
+        let index = self.counts.services;
+        self.add(here, tag::file::SERVICE, position, Part::Service(service))?;
+        let inside = here.entry(self.alloc, tag::file::SERVICE, position, service.name())?;
+        self.list_methods(&inside, index, service.method.as_slice())
     }
 
     fn list_services(
         &mut self,
-        here: &Place,
+        here: &Site,
         services: &'a [ServiceDescriptorProto],
     ) -> Result<(), AllocError>
         requires short { fits_list services.now ≡ true }
         requires room { Room self.old.counts (services_walk (around here.now None) 0 self.old.counts.services services.now) }
         ensures { OnOk result (Lists self.old self.new (services_walk (around here.now None) 0 self.old.counts.services services.now)) }
     {
-        for (place, service) in services.iter().enumerate() {
-            self.list_service(here, place, service)?;
+        for (position, service) in services.iter().enumerate() {
+            self.list_service(here, position, service)?;
         }
         Ok(())
     }
@@ -241,41 +246,41 @@ impl<'a> Listing<'a> {
     /// Lists a message, its oneofs and its fields, and answers where these stand.
     fn open_message(
         &mut self,
-        here: &Place,
+        here: &Site,
         parent: Option<u32>,
         tag: i32,
-        place: usize,
+        position: usize,
         message: &'a DescriptorProto,
-    ) -> Result<Place, AllocError>
-        requires place { place < 2 ^ 31 }
-        requires room { Room self.old.counts (message_opening (around here.now parent) tag place self.old.counts.messages message.now) }
-        ensures lists { OnOk result (Lists self.old self.new (message_opening (around here.now parent) tag place self.old.counts.messages message.now)) }
-        ensures inside { IfOk result (λ place'. around place' (Some self.old.counts.messages)
-            ≡ inside (shown (around here.now parent) tag place self.old.counts.messages (of_message message.now))) }
+    ) -> Result<Site, AllocError>
+        requires position { position < 2 ^ 31 }
+        requires room { Room self.old.counts (message_opening (around here.now parent) tag position self.old.counts.messages message.now) }
+        ensures lists { OnOk result (Lists self.old self.new (message_opening (around here.now parent) tag position self.old.counts.messages message.now)) }
+        ensures inside { IfOk result (λ position'. around position' (Some self.old.counts.messages)
+            ≡ inside (shown (around here.now parent) tag position self.old.counts.messages (of_message message.now))) }
     {
-        let number = self.counts.messages;
-        self.add(here, tag, place, Part::Message(parent, message))?;
-        let inside = here.entry(self.alloc, tag, place, message.name())?;
-        self.list_oneofs(&inside, number, message.oneof_decl.as_slice())?;
-        self.list_fields(&inside, number, message.field.as_slice())?;
+        let index = self.counts.messages;
+        self.add(here, tag, position, Part::Message(parent, message))?;
+        let inside = here.entry(self.alloc, tag, position, message.name())?;
+        self.list_oneofs(&inside, index, message.oneof_decl.as_slice())?;
+        self.list_fields(&inside, index, message.field.as_slice())?;
         Ok(inside)
     }
 
     /// Lists the enums and extensions of a message, which stand behind its nested messages.
     fn close_message(
         &mut self,
-        inside: &Place,
-        number: u32,
+        inside: &Site,
+        index: u32,
         message: &'a DescriptorProto,
     ) -> Result<(), AllocError>
         requires enums { fits_list (out-DescriptorProto message.now).enum_type ≡ true }
         requires extensions { fits_list (out-DescriptorProto message.now).extension ≡ true }
         requires room { Room self.old.counts
-            (message_end (around inside.now (Some number)) self.old.counts (out-DescriptorProto message.now).enum_type (out-DescriptorProto message.now).extension) }
+            (message_end (around inside.now (Some index)) self.old.counts (out-DescriptorProto message.now).enum_type (out-DescriptorProto message.now).extension) }
         ensures { OnOk result (Lists self.old self.new
-            (message_end (around inside.now (Some number)) self.old.counts (out-DescriptorProto message.now).enum_type (out-DescriptorProto message.now).extension)) }
+            (message_end (around inside.now (Some index)) self.old.counts (out-DescriptorProto message.now).enum_type (out-DescriptorProto message.now).extension)) }
     {
-        let parent = Some(number);
+        let parent = Some(index);
         let enums = message.enum_type.as_slice();
         self.list_enums(inside, parent, tag::message::ENUM_TYPE, enums)?;
         let extensions = message.extension.as_slice();
@@ -285,7 +290,7 @@ impl<'a> Listing<'a> {
     /// Lists messages, each with all that stands in it.
     fn list_messages(
         &mut self,
-        here: &Place,
+        here: &Site,
         parent: Option<u32>,
         tag: i32,
         messages: &'a [DescriptorProto],
@@ -294,28 +299,28 @@ impl<'a> Listing<'a> {
         requires room { Room self.old.counts (messages_walk (around here.now parent) tag 0 self.old.counts messages.now) }
         ensures { OnOk result (Lists self.old self.new (messages_walk (around here.now parent) tag 0 self.old.counts messages.now)) }
     {
-        for (place, message) in messages.iter().enumerate() {
-            let number = self.counts.messages;
-            let inside = self.open_message(here, parent, tag, place, message)?;
+        for (position, message) in messages.iter().enumerate() {
+            let index = self.counts.messages;
+            let inside = self.open_message(here, parent, tag, position, message)?;
             let nested = message.nested_type.as_slice();
-            self.list_messages(&inside, Some(number), tag::message::NESTED_TYPE, nested)?;
-            self.close_message(&inside, number, message)?;
+            self.list_messages(&inside, Some(index), tag::message::NESTED_TYPE, nested)?;
+            self.close_message(&inside, index, message)?;
         }
         Ok(())
     }
 
-    /// Lists all that stands in the file with a number.
+    /// Lists all that stands in the file with an index.
     pub(crate) fn list_file(
         &mut self,
-        number: u32,
+        index: u32,
         file: &'a FileDescriptorProto,
     ) -> Result<(), AllocError>
         requires short { lists_fit (of_file file.now) ≡ true }
-        requires room { Room self.old.counts (within_file number self.old.counts file.now) }
-        ensures { OnOk result (Lists self.old self.new (within_file number self.old.counts file.now)) }
+        requires room { Room self.old.counts (within_file index self.old.counts file.now) }
+        ensures { OnOk result (Lists self.old self.new (within_file index self.old.counts file.now)) }
     {
-        let here = Place {
-            file: number,
+        let here = Site {
+            file: index,
             path: Vec::new(self.alloc),
             name: String::from_str(self.alloc, file.package())?,
         };

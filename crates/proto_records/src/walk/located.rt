@@ -4,16 +4,16 @@ ghost use Rattle.proto_records.specs.Shown.{file_shown};
 ghost use Rattle.proto_records.specs.Walking.{located};
 
 use super::part::Part;
-use super::place::Place;
+use super::site::Site;
 use crate::visitor::Visitor;
 use proto_types::FileDescriptorProto;
 use std::alloc::AllocError;
 
-/// A record that stands in a file, with where it stands and its number.
+/// A record that stands in a file, with where it stands and its index.
 #[derive(Drop)]
 pub(crate) struct Located<'a> {
-    pub(crate) place: Place,
-    pub(crate) number: u32,
+    pub(crate) site: Site,
+    pub(crate) index: u32,
     pub(crate) part: Part<'a>,
 }
 
@@ -23,52 +23,52 @@ impl Located<'_> {
         ensures ok { OnOk result (HasSeen (after visitor.old) (ready visitor.old) (after visitor.new) (ready visitor.new) (located self.now ∷ [])) }
         ensures kept { kept visitor.new ≡ kept visitor.old }
     {
-        let Place { file, path, name } = &self.place;
+        let Site { file, path, name } = &self.site;
         let file = *file;
-        let number = self.number;
+        let index = self.index;
         match self.part {
             Part::Message(parent, message) => visitor.visit_message(
-                path, name, file, parent, number, message,
+                path, name, file, parent, index, message,
             ),
             Part::Field(parent, field) => visitor.visit_field(
-                path, name, file, parent, number, field,
+                path, name, file, parent, index, field,
             ),
             Part::Oneof(parent, oneof) => visitor.visit_oneof(
-                path, name, file, parent, number, oneof,
+                path, name, file, parent, index, oneof,
             ),
-            Part::Service(service) => visitor.visit_service(path, name, file, number, service),
+            Part::Service(service) => visitor.visit_service(path, name, file, index, service),
             Part::Method(parent, method) => visitor.visit_method(
-                path, name, file, parent, number, method,
+                path, name, file, parent, index, method,
             ),
             Part::Enum(parent, enumeration) => visitor.visit_enum(
                 path,
                 name,
                 file,
                 parent,
-                number,
+                index,
                 enumeration,
             ),
             Part::EnumValue(parent, value) => visitor.visit_enum_value(
-                path, name, file, parent, number, value,
+                path, name, file, parent, index, value,
             ),
             Part::Extension(parent, extension) => visitor.visit_extension(
-                path, name, file, parent, number, extension,
+                path, name, file, parent, index, extension,
             ),
         }
     }
 }
 
-/// Shows a visitor the file with a number.
+/// Shows a visitor the file with an index.
 pub(crate) fn show_file(
-    number: u32,
+    index: u32,
     file: &FileDescriptorProto,
     visitor: &mut dyn Visitor,
 ) -> Result<(), AllocError>
-    requires { ready visitor.old (file_shown [] number file.now ∷ []) }
-    ensures ok { OnOk result (HasSeen (after visitor.old) (ready visitor.old) (after visitor.new) (ready visitor.new) (file_shown [] number file.now ∷ [])) }
+    requires { ready visitor.old (file_shown [] index file.now ∷ []) }
+    ensures ok { OnOk result (HasSeen (after visitor.old) (ready visitor.old) (after visitor.new) (ready visitor.new) (file_shown [] index file.now ∷ [])) }
     ensures kept { kept visitor.new ≡ kept visitor.old }
 {
-    visitor.visit_file(&[], number, file)
+    visitor.visit_file(&[], index, file)
 }
 
 /// Shows a visitor what is listed, in order.

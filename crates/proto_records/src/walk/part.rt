@@ -1,7 +1,7 @@
 ghost use Rattle.std.specs.Prelude.{◌≡◌, ◌<◌, ◌^◌};
 ghost use Rattle.proto_records.specs.Counts.{counting};
 ghost use Rattle.proto_records.specs.Protos.{name_of};
-ghost use Rattle.proto_records.specs.Walking.{Held, number_at, proto_of};
+ghost use Rattle.proto_records.specs.Walking.{WithinLimits, index_at, proto_of};
 
 use crate::counts::Counts;
 use proto_types::{
@@ -9,7 +9,7 @@ use proto_types::{
     MethodDescriptorProto, OneofDescriptorProto, ServiceDescriptorProto,
 };
 
-/// A record that stands in a file, behind the number of the message, enum or service around it.
+/// A record that stands in a file, behind the index of the message, enum or service around it.
 #[derive(Clone, Copy)]
 pub(crate) enum Part<'a> {
     Message(Option<u32>, &'a DescriptorProto),
@@ -38,23 +38,23 @@ impl<'a> Part<'a> {
         }
     }
 
-    /// The number of the next of this kind: how many were counted, or the place where none is.
-    pub(crate) fn number(self, counts: Counts, place: usize) -> u32
-        requires { place < 2 ^ 31 }
-        ensures { result ≡ number_at counts place (proto_of self.entry) }
+    /// The index of the next of this kind: how many were counted, or the position where none is.
+    pub(crate) fn index(self, counts: Counts, position: usize) -> u32
+        requires { position < 2 ^ 31 }
+        ensures { result ≡ index_at counts position (proto_of self.entry) }
     {
         match self {
             Part::Message(..) => counts.messages,
             Part::Service(_) => counts.services,
             Part::Enum(..) => counts.enums,
             Part::Extension(..) => counts.extensions,
-            _ => place as u32,
+            _ => position as u32,
         }
     }
 
     /// The counts after one more of this kind.
     pub(crate) fn counted(self, counts: Counts) -> Counts
-        requires { Held (counting counts (proto_of self)) }
+        requires { WithinLimits (counting counts (proto_of self)) }
         ensures { result ≡ counting counts (proto_of self.entry) }
     {
         let mut after = counts;

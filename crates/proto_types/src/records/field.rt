@@ -4,7 +4,7 @@ ghost use Rattle.proto_types.specs.Empty.{no_field};
 
 use super::options::{FieldOptions, Options};
 use crate::text;
-use plain_values::{Duplicate, Text};
+use plain_values::{Duplicate, Text, duplicate_given};
 use std::alloc::{AllocError, Global};
 
 /// A field of a message, or an extension.
@@ -19,7 +19,7 @@ pub struct FieldDescriptorProto {
     pub type_name: Option<Text>,
     pub default_value: Option<Text>,
     pub options: Option<Options<FieldOptions>>,
-    /// The place of its oneof in its message, from 0.
+    /// The position of its oneof in its message, from 0.
     pub oneof_index: Option<i32>,
     pub json_name: Option<Text>,
     pub proto3_optional: Option<bool>,
@@ -160,16 +160,16 @@ impl FieldDescriptorProto {
         ensures { IfOk result (λ copy. copy ≡ self.now) }
     {
         Ok(FieldDescriptorProto {
-            name: Text::clone_given(alloc, &self.name)?,
-            extendee: Text::clone_given(alloc, &self.extendee)?,
+            name: duplicate_given(alloc, &self.name)?,
+            extendee: duplicate_given(alloc, &self.extendee)?,
             number: self.number,
             label: self.label,
             type_: self.type_,
-            type_name: Text::clone_given(alloc, &self.type_name)?,
-            default_value: Text::clone_given(alloc, &self.default_value)?,
-            options: Options::clone_given(alloc, &self.options)?,
+            type_name: duplicate_given(alloc, &self.type_name)?,
+            default_value: duplicate_given(alloc, &self.default_value)?,
+            options: duplicate_given(alloc, &self.options)?,
             oneof_index: self.oneof_index,
-            json_name: Text::clone_given(alloc, &self.json_name)?,
+            json_name: duplicate_given(alloc, &self.json_name)?,
             proto3_optional: self.proto3_optional,
         })
     }

@@ -9,7 +9,7 @@ use super::options::{Options, Unread};
 use super::service::ServiceDescriptorProto;
 use super::source::SourceCodeInfo;
 use crate::text;
-use plain_values::{Duplicate, Items, Text};
+use plain_values::{Duplicate, Items, Text, duplicate_given};
 use std::alloc::{AllocError, Global};
 
 /// The files of one description.
@@ -31,9 +31,9 @@ pub struct FileDescriptorProto {
     pub extension: Items<FieldDescriptorProto>,
     pub options: Option<Options<Unread>>,
     pub source_code_info: Option<SourceCodeInfo>,
-    /// The places of the public imports in the list of imports, from 0.
+    /// The positions of the public imports in the list of imports, from 0.
     pub public_dependency: Items<i32>,
-    /// The places of the weak imports in the list of imports, from 0.
+    /// The positions of the weak imports in the list of imports, from 0.
     pub weak_dependency: Items<i32>,
     pub syntax: Option<Text>,
 }
@@ -98,18 +98,18 @@ impl FileDescriptorProto {
         ensures { IfOk result (λ copy. copy ≡ self.now) }
     {
         Ok(FileDescriptorProto {
-            name: Text::clone_given(alloc, &self.name)?,
-            package: Text::clone_given(alloc, &self.package)?,
+            name: duplicate_given(alloc, &self.name)?,
+            package: duplicate_given(alloc, &self.package)?,
             dependency: self.dependency.clone(alloc)?,
             message_type: self.message_type.clone(alloc)?,
             enum_type: self.enum_type.clone(alloc)?,
             service: self.service.clone(alloc)?,
             extension: self.extension.clone(alloc)?,
-            options: Options::clone_given(alloc, &self.options)?,
-            source_code_info: SourceCodeInfo::clone_given(alloc, &self.source_code_info)?,
+            options: duplicate_given(alloc, &self.options)?,
+            source_code_info: duplicate_given(alloc, &self.source_code_info)?,
             public_dependency: Items::from_slice(alloc, self.public_dependency.as_slice())?,
             weak_dependency: Items::from_slice(alloc, self.weak_dependency.as_slice())?,
-            syntax: Text::clone_given(alloc, &self.syntax)?,
+            syntax: duplicate_given(alloc, &self.syntax)?,
         })
     }
 }

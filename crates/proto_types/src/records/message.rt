@@ -6,7 +6,7 @@ use super::enumeration::EnumDescriptorProto;
 use super::field::FieldDescriptorProto;
 use super::options::{Options, Unread};
 use crate::text;
-use plain_values::{Duplicate, Items, Text};
+use plain_values::{Duplicate, Items, Text, duplicate_given};
 use std::alloc::{AllocError, Global};
 
 /// A message type.
@@ -83,13 +83,13 @@ impl DescriptorProto {
             nested_type.push(message.clone(alloc)?)?;
         }
         Ok(DescriptorProto {
-            name: Text::clone_given(alloc, &self.name)?,
+            name: duplicate_given(alloc, &self.name)?,
             field: self.field.clone(alloc)?,
             nested_type,
             enum_type: self.enum_type.clone(alloc)?,
             extension_range: self.extension_range.clone(alloc)?,
             extension: self.extension.clone(alloc)?,
-            options: Options::clone_given(alloc, &self.options)?,
+            options: duplicate_given(alloc, &self.options)?,
             oneof_decl: self.oneof_decl.clone(alloc)?,
             reserved_range: self.reserved_range.clone(alloc)?,
             reserved_name: self.reserved_name.clone(alloc)?,
@@ -130,7 +130,7 @@ impl ExtensionRange {
         Ok(ExtensionRange {
             start: self.start,
             end: self.end,
-            options: Options::clone_given(alloc, &self.options)?,
+            options: duplicate_given(alloc, &self.options)?,
         })
     }
 }
@@ -194,8 +194,8 @@ impl OneofDescriptorProto {
         ensures { IfOk result (λ copy. copy ≡ self.now) }
     {
         Ok(OneofDescriptorProto {
-            name: Text::clone_given(alloc, &self.name)?,
-            options: Options::clone_given(alloc, &self.options)?,
+            name: duplicate_given(alloc, &self.name)?,
+            options: duplicate_given(alloc, &self.options)?,
         })
     }
 }

@@ -1,7 +1,7 @@
 ghost use Rattle.std.specs.Prelude.{◌≡◌, IfOk};
 ghost use Rattle.proto_types.specs.Readers.{flag_of};
 
-use plain_values::Items;
+use plain_values::{Duplicate, Items};
 use std::alloc::{AllocError, Global};
 use std::fmt;
 
@@ -49,18 +49,11 @@ impl<T: Copy> Options<T> {
             value: self.value,
         })
     }
+}
 
-    /// A copy of options that may be missing.
-    pub fn clone_given(
-        alloc: Global,
-        options: &Option<Options<T>>,
-    ) -> Result<Option<Options<T>>, AllocError>
-        ensures { IfOk result (λ copy. copy ≡ options.now) }
-    {
-        match options {
-            Some(options) => Ok(Some(options.clone(alloc)?)),
-            None => Ok(None),
-        }
+impl<T: Copy> Duplicate for Options<T> {
+    fn duplicate(&self, alloc: Global) -> Result<Options<T>, AllocError> {
+        self.clone(alloc)
     }
 }
 

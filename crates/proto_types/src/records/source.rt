@@ -1,7 +1,7 @@
 ghost use Rattle.std.specs.Prelude.{◌≡◌, IfOk};
 ghost use Rattle.proto_types.specs.Empty.{no_source, no_location};
 
-use plain_values::{Duplicate, Items, Text};
+use plain_values::{Duplicate, Items, Text, duplicate_given};
 use std::alloc::{AllocError, Global};
 
 /// Where the declarations of a file stand in its source.
@@ -10,7 +10,7 @@ pub struct SourceCodeInfo {
     pub location: Items<Location>,
 }
 
-/// A declaration, by its path of field numbers and places, and its lines and columns, which count from 0.
+/// A declaration, by its path of field numbers and positions, and its lines and columns, which count from 0.
 #[derive(PartialEq, Drop)]
 pub struct Location {
     pub path: Items<i32>,
@@ -21,7 +21,7 @@ pub struct Location {
 }
 
 impl SourceCodeInfo {
-    /// No places, which takes no memory.
+    /// No locations, which takes no memory.
     pub fn empty(alloc: Global) -> SourceCodeInfo
         ensures { result ≡ no_source }
     {
@@ -38,18 +38,11 @@ impl SourceCodeInfo {
             location: self.location.clone(alloc)?,
         })
     }
+}
 
-    /// A copy of places that may be missing.
-    pub fn clone_given(
-        alloc: Global,
-        source: &Option<SourceCodeInfo>,
-    ) -> Result<Option<SourceCodeInfo>, AllocError>
-        ensures { IfOk result (λ copy. copy ≡ source.now) }
-    {
-        match source {
-            Some(source) => Ok(Some(source.clone(alloc)?)),
-            None => Ok(None),
-        }
+impl Duplicate for SourceCodeInfo {
+    fn duplicate(&self, alloc: Global) -> Result<SourceCodeInfo, AllocError> {
+        self.clone(alloc)
     }
 }
 
@@ -74,8 +67,8 @@ impl Location {
         Ok(Location {
             path: Items::from_slice(alloc, self.path.as_slice())?,
             span: Items::from_slice(alloc, self.span.as_slice())?,
-            leading_comments: Text::clone_given(alloc, &self.leading_comments)?,
-            trailing_comments: Text::clone_given(alloc, &self.trailing_comments)?,
+            leading_comments: duplicate_given(alloc, &self.leading_comments)?,
+            trailing_comments: duplicate_given(alloc, &self.trailing_comments)?,
             leading_detached_comments: self.leading_detached_comments.clone(alloc)?,
         })
     }

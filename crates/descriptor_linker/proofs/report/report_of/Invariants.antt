@@ -1,6 +1,6 @@
 use Rattle.std.proofs.Common.{◌≡◌}
 use Rattle.std.specs.List.{fold}
-use Rattle.descriptor_linker.specs.Report.Held.{session_in}
+use Rattle.descriptor_linker.specs.Report.Code.{session_in}
 use Rattle.descriptor_linker.specs.Report.Session.{new_session, step}
 use Rattle.descriptor_linker.proofs.report.report_of.Given as goal
 

@@ -10,7 +10,7 @@ use Rattle.proto_records.proofs.Showing.{remains-all, remains-as, remains-fewer,
 use Rattle.proto_records.proofs.walk.visit.Goals as goal
 
 pub loop-file-init : goal.loop-file-init
-loop-file-init g c = record { left = remains-all _ _ _; room = room-fits c.args.base (declarations c.args.base c.args.files.now) c.requires.fits; kept = refl }
+loop-file-init g c = record { left = remains-all _ _ _; room = room-fits c.args.base c.args.files.now c.requires.fits; kept = refl }
 
 pub visit_file-requires : goal.visit_file-requires
 visit_file-requires g c =

@@ -4,7 +4,7 @@ use Rattle.proto_records.specs.Walking.{Room}
 use Rattle.proto_records.proofs.Showing.{Remains}
 use Rattle.proto_records.proofs.walk.visit.Given as goal
 
--- the files from this place on are left to be shown, and there is room for them
+-- the files from this position on are left to be shown, and there is room for them
 abbrev pub invariant-loop-file : goal.invariant-loop-file
 invariant-loop-file g l =
     let v = l.visitor.now in

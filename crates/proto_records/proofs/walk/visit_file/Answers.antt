@@ -27,7 +27,7 @@ counts_with_file-requires g c =
     let counts : c.list_file.new.self.counts ≡ counted k tail = c.in_ok-list_file.ensures.counts ∙ (λ j. counted (same j) (within_file k.files (same j) f)) in
     let files = ap (λ (n : Counts). n.files) counts in
     let more = ap (λ (n : Counts). n.files) (counted-file k f tail) in
-    omega (arith, files, more, c.requires.room.held.files)
+    omega (arith, files, more, c.requires.room.within.files)
 
 pub returns-clause-counts : goal.returns-clause-counts
 returns-clause-counts g c =

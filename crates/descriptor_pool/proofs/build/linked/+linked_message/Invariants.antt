@@ -11,4 +11,4 @@ decreases-linked_message l = goal.size-linked_message l
 
 -- the nested messages so far are linked
 abbrev pub invariant-loop-nested : goal.invariant-loop-nested
-invariant-loop-nested l = l.nested_type ≡ map (linked_message (setting_in l.setting) l.number (join l.scope (text_of (out-DescriptorProto l.message).name))) (take l.nested-index l.nested-items)
+invariant-loop-nested l = l.nested_type ≡ map (linked_message (setting_in l.setting) l.index (join l.scope (text_of (out-DescriptorProto l.message).name))) (take l.nested-index l.nested-items)

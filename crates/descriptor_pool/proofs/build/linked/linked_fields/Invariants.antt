@@ -5,4 +5,4 @@ use Rattle.descriptor_pool.proofs.build.linked.linked_fields.Given as goal
 
 -- the fields so far are linked
 abbrev pub invariant-loop-field : goal.invariant-loop-field
-invariant-loop-field l = l.linked ≡ map (linked_field (setting_in l.setting) l.number l.scope) (take l.field-index l.fields)
+invariant-loop-field l = l.linked ≡ map (linked_field (setting_in l.setting) l.index l.scope) (take l.field-index l.fields)

@@ -1,12 +1,13 @@
 use Rattle.std.proofs.Common.{◌≡◌, ℕ, true, eqb, List, [], ◌∷◌, length, IsOk, Err, refl, ap, subst, sym, ◌∙◌, rules, arith}
 use Rattle.std.proofs.lemmas.Bool.Decides.{nat_tests}
 use Rattle.pool_types.specs.Contents.{Contents}
-use Rattle.proto_records.specs.Counts.{counts_with, counts_in}
+use Rattle.proto_records.specs.Counts.{counts_in}
+use Rattle.proto_records.specs.Fits.{counts_with}
 use Rattle.proto_records.specs.Declarations.{declarations}
-use Rattle.descriptor_pool.specs.Held.{contents_in}
+use Rattle.descriptor_pool.specs.Invariant.{contents_in}
 use Rattle.descriptor_pool.specs.Outcome.{Outcome, IsLinked}
 use Rattle.descriptor_pool.specs.Pool.{new_files, counts_after}
-use Rattle.descriptor_pool.proofs.Grown.{IsBehind, ground_of, outcome_behind, held_behind}
+use Rattle.descriptor_pool.proofs.Grown.{IsBehind, ground_of, outcome_behind, pool_behind}
 use Rattle.descriptor_pool.proofs.NewFiles.{kept_files, new_of_new, nothing_linked}
 use Rattle.descriptor_pool.proofs.pool.DescriptorPool.build_files.Goals as goal
 
@@ -29,8 +30,8 @@ returns-in-Err-clause-outcome c =
     let p = c.args.self.now in
     let kept = c.keep_new.ensures ∙ kept_files p c.deref.result.now c.args.files.items (c.deref.ensures.value ∙ ap (λ q. q.files) c.self.view_is) in
     let first : counts_after p c.args.files.items ≡ Err c.in-Err.kind =
-    ap (λ new. counts_with (counts_in p) (declarations (counts_in p) new)) (sym (c.deref-2.ensures.value ∙ kept))
-    ∙ ap (λ base. counts_with base (declarations base c.deref-2.result.now)) (sym c.counts-base.ensures) ∙ sym c.with_files.ensures ∙ c.in-Err.is in
+    ap (λ new. counts_with (counts_in p) new) (sym (c.deref-2.ensures.value ∙ kept))
+    ∙ ap (λ base. counts_with base c.deref-2.result.now) (sym c.counts-base.ensures) ∙ sym c.with_files.ensures ∙ c.in-Err.is in
     record { first = first; unchanged = refl }
 
 pub returns-in-Err-clause-nothing_new : goal.returns-in-Err-clause-nothing_new
@@ -45,20 +46,20 @@ invariant_of-self c =
     let p = contents_in c.self.inside.inner in
     let kept = c.keep_new.ensures ∙ kept_files p c.deref.result.now c.args.files.items c.deref.ensures.value in
     let base_is = c.counts-base.ensures ∙ ap counts_in (sym c.self.view_is) in
-    let ok : IsOk (counts_with c.counts-base.result (declarations c.counts-base.result c.deref-2.result.now)) = rw (← c.with_files.ensures, c.in_default.is) refl in
+    let ok : IsOk (counts_with c.counts-base.result c.deref-2.result.now) = rw (← c.with_files.ensures, c.in_default.is) refl in
     let new = c.deref-3.ensures.value ∙ kept in
     let ground = ground_of p c.self.inside.inner.entries.items c.counts-base.result c.args.files.items c.deref-2.result.now c.deref-3.result.now
     c.self.invariant refl base_is (c.deref-2.ensures.value ∙ kept) new ok in
     let behind : IsBehind p c.self.inside.inner.entries.items c.counts-base.result c.deref-3.result.now c.link.result (contents_in c.link.new.pool) =
     record { ok = c.link.ensures.ok; faults_are = c.link.ensures.faults; err = c.link.ensures.err } in
-    held_behind p c.self.inside.inner.entries.items c.counts-base.result c.deref-3.result.now c.link.result (contents_in c.link.new.pool) base_is ground behind
+    pool_behind p c.self.inside.inner.entries.items c.counts-base.result c.deref-3.result.now c.link.result (contents_in c.link.new.pool) base_is ground behind
 
 pub returns-clause-outcome : goal.returns-clause-outcome
 returns-clause-outcome c =
     let p = contents_in c.self.inside.inner in
     let kept = c.keep_new.ensures ∙ kept_files p c.deref.result.now c.args.files.items c.deref.ensures.value in
     let base_is = c.counts-base.ensures ∙ ap counts_in (sym c.self.view_is) in
-    let ok : IsOk (counts_with c.counts-base.result (declarations c.counts-base.result c.deref-2.result.now)) = rw (← c.with_files.ensures, c.in_default.is) refl in
+    let ok : IsOk (counts_with c.counts-base.result c.deref-2.result.now) = rw (← c.with_files.ensures, c.in_default.is) refl in
     let new = c.deref-3.ensures.value ∙ kept in
     let ground = ground_of p c.self.inside.inner.entries.items c.counts-base.result c.args.files.items c.deref-2.result.now c.deref-3.result.now
     c.self.invariant refl base_is (c.deref-2.ensures.value ∙ kept) new ok in

@@ -1,12 +1,12 @@
 use Rattle.std.proofs.Common.{refl, subst, sym, arith}
 use Rattle.pool_types.specs.Contents.{no_contents}
-use Rattle.descriptor_pool.specs.Held.{IsHeld}
+use Rattle.descriptor_pool.specs.Invariant.{IsPool}
 use Rattle.descriptor_pool.specs.Pool.{empty}
 use Rattle.descriptor_pool.proofs.pool.DescriptorPool.new.Goals as goal
 
-held_empty : IsHeld no_contents
-held_empty = record { made = empty refl; names_are = refl; messages = refl; few_files = omega arith; few_messages = omega arith }
+empty_pool : IsPool no_contents
+empty_pool = record { made = empty refl; names_are = refl; messages = refl; few_files = omega arith; few_messages = omega arith }
 
 -- nothing is made, and nothing is declared
 pub invariant_of-result : goal.invariant_of-result
-invariant_of-result c = subst IsHeld (sym c.new.ensures) held_empty
+invariant_of-result c = subst IsPool (sym c.new.ensures) empty_pool

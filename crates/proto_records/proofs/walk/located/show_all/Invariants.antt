@@ -3,7 +3,7 @@ use Rattle.proto_records.specs.Walking.{located}
 use Rattle.proto_records.proofs.Showing.{Remains}
 use Rattle.proto_records.proofs.walk.located.show_all.Given as goal
 
--- what is listed from this place on is left to be shown
+-- what is listed from this position on is left to be shown
 abbrev pub invariant-loop-declaration : goal.invariant-loop-declaration
 invariant-loop-declaration g l =
     let v = l.visitor.now in

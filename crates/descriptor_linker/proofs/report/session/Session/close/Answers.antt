@@ -4,6 +4,6 @@ use Rattle.descriptor_linker.proofs.report.session.Session.close.Goals as goal
 
 pub returns-in_ok-close_in : goal.returns-in_ok-close_in
 returns-in_ok-close_in c =
-    let held = c.pop.new.self in
-    let outer = innermost_of held.items held.len c.in-Some-last_mut.outer.now c.close_in.new.self held.ok.0 (c.in-Some-last_mut.ensures.variant.0 refl) c.in-Some-last_mut.ensures.value in
-    rw (ap reverse c.in-Some.ensures.items ∙ reverse-last held.items c.in-Some.inner, outer.before, outer.after, c.in_ok-close_in.ensures) refl
+    let records = c.pop.new.self in
+    let outer = innermost_of records.items records.len c.in-Some-last_mut.outer.now c.close_in.new.self records.ok.0 (c.in-Some-last_mut.ensures.variant.0 refl) c.in-Some-last_mut.ensures.value in
+    rw (ap reverse c.in-Some.ensures.items ∙ reverse-last records.items c.in-Some.inner, outer.before, outer.after, c.in_ok-close_in.ensures) refl

@@ -4,6 +4,6 @@ use Rattle.descriptor_linker.proofs.report.session.Session.state.Goals as goal
 
 pub returns-in_ok-state : goal.returns-in_ok-state
 returns-in_ok-state c =
-    let held = c.args.self.now.open_records in
-    let innermost = innermost_of held.items held.len c.in-Some.innermost.now c.state.new.self held.ok.0 (c.in-Some.ensures.variant.0 refl) c.in-Some.ensures.value in
+    let records = c.args.self.now.open_records in
+    let innermost = innermost_of records.items records.len c.in-Some.innermost.now c.state.new.self records.ok.0 (c.in-Some.ensures.variant.0 refl) c.in-Some.ensures.value in
     rw (innermost.before, innermost.after, c.in_ok-state.ensures, c.extends_after-self.ensures) refl

@@ -6,14 +6,14 @@ use Rattle.proto_records.specs.Counts.{no_counts, lists_fit}
 use Rattle.proto_records.specs.Protos.{of_message}
 use Rattle.proto_records.specs.Totals.{nowhere, both_sums, totals_of_enums}
 use Rattle.proto_records.proofs.Tallies.{message_tally, messages_tally, message-tally}
-use Rattle.proto_records.proofs.Held.{in_64, own_message, message-held, message-none, held-next, held-none, both_sums-assoc}
+use Rattle.proto_records.proofs.Saturated.{in_64, own_message, message-saturated, message-none, saturated-next, saturated-none, both_sums-assoc}
 use Rattle.proto_records.proofs.counts.totals.Totals.+of_message.Goals as goal
 
 pub returns-then-not-message_lists_fit : goal.returns-then-not-message_lists_fit
 returns-then-not-message_lists_fit t c = sym (message-none c.args.message.now (search rules))
 
 pub returns-in_err-of_enums : goal.returns-in_err-of_enums
-returns-in_err-of_enums t c = search (rules, message-held)
+returns-in_err-of_enums t c = search (rules, message-saturated)
 
 -- where a nested message has a list that is too long, so has the whole
 pub returns-in_err-of_message : goal.returns-in_err-of_message
@@ -25,9 +25,9 @@ returns-in_err-of_message t c =
     let small : length m.extension ≤ 2 ^ 64 - 1 = search rules in
     let front : both_sums (Some (own_message (length m.extension))) (totals_of_enums m.enum_type) ≡ Some c.plus-sum.result = search rules in
     let none : in_64 (message_tally n) ≡ None = sym (ap in_64 (message-tally nowhere MESSAGE_TYPE 0 no_counts n)) ∙ search rules in
-    let deeper : in_64 (messages_tally items) ≡ None = held-none message_tally items c.loop-nested.nested-index n c.loop-nested-test.true c.nested-item.is none in
+    let deeper : in_64 (messages_tally items) ≡ None = saturated-none message_tally items c.loop-nested.nested-index n c.loop-nested-test.true c.nested-item.is none in
     c.from_residual-in_err-of_message.ensures
-    ∙ sym (message-held c.args.message.now small fits
+    ∙ sym (message-saturated c.args.message.now small fits
     ∙ (λ i. both_sums (front i) ((ap (λ ms. in_64 (messages_tally ms)) (sym c.as_slice-nested-items.ensures) ∙ deeper) i)))
 
 pub loop-nested-preserved : goal.loop-nested-preserved
@@ -39,7 +39,7 @@ loop-nested-preserved t c =
     ap Some c.plus-sum-in-loop-nested.ensures
     ∙ (λ i. both_sums (c.loop-nested.invariant i) (sym more i))
     ∙ both_sums-assoc (Some c.plus-sum.result) (in_64 (messages_tally (take here items))) (in_64 (message_tally n))
-    ∙ ap (both_sums (Some c.plus-sum.result)) (sym (held-next message_tally items here n c.loop-nested-test.true c.nested-item.is))
+    ∙ ap (both_sums (Some c.plus-sum.result)) (sym (saturated-next message_tally items here n c.loop-nested-test.true c.nested-item.is))
 
 pub returns : goal.returns
 returns t c =
@@ -50,4 +50,4 @@ returns t c =
     let front : both_sums (Some (own_message (length m.extension))) (totals_of_enums m.enum_type) ≡ Some c.plus-sum.result = search rules in
     c.loop-nested.invariant
     ∙ (λ i. both_sums (sym front i) (in_64 (messages_tally ((take_all c.loop-nested.nested-index items c.loop-nested-test.false ∙ c.as_slice-nested-items.ensures) i))))
-    ∙ sym (message-held c.args.message.now small fits)
+    ∙ sym (message-saturated c.args.message.now small fits)

@@ -1,6 +1,6 @@
 use Rattle.std.proofs.Common.{◌≡◌, Some, take}
 use Rattle.proto_records.specs.Totals.{both_sums}
-use Rattle.proto_records.proofs.Held.{in_64}
+use Rattle.proto_records.proofs.Saturated.{in_64}
 use Rattle.proto_records.proofs.Tallies.{messages_tally}
 use Rattle.proto_records.proofs.counts.totals.Totals.+of_message.Given as goal
 

@@ -1,6 +1,6 @@
 use Rattle.std.proofs.Common.{rules}
-use Rattle.proto_records.proofs.Held.{enums-held}
+use Rattle.proto_records.proofs.Saturated.{enums-saturated}
 use Rattle.proto_records.proofs.counts.totals.Totals.of_enums.Goals as goal
 
 pub returns : goal.returns
-returns c = search (rules, enums-held)
+returns c = search (rules, enums-saturated)

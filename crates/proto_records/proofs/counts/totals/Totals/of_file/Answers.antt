@@ -1,15 +1,15 @@
 use Rattle.std.proofs.Common.{rules}
-use Rattle.proto_records.proofs.Held.{file-held}
+use Rattle.proto_records.proofs.Saturated.{file-saturated}
 use Rattle.proto_records.proofs.counts.totals.Totals.of_file.Goals as goal
 
 pub returns-in_err-messages : goal.returns-in_err-messages
-returns-in_err-messages c = search (rules, file-held)
+returns-in_err-messages c = search (rules, file-saturated)
 
 pub returns-in_err-enums : goal.returns-in_err-enums
-returns-in_err-enums c = search (rules, file-held)
+returns-in_err-enums c = search (rules, file-saturated)
 
 pub returns-in_err-services : goal.returns-in_err-services
-returns-in_err-services c = search (rules, file-held)
+returns-in_err-services c = search (rules, file-saturated)
 
 pub returns : goal.returns
-returns c = search (rules, file-held)
+returns c = search (rules, file-saturated)

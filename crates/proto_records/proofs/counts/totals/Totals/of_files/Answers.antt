@@ -3,7 +3,7 @@ use Rattle.std.proofs.lemmas.List.{take_all}
 use Rattle.proto_records.specs.Counts.{no_counts}
 use Rattle.proto_records.specs.Totals.{both_sums}
 use Rattle.proto_records.proofs.Tallies.{file_tally, files_tally, file-tally, declarations-tally}
-use Rattle.proto_records.proofs.Held.{in_64, held-next, held-none}
+use Rattle.proto_records.proofs.Saturated.{in_64, saturated-next, saturated-none}
 use Rattle.proto_records.proofs.counts.totals.Totals.of_files.Goals as goal
 
 pub returns-in_err-of_file : goal.returns-in_err-of_file
@@ -12,13 +12,13 @@ returns-in_err-of_file c =
     let none : in_64 (file_tally f) ≡ None = sym (ap in_64 (file-tally no_counts f)) ∙ search rules in
     let left : c.from_residual.result ≡ None = search rules in
     left ∙ sym (ap in_64 (declarations-tally no_counts c.args.files.now)
-    ∙ held-none file_tally c.args.files.now c.loop-file.file-index f c.loop-file-test.true c.file-item.is none)
+    ∙ saturated-none file_tally c.args.files.now c.loop-file.file-index f c.loop-file-test.true c.file-item.is none)
 
 pub loop-file-preserved : goal.loop-file-preserved
 loop-file-preserved c =
     let f = c.file-item.result in
     let more : in_64 (file_tally f) ≡ Some c.in_ok-of_file.field-0 = sym (ap in_64 (file-tally no_counts f)) ∙ search rules in
-    held-next file_tally c.args.files.now c.loop-file.file-index f c.loop-file-test.true c.file-item.is
+    saturated-next file_tally c.args.files.now c.loop-file.file-index f c.loop-file-test.true c.file-item.is
     ∙ (λ i. both_sums (c.loop-file.invariant i) (more i))
     ∙ ap Some (sym c.plus-sum.ensures)
 

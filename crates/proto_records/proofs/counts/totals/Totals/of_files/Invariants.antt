@@ -1,5 +1,5 @@
 use Rattle.std.proofs.Common.{◌≡◌, Some, take}
-use Rattle.proto_records.proofs.Held.{in_64}
+use Rattle.proto_records.proofs.Saturated.{in_64}
 use Rattle.proto_records.proofs.Tallies.{files_tally}
 use Rattle.proto_records.proofs.counts.totals.Totals.of_files.Given as goal
 

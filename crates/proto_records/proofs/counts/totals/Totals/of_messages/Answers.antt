@@ -4,7 +4,7 @@ use Rattle.proto_types.specs.declared.tag.file.TheConstants.{MESSAGE_TYPE}
 use Rattle.proto_records.specs.Counts.{no_counts}
 use Rattle.proto_records.specs.Totals.{nowhere, both_sums}
 use Rattle.proto_records.proofs.Tallies.{message_tally, messages_tally, message-tally, messages-tally}
-use Rattle.proto_records.proofs.Held.{in_64, held-next, held-none}
+use Rattle.proto_records.proofs.Saturated.{in_64, saturated-next, saturated-none}
 use Rattle.proto_records.proofs.counts.totals.Totals.of_messages.Goals as goal
 
 pub returns-in_err-of_message : goal.returns-in_err-of_message
@@ -13,13 +13,13 @@ returns-in_err-of_message c =
     let none : in_64 (message_tally m) ≡ None = sym (ap in_64 (message-tally nowhere MESSAGE_TYPE 0 no_counts m)) ∙ search rules in
     let left : c.from_residual.result ≡ None = search rules in
     left ∙ sym (ap in_64 (messages-tally nowhere MESSAGE_TYPE 0 no_counts c.args.messages.now)
-    ∙ held-none message_tally c.args.messages.now c.loop-message.message-index m c.loop-message-test.true c.message-item.is none)
+    ∙ saturated-none message_tally c.args.messages.now c.loop-message.message-index m c.loop-message-test.true c.message-item.is none)
 
 pub loop-message-preserved : goal.loop-message-preserved
 loop-message-preserved c =
     let m = c.message-item.result in
     let more : in_64 (message_tally m) ≡ Some c.in_ok-of_message.field-0 = sym (ap in_64 (message-tally nowhere MESSAGE_TYPE 0 no_counts m)) ∙ search rules in
-    held-next message_tally c.args.messages.now c.loop-message.message-index m c.loop-message-test.true c.message-item.is
+    saturated-next message_tally c.args.messages.now c.loop-message.message-index m c.loop-message-test.true c.message-item.is
     ∙ (λ i. both_sums (c.loop-message.invariant i) (more i))
     ∙ ap Some (sym c.plus-sum.ensures)
 

@@ -1,6 +1,6 @@
 use Rattle.std.proofs.Common.{rules}
-use Rattle.proto_records.proofs.Held.{services-held}
+use Rattle.proto_records.proofs.Saturated.{services-saturated}
 use Rattle.proto_records.proofs.counts.totals.Totals.of_services.Goals as goal
 
 pub returns : goal.returns
-returns c = search (rules, services-held)
+returns c = search (rules, services-saturated)

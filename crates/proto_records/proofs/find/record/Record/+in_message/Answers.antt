@@ -5,7 +5,7 @@ use Rattle.proto_types.specs.Lists.{at}
 use Rattle.proto_records.proofs.Finding.{leads-on}
 use Rattle.proto_records.proofs.find.record.Record.+in_message.Goals as goal
 
--- a nested message is found where its place is
+-- a nested message is found where its position is
 pub returns-in_ok-entry-in-3 : goal.returns-in_ok-entry-in-3
 returns-in_ok-entry-in-3 t c =
     let path = c.args.path.now in

@@ -9,8 +9,8 @@ use Rattle.proto_records.proofs.walk.listing.Listing.+list_messages.Given as goa
 abbrev pub decreases-list_messages : goal.decreases-list_messages
 decreases-list_messages l = most size-DescriptorProto l.messages.now
 
--- the messages from this place on are left
-abbrev pub invariant-loop-place : goal.invariant-loop-place
-invariant-loop-place l = Left l.fn.self l.self
+-- the messages from this position on are left
+abbrev pub invariant-loop-position : goal.invariant-loop-position
+invariant-loop-position l = Left l.fn.self l.self
     (messages_walk (around l.here l.parent) l.tag 0 l.fn.self.counts l.messages)
-    (messages_walk (around l.here l.parent) l.tag l.place l.self.counts (drop l.place l.messages))
+    (messages_walk (around l.here l.parent) l.tag l.position l.self.counts (drop l.position l.messages))

@@ -13,7 +13,7 @@ use Rattle.proto_records.proofs.walk.listing.Listing.close_message.Goals as goal
 pub list_enums-requires-clause-room : goal.list_enums-requires-clause-room
 list_enums-requires-clause-room c =
     let m = out-DescriptorProto c.args.message.now in
-    let here = around c.args.inside.now (Some c.args.number) in
+    let here = around c.args.inside.now (Some c.args.index) in
     let k = c.args.self.now.counts in
     let extensions = row of_extension here EXTENSION 0 k.extensions m.extension in
     let first = left-as (left-all c.args.self.now _ c.requires.room) (λ j. enums_walk here ENUM_TYPE 0 k.enums (sym c.as_slice-enums.ensures j) ++ extensions) in
@@ -22,7 +22,7 @@ list_enums-requires-clause-room c =
 pub list_extensions-requires-clause-room : goal.list_extensions-requires-clause-room
 list_extensions-requires-clause-room c =
     let m = out-DescriptorProto c.args.message.now in
-    let here = around c.args.inside.now (Some c.args.number) in
+    let here = around c.args.inside.now (Some c.args.index) in
     let k = c.args.self.now.counts in
     let extensions = row of_extension here EXTENSION 0 k.extensions m.extension in
     let first = left-as (left-all c.args.self.now _ c.requires.room) (λ j. enums_walk here ENUM_TYPE 0 k.enums (sym c.as_slice-enums.ensures j) ++ extensions) in
@@ -35,7 +35,7 @@ list_extensions-requires-clause-room c =
 pub returns : goal.returns
 returns c =
     let m = out-DescriptorProto c.args.message.now in
-    let here = around c.args.inside.now (Some c.args.number) in
+    let here = around c.args.inside.now (Some c.args.index) in
     let k = c.args.self.now.counts in
     let extensions = row of_extension here EXTENSION 0 k.extensions m.extension in
     let first = left-as (left-all c.args.self.now _ c.requires.room) (λ j. enums_walk here ENUM_TYPE 0 k.enums (sym c.as_slice-enums.ensures j) ++ extensions) in

@@ -4,8 +4,8 @@ use Rattle.proto_records.specs.Walking.{around}
 use Rattle.proto_records.proofs.Listings.{Left}
 use Rattle.proto_records.proofs.walk.listing.Listing.list_enums.Given as goal
 
--- the enums from this place on are left
-abbrev pub invariant-loop-place : goal.invariant-loop-place
-invariant-loop-place l = Left l.fn.self l.self
+-- the enums from this position on are left
+abbrev pub invariant-loop-position : goal.invariant-loop-position
+invariant-loop-position l = Left l.fn.self l.self
     (enums_walk (around l.here l.parent) l.tag 0 l.fn.self.counts.enums l.enums)
-    (enums_walk (around l.here l.parent) l.tag l.place l.self.counts.enums (drop l.place l.enums))
+    (enums_walk (around l.here l.parent) l.tag l.position l.self.counts.enums (drop l.position l.enums))

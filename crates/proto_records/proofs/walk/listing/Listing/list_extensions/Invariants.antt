@@ -5,8 +5,8 @@ use Rattle.proto_records.specs.Walking.{around}
 use Rattle.proto_records.proofs.Listings.{Left}
 use Rattle.proto_records.proofs.walk.listing.Listing.list_extensions.Given as goal
 
--- the extensions from this place on are left
-abbrev pub invariant-loop-place : goal.invariant-loop-place
-invariant-loop-place l = Left l.fn.self l.self
+-- the extensions from this position on are left
+abbrev pub invariant-loop-position : goal.invariant-loop-position
+invariant-loop-position l = Left l.fn.self l.self
     (row of_extension (around l.here l.parent) l.tag 0 l.fn.self.counts.extensions l.extensions)
-    (row of_extension (around l.here l.parent) l.tag l.place l.self.counts.extensions (drop l.place l.extensions))
+    (row of_extension (around l.here l.parent) l.tag l.position l.self.counts.extensions (drop l.position l.extensions))

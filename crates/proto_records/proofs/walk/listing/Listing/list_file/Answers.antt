@@ -1,22 +1,22 @@
 use Rattle.std.proofs.Common.{◌≡◌, None, ◌++◌, refl, ap, sym, subst, ◌∙◌, append_assoc}
 use Rattle.proto_records.specs.declared.counts.Counts.{Counts}
-use Rattle.proto_records.specs.declared.walk.place.Place.{Place}
+use Rattle.proto_records.specs.declared.walk.site.Site.{Site}
 use Rattle.proto_types.specs.declared.tag.file.TheConstants as file
 use Rattle.proto_records.specs.Counts.{counted}
 use Rattle.proto_records.specs.Declarations.{in_file, messages_walk, enums_walk, services_walk}
 use Rattle.proto_records.specs.Protos.{of_extension}
 use Rattle.proto_records.specs.Shown.{row}
 use Rattle.proto_records.specs.Walking.{around, Room}
-use Rattle.proto_records.proofs.Listings.{left-all, left-as, left-fewer, left-last, lists-as, on-ok, place-is, room-front}
+use Rattle.proto_records.proofs.Listings.{left-all, left-as, left-fewer, left-last, lists-as, on-ok, site-is, room-front}
 use Rattle.proto_records.proofs.Turns.{enums-keep, services-keep}
 use Rattle.proto_records.proofs.walk.listing.Listing.list_file.Goals as goal
 
 pub list_messages-requires-clause-room : goal.list_messages-requires-clause-room
 list_messages-requires-clause-room c =
     let f = c.args.file.now in
-    let here = in_file c.args.number f in
-    let p : Place = record { file = c.args.number; path = c.new.result; name = c.in_ok-from_str.field-0 } in
-    let at : around p None ≡ here = place-is p None here refl c.new.ensures.items (c.in_ok-from_str.ensures.ok ∙ c.package.ensures) refl in
+    let here = in_file c.args.index f in
+    let p : Site = record { file = c.args.index; path = c.new.result; name = c.in_ok-from_str.field-0 } in
+    let at : around p None ≡ here = site-is p None here refl c.new.ensures.items (c.in_ok-from_str.ensures.ok ∙ c.package.ensures) refl in
     let k = c.args.self.now.counts in
     let messages = messages_walk here file.MESSAGE_TYPE 0 k f.message_type in
     let after = counted k messages in
@@ -31,9 +31,9 @@ list_messages-requires-clause-room c =
 pub list_enums-requires-clause-room : goal.list_enums-requires-clause-room
 list_enums-requires-clause-room c =
     let f = c.args.file.now in
-    let here = in_file c.args.number f in
-    let p : Place = record { file = c.args.number; path = c.new.result; name = c.in_ok-from_str.field-0 } in
-    let at : around p None ≡ here = place-is p None here refl c.new.ensures.items (c.in_ok-from_str.ensures.ok ∙ c.package.ensures) refl in
+    let here = in_file c.args.index f in
+    let p : Site = record { file = c.args.index; path = c.new.result; name = c.in_ok-from_str.field-0 } in
+    let at : around p None ≡ here = site-is p None here refl c.new.ensures.items (c.in_ok-from_str.ensures.ok ∙ c.package.ensures) refl in
     let k = c.args.self.now.counts in
     let messages = messages_walk here file.MESSAGE_TYPE 0 k f.message_type in
     let after = counted k messages in
@@ -53,9 +53,9 @@ list_enums-requires-clause-room c =
 pub list_services-requires-clause-room : goal.list_services-requires-clause-room
 list_services-requires-clause-room c =
     let f = c.args.file.now in
-    let here = in_file c.args.number f in
-    let p : Place = record { file = c.args.number; path = c.new.result; name = c.in_ok-from_str.field-0 } in
-    let at : around p None ≡ here = place-is p None here refl c.new.ensures.items (c.in_ok-from_str.ensures.ok ∙ c.package.ensures) refl in
+    let here = in_file c.args.index f in
+    let p : Site = record { file = c.args.index; path = c.new.result; name = c.in_ok-from_str.field-0 } in
+    let at : around p None ≡ here = site-is p None here refl c.new.ensures.items (c.in_ok-from_str.ensures.ok ∙ c.package.ensures) refl in
     let k = c.args.self.now.counts in
     let messages = messages_walk here file.MESSAGE_TYPE 0 k f.message_type in
     let after = counted k messages in
@@ -74,17 +74,17 @@ list_services-requires-clause-room c =
     let then' = left-fewer enums (services ++ extensions) before second in
     let keep = enums-keep a here file.ENUM_TYPE 0 after.enums f.enum_type in
     let b = c.list_enums.new.self.counts in
-    let number : b.services ≡ after.services = ap (λ (n : Counts). n.services) second.counts ∙ keep.0 ∙ ap (λ (n : Counts). n.services) first.counts in
+    let index : b.services ≡ after.services = ap (λ (n : Counts). n.services) second.counts ∙ keep.0 ∙ ap (λ (n : Counts). n.services) first.counts in
     let services-are : services_walk (around p None) 0 b.services c.as_slice-2.result.now ≡ services =
-    (λ j. services_walk (at j) 0 (number j) (c.as_slice-2.ensures j)) in
+    (λ j. services_walk (at j) 0 (index j) (c.as_slice-2.ensures j)) in
     subst (Room b) (sym services-are) (room-front services extensions then'.room)
 
 pub list_extensions-requires-clause-room : goal.list_extensions-requires-clause-room
 list_extensions-requires-clause-room c =
     let f = c.args.file.now in
-    let here = in_file c.args.number f in
-    let p : Place = record { file = c.args.number; path = c.new.result; name = c.in_ok-from_str.field-0 } in
-    let at : around p None ≡ here = place-is p None here refl c.new.ensures.items (c.in_ok-from_str.ensures.ok ∙ c.package.ensures) refl in
+    let here = in_file c.args.index f in
+    let p : Site = record { file = c.args.index; path = c.new.result; name = c.in_ok-from_str.field-0 } in
+    let at : around p None ≡ here = site-is p None here refl c.new.ensures.items (c.in_ok-from_str.ensures.ok ∙ c.package.ensures) refl in
     let k = c.args.self.now.counts in
     let messages = messages_walk here file.MESSAGE_TYPE 0 k f.message_type in
     let after = counted k messages in
@@ -103,9 +103,9 @@ list_extensions-requires-clause-room c =
     let then' = left-fewer enums (services ++ extensions) before second in
     let keep = enums-keep a here file.ENUM_TYPE 0 after.enums f.enum_type in
     let b = c.list_enums.new.self.counts in
-    let number : b.services ≡ after.services = ap (λ (n : Counts). n.services) second.counts ∙ keep.0 ∙ ap (λ (n : Counts). n.services) first.counts in
+    let index : b.services ≡ after.services = ap (λ (n : Counts). n.services) second.counts ∙ keep.0 ∙ ap (λ (n : Counts). n.services) first.counts in
     let services-are : services_walk (around p None) 0 b.services c.as_slice-2.result.now ≡ services =
-    (λ j. services_walk (at j) 0 (number j) (c.as_slice-2.ensures j)) in
+    (λ j. services_walk (at j) 0 (index j) (c.as_slice-2.ensures j)) in
     let third = lists-as services-are c.in_ok-list_services.ensures in
     let last = left-fewer services extensions then' third in
     let same : c.list_services.new.self.counts.extensions ≡ after.extensions =
@@ -117,9 +117,9 @@ list_extensions-requires-clause-room c =
 pub returns : goal.returns
 returns c =
     let f = c.args.file.now in
-    let here = in_file c.args.number f in
-    let p : Place = record { file = c.args.number; path = c.new.result; name = c.in_ok-from_str.field-0 } in
-    let at : around p None ≡ here = place-is p None here refl c.new.ensures.items (c.in_ok-from_str.ensures.ok ∙ c.package.ensures) refl in
+    let here = in_file c.args.index f in
+    let p : Site = record { file = c.args.index; path = c.new.result; name = c.in_ok-from_str.field-0 } in
+    let at : around p None ≡ here = site-is p None here refl c.new.ensures.items (c.in_ok-from_str.ensures.ok ∙ c.package.ensures) refl in
     let k = c.args.self.now.counts in
     let messages = messages_walk here file.MESSAGE_TYPE 0 k f.message_type in
     let after = counted k messages in
@@ -138,9 +138,9 @@ returns c =
     let then' = left-fewer enums (services ++ extensions) before second in
     let keep = enums-keep a here file.ENUM_TYPE 0 after.enums f.enum_type in
     let b = c.list_enums.new.self.counts in
-    let number : b.services ≡ after.services = ap (λ (n : Counts). n.services) second.counts ∙ keep.0 ∙ ap (λ (n : Counts). n.services) first.counts in
+    let index : b.services ≡ after.services = ap (λ (n : Counts). n.services) second.counts ∙ keep.0 ∙ ap (λ (n : Counts). n.services) first.counts in
     let services-are : services_walk (around p None) 0 b.services c.as_slice-2.result.now ≡ services =
-    (λ j. services_walk (at j) 0 (number j) (c.as_slice-2.ensures j)) in
+    (λ j. services_walk (at j) 0 (index j) (c.as_slice-2.ensures j)) in
     let third = lists-as services-are c.in_ok-list_services.ensures in
     let last = left-fewer services extensions then' third in
     let same : c.list_services.new.self.counts.extensions ≡ after.extensions =

@@ -6,8 +6,8 @@ use Rattle.proto_records.specs.Walking.{around}
 use Rattle.proto_records.proofs.Listings.{Left}
 use Rattle.proto_records.proofs.walk.listing.Listing.list_oneofs.Given as goal
 
--- the oneofs from this place on are left
-abbrev pub invariant-loop-place : goal.invariant-loop-place
-invariant-loop-place l = Left l.fn.self l.self
+-- the oneofs from this position on are left
+abbrev pub invariant-loop-position : goal.invariant-loop-position
+invariant-loop-position l = Left l.fn.self l.self
     (parts of_oneof (around l.here (Some l.parent)) ONEOF_DECL l.oneofs)
-    (row of_oneof (around l.here (Some l.parent)) ONEOF_DECL l.place l.place (drop l.place l.oneofs))
+    (row of_oneof (around l.here (Some l.parent)) ONEOF_DECL l.position l.position (drop l.position l.oneofs))

@@ -1,5 +1,5 @@
-use Rattle.proto_records.proofs.Listings.{held-first}
+use Rattle.proto_records.proofs.Listings.{within-first}
 use Rattle.proto_records.proofs.walk.listing.Listing.list_service.Goals as goal
 
-pub add-requires-clause-held : goal.add-requires-clause-held
-add-requires-clause-held c = held-first c.requires.room
+pub add-requires-clause-within : goal.add-requires-clause-within
+add-requires-clause-within c = within-first c.requires.room

@@ -10,24 +10,24 @@ use Rattle.proto_records.proofs.walk.listing.Listing.list_services.Goals as goal
 pub list_service-requires-clause-room : goal.list_service-requires-clause-room
 list_service-requires-clause-room c =
     let here = around c.args.here.now None in
-    let i = c.loop-place.place in
-    let n = c.loop-place.self.counts.services in
+    let i = c.loop-position.position in
+    let n = c.loop-position.self.counts.services in
     room-front _ (services_walk here (i + 1) _ (drop (i + 1) c.args.services.now))
-    (left-as c.loop-place.invariant (services-next here n c.args.services.now i c.index-services-place.result c.loop-place-test.true c.index-services-place.is)).room
+    (left-as c.loop-position.invariant (services-next here n c.args.services.now i c.index-services-position.result c.loop-position-test.true c.index-services-position.is)).room
 
-pub loop-place-preserved : goal.loop-place-preserved
-loop-place-preserved c =
+pub loop-position-preserved : goal.loop-position-preserved
+loop-position-preserved c =
     let here = around c.args.here.now None in
-    let i = c.loop-place.place in
-    let n = c.loop-place.self.counts.services in
-    let s = c.index-services-place.result in
+    let i = c.loop-position.position in
+    let n = c.loop-position.self.counts.services in
+    let s = c.index-services-position.result in
     let ss = c.args.services.now in
     left-as (left-fewer (service_walk here i n s) _
-    (left-as c.loop-place.invariant (services-next here n ss i s c.loop-place-test.true c.index-services-place.is))
+    (left-as c.loop-position.invariant (services-next here n ss i s c.loop-position-test.true c.index-services-position.is))
     c.in_ok-list_service.ensures)
     (ap (λ k. services_walk here (i + 1) k (drop (i + 1) ss))
-    (sym (ap (λ (k : Counts). k.services) (c.in_ok-list_service.ensures.counts ∙ counted-service c.loop-place.self.counts here i n s))))
+    (sym (ap (λ (k : Counts). k.services) (c.in_ok-list_service.ensures.counts ∙ counted-service c.loop-position.self.counts here i n s))))
 
 pub returns : goal.returns
-returns c = left-none c.loop-place.invariant
-    (ap (services_walk (around c.args.here.now None) c.loop-place.place c.loop-place.self.counts.services) (drop_all c.loop-place.place c.args.services.now c.loop-place-test.false))
+returns c = left-none c.loop-position.invariant
+    (ap (services_walk (around c.args.here.now None) c.loop-position.position c.loop-position.self.counts.services) (drop_all c.loop-position.position c.args.services.now c.loop-position-test.false))

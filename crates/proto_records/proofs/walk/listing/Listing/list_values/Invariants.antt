@@ -6,8 +6,8 @@ use Rattle.proto_records.specs.Walking.{around}
 use Rattle.proto_records.proofs.Listings.{Left}
 use Rattle.proto_records.proofs.walk.listing.Listing.list_values.Given as goal
 
--- the values from this place on are left
-abbrev pub invariant-loop-place : goal.invariant-loop-place
-invariant-loop-place l = Left l.fn.self l.self
+-- the values from this position on are left
+abbrev pub invariant-loop-position : goal.invariant-loop-position
+invariant-loop-position l = Left l.fn.self l.self
     (parts of_value (around l.here (Some l.parent)) VALUE l.values)
-    (row of_value (around l.here (Some l.parent)) VALUE l.place l.place (drop l.place l.values))
+    (row of_value (around l.here (Some l.parent)) VALUE l.position l.position (drop l.position l.values))

@@ -1,14 +1,14 @@
-//! Numbers of a pool's items, each of a type of its own.
+//! Indexes of a pool's items, each of a type of its own.
 
 ghost use Rattle.std.specs.Prelude.{◌≡◌};
 
-/// The number of a file, from 0 in the order of linking.
+/// The index of a file, from 0 in the order of linking.
 #[derive(Clone, Copy, PartialEq, Eq)]
 pub struct FileDescriptor {
     pub index: u32,
 }
 
-/// The number of a message, from 0 in the order of the walk.
+/// The index of a message, from 0 in the order of the walk.
 #[derive(Clone, Copy, PartialEq, Eq)]
 pub struct MessageDescriptor {
     pub index: u32,

@@ -11,7 +11,7 @@ abbrev pub contents_in : DescriptorPoolInner → Contents
 contents_in p = record { files = p.files.items; messages = p.messages.items; names = names p.entries.items }
 
 -- the contents are made, the names are those that the files enter, and there are as many messages as the files declare
-pub record IsHeld (p : Contents) : Type 0 where
+pub record IsPool (p : Contents) : Type 0 where
   pub made : Made p
   pub names_are : p.names ≡ names (known_names p)
   pub messages : length p.messages ≡ (counted no_counts (declarations no_counts (files_of p))).messages
