@@ -1,6 +1,6 @@
 //! Records as the statements of a script build them.
 
-ghost use Rattle.std.specs.Prelude.{◌≡◌, OnOk};
+ghost use Rattle.std.specs.Prelude.{◌≡◌, [], OnOk};
 ghost use Rattle.proto_types.specs.declared.records.message.DescriptorProto.{out-DescriptorProto, roll-DescriptorProto};
 ghost use Rattle.link_script.specs.declared.script.statement.Statement.TheVariants as say;
 ghost use Rattle.link_script.specs.Building.{change_last, more_said, in_file, in_message, in_enum, in_service};
@@ -221,17 +221,21 @@ fn with_more(
     match more {
         Statement::Json(name) => field.json_name = name,
         Statement::Packed(packed) => {
-            field.options = Some(Options {
-                encoded: Items::new(alloc),
-                value: FieldOptions {
-                    packed: Some(packed),
-                },
-            });
+            let packed = Some(packed);
+            field.options = Some(options_of(alloc, FieldOptions { packed }));
         }
         Statement::Default(text) => field.default_value = Some(text),
         _other => {}
     }
     field
+}
+
+/// Options without encoded bytes, of which the value alone is said.
+fn options_of<T>(alloc: Global, value: T) -> Options<T>
+    ensures { result ≡ record { encoded = []; value = value } }
+{
+    let encoded = Items::new(alloc);
+    Options { encoded, value }
 }
 
 fn state_in_enum(
@@ -247,12 +251,8 @@ fn state_in_enum(
             opened.reserved_range.push(EnumReservedRange { start, end })
         }
         Statement::Alias => {
-            opened.options = Some(Options {
-                encoded: Items::new(alloc),
-                value: EnumOptions {
-                    allow_alias: Some(true),
-                },
-            });
+            let allow_alias = Some(true);
+            opened.options = Some(options_of(alloc, EnumOptions { allow_alias }));
             Ok(())
         }
         _ => Ok(()),

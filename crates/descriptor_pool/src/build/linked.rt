@@ -1,5 +1,5 @@
 ghost use Rattle.std.specs.Prelude.{◌≡◌, IfOk, map};
-ghost use Rattle.descriptor_pool.specs.Linked.{linked, linked_message, linked_field, type_number};
+ghost use Rattle.descriptor_pool.specs.Linked.{linked, linked_message, linked_field, type_number, kind_number};
 ghost use Rattle.descriptor_pool.specs.Seen.{setting_in};
 
 use super::setting::Setting;
@@ -108,16 +108,23 @@ fn linked_field(
     Ok(linked)
 }
 
-/// The number of the type that a type name means, by descriptor.proto; a group keeps its own.
+/// The number of the type that a type name means; a group keeps its own.
 fn type_number(written: FieldType, kind: DefinitionKind, given: Option<i32>) -> Option<i32>
     ensures { result ≡ type_number written kind given }
 {
     match written {
         FieldType::Group => given,
-        _ => match kind {
-            DefinitionKind::Message(_) => Some(11),
-            DefinitionKind::Enum(_) => Some(14),
-            _ => given,
-        },
+        _ => kind_number(kind, given),
+    }
+}
+
+/// The number of the type that a definition is, by descriptor.proto; or as it was.
+fn kind_number(kind: DefinitionKind, given: Option<i32>) -> Option<i32>
+    ensures { result ≡ kind_number kind given }
+{
+    match kind {
+        DefinitionKind::Message(_) => Some(11),
+        DefinitionKind::Enum(_) => Some(14),
+        _ => given,
     }
 }
