@@ -201,9 +201,10 @@ impl Visitor for Lister {
     }
 }
 
-/// What files declare, in order, numbered on from the counts of a pool, as a `Lister` keeps it.
+/// What files declare, in order, each without its record, numbered on from the counts of a pool.
 ///
-/// The counts of the files and the base together must fit, as `Counts::with_files` says.
+/// The counts of the files and the base together must fit, as `Counts::with_files` says, or `Counts::of` and then
+/// `Counts::plus`.
 ///
 /// # Errors
 /// `AllocError` where memory was refused.
