@@ -5,8 +5,10 @@ pub mod Saturated
 pub mod Finding
 pub mod Leading
 pub mod Walks
+pub mod Paths
 pub mod Listings
 pub mod Turns
+pub mod Indexes
 pub mod Showing
 pub mod Room
 pub mod InTurn

@@ -21,7 +21,7 @@ use Rattle.proto_records.proofs.Leading.{message-walk-opens}
 use Rattle.proto_records.proofs.Listings.{first-true, next, second-true}
 
 -- what no pool numbers changes no count
-counted-row : {X : Type 0} (of : X → Proto) → ((c : Counts) (x : X) → counting c (of x) ≡ c) → (c : Counts) (here : Surrounding) (tag : ℤ) (i n : ℕ) (xs : List X)
+pub counted-row : {X : Type 0} (of : X → Proto) → ((c : Counts) (x : X) → counting c (of x) ≡ c) → (c : Counts) (here : Surrounding) (tag : ℤ) (i n : ℕ) (xs : List X)
     → counted c (row of here tag i n xs) ≡ c
 counted-row of same c here tag i n [] = refl
 counted-row of same c here tag i n (x ∷ xs) =
@@ -65,7 +65,7 @@ services-next here n ss i s within is =
     ∙ (λ j. service_walk here i n s ++ services_walk here (sym (add-one i) j) (suc n) (drop (i + 1) ss))
 
 -- the opening of a message counts the message alone
-counted-front : (c : Counts) (here : Surrounding) (os : List OneofDescriptorProto) (fs : List FieldDescriptorProto) → counted c (message_front here os fs) ≡ c
+pub counted-front : (c : Counts) (here : Surrounding) (os : List OneofDescriptorProto) (fs : List FieldDescriptorProto) → counted c (message_front here os fs) ≡ c
 counted-front c here os fs =
     counted-append c (parts of_oneof here message.ONEOF_DECL os) (parts of_field here message.FIELD fs)
     ∙ ap (λ k. counted k (parts of_field here message.FIELD fs)) (counted-row of_oneof (λ _ _. refl) c here message.ONEOF_DECL 0 0 os)

@@ -1,5 +1,5 @@
 -- The record that a path of field numbers and positions leads to.
-use Rattle.std.specs.Prelude.{◌≡◌, ℤ, List, [], ◌∷◌, if◌then◌else◌}
+use Rattle.std.specs.Prelude.{◌≡◌, ℕ, ◌-◌, ℤ, nat_le, List, [], ◌∷◌, slice_get, if◌then◌else◌}
 use Rattle.std.specs.List.{All}
 use Rattle.std.specs.Ordering.{int_eq}
 use Rattle.std.specs.Option.{option_map, option_and_then}
@@ -16,7 +16,7 @@ use Rattle.proto_types.specs.declared.records.enumeration.EnumDescriptorProto.{E
 use Rattle.proto_types.specs.declared.records.service.ServiceDescriptorProto.{ServiceDescriptorProto}
 use Rattle.proto_types.specs.Lists.{at}
 use Rattle.proto_records.specs.Protos.{Proto, of_file, of_message, of_field, of_oneof, of_service, of_method, of_enum, of_value, of_extension}
-use Rattle.proto_records.specs.Declarations.{file_walk}
+use Rattle.proto_records.specs.Declarations.{file_walk, declarations}
 
 -- the entry of a list at a position, where the path ends there
 abbrev pub last_entry : {X : Type 0} → List X → ℤ → List ℤ → Option X
@@ -61,3 +61,12 @@ leads f (tag ∷ position ∷ path) =
 -- law: the path of each declaration of a file leads to its record
 abbrev pub PathsLead : Type 0
 PathsLead = (base : Counts) (f : FileDescriptorProto) → All (λ d. leads f d.path ≡ Some d.proto) (file_walk base f)
+
+-- the file with an index, of files that are numbered on from the counts of a pool
+abbrev pub file_with : Counts → List FileDescriptorProto → ℕ → Option FileDescriptorProto
+file_with base files index = if nat_le base.files index then slice_get files (index - base.files) else None
+
+-- law: the path of each declaration of files leads to its record, in the file with its index
+abbrev pub PathsLeadIn : Counts → List FileDescriptorProto → Type 0
+PathsLeadIn base files =
+    All (λ d. option_and_then (λ f. leads f d.path) (file_with base files d.file) ≡ Some d.proto) (declarations base files)

@@ -4,6 +4,7 @@ pub mod Counts
 pub mod Declarations
 pub mod Fits
 pub mod Leads
+pub mod Indexes
 pub mod Records
 pub mod Totals
 pub mod Walking

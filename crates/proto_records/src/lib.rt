@@ -6,6 +6,7 @@
 mod counts;
 mod declaration;
 mod find;
+mod laws;
 mod lister;
 mod visitor;
 mod walk;
@@ -16,6 +17,7 @@ pub use find::{
     find_enum_proto, find_enum_value_proto, find_field_proto, find_message_proto,
     find_method_proto, find_oneof_proto, find_service_proto,
 };
+pub use laws::{declared_indexes, declared_paths};
 pub use lister::{Lister, list_declarations};
 pub use plain_values::{Duplicate, ExactEq, Items, Text, duplicate_given, duplicates, same};
 pub use pool_types::{

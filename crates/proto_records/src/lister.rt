@@ -13,18 +13,28 @@ use proto_types::{
     FileDescriptorProto, MethodDescriptorProto, OneofDescriptorProto, ServiceDescriptorProto,
 };
 use std::alloc::{AllocError, Global};
+use std::marker::Model;
 
-/// A visitor that keeps the list of what it is shown.
+/// A visitor that keeps the list of what it is shown. Contracts see it as that list.
 #[derive(Drop)]
 pub struct Lister {
     alloc: Global,
     list: Vec<Declaration>,
 }
 
+impl Model for Lister {
+    ghost use Rattle.std.specs.Prelude.{List};
+    ghost use Rattle.proto_records.specs.declared.declaration.Declaration.{Declaration};
+
+    ghost Value = { List Declaration };
+
+    ghost view = { λ l. l.list.items };
+}
+
 impl Lister {
     /// A lister that was shown nothing, which takes no memory.
     pub fn new(alloc: Global) -> Lister
-        ensures { result.list.items ≡ [] }
+        ensures { result ≡ [] }
     {
         Lister {
             alloc,
@@ -34,7 +44,7 @@ impl Lister {
 
     /// What it was shown, in order.
     pub fn declarations(&self) -> &[Declaration]
-        ensures { result.now ≡ self.now.list.items }
+        ensures { result.now ≡ self.now }
     {
         self.list.as_slice()
     }
@@ -48,7 +58,7 @@ impl Lister {
         path: &[i32],
         full_name: &str,
     ) -> Result<(), AllocError>
-        ensures { OnOk result (self.new.list.items ≡ self.old.list.items
+        ensures { OnOk result (self.new ≡ self.old
             ++ record { kind = kind; file = file; parent = parent; index = index; path = path.now; full_name = full_name.now } ∷ []) }
     {
         let path = Items::from_slice(self.alloc, path)?;
@@ -70,7 +80,7 @@ impl Visitor for Lister {
     ghost use Rattle.pool_types.specs.Contents.{no_contents};
     ghost use Rattle.proto_records.specs.Listed.{declaration_of};
 
-    ghost after = { λ l ds. record { contents = no_contents; faults = []; listed = l.list.items ++ map declaration_of ds } };
+    ghost after = { λ l ds. record { contents = no_contents; faults = []; listed = l ++ map declaration_of ds } };
 
     ghost ready = { λ _ _. Unit {0} };
 
@@ -191,9 +201,10 @@ impl Visitor for Lister {
     }
 }
 
-/// What files declare, in order, numbered on from the counts of a pool, as a `Lister` keeps it.
+/// What files declare, in order, each without its record, numbered on from the counts of a pool.
 ///
-/// The counts of the files and the base together must fit, as `Counts::with_files` says.
+/// The counts of the files and the base together must fit, as `Counts::with_files` says, or `Counts::of` and then
+/// `Counts::plus`.
 ///
 /// # Errors
 /// `AllocError` where memory was refused.
@@ -218,7 +229,7 @@ fn show_lister(
     lister: &mut Lister,
 ) -> Result<(), AllocError>
     requires fits { IsOk (counts_with base files.now) }
-    ensures { OnOk result (lister.new.list.items ≡ lister.old.list.items ++ map declaration_of (declarations base files.now)) }
+    ensures { OnOk result (lister.new ≡ lister.old ++ map declaration_of (declarations base files.now)) }
 {
     visit(alloc, base, files, lister)
 }

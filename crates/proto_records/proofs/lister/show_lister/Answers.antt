@@ -19,4 +19,4 @@ returns c =
     let here = ap (λ z. (own-1.entry z.now.0).1.after z.now.1 []) c.lister-1.given.1 in
     let old = carried_sameᵐ object.Members Dict entry-1-1 (own-1.entry at-1-1) same-1-1 Progress (λ j r. j.1.after r.now ds) (re_n c.visit-arg-1.given c.args.lister) in
     on-ok c.visit.result (λ s.
-    ap (λ w. w.list.items) last ∙ sym (append-nil v.now.list.items) ∙ ap (λ (p : Progress). p.listed) (sym there ∙ here ∙ s ∙ old)) c.visit.ensures.after
+    last ∙ sym (append-nil v.now) ∙ ap (λ (p : Progress). p.listed) (sym there ∙ here ∙ s ∙ old)) c.visit.ensures.after
