@@ -11,3 +11,5 @@ pub mod SameNames
 pub mod Linking
 pub mod NewFiles
 pub mod Grown
+pub mod References
+pub mod Resolved

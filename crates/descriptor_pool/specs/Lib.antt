@@ -14,3 +14,4 @@ pub mod Growing
 pub mod Behind
 pub mod Outcome
 pub mod LookUps
+pub mod References

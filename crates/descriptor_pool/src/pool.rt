@@ -45,6 +45,7 @@ impl DescriptorPool {
     ghost use Rattle.descriptor_pool.specs.LookUps.{definition_named};
     ghost use Rattle.descriptor_pool.specs.Outcome.{Outcome};
     ghost use Rattle.descriptor_pool.specs.Pool.{new_files};
+    ghost use Rattle.descriptor_pool.specs.References.{AllResolved};
 
     /// A pool without files, which takes no memory.
     pub fn new(alloc: Global) -> DescriptorPool
@@ -90,9 +91,15 @@ impl DescriptorPool {
         }
     }
 
-    /// The linked records of the pool's files, in the order of linking.
+    /// The linked records of the pool's files, in the order of linking. In them each reference that
+    /// is resolved is a dot and the full name of its definition, which the pool has.
+    ///
+    /// # Errors
+    /// `AllocError` where memory was refused.
+    #[tactic(auto, using(crate::proofs::Resolved::all_resolved))]
     pub fn linked_files(&self) -> Result<Vec<FileDescriptorProto>, AllocError>
-        ensures { IfOk result (λ files. files.items ≡ files_of self.now) }
+        ensures files { IfOk result (λ files. files.items ≡ files_of self.now) }
+        ensures resolved { AllResolved self.now }
     {
         let mut files = Vec::new(self.alloc);
         for file in &self.inner.files {

@@ -10,3 +10,4 @@ pub mod Turns
 pub mod Showing
 pub mod Room
 pub mod InTurn
+pub mod Appended
