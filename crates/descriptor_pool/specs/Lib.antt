@@ -6,6 +6,7 @@ pub mod FieldTypes
 pub mod Items
 pub mod Linked
 pub mod SecondPass
+pub mod NamesBegin
 pub mod Pool
 pub mod Passes
 pub mod Seen

@@ -1,4 +1,4 @@
-ghost use Rattle.std.specs.Prelude.{◌≡◌, [], not, IsOk, IfOk, slice_get};
+ghost use Rattle.std.specs.Prelude.{◌≡◌, [], not, IsOk, IfOk, IfSome, slice_get};
 ghost use Rattle.std.specs.Option.{option_copied};
 ghost use Rattle.std.specs.List.{list_any, filter};
 ghost use Rattle.std.specs.Str.{bytes_eq};
@@ -43,6 +43,7 @@ impl DescriptorPool {
     ghost use Rattle.pool_types.specs.Contents.{no_contents, files_of};
     ghost use Rattle.proto_records.specs.Counts.{counts_in};
     ghost use Rattle.descriptor_pool.specs.LookUps.{definition_named};
+    ghost use Rattle.descriptor_pool.specs.NamesBegin.{MessageNamesBegin};
     ghost use Rattle.descriptor_pool.specs.Outcome.{Outcome};
     ghost use Rattle.descriptor_pool.specs.Pool.{new_files};
     ghost use Rattle.descriptor_pool.specs.References.{AllResolved};
@@ -71,9 +72,11 @@ impl DescriptorPool {
         self.inner.files.get(file.index() as usize)
     }
 
-    /// The message with an index, or none past the end.
+    /// The message with an index, or none past the end. Its name, and that of each of its fields,
+    /// begins in the full name where a character begins.
     pub fn message(&self, message: MessageDescriptor) -> Option<&MessageDescriptorInner>
-        ensures { option_copied result ≡ slice_get self.now.messages message.index }
+        ensures item { option_copied result ≡ slice_get self.now.messages message.index }
+        ensures names { IfSome result (λ m. MessageNamesBegin m.now) }
     {
         self.inner.messages.get(message.index() as usize)
     }

@@ -11,3 +11,4 @@ pub mod Showing
 pub mod Room
 pub mod InTurn
 pub mod Appended
+pub mod FullNames
