@@ -7,7 +7,6 @@ use Rattle.proto_types.specs.declared.records.file.FileDescriptorProto.{FileDesc
 use Rattle.pool_types.specs.Contents.{Contents, files_of}
 use Rattle.proto_records.specs.Counts.{no_counts, counts_in}
 use Rattle.proto_records.specs.Fits.{counts_with}
-use Rattle.proto_records.specs.Declarations.{declarations}
 use Rattle.proto_records.proofs.Room.{room-fits}
 use Rattle.pool_parts.specs.Entries.{names}
 use Rattle.descriptor_pool.specs.ReadDeclarations.{read_declarations}
@@ -15,6 +14,7 @@ use Rattle.descriptor_pool.proofs.ReadWalk.{file_counts, declarations-counted}
 use Rattle.descriptor_pool.specs.Behind.{setting_behind, faults_behind}
 use Rattle.descriptor_pool.specs.FirstPass.{first_pass}
 use Rattle.descriptor_pool.specs.Invariant.{IsPool}
+use Rattle.descriptor_pool.specs.NamesBegin.{NamesBegin}
 use Rattle.descriptor_pool.specs.declared.error.BuildError.{BuildError}
 use Rattle.descriptor_pool.specs.Passes.{TellsFaults}
 use Rattle.descriptor_pool.specs.Outcome.{Outcome, IsLinked}
@@ -83,8 +83,8 @@ module _ (p : Contents) (known : List Entry) (fs : List FileDescriptorProto) (gr
     is_linked : IsLinked p fs q
     is_linked = record { fits = ground.fits; accepted = accepted; is = is ∙ sym link_is }
 
-    is_pool : IsPool q
-    is_pool =
+    is_pool : NamesBegin q.messages → IsPool q
+    is_pool names_begin =
         let s = setting_behind p known (counts_in p) fs in
         let with = with_items p s (read_declarations (counts_in p) fs) in
         let within = bounds p fs ground.fresh ground.fits in
@@ -104,6 +104,7 @@ module _ (p : Contents) (known : List Entry) (fs : List FileDescriptorProto) (gr
           messages = omega (arith, messages_count, declared, counted.1);
           few_files = omega (arith, files_count, within.files);
           few_messages = omega (arith, messages_count, within.messages);
+          names_begin = names_begin;
         }
 
 -- the contents after new files were linked behind those of a pool, or were refused
@@ -111,6 +112,7 @@ pub record IsBehind {U : Type 0} (p : Contents) (known : List Entry) (base : Cou
   pub ok : OnOk r (q ≡ with_items p (setting_behind p known base fs) (read_declarations base fs))
   pub faults_are : MatchResult r (λ _. faults_behind p known base fs ≡ []) (λ error. TellsFaults error (faults_behind p known base fs))
   pub err : OnErr r (q ≡ p)
+  pub names : NamesBegin p.messages → NamesBegin q.messages
 
 pub outcome_behind : {U : Type 0} (p : Contents) (known : List Entry) (base : Counts) (fs : List FileDescriptorProto) (batch : Batch) (r : Result U BuildError) (q : Contents)
     → base ≡ counts_in p → Ground p known fs → new_files p fs ≡ new_files p batch → IsBehind p known base fs r q → Outcome p batch r q
@@ -129,7 +131,7 @@ pub pool_behind : {U : Type 0} (p : Contents) (known : List Entry) (base : Count
 pool_behind p known base fs (Ok u) q base_is ground behind =
     let none = ap (λ b. faults_behind p known b fs) (sym base_is) ∙ behind.faults_are in
     let is = behind.ok ∙ ap (λ b. with_items p (setting_behind p known b fs) (read_declarations b fs)) base_is in
-    is_pool p known fs ground none q is
+    is_pool p known fs ground none q is (behind.names ground.pool.names_begin)
 pool_behind p known base fs (Err error) q base_is ground behind = subst IsPool (sym behind.err) ground.pool
 
 -- what makes up the ground of a batch, by the new files that were counted

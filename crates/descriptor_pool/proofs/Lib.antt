@@ -10,4 +10,7 @@ pub mod Outline
 pub mod SameNames
 pub mod Linking
 pub mod NewFiles
+pub mod NamesBegin
 pub mod Grown
+pub mod References
+pub mod Resolved

@@ -17,7 +17,7 @@ use Rattle.pool_parts.proofs.NamesFirst.{names_first}
 use Rattle.descriptor_pool.specs.Entered.{entries_of, entries}
 use Rattle.descriptor_pool.specs.FirstPass.{clash_faults, own_faults, first_faults, first_pass}
 
-first-append : (xs ys : List Entry) (name : List ℕ) → first_of (xs ++ ys) name ≡ option_or (first_of xs name) (first_of ys name)
+pub first-append : (xs ys : List Entry) (name : List ℕ) → first_of (xs ++ ys) name ≡ option_or (first_of xs name) (first_of ys name)
 first-append [] ys name = refl
 first-append (x ∷ xs) ys name =
     elim (bytes_eq name x.name) as (λ b. cond b (Some x.definition) (first_of (xs ++ ys) name) ≡ option_or (cond b (Some x.definition) (first_of xs name)) (first_of ys name)) [

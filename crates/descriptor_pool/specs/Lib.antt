@@ -6,6 +6,7 @@ pub mod FieldTypes
 pub mod Items
 pub mod Linked
 pub mod SecondPass
+pub mod NamesBegin
 pub mod Pool
 pub mod Passes
 pub mod Seen
@@ -14,3 +15,4 @@ pub mod Growing
 pub mod Behind
 pub mod Outcome
 pub mod LookUps
+pub mod References

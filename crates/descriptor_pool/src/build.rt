@@ -11,6 +11,7 @@ ghost use Rattle.descriptor_pool.specs.Entered.{entries};
 ghost use Rattle.descriptor_pool.specs.FirstPass.{first_pass};
 ghost use Rattle.descriptor_pool.specs.Growing.{kept_in};
 ghost use Rattle.descriptor_pool.specs.Invariant.{contents_in};
+ghost use Rattle.descriptor_pool.specs.NamesBegin.{NamesBegin};
 ghost use Rattle.descriptor_pool.specs.Passes.{TellsFaults, named, names_progress, referred, references_progress};
 ghost use Rattle.descriptor_pool.specs.Pool.{with_items};
 ghost use Rattle.descriptor_pool.specs.ReadDeclarations.{read_declarations};
@@ -49,6 +50,8 @@ pub(crate) fn link(
         ≡ with_items (contents_in pool.old) (setting_behind (contents_in pool.old) pool.old.entries.items base new.now) (read_declarations base new.now)) }
     ensures faults { MatchResult result (λ _. faults_behind (contents_in pool.old) pool.old.entries.items base new.now ≡ []) (λ error. TellsFaults error (faults_behind (contents_in pool.old) pool.old.entries.items base new.now)) }
     ensures err { OnErr result (contents_in pool.new ≡ contents_in pool.old) }
+    ensures names { NamesBegin (contents_in pool.old).messages
+        → NamesBegin (contents_in pool.new).messages }
 {
     let before = mem::replace(pool, DescriptorPoolInner::new(alloc));
     let mut growing = GrowingPool::new(before);
@@ -73,6 +76,8 @@ fn link_behind(
         ≡ with_items (kept_in pool.old) (setting_behind (contents_in pool.old.inner) pool.old.inner.entries.items base new.now) (read_declarations base new.now)) }
     ensures faults { MatchResult result (λ _. faults_behind (contents_in pool.old.inner) pool.old.inner.entries.items base new.now ≡ []) (λ error. TellsFaults error (faults_behind (contents_in pool.old.inner) pool.old.inner.entries.items base new.now)) }
     ensures kept { OnErr result (kept_in pool.new ≡ kept_in pool.old) }
+    ensures names { OnOk result (NamesBegin (kept_in pool.old).messages
+        → NamesBegin (contents_in pool.new.inner).messages) }
 {
     let mut files = unlinked_files(alloc, new)?;
     pool.inner.files.append(&mut files)?;
@@ -155,6 +160,8 @@ fn make_items(
     ensures faults { MatchResult result (λ _. second_pass (setting_with pool.old.inner) (read_declarations base new.now) ≡ [])
         (λ error. TellsFaults error (second_pass (setting_with pool.old.inner) (read_declarations base new.now))) }
     ensures kept { OnErr result (kept_in pool.new ≡ kept_in pool.old) }
+    ensures names { OnOk result (NamesBegin (kept_in pool.old).messages
+        → NamesBegin (contents_in pool.new.inner).messages) }
 {
     let mut visitor = ResolveVisitor {
         alloc,

@@ -1,4 +1,4 @@
-ghost use Rattle.std.specs.Prelude.{◌≡◌, [], not, IsOk, IfOk, slice_get};
+ghost use Rattle.std.specs.Prelude.{◌≡◌, [], not, IsOk, IfOk, IfSome, slice_get};
 ghost use Rattle.std.specs.Option.{option_copied};
 ghost use Rattle.std.specs.List.{list_any, filter};
 ghost use Rattle.std.specs.Str.{bytes_eq};
@@ -43,8 +43,10 @@ impl DescriptorPool {
     ghost use Rattle.pool_types.specs.Contents.{no_contents, files_of};
     ghost use Rattle.proto_records.specs.Counts.{counts_in};
     ghost use Rattle.descriptor_pool.specs.LookUps.{definition_named};
+    ghost use Rattle.descriptor_pool.specs.NamesBegin.{MessageNamesBegin};
     ghost use Rattle.descriptor_pool.specs.Outcome.{Outcome};
     ghost use Rattle.descriptor_pool.specs.Pool.{new_files};
+    ghost use Rattle.descriptor_pool.specs.References.{AllResolved};
 
     /// A pool without files, which takes no memory.
     pub fn new(alloc: Global) -> DescriptorPool
@@ -70,9 +72,11 @@ impl DescriptorPool {
         self.inner.files.get(file.index() as usize)
     }
 
-    /// The message with an index, or none past the end.
+    /// The message with an index, or none past the end. Its name, and that of each of its fields,
+    /// begins in the full name where a character begins.
     pub fn message(&self, message: MessageDescriptor) -> Option<&MessageDescriptorInner>
-        ensures { option_copied result ≡ slice_get self.now.messages message.index }
+        ensures item { option_copied result ≡ slice_get self.now.messages message.index }
+        ensures names { IfSome result (λ m. MessageNamesBegin m.now) }
     {
         self.inner.messages.get(message.index() as usize)
     }
@@ -90,9 +94,15 @@ impl DescriptorPool {
         }
     }
 
-    /// The linked records of the pool's files, in the order of linking.
+    /// The linked records of the pool's files, in the order of linking. In them each reference that
+    /// is resolved is a dot and the full name of its definition, which the pool has.
+    ///
+    /// # Errors
+    /// `AllocError` where memory was refused.
+    #[tactic(auto, using(crate::proofs::Resolved::all_resolved))]
     pub fn linked_files(&self) -> Result<Vec<FileDescriptorProto>, AllocError>
-        ensures { IfOk result (λ files. files.items ≡ files_of self.now) }
+        ensures files { IfOk result (λ files. files.items ≡ files_of self.now) }
+        ensures resolved { AllResolved self.now }
     {
         let mut files = Vec::new(self.alloc);
         for file in &self.inner.files {

@@ -12,3 +12,5 @@ pub mod Indexes
 pub mod Showing
 pub mod Room
 pub mod InTurn
+pub mod Appended
+pub mod FullNames

@@ -2,6 +2,7 @@ pub mod Protos
 pub mod Shown
 pub mod Counts
 pub mod Declarations
+pub mod FullNames
 pub mod Fits
 pub mod Leads
 pub mod Indexes

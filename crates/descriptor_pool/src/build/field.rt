@@ -1,9 +1,12 @@
 ghost use Rattle.std.specs.Prelude.{◌≡◌, ◌++◌, ◌-◌, [], None, IfOk, OnOk, length};
 ghost use Rattle.proto_types.specs.Lists.{listed};
+ghost use Rattle.proto_types.specs.Readers.{text_of};
+ghost use Rattle.proto_records.specs.FullNames.{EndsWith};
 ghost use Rattle.proto_records.specs.Protos.{of_field};
 ghost use Rattle.proto_records.specs.Shown.{shown_as};
 ghost use Rattle.descriptor_pool.specs.FieldTypes.{field_kind, type_faults};
 ghost use Rattle.descriptor_pool.specs.Items.{item_number, field_item};
+ghost use Rattle.descriptor_pool.specs.NamesBegin.{BeginsAtBoundary, NamesBegin};
 ghost use Rattle.descriptor_pool.specs.Passes.{with_field};
 ghost use Rattle.descriptor_pool.specs.SecondPass.{number_faults, second_faults};
 ghost use Rattle.descriptor_pool.specs.Seen.{setting_in};
@@ -28,7 +31,8 @@ pub(crate) fn identity(
     file: u32,
     name: &str,
 ) -> Result<Identity, AllocError>
-    ensures { IfOk result (λ id. id ≡ record { file = file; path = path.now; full_name = full_name.now; name_index = length full_name.now - length name.now }) }
+    ensures id { IfOk result (λ id. id ≡ record { file = file; path = path.now; full_name = full_name.now; name_index = length full_name.now - length name.now }) }
+    ensures begins { IfOk result (λ id. EndsWith full_name.now name.now → BeginsAtBoundary id) }
 {
     Ok(Identity {
         file,
@@ -56,6 +60,8 @@ pub(crate) fn read_field(
     field: &FieldDescriptorProto,
 ) -> Result<ReadField, AllocError>
     ensures item { IfOk result (λ read. read.item ≡ field_item (setting_in setting.entry) (shown_as path.now full_name.now file None 0 (of_field field.now)) field.now) }
+    ensures begins { IfOk result (λ read. EndsWith full_name.now (text_of field.now.name)
+        → BeginsAtBoundary read.item.id) }
     ensures faults { IfOk result (λ read. listed read.number_fault ++ listed read.type_fault ≡ second_faults (setting_in setting.entry) (shown_as path.now full_name.now file None 0 (of_field field.now))) }
 {
     let number_fault = number_fault(alloc, setting, path, file, field)?;
@@ -143,7 +149,9 @@ pub(crate) fn add_field(
     messages: &mut Vec<MessageDescriptorInner>,
     field: FieldDescriptorInner,
 ) -> Result<(), AllocError>
-    ensures { OnOk result (messages.new.items ≡ with_field field messages.old.items) }
+    ensures put { OnOk result (messages.new.items ≡ with_field field messages.old.items) }
+    ensures names { NamesBegin messages.old.items → BeginsAtBoundary field.id
+        → NamesBegin messages.new.items }
 {
     if let Some(mut message) = messages.pop() {
         message.fields.push(field)?;

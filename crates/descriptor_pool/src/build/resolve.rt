@@ -1,3 +1,5 @@
+ghost use Rattle.descriptor_pool.specs.NamesBegin.{NamesBegin};
+
 use super::field::{add_field, add_given, identity, read_field};
 use super::growing::GrowingPool;
 use super::linked::linked_file;
@@ -12,7 +14,7 @@ use std::alloc::{AllocError, Global};
 
 /// The second pass: it reads a batch against a pool whose files and names are those of the batch as
 /// well, makes the items of files, messages and fields, and gathers the faults of numbers and of
-/// references.
+/// references. The full name of each declaration that it is shown ends with the declared name.
 #[derive(Drop)]
 pub struct ResolveVisitor {
     pub(crate) alloc: Global,
@@ -20,10 +22,12 @@ pub struct ResolveVisitor {
     pub(crate) files: Vec<FileDescriptorInner>,
     pub(crate) messages: Vec<MessageDescriptorInner>,
     pub(crate) faults: Vec<DescriptorErrorKind>,
+    ghost names_begin: { NamesBegin messages.items },
 }
 
 impl Visitor for ResolveVisitor {
     ghost use Rattle.std.specs.List.{fold};
+    ghost use Rattle.proto_records.specs.FullNames.{EndWithNames, front-ends};
     ghost use Rattle.descriptor_pool.specs.Growing.{kept_in};
     ghost use Rattle.descriptor_pool.specs.Passes.{referred, references_progress};
     ghost use Rattle.descriptor_pool.specs.ReadDeclarations.{read};
@@ -31,11 +35,11 @@ impl Visitor for ResolveVisitor {
 
     ghost after = { λ v ds. references_progress (fold referred (references_seen v) (read ds)) };
 
-    ghost ready = { λ _ _. Unit {0} };
+    ghost ready = { λ _ ds. EndWithNames ds };
 
     ghost kept = { λ v. kept_in v.pool };
 
-    ghost front_ready = { λ _ _ _ _. tt };
+    ghost front_ready = { λ _ ds es. front-ends ds es };
 
     fn visit_file(
         &mut self,

@@ -1,5 +1,9 @@
-use Rattle.std.proofs.Common.{sym, ◌∙◌, rules}
+use Rattle.std.proofs.Common.{◌≡◌, ap, subst, sym, ◌∙◌, rules}
+use Rattle.std.proofs.lemmas.List.Elements.{All-append}
+use Rattle.pool_types.specs.Contents.{Contents}
 use Rattle.proto_records.proofs.Listings.{on-ok}
+use Rattle.descriptor_pool.specs.Growing.{kept_in}
+use Rattle.descriptor_pool.specs.NamesBegin.{MessageNamesBegin, NamesBegin}
 use Rattle.descriptor_pool.specs.Passes.{TellsFaults}
 use Rattle.descriptor_pool.specs.ReadDeclarations.{read_declarations}
 use Rattle.descriptor_pool.specs.SecondPass.{second_pass}
@@ -29,3 +33,10 @@ returns-clause-faults c =
     let passed = references_once_shown c.replace.result c.new-3.result.items c.new-4.result.items c.new-5.result.items new c.args.base c.args.new.now
     c.args.pool.now c.show_references-shown.result c.replace.ensures.value c.show_references-shown.ensures.ok c.new-3.ensures.items c.new-4.ensures.items c.new-5.ensures.items in
     sym (once_shown c.show_references-shown.result _ c.in_ok-verdict.ensures.ok.0 passed).faults_are ∙ c.in_ok-verdict.ensures.ok.1
+
+pub returns-clause-names : goal.returns-clause-names
+returns-clause-names c = λ begins.
+    let new = c.show_references-shown.new.visitor in
+    let kept : kept_in new.pool ≡ kept_in c.args.pool.now = c.show_references-shown.ensures.kept ∙ ap kept_in c.replace.ensures.value in
+    subst NamesBegin (sym (ap (λ (p : Contents). p.messages) c.in_ok-put_items.ensures.ok))
+    (All-append MessageNamesBegin (kept_in new.pool).messages new.messages.items (subst NamesBegin (sym (ap (λ (p : Contents). p.messages) kept)) begins) new.names_begin)

@@ -3,7 +3,6 @@ use Rattle.std.proofs.lemmas.Bool.Decides.{nat_tests}
 use Rattle.pool_types.specs.Contents.{Contents}
 use Rattle.proto_records.specs.Counts.{counts_in}
 use Rattle.proto_records.specs.Fits.{counts_with}
-use Rattle.proto_records.specs.Declarations.{declarations}
 use Rattle.descriptor_pool.specs.Invariant.{contents_in}
 use Rattle.descriptor_pool.specs.Outcome.{Outcome, IsLinked}
 use Rattle.descriptor_pool.specs.Pool.{new_files, counts_after}
@@ -51,7 +50,7 @@ invariant_of-self c =
     let ground = ground_of p c.self.inside.inner.entries.items c.counts-base.result c.args.files.items c.deref-2.result.now c.deref-3.result.now
     c.self.invariant refl base_is (c.deref-2.ensures.value ∙ kept) new ok in
     let behind : IsBehind p c.self.inside.inner.entries.items c.counts-base.result c.deref-3.result.now c.link.result (contents_in c.link.new.pool) =
-    record { ok = c.link.ensures.ok; faults_are = c.link.ensures.faults; err = c.link.ensures.err } in
+    record { ok = c.link.ensures.ok; faults_are = c.link.ensures.faults; err = c.link.ensures.err; names = c.link.ensures.names } in
     pool_behind p c.self.inside.inner.entries.items c.counts-base.result c.deref-3.result.now c.link.result (contents_in c.link.new.pool) base_is ground behind
 
 pub returns-clause-outcome : goal.returns-clause-outcome
@@ -64,7 +63,7 @@ returns-clause-outcome c =
     let ground = ground_of p c.self.inside.inner.entries.items c.counts-base.result c.args.files.items c.deref-2.result.now c.deref-3.result.now
     c.self.invariant refl base_is (c.deref-2.ensures.value ∙ kept) new ok in
     let behind : IsBehind p c.self.inside.inner.entries.items c.counts-base.result c.deref-3.result.now c.link.result (contents_in c.link.new.pool) =
-    record { ok = c.link.ensures.ok; faults_are = c.link.ensures.faults; err = c.link.ensures.err } in
+    record { ok = c.link.ensures.ok; faults_are = c.link.ensures.faults; err = c.link.ensures.err; names = c.link.ensures.names } in
     let same = ap (new_files p) new ∙ new_of_new p c.args.files.items in
     let P : Contents → Type 0 = λ old. Outcome old c.args.files.items c.link.result (contents_in c.link.new.pool) in
     subst P c.self.view_is (outcome_behind p c.self.inside.inner.entries.items c.counts-base.result c.deref-3.result.now c.args.files.items c.link.result (contents_in c.link.new.pool) base_is ground same behind)

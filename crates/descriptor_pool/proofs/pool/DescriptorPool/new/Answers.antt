@@ -1,11 +1,13 @@
 use Rattle.std.proofs.Common.{refl, subst, sym, arith}
+use Rattle.std.proofs.lemmas.List.Elements.{All-nil}
 use Rattle.pool_types.specs.Contents.{no_contents}
 use Rattle.descriptor_pool.specs.Invariant.{IsPool}
+use Rattle.descriptor_pool.specs.NamesBegin.{MessageNamesBegin}
 use Rattle.descriptor_pool.specs.Pool.{empty}
 use Rattle.descriptor_pool.proofs.pool.DescriptorPool.new.Goals as goal
 
 empty_pool : IsPool no_contents
-empty_pool = record { made = empty refl; names_are = refl; messages = refl; few_files = omega arith; few_messages = omega arith }
+empty_pool = record { made = empty refl; names_are = refl; messages = refl; few_files = omega arith; few_messages = omega arith; names_begin = All-nil MessageNamesBegin }
 
 -- nothing is made, and nothing is declared
 pub invariant_of-result : goal.invariant_of-result

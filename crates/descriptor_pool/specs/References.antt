@@ -1,0 +1,41 @@
+-- The references in the linked files of a pool. By now these are the type names of fields.
+use Rattle.std.specs.Prelude.{◌≡◌, ℕ, List, [], ◌∷◌, IsSome, codes}
+use Rattle.std.specs.FinMap as finite
+use Rattle.std.specs.List.{AllByRecursion, flat_map}
+use Rattle.proto_types.specs.declared.records.file.FileDescriptorProto.{FileDescriptorProto}
+use Rattle.proto_types.specs.Readers.{text_of}
+use Rattle.proto_records.specs.Counts.{no_counts}
+use Rattle.proto_records.specs.Declarations.{declarations}
+use Rattle.proto_records.specs.Protos.{of_field}
+use Rattle.proto_records.specs.Shown.{Shown}
+use Rattle.pool_types.specs.Contents.{Contents, files_of}
+
+-- the full name of the declaration that refers, the part of its record, and the text there
+pub record Reference : Type 0 where
+  pub full_name : List ℕ
+  pub part : List ℕ
+  pub text : List ℕ
+
+-- the text of a part, unless it is empty
+abbrev pub reference_in : Shown → List ℕ → List ℕ → List Reference
+reference_in d part [] = []
+reference_in d part (c ∷ cs) = record { full_name = d.full_name; part = part; text = c ∷ cs } ∷ []
+
+-- of a field its type name
+abbrev pub references_in : Shown → List Reference
+references_in d = elim d.proto [
+  | of_field f ↦ reference_in d (codes "type_name") (text_of f.type_name)
+  | _ ↦ []
+]
+
+-- all references of files, at every depth
+abbrev pub references : List FileDescriptorProto → List Reference
+references files = flat_map references_in (declarations no_counts files)
+
+-- a reference that is a dot and a full name of the pool
+abbrev pub NamesDefinition : Contents → Reference → Type 0
+NamesDefinition p r = (name : List ℕ) × (r.text ≡ 46 ∷ name) × IsSome (finite.get p.names name)
+
+-- each reference of the pool's files names its definition
+abbrev pub AllResolved : Contents → Type 0
+AllResolved p = AllByRecursion (NamesDefinition p) (references (files_of p))
