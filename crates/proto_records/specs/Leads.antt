@@ -64,9 +64,11 @@ PathsLead = (base : Counts) (f : FileDescriptorProto) → All (λ d. leads f d.p
 
 -- the file with an index, of files that are numbered on from the counts of a pool
 abbrev pub file_with : Counts → List FileDescriptorProto → ℕ → Option FileDescriptorProto
-file_with base files index = if nat_le base.files index then slice_get files (index - base.files) else None
+file_with base files index =
+    if nat_le base.files index then slice_get files (index - base.files) else None
 
 -- law: the path of each declaration of files leads to its record, in the file with its index
 abbrev pub PathsLeadIn : Counts → List FileDescriptorProto → Type 0
-PathsLeadIn base files =
-    All (λ d. option_and_then (λ f. leads f d.path) (file_with base files d.file) ≡ Some d.proto) (declarations base files)
+PathsLeadIn base files = All
+    (λ d. option_and_then (λ f. leads f d.path) (file_with base files d.file) ≡ Some d.proto)
+    (declarations base files)

@@ -52,7 +52,8 @@ impl FieldVisitor {
 impl Visitor for FieldVisitor {
     ghost use Rattle.pool_types.specs.Contents.{no_contents};
 
-    ghost after = { λ v ds. record { contents = no_contents; faults = []; listed = v ++ fields_in ds } };
+    ghost after = { λ v ds.
+        record { contents = no_contents; faults = []; listed = v ++ fields_in ds } };
 
     ghost ready = { λ _ _. Unit {0} };
 
