@@ -17,7 +17,7 @@ returns-clause-item c =
     } in
     let number : c.item_number.result ≡ item_number (number_of c.args.field.now.number) = search rules in
     λ i. record {
-      id = (c.in_ok-identity.ensures ∙ ap named c.name.ensures) i;
+      id = (c.in_ok-identity.ensures.id ∙ ap named c.name.ensures) i;
       number = number i;
       kind = (c.unwrap_or.ensures ∙ ap (λ kind. unwrap_or kind Double) c.in_ok-kind.ensures.kind) i;
       cardinality = (c.cardinality_of.ensures ∙ ap cardinality_of c.label.ensures) i;
