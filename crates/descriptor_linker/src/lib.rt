@@ -21,10 +21,11 @@ pub use pool_types::{
     FileDescriptor, FileDescriptorInner, Identity, KindIndex, Label, MessageDescriptor,
     MessageDescriptorInner,
 };
+pub use proto_files::{DescriptorProto, FileDescriptorProto};
 pub use proto_records::{CountKind, Counts};
 pub use proto_types::{
-    DescriptorProto, EnumDescriptorProto, EnumValueDescriptorProto, FieldDescriptorProto,
-    FileDescriptorProto, Location, MethodDescriptorProto, ServiceDescriptorProto,
+    EnumDescriptorProto, EnumValueDescriptorProto, FieldDescriptorProto, Location,
+    MethodDescriptorProto, ServiceDescriptorProto,
 };
 pub use report::{Report, report_of};
 pub use runs::run;

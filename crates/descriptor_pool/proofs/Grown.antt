@@ -3,7 +3,7 @@ use Rattle.std.proofs.Common.{IsOk, Result, Ok, Err, OnOk, OnErr, MatchResult, s
 use Rattle.std.proofs.lemmas.List.{length-map}
 use Rattle.proto_records.specs.declared.counts.Counts.{Counts}
 use Rattle.pool_types.specs.declared.contents.definition.Entry.{Entry}
-use Rattle.proto_types.specs.declared.records.file.FileDescriptorProto.{FileDescriptorProto}
+use Rattle.proto_files.specs.declared.file.FileDescriptorProto.{FileDescriptorProto}
 use Rattle.pool_types.specs.Contents.{Contents, files_of}
 use Rattle.proto_records.specs.Counts.{no_counts, counts_in}
 use Rattle.proto_records.specs.Fits.{counts_with}

@@ -1,7 +1,7 @@
 -- A linked message by its parts.
 use Rattle.std.proofs.Common.{◌≡◌, ℕ, List, ◌∷◌, map, refl, ap, sym, ◌∙◌}
-use Rattle.proto_types.specs.declared.records.message.DescriptorProto.{DescriptorProto', out-DescriptorProto, roll-DescriptorProto, roll-out-DescriptorProto, Row_of-DescriptorProto, end_of-DescriptorProto, more_of-DescriptorProto, items-the_row-DescriptorProto, items_shown-the_row-DescriptorProto-0}
-use Rattle.proto_types.specs.Computed.{literals}
+use Rattle.proto_files.specs.declared.message.DescriptorProto.{DescriptorProto', out-DescriptorProto, roll-DescriptorProto, roll-out-DescriptorProto, Row_of-DescriptorProto, end_of-DescriptorProto, more_of-DescriptorProto, items-the_row-DescriptorProto, items_shown-the_row-DescriptorProto-0}
+use Rattle.proto_files.specs.Computed.{literals}
 use Rattle.proto_types.specs.Names.{join}
 use Rattle.proto_types.specs.Readers.{text_of}
 use Rattle.descriptor_pool.specs.Linked.{linked_message, linked_nested, linked_field, LinkedMessageIs}

@@ -10,7 +10,7 @@ use Rattle.pool_parts.specs.Entries.{names}
 use Rattle.pool_types.specs.declared.contents.definition.Entry.{Entry}
 use Rattle.pool_types.specs.declared.contents.file.FileDescriptorInner.{FileDescriptorInner}
 use Rattle.pool_types.specs.declared.contents.message.MessageDescriptorInner.{MessageDescriptorInner}
-use Rattle.proto_types.specs.declared.records.file.FileDescriptorProto.{FileDescriptorProto}
+use Rattle.proto_files.specs.declared.file.FileDescriptorProto.{FileDescriptorProto}
 use Rattle.descriptor_pool.specs.Entered.{entries_of, entries, own_entry}
 use Rattle.descriptor_pool.specs.FirstPass.{Faults, clash_faults, file_name_faults, file_names, file_names_of, first_faults, first_pass}
 use Rattle.descriptor_pool.specs.Passes.{NamesSeen, entered, file_named, named, names_progress}

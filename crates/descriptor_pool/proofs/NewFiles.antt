@@ -5,7 +5,7 @@ use Rattle.std.specs.List.{list_any, filter}
 use Rattle.std.specs.Result.{IsOk}
 use Rattle.std.specs.Str.{bytes_eq}
 use Rattle.pool_types.specs.declared.contents.file.FileDescriptorInner.{FileDescriptorInner}
-use Rattle.proto_types.specs.declared.records.file.FileDescriptorProto.{FileDescriptorProto}
+use Rattle.proto_files.specs.declared.file.FileDescriptorProto.{FileDescriptorProto}
 use Rattle.pool_types.specs.Contents.{Contents, files_of}
 use Rattle.proto_records.specs.Counts.{no_counts, counts_in}
 use Rattle.proto_records.specs.Fits.{counts_with}

@@ -3,12 +3,12 @@ use Rattle.std.proofs.Common.{◌≡◌, ℕ, ℤ, suc, ◌+◌, List, [], ◌�
 use Rattle.std.proofs.lemmas.Grind.{flat_map-append}
 use Rattle.std.proofs.lemmas.List.Elements.{filter_map-append}
 use Rattle.std.specs.Option.{option_map}
-use Rattle.proto_types.specs.declared.records.file.FileDescriptorProto.{FileDescriptorProto}
-use Rattle.proto_types.specs.declared.records.message.DescriptorProto.{DescriptorProto, DescriptorProto', Row_of-DescriptorProto, end_of-DescriptorProto, more_of-DescriptorProto}
+use Rattle.proto_files.specs.declared.file.FileDescriptorProto.{FileDescriptorProto}
+use Rattle.proto_files.specs.declared.message.DescriptorProto.{DescriptorProto, DescriptorProto', Row_of-DescriptorProto, end_of-DescriptorProto, more_of-DescriptorProto}
 use Rattle.proto_types.specs.declared.records.field.FieldDescriptorProto.{FieldDescriptorProto}
 use Rattle.proto_types.specs.declared.tag.file.TheConstants.{MESSAGE_TYPE}
 use Rattle.proto_types.specs.declared.tag.message.TheConstants.{FIELD, NESTED_TYPE}
-use Rattle.proto_types.specs.Computed.{literals}
+use Rattle.proto_files.specs.Computed.{literals}
 use Rattle.proto_records.specs.Declarations.{in_file}
 use Rattle.proto_types.specs.Names.{join}
 use Rattle.proto_records.specs.Protos.{of_file, of_message, of_field, as_file, as_message}

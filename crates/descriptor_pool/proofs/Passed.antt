@@ -5,7 +5,7 @@ use Rattle.std.specs.List.{fold}
 use Rattle.proto_records.specs.declared.counts.Counts.{Counts}
 use Rattle.pool_types.specs.declared.contents.file.FileDescriptorInner.{FileDescriptorInner}
 use Rattle.pool_types.specs.declared.contents.message.MessageDescriptorInner.{MessageDescriptorInner}
-use Rattle.proto_types.specs.declared.records.file.FileDescriptorProto.{FileDescriptorProto}
+use Rattle.proto_files.specs.declared.file.FileDescriptorProto.{FileDescriptorProto}
 use Rattle.descriptor_pool.specs.ReadDeclarations.{read_declarations}
 use Rattle.proto_records.specs.Progress.{Progress}
 use Rattle.proto_records.specs.Shown.{Shown}

@@ -8,8 +8,8 @@ use Rattle.std.specs.Option.{option_map}
 use Rattle.proto_records.specs.declared.counts.Counts.{Counts}
 use Rattle.pool_types.specs.declared.contents.field.FieldDescriptorInner.{FieldDescriptorInner}
 use Rattle.pool_types.specs.declared.contents.message.MessageDescriptorInner.{MessageDescriptorInner}
-use Rattle.proto_types.specs.declared.records.file.FileDescriptorProto.{FileDescriptorProto}
-use Rattle.proto_types.specs.declared.records.message.DescriptorProto.{DescriptorProto, DescriptorProto', Row_of-DescriptorProto, end_of-DescriptorProto, more_of-DescriptorProto}
+use Rattle.proto_files.specs.declared.file.FileDescriptorProto.{FileDescriptorProto}
+use Rattle.proto_files.specs.declared.message.DescriptorProto.{DescriptorProto, DescriptorProto', Row_of-DescriptorProto, end_of-DescriptorProto, more_of-DescriptorProto}
 use Rattle.proto_types.specs.declared.records.field.FieldDescriptorProto.{FieldDescriptorProto}
 use Rattle.proto_types.specs.declared.tag.file.TheConstants.{MESSAGE_TYPE}
 use Rattle.proto_types.specs.declared.tag.message.TheConstants.{FIELD, NESTED_TYPE}
@@ -24,7 +24,7 @@ use Rattle.descriptor_pool.specs.Pool.{file_item, with_items}
 use Rattle.descriptor_pool.specs.SecondPass.{second_faults, second_pass}
 use Rattle.descriptor_pool.specs.Setting.{Setting, of_kind}
 use Rattle.descriptor_pool.proofs.ReadWalk.{message_count, file_count, message_read, nested_read, messages_read, file_read, files_read, declarations-read}
-use Rattle.proto_types.specs.Computed.{literals}
+use Rattle.proto_files.specs.Computed.{literals}
 use Rattle.descriptor_pool.proofs.LastMessage.{with_field_last}
 
 -- the messages after one more declaration

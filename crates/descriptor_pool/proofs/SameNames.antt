@@ -7,7 +7,7 @@ use Rattle.std.specs.Str.{bytes_eq}
 use Rattle.pool_types.specs.declared.contents.definition.Definition.{Definition}
 use Rattle.pool_types.specs.declared.contents.definition.Entry.{Entry}
 use Rattle.pool_types.specs.declared.fault.DescriptorErrorKind.TheVariants as fault
-use Rattle.proto_types.specs.declared.records.file.FileDescriptorProto.{FileDescriptorProto}
+use Rattle.proto_files.specs.declared.file.FileDescriptorProto.{FileDescriptorProto}
 use Rattle.pool_types.specs.Labels.{label_in}
 use Rattle.proto_types.specs.Lists.{after_each, listed}
 use Rattle.proto_records.specs.Shown.{Shown}

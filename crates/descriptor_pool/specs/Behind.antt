@@ -2,7 +2,7 @@
 use Rattle.std.specs.Prelude.{List, ◌++◌}
 use Rattle.proto_records.specs.declared.counts.Counts.{Counts}
 use Rattle.pool_types.specs.declared.contents.definition.Entry.{Entry}
-use Rattle.proto_types.specs.declared.records.file.FileDescriptorProto.{FileDescriptorProto}
+use Rattle.proto_files.specs.declared.file.FileDescriptorProto.{FileDescriptorProto}
 use Rattle.pool_types.specs.Contents.{Contents, files_of}
 use Rattle.pool_parts.specs.Entries.{names}
 use Rattle.descriptor_pool.specs.Entered.{entries}

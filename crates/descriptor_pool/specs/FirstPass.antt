@@ -4,7 +4,7 @@ use Rattle.std.specs.List.{list_any, flat_map}
 use Rattle.std.specs.Option.{option_map}
 use Rattle.std.specs.Str.{bytes_eq}
 use Rattle.pool_types.specs.declared.contents.definition.Entry.{Entry}
-use Rattle.proto_types.specs.declared.records.file.FileDescriptorProto.{FileDescriptorProto}
+use Rattle.proto_files.specs.declared.file.FileDescriptorProto.{FileDescriptorProto}
 use Rattle.pool_types.specs.declared.fault.DescriptorErrorKind.{DescriptorErrorKind}
 use Rattle.pool_types.specs.declared.fault.DescriptorErrorKind.TheVariants as fault
 use Rattle.pool_types.specs.Labels.{label_in}

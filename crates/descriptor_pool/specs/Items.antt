@@ -6,7 +6,7 @@ use Rattle.pool_types.specs.declared.contents.field.FieldDescriptorInner.{FieldD
 use Rattle.pool_types.specs.declared.contents.message.MessageDescriptorInner.{MessageDescriptorInner}
 use Rattle.pool_types.specs.declared.kinds.KindIndex.TheVariants.{Double}
 use Rattle.proto_types.specs.declared.records.field.FieldDescriptorProto.{FieldDescriptorProto}
-use Rattle.proto_types.specs.declared.records.message.DescriptorProto.{DescriptorProto, out-DescriptorProto}
+use Rattle.proto_files.specs.declared.message.DescriptorProto.{DescriptorProto, out-DescriptorProto}
 use Rattle.proto_types.specs.Readers.{number_of, label_of}
 use Rattle.proto_records.specs.Protos.{name_of, of_field, as_field}
 use Rattle.proto_records.specs.Shown.{Shown, inside, parts}

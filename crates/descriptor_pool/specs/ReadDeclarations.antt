@@ -2,7 +2,7 @@
 use Rattle.std.specs.Prelude.{Bool, true, false, List}
 use Rattle.std.specs.List.{filter}
 use Rattle.proto_records.specs.declared.counts.Counts.{Counts}
-use Rattle.proto_types.specs.declared.records.file.FileDescriptorProto.{FileDescriptorProto}
+use Rattle.proto_files.specs.declared.file.FileDescriptorProto.{FileDescriptorProto}
 use Rattle.proto_records.specs.Declarations.{declarations}
 use Rattle.proto_records.specs.Protos.{Proto, of_file, of_message, of_field}
 use Rattle.proto_records.specs.Shown.{Shown}

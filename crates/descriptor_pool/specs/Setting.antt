@@ -6,7 +6,7 @@ use Rattle.std.specs.Option.{option_map}
 use Rattle.std.specs.declared.option.Option.{Option}
 use Rattle.pool_types.specs.declared.contents.definition.Definition.{Definition}
 use Rattle.pool_types.specs.Contents.{ByText}
-use Rattle.proto_types.specs.declared.records.file.FileDescriptorProto.{FileDescriptorProto}
+use Rattle.proto_files.specs.declared.file.FileDescriptorProto.{FileDescriptorProto}
 use Rattle.proto_records.specs.Protos.{Proto}
 use Rattle.proto_records.specs.Shown.{Shown}
 use Rattle.proto_records.specs.Counts.{no_counts}

@@ -12,8 +12,8 @@ use pool_parts::first_definition;
 use pool_types::{
     Definition, FileDescriptor, FileDescriptorInner, MessageDescriptor, MessageDescriptorInner,
 };
+use proto_files::FileDescriptorProto;
 use proto_records::Counts;
-use proto_types::FileDescriptorProto;
 use std::alloc::{AllocError, Global};
 use std::marker::Model;
 

@@ -2,7 +2,7 @@
 use Rattle.std.proofs.Common.{rules}
 use Rattle.std.specs.Cmp.{unsigned_Decides}
 use Rattle.plain_values.specs.Exact.{Exact, ◌and◌, by-parts, given, items-exact, text-exact, numbers-exact}
-use Rattle.proto_types.specs.Equality.{file-exact}
+use Rattle.proto_files.specs.Equality.{file-exact}
 use Rattle.pool_types.specs.contracts.contents.definition.DefinitionKindPartialEq.TheImpl as definition_kind
 use Rattle.pool_types.specs.contracts.kinds.CardinalityPartialEq.TheImpl as cardinality
 use Rattle.pool_types.specs.contracts.label.LabelPartialEq.TheImpl as label

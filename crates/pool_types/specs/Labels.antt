@@ -1,9 +1,9 @@
 -- Where something stands: a file's name and a path.
 use Rattle.std.specs.Prelude.{ℕ, ℤ, List, slice_get, unwrap_or}
-use Rattle.proto_types.specs.Empty.{no_file}
+use Rattle.proto_files.specs.Empty.{no_file}
 use Rattle.proto_types.specs.Readers.{text_of}
 use Rattle.pool_types.specs.declared.label.Label.{Label}
-use Rattle.proto_types.specs.declared.records.file.FileDescriptorProto.{FileDescriptorProto}
+use Rattle.proto_files.specs.declared.file.FileDescriptorProto.{FileDescriptorProto}
 
 -- the file with an index
 abbrev pub file_at : List FileDescriptorProto → ℕ → FileDescriptorProto

@@ -3,7 +3,7 @@ ghost use Rattle.pool_types.specs.Labels.{label, label_in};
 
 use crate::FileDescriptorInner;
 use plain_values::{Items, Text};
-use proto_types::FileDescriptorProto;
+use proto_files::FileDescriptorProto;
 use std::alloc::{AllocError, Global};
 
 /// Where something stands: the name of a file, and the path in its record.

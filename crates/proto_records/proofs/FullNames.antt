@@ -2,7 +2,7 @@
 use Rattle.std.proofs.Common.{ℕ, List, [], ◌∷◌, ◌++◌, refl, sym, append_assoc}
 use Rattle.std.specs.List.{All}
 use Rattle.std.proofs.lemmas.List.Elements.{All-nil, All-append, recursion_from_All}
-use Rattle.proto_types.specs.declared.records.file.FileDescriptorProto.{FileDescriptorProto}
+use Rattle.proto_files.specs.declared.file.FileDescriptorProto.{FileDescriptorProto}
 use Rattle.proto_types.specs.Names.{join}
 use Rattle.proto_records.specs.declared.counts.Counts.{Counts}
 use Rattle.proto_records.specs.Counts.{counted}
@@ -20,7 +20,7 @@ all-end base [] = All-nil EndsWithName
 all-end base (f ∷ fs) =
     let first = file_walk base f in
     All-append EndsWithName first (declarations (counted base first) fs)
-    (file-all EndsWithName (λ _. Unit {0}) (λ here tag position index proto q. join-ends here.scope (name_of proto)) (λ _ _ _ _ _ _. tt) (λ _ _ _ _ _ _. tt)
+    (file-all EndsWithName (λ _. Unit {0}) (λ here tag position index proto _ q. join-ends here.scope (name_of proto)) (λ _ _ _ _ _ _. tt) (λ _ _ _ _ _ _. tt)
     base f ([], refl) tt)
     (all-end (counted base first) fs)
 

@@ -8,9 +8,10 @@ ghost use Rattle.proto_records.specs.Protos.{as_message, as_enum, as_field, as_e
 
 mod record;
 
+use proto_files::{DescriptorProto, FileDescriptorProto, OneofDescriptorProto};
 use proto_types::{
-    DescriptorProto, EnumDescriptorProto, EnumValueDescriptorProto, FieldDescriptorProto,
-    FileDescriptorProto, MethodDescriptorProto, OneofDescriptorProto, ServiceDescriptorProto,
+    EnumDescriptorProto, EnumValueDescriptorProto, FieldDescriptorProto, MethodDescriptorProto,
+    ServiceDescriptorProto,
 };
 use record::Record;
 

@@ -3,7 +3,7 @@ ghost use Rattle.proto_records.specs.Leads.{PathsLeadIn};
 ghost use Rattle.proto_records.specs.Indexes.{IndexesCountOn};
 
 use crate::counts::Counts;
-use proto_types::FileDescriptorProto;
+use proto_files::FileDescriptorProto;
 
 /// The path of each declaration of files leads to its record, in the file with its index. The files are numbered on
 /// from the counts of a pool.

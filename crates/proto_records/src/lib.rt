@@ -1,6 +1,6 @@
 //! What the records of descriptor.proto declare: counts, finders, the list of all declarations and its walk.
 //! It hands on the names of the crates that it stands on: of `plain_values` texts and lists, of
-//! `proto_types` the records, of `pool_types` the data of a pool's contents.
+//! `proto_types` and `proto_files` the records, of `pool_types` the data of a pool's contents.
 #![tactic(auto)]
 
 mod counts;
@@ -25,11 +25,14 @@ pub use pool_types::{
     FileDescriptor, FileDescriptorInner, Identity, KindIndex, Label, Labelled, MessageDescriptor,
     MessageDescriptorInner,
 };
+pub use proto_files::{
+    DescriptorProto, ExtensionRange, FileDescriptorProto, FileDescriptorSet, OneofDescriptorProto,
+    ReservedRange,
+};
 pub use proto_types::{
-    DescriptorProto, EnumDescriptorProto, EnumOptions, EnumReservedRange, EnumValueDescriptorProto,
-    ExtensionRange, FieldDescriptorProto, FieldLabel, FieldOptions, FieldType, FileDescriptorProto,
-    FileDescriptorSet, Location, MethodDescriptorProto, OneofDescriptorProto, Options,
-    ReservedRange, ServiceDescriptorProto, SourceCodeInfo, Unread, join, tag,
+    EnumDescriptorProto, EnumOptions, EnumReservedRange, EnumValueDescriptorProto,
+    FieldDescriptorProto, FieldLabel, FieldOptions, FieldType, Location, MethodDescriptorProto,
+    Options, ServiceDescriptorProto, SourceCodeInfo, Unread, join, tag,
 };
 pub use visitor::Visitor;
 pub use walk::{visit, visit_each};

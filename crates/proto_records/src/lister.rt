@@ -8,9 +8,10 @@ use crate::declaration::{Declaration, DeclarationKind};
 use crate::visitor::Visitor;
 use crate::walk::visit;
 use plain_values::{Items, Text};
+use proto_files::{DescriptorProto, FileDescriptorProto, OneofDescriptorProto};
 use proto_types::{
-    DescriptorProto, EnumDescriptorProto, EnumValueDescriptorProto, FieldDescriptorProto,
-    FileDescriptorProto, MethodDescriptorProto, OneofDescriptorProto, ServiceDescriptorProto,
+    EnumDescriptorProto, EnumValueDescriptorProto, FieldDescriptorProto, MethodDescriptorProto,
+    ServiceDescriptorProto,
 };
 use std::alloc::{AllocError, Global};
 use std::marker::Model;

@@ -15,7 +15,7 @@ use crate::counts::Counts;
 use crate::visitor::Visitor;
 use listing::Listing;
 use located::{show_all, show_file};
-use proto_types::FileDescriptorProto;
+use proto_files::FileDescriptorProto;
 use std::alloc::{AllocError, Global};
 
 /// Shows a visitor what files declare, in order, numbered on from the counts of a pool.

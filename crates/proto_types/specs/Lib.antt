@@ -2,5 +2,4 @@ pub mod Names
 pub mod Lists
 pub mod Readers
 pub mod Empty
-pub mod Computed
 pub mod Equality

@@ -1,5 +1,5 @@
-//! The records of descriptor.proto, the numbers of its fields, and names in scopes.
-//! Texts and lists in records are those of `plain_values`.
+//! The records of descriptor.proto that stand in files and messages, the numbers of its fields, and
+//! names in scopes. Texts and lists in records are those of `plain_values`.
 #![tactic(auto)]
 
 mod exact;
@@ -10,8 +10,8 @@ mod text;
 
 pub use names::join;
 pub use records::{
-    DescriptorProto, EnumDescriptorProto, EnumOptions, EnumReservedRange, EnumValueDescriptorProto,
-    ExtensionRange, FieldDescriptorProto, FieldLabel, FieldOptions, FieldType, FileDescriptorProto,
-    FileDescriptorSet, Location, MethodDescriptorProto, OneofDescriptorProto, Options,
-    ReservedRange, ServiceDescriptorProto, SourceCodeInfo, Unread,
+    EnumDescriptorProto, EnumOptions, EnumReservedRange, EnumValueDescriptorProto,
+    FieldDescriptorProto, FieldLabel, FieldOptions, FieldType, Location, MethodDescriptorProto,
+    Options, ServiceDescriptorProto, SourceCodeInfo, Unread,
 };
+pub use text::or_empty;

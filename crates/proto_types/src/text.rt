@@ -3,8 +3,8 @@ ghost use Rattle.proto_types.specs.Readers.{text_of};
 
 use plain_values::Text;
 
-/// A text that may be missing, read as the empty text where it is.
-pub(crate) fn or_empty(text: &Option<Text>) -> &str
+/// A text that may be missing, read as the empty text where it is (descriptor.proto's default).
+pub fn or_empty(text: &Option<Text>) -> &str
     ensures { result.now ≡ text_of text.now }
 {
     match text {

@@ -7,8 +7,6 @@ ghost use Rattle.proto_records.specs.Fits.{counts_with};
 ghost use Rattle.visitor_example.specs.Fields.{fields_in};
 
 mod field_visitor;
-#[cfg(test)]
-mod tests;
 
 pub use field_visitor::FieldVisitor;
 use proto_records::{Counts, FileDescriptorProto, visit};

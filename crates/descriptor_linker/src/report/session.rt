@@ -7,7 +7,7 @@ ghost use Rattle.descriptor_linker.specs.Report.Session.{new_session, opening, s
 use super::answers::{tell_counts, tell_found, tell_refused, tell_too_many, tell_walk};
 use descriptor_pool::{BuildError, DescriptorPool};
 use link_script::{Open, Statement};
-use proto_types::FileDescriptorProto;
+use proto_files::FileDescriptorProto;
 use std::alloc::{AllocError, Global};
 use std::mem;
 

@@ -6,7 +6,8 @@ use super::setting::Setting;
 use plain_values::{Items, Text, duplicate_given};
 use pool_parts::{ResolveNameFilter, ResolveNameResult};
 use pool_types::DefinitionKind;
-use proto_types::{DescriptorProto, FieldDescriptorProto, FieldType, FileDescriptorProto, join};
+use proto_files::{DescriptorProto, FileDescriptorProto};
+use proto_types::{FieldDescriptorProto, FieldType, join};
 use std::alloc::{AllocError, Global};
 
 /// The record of the file with an index, with each type name that is found as a dot and a full name.

@@ -11,10 +11,11 @@ use super::growing::GrowingPool;
 use plain_values::{Items, Text};
 use pool_parts::{first_definition, label_at};
 use pool_types::{Definition, DefinitionKind, DescriptorErrorKind, Entry, FileDescriptorInner};
+use proto_files::{DescriptorProto, FileDescriptorProto, OneofDescriptorProto};
 use proto_records::Visitor;
 use proto_types::{
-    DescriptorProto, EnumDescriptorProto, EnumValueDescriptorProto, FieldDescriptorProto,
-    FileDescriptorProto, MethodDescriptorProto, OneofDescriptorProto, ServiceDescriptorProto, tag,
+    EnumDescriptorProto, EnumValueDescriptorProto, FieldDescriptorProto, MethodDescriptorProto,
+    ServiceDescriptorProto, tag,
 };
 use std::alloc::{AllocError, Global};
 

@@ -5,10 +5,11 @@ use super::growing::GrowingPool;
 use super::linked::linked_file;
 use plain_values::Items;
 use pool_types::{DescriptorErrorKind, FileDescriptorInner, MessageDescriptorInner};
+use proto_files::{DescriptorProto, FileDescriptorProto, OneofDescriptorProto};
 use proto_records::Visitor;
 use proto_types::{
-    DescriptorProto, EnumDescriptorProto, EnumValueDescriptorProto, FieldDescriptorProto,
-    FileDescriptorProto, MethodDescriptorProto, OneofDescriptorProto, ServiceDescriptorProto,
+    EnumDescriptorProto, EnumValueDescriptorProto, FieldDescriptorProto, MethodDescriptorProto,
+    ServiceDescriptorProto,
 };
 use std::alloc::{AllocError, Global};
 

@@ -1,7 +1,7 @@
 ghost use Rattle.std.specs.Prelude.{◌≡◌, IfOk};
 
 use plain_values::Duplicate;
-use proto_types::FileDescriptorProto;
+use proto_files::FileDescriptorProto;
 use std::alloc::{AllocError, Global};
 
 /// A file, by its linked record.

@@ -4,10 +4,11 @@ ghost use Rattle.proto_records.specs.Leads.{last_entry};
 ghost use Rattle.proto_types.specs.Lists.{at};
 
 use plain_values::Items;
+use proto_files::{DescriptorProto, FileDescriptorProto, OneofDescriptorProto};
 use proto_types::tag::{enum_, file, message, service};
 use proto_types::{
-    DescriptorProto, EnumDescriptorProto, EnumValueDescriptorProto, FieldDescriptorProto,
-    FileDescriptorProto, MethodDescriptorProto, OneofDescriptorProto, ServiceDescriptorProto,
+    EnumDescriptorProto, EnumValueDescriptorProto, FieldDescriptorProto, MethodDescriptorProto,
+    ServiceDescriptorProto,
 };
 
 /// A borrowed record that declares something.

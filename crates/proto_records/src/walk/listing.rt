@@ -1,5 +1,5 @@
 ghost use Rattle.std.specs.Prelude.{suc, ◌≡◌, ◌<◌, ◌+◌, ◌^◌, [], ◌∷◌, true, None, Some, OnOk, IfOk};
-ghost use Rattle.proto_types.specs.declared.records.message.DescriptorProto.{out-DescriptorProto};
+ghost use Rattle.proto_files.specs.declared.message.DescriptorProto.{out-DescriptorProto};
 ghost use Rattle.proto_types.specs.declared.tag.message.TheConstants.{FIELD, ONEOF_DECL};
 ghost use Rattle.proto_types.specs.declared.tag.enum_.TheConstants.{VALUE};
 ghost use Rattle.proto_types.specs.declared.tag.service.TheConstants.{METHOD};
@@ -13,9 +13,10 @@ use super::located::Located;
 use super::part::Part;
 use super::site::Site;
 use crate::counts::Counts;
+use proto_files::{DescriptorProto, FileDescriptorProto, OneofDescriptorProto};
 use proto_types::{
-    DescriptorProto, EnumDescriptorProto, EnumValueDescriptorProto, FieldDescriptorProto,
-    FileDescriptorProto, MethodDescriptorProto, OneofDescriptorProto, ServiceDescriptorProto, tag,
+    EnumDescriptorProto, EnumValueDescriptorProto, FieldDescriptorProto, MethodDescriptorProto,
+    ServiceDescriptorProto, tag,
 };
 use std::alloc::{AllocError, Global};
 

@@ -6,7 +6,7 @@ ghost use Rattle.proto_records.specs.Walking.{located};
 use super::part::Part;
 use super::site::Site;
 use crate::visitor::Visitor;
-use proto_types::FileDescriptorProto;
+use proto_files::FileDescriptorProto;
 use std::alloc::AllocError;
 
 /// A record that stands in a file, with where it stands and its index.

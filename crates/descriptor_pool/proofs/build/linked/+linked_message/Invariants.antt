@@ -1,7 +1,7 @@
 use Rattle.std.proofs.Common.{◌≡◌, map, take}
 use Rattle.proto_types.specs.Names.{join}
 use Rattle.proto_types.specs.Readers.{text_of}
-use Rattle.proto_types.specs.declared.records.message.DescriptorProto.{out-DescriptorProto}
+use Rattle.proto_files.specs.declared.message.DescriptorProto.{out-DescriptorProto}
 use Rattle.descriptor_pool.specs.Linked.{linked_message}
 use Rattle.descriptor_pool.specs.Seen.{setting_in}
 use Rattle.descriptor_pool.proofs.build.linked.+linked_message.Given as goal

@@ -2,7 +2,7 @@ use Rattle.std.proofs.Common.{ℤ, ◌≡◌, ◌+◌, ◌<◌, Some, ◌++◌, 
 use Rattle.std.proofs.lemmas.Int.{to_z-of_z}
 use Rattle.std.proofs.lemmas.List.{drop_all}
 use denote.Param.Weighed.{most}
-use Rattle.proto_types.specs.declared.records.message.DescriptorProto.{out-DescriptorProto, size-DescriptorProto}
+use Rattle.proto_files.specs.declared.message.DescriptorProto.{out-DescriptorProto, size-DescriptorProto}
 use Rattle.proto_types.specs.declared.tag.message.TheConstants.{NESTED_TYPE}
 use Rattle.proto_records.specs.Counts.{counted, counting}
 use Rattle.proto_records.specs.Declarations.{messages_walk, message_end}

@@ -1,6 +1,6 @@
 use Rattle.std.proofs.Common.{drop}
 use denote.Param.Weighed.{most}
-use Rattle.proto_types.specs.declared.records.message.DescriptorProto.{size-DescriptorProto}
+use Rattle.proto_files.specs.declared.message.DescriptorProto.{size-DescriptorProto}
 use Rattle.proto_records.specs.Declarations.{messages_walk}
 use Rattle.proto_records.specs.Walking.{around}
 use Rattle.proto_records.proofs.Listings.{Left}

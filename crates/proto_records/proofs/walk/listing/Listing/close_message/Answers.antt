@@ -1,6 +1,6 @@
 use Rattle.std.proofs.Common.{◌≡◌, Some, ◌++◌, ap, sym, ◌∙◌}
 use Rattle.proto_records.specs.declared.counts.Counts.{Counts}
-use Rattle.proto_types.specs.declared.records.message.DescriptorProto.{out-DescriptorProto}
+use Rattle.proto_files.specs.declared.message.DescriptorProto.{out-DescriptorProto}
 use Rattle.proto_types.specs.declared.tag.message.TheConstants.{ENUM_TYPE, EXTENSION}
 use Rattle.proto_records.specs.Declarations.{enums_walk}
 use Rattle.proto_records.specs.Protos.{of_extension}

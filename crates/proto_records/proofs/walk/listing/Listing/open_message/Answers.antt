@@ -1,7 +1,7 @@
 use Rattle.std.proofs.Common.{◌≡◌, Some, [], ◌∷◌, ◌++◌, refl, ap, sym, ◌∙◌, string_bytes, w32}
 use Rattle.std.proofs.lemmas.Int.{to_z-of_z}
 use Rattle.proto_types.specs.Names.{join}
-use Rattle.proto_types.specs.declared.records.message.DescriptorProto.{out-DescriptorProto}
+use Rattle.proto_files.specs.declared.message.DescriptorProto.{out-DescriptorProto}
 use Rattle.proto_types.specs.declared.tag.message.TheConstants.{FIELD, ONEOF_DECL}
 use Rattle.proto_records.specs.Protos.{of_message, of_oneof, of_field}
 use Rattle.proto_records.specs.Shown.{shown, inside, parts, step}

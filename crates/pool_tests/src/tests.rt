@@ -1,0 +1,7 @@
+//! What no contract says of a pool: whether calls succeed, printed faults, worked batches.
+
+mod batches;
+mod errors;
+mod items;
+mod kinds;
+mod meanings;

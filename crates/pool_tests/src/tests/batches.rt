@@ -1,0 +1,139 @@
+//! Batches that a pool takes and refuses, and what its names mean then.
+
+use descriptor_pool::{BuildError, DescriptorPool};
+use pool_types::{DefinitionKind, MessageDescriptor};
+use script_files::files_of;
+use std::alloc::{AllocError, Global};
+use std::process::Abort;
+use std::test::Fail;
+
+/// A package `p.q`, with a message `M` that has fields `f` and `g`.
+pub(super) const FIRST: &str = "file a.proto\npackage p.q\nmessage M\n\
+    field f 1 optional int32 ~ ~\nfield g 2 optional message .p.q.M ~\nend\nend\n";
+
+const GOOD: &str = "file good.proto\nmessage Good\nend\nend\n";
+
+/// Batches that one pool is given in turn, what it answers, a name, and what that means then: a
+/// kind, an index, the index of the file, and a path.
+const BATCHES: &[(&str, &str, &str, &str)] = &[
+    ("", "ok 0 0 0 0 0", "Good", "none"),
+    (
+        FIRST,
+        "ok 1 1 0 0 0",
+        "p.q.M.g",
+        "field 0 0 [4, 0, 2, 1, 1]",
+    ),
+    (
+        "file good.proto\nmessage Good\nend\nend\nfile bad.proto\nmessage Good\nend\nend\n",
+        "refused bad.proto: name 'Good' is already defined in file 'good.proto'",
+        "Good",
+        "none",
+    ),
+    ("", "ok 1 1 0 0 0", "p.q.M.g", "field 0 0 [4, 0, 2, 1, 1]"),
+    (
+        "file a.proto\nmessage Unread\nend\nend\n",
+        "ok 1 1 0 0 0",
+        "Unread",
+        "none",
+    ),
+    (GOOD, "ok 2 2 0 0 0", ".Good", "message 1 1 [4, 0, 1]"),
+];
+
+/// Gives a pool a batch, and tells what it answers.
+fn answer(alloc: Global, pool: &mut DescriptorPool, script: &str) -> Result<String, AllocError> {
+    match pool.build_files(files_of(alloc, script)?) {
+        Ok(()) => counts_words(alloc, pool),
+        Err(BuildError::TooMany(kind)) => format!(in alloc; "too many {kind:?}"),
+        Err(BuildError::Descriptor(error)) => format!(in alloc; "refused {error:?}"),
+        Err(BuildError::OutOfMemory) => Err(AllocError),
+    }
+}
+
+fn counts_words(alloc: Global, pool: &DescriptorPool) -> Result<String, AllocError> {
+    let counts = pool.counts();
+    let (files, messages, enums) = (counts.files, counts.messages, counts.enums);
+    let (services, extensions) = (counts.services, counts.extensions);
+    format!(in alloc; "ok {files} {messages} {enums} {services} {extensions}")
+}
+
+/// What a name means in a pool.
+fn found_words(alloc: Global, pool: &DescriptorPool, name: &str) -> Result<String, AllocError> {
+    let Some(definition) = pool.get_by_name(name) else {
+        return String::from_str(alloc, "none");
+    };
+    let (word, index) = kind_words(definition.kind);
+    let (file, path) = (definition.file, definition.path.as_slice());
+    format!(in alloc; "{word} {index} {file} {path:?}")
+}
+
+fn kind_words(kind: DefinitionKind) -> (&'static str, u32) {
+    match kind {
+        DefinitionKind::Package => ("package", 0),
+        DefinitionKind::Message(index) => ("message", index),
+        DefinitionKind::Field(index) => ("field", index),
+        DefinitionKind::Oneof(index) => ("oneof", index),
+        DefinitionKind::Service(index) => ("service", index),
+        DefinitionKind::Method(index) => ("method", index),
+        DefinitionKind::Enum(index) => ("enum", index),
+        DefinitionKind::EnumValue(index) => ("value", index),
+        DefinitionKind::Extension(index) => ("extension", index),
+    }
+}
+
+fn check(
+    rt: &impl Abort,
+    alloc: Global,
+    pool: &mut DescriptorPool,
+    row: &(&str, &str, &str, &str),
+) -> Result<(), AllocError> {
+    let (script, wanted, name, found) = *row;
+    let told = answer(alloc, pool, script)?;
+    assert!(rt; told.as_str() == wanted, "{told}");
+    let told = found_words(alloc, pool, name)?;
+    assert!(rt; told.as_str() == found, "{name} {told}");
+    Ok(())
+}
+
+#[test]
+fn a_pool_takes_and_refuses_batches(rt: HostRuntime) -> Result<(), Fail> {
+    let mut pool = DescriptorPool::new(rt.alloc());
+    for row in BATCHES {
+        check(&rt, rt.alloc(), &mut pool, row)?;
+    }
+    Ok(())
+}
+
+/// A file whose field means a message that is not there.
+const BAD: &str = "file bad.proto\nmessage Bad\nfield f 1 optional message .Missing ~\nend\nend\n";
+
+/// A pool that was given batches in turn.
+fn pool_of(alloc: Global, scripts: &[&str]) -> Result<DescriptorPool, AllocError> {
+    let mut pool = DescriptorPool::new(alloc);
+    for script in scripts {
+        answer(alloc, &mut pool, script)?;
+    }
+    Ok(pool)
+}
+
+/// Asserts that two pools have the same files and messages, and nothing of the bad file.
+fn check_equal(
+    rt: &impl Abort,
+    pool: &DescriptorPool,
+    fresh: &DescriptorPool,
+) -> Result<(), AllocError> {
+    assert!(rt; pool.counts() == fresh.counts());
+    assert!(rt; pool.linked_files()? == fresh.linked_files()?);
+    let first = MessageDescriptor::new(0);
+    assert!(rt; pool.message(first) == fresh.message(first));
+    assert!(rt; pool.get_by_name("Good").is_some());
+    assert!(rt; pool.get_by_name("Bad").is_none());
+    Ok(())
+}
+
+#[test]
+fn a_refused_batch_leaves_no_trace(rt: HostRuntime) -> Result<(), Fail> {
+    let pool = pool_of(rt.alloc(), &[BAD, GOOD])?;
+    let fresh = pool_of(rt.alloc(), &[GOOD])?;
+    check_equal(&rt, &pool, &fresh)?;
+    Ok(())
+}

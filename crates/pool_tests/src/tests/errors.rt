@@ -1,0 +1,130 @@
+//! The faults of refused batches, as they are printed.
+
+use descriptor_pool::{BuildError, DescriptorPool};
+use plain_values::Text;
+use pool_parts::DescriptorError;
+use pool_types::{DescriptorErrorKind, Labelled};
+use proto_records::CountKind;
+use script_files::files_of;
+use std::alloc::{AllocError, Global};
+use std::fmt::Write;
+use std::test::Fail;
+
+/// A batch, and what its error tells: its texts, its file and its path, and then of each fault its
+/// texts and its label.
+const REFUSED: &[(&str, &str)] = &[
+    (
+        "file a.proto\nmessage M\nend\nend\nfile b.proto\nmessage M\nend\nend\n",
+        "name 'M' is already defined in file 'a.proto'\n\
+        b.proto: name 'M' is already defined in file 'a.proto'\n\
+        b.proto [4, 0, 1]\n\
+        - name 'M' is already defined in file 'a.proto'\n\
+        - name 'M' is already defined in file 'a.proto'\n\
+        - b.proto: name 'M' is already defined in file 'a.proto'\n\
+        - b.proto [4, 0, 1]\n",
+    ),
+    (
+        "file a.proto\nend\nfile a.proto\nend\n",
+        "a different file named 'a.proto' has already been added\n\
+        a different file named 'a.proto' has already been added\n\
+        none\n\
+        - a different file named 'a.proto' has already been added\n\
+        - a different file named 'a.proto' has already been added\n\
+        - a different file named 'a.proto' has already been added\n\
+        - none\n",
+    ),
+    (
+        "file a.proto\nmessage M\nfield f 0 optional message N ~\nfield g 1 optional group ~ ~\n\
+        field h 2 optional ~ .M.f ~\nend\nend\n",
+        "invalid field number '0'\n\
+        a.proto: invalid field number '0'\n\
+        a.proto [4, 0, 2, 0, 3]\n\
+        - invalid field number '0'\n\
+        - invalid field number '0'\n\
+        - a.proto: invalid field number '0'\n\
+        - a.proto [4, 0, 2, 0, 3]\n\
+        - name 'N' is not defined\n\
+        - name 'N' is not defined\n\
+        - a.proto: name 'N' is not defined\n\
+        - a.proto [4, 0, 2, 0, 6]\n\
+        - missing required field at [4, 0, 2, 1, 6]\n\
+        - missing required field at [4, 0, 2, 1, 6]\n\
+        - a.proto: missing required field at [4, 0, 2, 1, 6]\n\
+        - a.proto [4, 0, 2, 1, 6]\n\
+        - 'M.f' is not a message or enum type\n\
+        - 'M.f' is not a message or enum type\n\
+        - a.proto: 'M.f' is not a message or enum type\n\
+        - a.proto [4, 0, 2, 2, 6]\n",
+    ),
+];
+
+/// What an error tells.
+fn told_error(alloc: Global, error: &DescriptorError) -> Result<String, AllocError> {
+    let mut told = String::new(alloc);
+    writeln!(&mut told, "{error}\n{error:?}")?;
+    match (error.file(), error.path()) {
+        (Some(file), Some(path)) => writeln!(&mut told, "{file} {path:?}")?,
+        _ => writeln!(&mut told, "none")?,
+    }
+    for fault in error.errors() {
+        tell_fault(&mut told, fault)?;
+    }
+    Ok(told)
+}
+
+fn tell_fault(told: &mut String, fault: &DescriptorErrorKind) -> Result<(), AllocError> {
+    let labelled = Labelled(fault);
+    writeln!(told, "- {fault}\n- {fault:?}\n- {labelled}")?;
+    match fault.label() {
+        Some(label) => {
+            let (file, path) = (label.file(), label.path());
+            writeln!(told, "- {file} {path:?}")
+        }
+        None => writeln!(told, "- none"),
+    }
+}
+
+/// What the error of a refused batch tells.
+fn told_refusal(alloc: Global, script: &str) -> Result<String, AllocError> {
+    let mut pool = DescriptorPool::new(alloc);
+    match pool.build_files(files_of(alloc, script)?) {
+        Err(BuildError::Descriptor(error)) => told_error(alloc, &error),
+        Err(BuildError::OutOfMemory) => Err(AllocError),
+        _ => String::from_str(alloc, "no faults"),
+    }
+}
+
+#[test]
+fn errors_tell_their_faults(rt: HostRuntime) -> Result<(), Fail> {
+    for (script, wanted) in REFUSED {
+        let told = told_refusal(rt.alloc(), script)?;
+        assert!(rt; told.as_str() == *wanted, "{told}");
+    }
+    Ok(())
+}
+
+/// The error of one fault that is made by hand.
+fn one_fault(alloc: Global) -> Result<DescriptorError, AllocError> {
+    let name = Text::from_str(alloc, "a.proto")?;
+    let fault = DescriptorErrorKind::DuplicateFileName { name };
+    Ok(DescriptorError::new(vec![in alloc; fault]?))
+}
+
+/// Errors of a batch, a line for each.
+fn build_errors(alloc: Global) -> Result<String, AllocError> {
+    let faults = BuildError::Descriptor(one_fault(alloc)?);
+    let (count, memory) = (
+        BuildError::TooMany(CountKind::Files),
+        BuildError::from(AllocError),
+    );
+    format!(in alloc; "{faults:?}\n{count:?}\n{memory:?}\n")
+}
+
+#[test]
+fn errors_of_a_batch_are_printed(rt: HostRuntime) -> Result<(), Fail> {
+    let told = build_errors(rt.alloc())?;
+    let wanted = "Descriptor(a different file named 'a.proto' has already been added)\n\
+        TooMany(Files)\nOutOfMemory\n";
+    assert!(rt; told.as_str() == wanted, "{told}");
+    Ok(())
+}

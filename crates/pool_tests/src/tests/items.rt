@@ -1,0 +1,167 @@
+//! The items and the linked records of a pool.
+
+use super::batches::FIRST;
+use descriptor_pool::{BuildError, DescriptorPool};
+use pool_types::{
+    Cardinality, FieldDescriptorInner, FileDescriptor, FileDescriptorInner, KindIndex,
+    MessageDescriptor, MessageDescriptorInner,
+};
+use script_files::files_of;
+use std::alloc::{AllocError, Global};
+use std::fmt::Write;
+use std::process::Abort;
+use std::test::Fail;
+
+/// A batch, what the pool has of its messages, their fields and its linked records, each up to one
+/// that is not there, and the kinds and the cardinalities of the fields.
+const LINKED: &[(&str, &str, &[(KindIndex, Cardinality)])] = &[
+    (
+        FIRST,
+        "message p.q.M M [4, 0] None\n\
+        field p.q.M.f f [4, 0, 2, 0] 0 1\n\
+        field p.q.M.g g [4, 0, 2, 1] 0 2\n\
+        none\n\
+        file a.proto\n\
+        record f '' Some(5)\n\
+        record g '.p.q.M' Some(11)\n\
+        none\n",
+        &[
+            (KindIndex::Int32, Cardinality::Optional),
+            (KindIndex::Message(0), Cardinality::Optional),
+        ],
+    ),
+    (
+        "file a.proto\nmessage M\nfield f 1 repeated ~ .M ~\nfield g 2 optional group .M ~\nend\n\
+        end\n",
+        "message M M [4, 0] None\n\
+        field M.f f [4, 0, 2, 0] 0 1\n\
+        field M.g g [4, 0, 2, 1] 0 2\n\
+        none\n\
+        file a.proto\n\
+        record f '.M' Some(11)\n\
+        record g '.M' Some(10)\n\
+        none\n",
+        &[
+            (KindIndex::Message(0), Cardinality::Repeated),
+            (KindIndex::Group(0), Cardinality::Optional),
+        ],
+    ),
+];
+
+/// What a pool has, up to the second message and the second file.
+fn told_pool(alloc: Global, pool: &DescriptorPool) -> Result<String, AllocError> {
+    let mut told = String::new(alloc);
+    for index in 0..2 {
+        match pool.message(MessageDescriptor::new(index)) {
+            Some(message) => tell_message(&mut told, message)?,
+            None => writeln!(&mut told, "none")?,
+        }
+    }
+    for index in 0..2 {
+        match pool.file(FileDescriptor::new(index)) {
+            Some(file) => tell_file(&mut told, file)?,
+            None => writeln!(&mut told, "none")?,
+        }
+    }
+    Ok(told)
+}
+
+fn tell_message(told: &mut String, message: &MessageDescriptorInner) -> Result<(), AllocError> {
+    let (full_name, name, path) = (message.id.full_name(), message.id.name(), message.id.path());
+    let parent = message.parent;
+    writeln!(told, "message {full_name} {name} {path:?} {parent:?}")?;
+    for field in message.fields.as_slice() {
+        tell_field(told, field)?;
+    }
+    Ok(())
+}
+
+fn tell_field(told: &mut String, field: &FieldDescriptorInner) -> Result<(), AllocError> {
+    let (full_name, name, path) = (field.id.full_name(), field.id.name(), field.id.path());
+    let (file, number) = (field.id.file().index(), field.number);
+    writeln!(told, "field {full_name} {name} {path:?} {file} {number}")
+}
+
+fn tell_file(told: &mut String, file: &FileDescriptorInner) -> Result<(), AllocError> {
+    let name = file.raw.name();
+    writeln!(told, "file {name}")?;
+    for message in file.raw.message_type.as_slice() {
+        for field in message.field.as_slice() {
+            let (name, type_name, type_) = (field.name(), field.type_name(), field.type_);
+            writeln!(told, "record {name} '{type_name}' {type_:?}")?;
+        }
+    }
+    Ok(())
+}
+
+/// A pool with one batch.
+fn pool_of(alloc: Global, script: &str) -> Result<DescriptorPool, BuildError> {
+    let mut pool = DescriptorPool::new(alloc);
+    pool.build_files(files_of(alloc, script)?)?;
+    Ok(pool)
+}
+
+fn check_kinds(rt: &impl Abort, pool: &DescriptorPool, kinds: &[(KindIndex, Cardinality)]) {
+    let Some(message) = pool.message(MessageDescriptor::new(0)) else {
+        panic!(rt; "no message");
+    };
+    let fields = message.fields.as_slice();
+    assert!(rt; fields.len() == kinds.len());
+    for (field, (kind, cardinality)) in fields.iter().zip(kinds) {
+        assert!(rt; field.kind == *kind);
+        assert!(rt; field.cardinality == *cardinality);
+    }
+}
+
+fn check(
+    rt: &impl Abort,
+    alloc: Global,
+    pool: &DescriptorPool,
+    wanted: &str,
+) -> Result<(), AllocError> {
+    let told = told_pool(alloc, pool)?;
+    assert!(rt; told.as_str() == wanted, "{told}");
+    Ok(())
+}
+
+#[test]
+fn a_pool_has_items_and_linked_records(rt: HostRuntime) -> Result<(), Fail> {
+    for (script, wanted, kinds) in LINKED {
+        let pool = pool_of(rt.alloc(), script)?;
+        check(&rt, rt.alloc(), &pool, wanted)?;
+        check_kinds(&rt, &pool, kinds);
+    }
+    Ok(())
+}
+
+/// A file with a message inside another, and so on, 64 of them.
+fn nested(alloc: Global) -> Result<String, AllocError> {
+    let mut script = String::from_str(alloc, "file a.proto\n")?;
+    for _ in 0..64 {
+        script.push_str("message M\n")?;
+    }
+    for _ in 0..65 {
+        script.push_str("end\n")?;
+    }
+    Ok(script)
+}
+
+/// How many messages there are, and of the inmost its parent, the lengths of its path and of its
+/// full name, and its name.
+fn told_inmost(alloc: Global, pool: &DescriptorPool) -> Result<String, AllocError> {
+    let count = pool.counts().messages;
+    let Some(inmost) = pool.message(MessageDescriptor::new(63)) else {
+        return String::from_str(alloc, "none");
+    };
+    let (parent, name) = (inmost.parent, inmost.id.name());
+    let (path_len, name_len) = (inmost.id.path().len(), inmost.id.full_name().len());
+    format!(in alloc; "{count} {parent:?} {path_len} {name_len} {name}")
+}
+
+#[test]
+fn nested_messages_are_all_linked(rt: HostRuntime) -> Result<(), Fail> {
+    let pool = pool_of(rt.alloc(), nested(rt.alloc())?.as_str())?;
+    let told = told_inmost(rt.alloc(), &pool)?;
+    assert!(rt; told.as_str() == "64 Some(62) 128 127 M", "{told}");
+    Ok(())
+}

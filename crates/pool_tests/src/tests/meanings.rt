@@ -1,0 +1,185 @@
+//! What names and references mean among the names of a pool.
+
+use plain_values::{Items, Text};
+use pool_parts::{ResolveNameFilter, ResolveNameResult, first_definition, label_at, resolve_name};
+use pool_types::{Definition, DefinitionKind, Entry, FileDescriptorInner, Label, Labelled};
+use script_files::files_of;
+use std::alloc::{AllocError, Global};
+use std::process::Abort;
+use std::test::Fail;
+
+fn entry(alloc: Global, name: &str, kind: DefinitionKind) -> Result<Entry, AllocError> {
+    Ok(Entry {
+        name: Text::from_str(alloc, name)?,
+        definition: Definition {
+            file: 0,
+            path: Items::from_slice(alloc, &[4, 0, 1])?,
+            kind,
+        },
+    })
+}
+
+/// The names of the first file: a package, and a message that two entries hold.
+fn names(alloc: Global) -> Result<Vec<Entry>, AllocError> {
+    let mut names = Vec::new(alloc);
+    names.push(entry(alloc, "p", DefinitionKind::Package)?)?;
+    names.push(entry(alloc, "p.M", DefinitionKind::Message(0))?)?;
+    names.push(entry(alloc, "p.M", DefinitionKind::Message(1))?)?;
+    Ok(names)
+}
+
+/// The files of which labels are made.
+fn linked(alloc: Global) -> Result<Vec<FileDescriptorInner>, AllocError> {
+    let mut linked = Vec::new(alloc);
+    for raw in files_of(
+        alloc,
+        "file a.proto\nend\nfile b.proto\nmessage M\nend\nend\n",
+    )? {
+        linked.push(FileDescriptorInner { raw })?;
+    }
+    Ok(linked)
+}
+
+/// A name, and the kind of its first entry.
+const FIRST: &[(&str, Option<DefinitionKind>)] = &[
+    ("p", Some(DefinitionKind::Package)),
+    ("p.M", Some(DefinitionKind::Message(0))),
+    ("M", None),
+];
+
+fn kind_of(names: &[Entry], name: &str) -> Option<DefinitionKind> {
+    match first_definition(names, name) {
+        Some(definition) => Some(definition.kind),
+        None => None,
+    }
+}
+
+#[test]
+fn a_name_means_its_first_entry(rt: HostRuntime) -> Result<(), Fail> {
+    let names = names(rt.alloc())?;
+    for (name, kind) in FIRST {
+        assert!(rt; kind_of(&names, name) == *kind, "{name}");
+    }
+    Ok(())
+}
+
+/// Asserts that three ways make one label of the second file, and that a file that is not there
+/// has no name.
+fn check_labels(
+    rt: &impl Abort,
+    alloc: Global,
+    linked: &[FileDescriptorInner],
+) -> Result<(), AllocError> {
+    let label = label_at(alloc, linked, 1, &[4])?;
+    assert!(rt; label.file() == "b.proto");
+    assert!(rt; label.path() == [4].as_slice());
+    let [_, second] = linked else {
+        panic!(rt; "no two files");
+    };
+    assert!(rt; label == Label::in_record(alloc, &second.raw, &[4])?);
+    assert!(rt; label == Label::new(alloc, linked, 1, &[4])?);
+    assert!(rt; label_at(alloc, linked, 2, &[4])?.file() == "");
+    Ok(())
+}
+
+#[test]
+fn labels_name_their_file(rt: HostRuntime) -> Result<(), Fail> {
+    check_labels(&rt, rt.alloc(), &linked(rt.alloc())?)?;
+    Ok(())
+}
+
+/// The index of a file, a scope of it and a reference that is written there to a message or an
+/// enum, what it means, and its fault in the second file.
+const REFERENCES: &[(u32, &str, &str, &str)] = &[
+    (0, "p", ".p.M", "found p.M: none"),
+    (0, "", "p.M", "found p.M: none"),
+    (
+        0,
+        "",
+        "p",
+        "invalid p: b.proto: 'p' is not a message or enum type",
+    ),
+    (
+        1,
+        "p",
+        ".p.M",
+        "not imported p.M 0: b.proto: name 'p.M' is not defined",
+    ),
+    (
+        0,
+        "p",
+        "p.M",
+        "not found: b.proto: name 'p.M' is not defined",
+    ),
+    (0, "p", ".q", "not found: b.proto: name '.q' is not defined"),
+];
+
+/// What a reference means.
+fn meaning(alloc: Global, resolved: &ResolveNameResult) -> Result<String, AllocError> {
+    match resolved {
+        ResolveNameResult::Found { name, .. } => {
+            let name = name.as_str();
+            format!(in alloc; "found {name}")
+        }
+        ResolveNameResult::InvalidType { name, .. } => {
+            let name = name.as_str();
+            format!(in alloc; "invalid {name}")
+        }
+        ResolveNameResult::NotImported { name, file } => {
+            let name = name.as_str();
+            format!(in alloc; "not imported {name} {file}")
+        }
+        ResolveNameResult::NotFound => String::from_str(alloc, "not found"),
+    }
+}
+
+/// The fault of a reference in the second file.
+fn fault_words(
+    alloc: Global,
+    resolved: &ResolveNameResult,
+    name: &str,
+    linked: &[FileDescriptorInner],
+) -> Result<String, AllocError> {
+    match resolved.fault(alloc, name, linked, 1, &[4])? {
+        Some(fault) => {
+            let fault = Labelled(&fault);
+            format!(in alloc; "{fault}")
+        }
+        None => String::from_str(alloc, "none"),
+    }
+}
+
+fn check_reference(
+    rt: &impl Abort,
+    alloc: Global,
+    row: &(u32, &str, &str, &str),
+    names: &[Entry],
+    linked: &[FileDescriptorInner],
+) -> Result<(), AllocError> {
+    let (file, scope, name, wanted) = *row;
+    let resolved = resolve_name(
+        alloc,
+        file,
+        names,
+        scope,
+        name,
+        ResolveNameFilter::FieldType,
+    )?;
+    let (meaning, fault) = (
+        meaning(alloc, &resolved)?,
+        fault_words(alloc, &resolved, name, linked)?,
+    );
+    assert!(rt; resolved.is_found() == (fault.as_str() == "none"), "{name}");
+    let told = format!(in alloc; "{meaning}: {fault}")?;
+    assert!(rt; told.as_str() == wanted, "{told}");
+    Ok(())
+}
+
+#[test]
+fn references_mean_what_their_scope_says(rt: HostRuntime) -> Result<(), Fail> {
+    let (names, linked) = (names(rt.alloc())?, linked(rt.alloc())?);
+    for row in REFERENCES {
+        check_reference(&rt, rt.alloc(), row, &names, &linked)?;
+    }
+    Ok(())
+}

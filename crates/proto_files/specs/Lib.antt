@@ -1,0 +1,3 @@
+pub mod Empty
+pub mod Computed
+pub mod Equality

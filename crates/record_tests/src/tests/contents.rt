@@ -1,0 +1,93 @@
+//! The data of a pool's contents.
+
+use super::copies::check_made;
+use plain_values::{Items, Text, same};
+use pool_types::{
+    Cardinality, Definition, DefinitionKind, Entry, FieldDescriptorInner, FileDescriptor, Identity,
+    KindIndex, MessageDescriptor, MessageDescriptorInner,
+};
+use std::alloc::{AllocError, Global};
+use std::process::Abort;
+use std::test::Fail;
+
+/// The identity of the message `p.M`, the first of the first file.
+fn identity(alloc: Global) -> Result<Identity, AllocError> {
+    Ok(Identity {
+        file: 0,
+        path: Items::from_slice(alloc, &[4, 0])?,
+        full_name: Text::from_str(alloc, "p.M")?,
+        name_index: 2,
+    })
+}
+
+/// An entry of the name `p.M` in the first file.
+fn entry(alloc: Global, kind: DefinitionKind) -> Result<Entry, AllocError> {
+    Ok(Entry {
+        name: Text::from_str(alloc, "p.M")?,
+        definition: Definition {
+            file: 0,
+            path: Items::from_slice(alloc, &[4, 0, 1])?,
+            kind,
+        },
+    })
+}
+
+fn field(alloc: Global, number: u32) -> Result<FieldDescriptorInner, AllocError> {
+    Ok(FieldDescriptorInner {
+        id: identity(alloc)?,
+        number,
+        kind: KindIndex::Enum(3),
+        cardinality: Cardinality::Required,
+    })
+}
+
+fn message(alloc: Global, parent: Option<u32>) -> Result<MessageDescriptorInner, AllocError> {
+    let mut fields = Items::new(alloc);
+    fields.push(field(alloc, 7)?)?;
+    Ok(MessageDescriptorInner {
+        id: identity(alloc)?,
+        parent,
+        fields,
+    })
+}
+
+/// What an identity tells of itself.
+fn told_identity(alloc: Global, id: &Identity) -> Result<String, AllocError> {
+    let (full_name, name, path, file) = (id.full_name(), id.name(), id.path(), id.file().index());
+    format!(in alloc; "{full_name} {name} {path:?} {file}")
+}
+
+fn check_identity(rt: &impl Abort, alloc: Global, id: &Identity) -> Result<(), AllocError> {
+    let told = told_identity(alloc, id)?;
+    assert!(rt; told.as_str() == "p.M M [4, 0] 0", "{told}");
+    assert!(rt; id.file() == FileDescriptor::new(0));
+    let copy = id.clone(alloc)?;
+    assert!(rt; same(id, &copy));
+    Ok(())
+}
+
+fn check_definition(rt: &impl Abort, alloc: Global, entry: &Entry) -> Result<(), AllocError> {
+    let copy = entry.definition.clone(alloc)?;
+    assert!(rt; same(&entry.definition, &copy));
+    Ok(())
+}
+
+#[test]
+fn identities_and_definitions_equal_their_copies(rt: HostRuntime) -> Result<(), Fail> {
+    let alloc = rt.alloc();
+    check_identity(&rt, alloc, &identity(alloc)?)?;
+    check_definition(&rt, alloc, &entry(alloc, DefinitionKind::Package)?)?;
+    assert!(rt; MessageDescriptor::new(4).index() == 4);
+    assert!(rt; FileDescriptor::new(5).index() == 5);
+    Ok(())
+}
+
+#[test]
+fn entries_and_items_equal_their_copies(rt: HostRuntime) -> Result<(), Fail> {
+    let alloc = rt.alloc();
+    let (first, second) = (DefinitionKind::Message(0), DefinitionKind::Message(1));
+    check_made(&rt, alloc, entry(alloc, first), entry(alloc, second))?;
+    check_made(&rt, alloc, field(alloc, 7), field(alloc, 8))?;
+    check_made(&rt, alloc, message(alloc, Some(2)), message(alloc, None))?;
+    Ok(())
+}

@@ -1,0 +1,78 @@
+//! The records that paths lead to.
+
+use super::whole::WHOLE_SCRIPT;
+use proto_files::{DescriptorProto, FileDescriptorProto, OneofDescriptorProto};
+use proto_records::{
+    DeclarationKind, find_enum_proto, find_enum_value_proto, find_field_proto, find_message_proto,
+    find_method_proto, find_oneof_proto, find_service_proto,
+};
+use proto_types::{
+    EnumDescriptorProto, EnumValueDescriptorProto, FieldDescriptorProto, MethodDescriptorProto,
+    ServiceDescriptorProto,
+};
+use script_files::files_of;
+use std::process::Abort;
+use std::test::Fail;
+
+/// A kind that is looked for, a path, and the name of what is found, or `none`.
+const PATHS: &[(DeclarationKind, &[i32], &str)] = &[
+    (DeclarationKind::Message, &[4, 0, 3, 0], "N"),
+    (DeclarationKind::Message, &[], "none"),
+    (DeclarationKind::Message, &[4], "none"),
+    (DeclarationKind::Message, &[4, 1], "none"),
+    (DeclarationKind::Message, &[4, -1], "none"),
+    (DeclarationKind::Message, &[5, 0], "none"),
+    (DeclarationKind::Message, &[4, 0, 2], "none"),
+    (DeclarationKind::Message, &[4, 2147483647], "none"),
+    (DeclarationKind::Message, &[9, 0], "none"),
+    (DeclarationKind::Message, &[4, 0, 3, -1], "none"),
+    (DeclarationKind::Message, &[4, 0, 4, 0], "none"),
+    (DeclarationKind::Field, &[4, 0, 2, 0], "f"),
+    (DeclarationKind::Extension, &[4, 0, 6, 0], "e"),
+    (DeclarationKind::Extension, &[7, 0], "x"),
+    (DeclarationKind::Field, &[4, 0, 2, 0, 1], "none"),
+    (DeclarationKind::Oneof, &[4, 0, 8, 0], "o"),
+    (DeclarationKind::Enum, &[4, 0, 4, 0], "E"),
+    (DeclarationKind::EnumValue, &[4, 0, 4, 0, 2, 0], "V"),
+    (DeclarationKind::Service, &[6, 0], "S"),
+    (DeclarationKind::Method, &[6, 0, 2, 0], "m"),
+    (DeclarationKind::Method, &[6, 0], "none"),
+];
+
+/// The name of the record of a kind at a path.
+fn found<'a>(
+    file: &'a FileDescriptorProto,
+    kind: DeclarationKind,
+    path: &[i32],
+) -> Option<&'a str> {
+    match kind {
+        DeclarationKind::File => Some(file.name()),
+        DeclarationKind::Message => find_message_proto(file, path).map(DescriptorProto::name),
+        DeclarationKind::Field => find_field_proto(file, path).map(FieldDescriptorProto::name),
+        DeclarationKind::Oneof => find_oneof_proto(file, path).map(OneofDescriptorProto::name),
+        DeclarationKind::Service => {
+            find_service_proto(file, path).map(ServiceDescriptorProto::name)
+        }
+        DeclarationKind::Method => find_method_proto(file, path).map(MethodDescriptorProto::name),
+        DeclarationKind::Enum => find_enum_proto(file, path).map(EnumDescriptorProto::name),
+        DeclarationKind::EnumValue => {
+            find_enum_value_proto(file, path).map(EnumValueDescriptorProto::name)
+        }
+        DeclarationKind::Extension => find_field_proto(file, path).map(FieldDescriptorProto::name),
+    }
+}
+
+fn check(rt: &impl Abort, file: &FileDescriptorProto) {
+    for (kind, path, wanted) in PATHS {
+        let name = found(file, *kind, path).unwrap_or("none");
+        assert!(rt; name == *wanted, "{kind:?} {path:?} {name}");
+    }
+}
+
+#[test]
+fn paths_lead_to_records(rt: HostRuntime) -> Result<(), Fail> {
+    for file in &files_of(rt.alloc(), WHOLE_SCRIPT)? {
+        check(&rt, file);
+    }
+    Ok(())
+}

@@ -1,0 +1,100 @@
+//! Texts, lists, and names in scopes.
+
+use super::copies::check_made;
+use plain_values::{Items, Text, duplicate_given, duplicates};
+use proto_types::join;
+use std::alloc::{AllocError, Global};
+use std::process::Abort;
+use std::test::Fail;
+
+fn text_of_string(alloc: Global, string: &str) -> Result<Text, AllocError> {
+    Ok(Text::from_string(String::from_str(alloc, string)?))
+}
+
+/// A copy of a text that may be missing, as it is printed.
+fn words_of_copy(alloc: Global, given: &Option<Text>) -> Result<String, AllocError> {
+    match duplicate_given(alloc, given)? {
+        Some(text) => Ok(text.into_string()),
+        None => String::from_str(alloc, "none"),
+    }
+}
+
+fn check_words(rt: &impl Abort, alloc: Global) -> Result<(), AllocError> {
+    assert!(rt; Text::new(alloc).as_str() == "");
+    let given = Some(text_of_string(alloc, "given")?);
+    assert!(rt; words_of_copy(alloc, &given)?.as_str() == "given");
+    assert!(rt; words_of_copy(alloc, &None)?.as_str() == "none");
+    Ok(())
+}
+
+#[test]
+fn texts_are_what_they_are_given(rt: HostRuntime) -> Result<(), Fail> {
+    let alloc = rt.alloc();
+    check_words(&rt, alloc)?;
+    check_made(
+        &rt,
+        alloc,
+        Text::from_str(alloc, "name"),
+        Ok(Text::new(alloc)),
+    )?;
+    Ok(())
+}
+
+fn numbers(alloc: Global) -> Result<Items<i32>, AllocError> {
+    let mut numbers = Items::from_slice(alloc, &[1, 2])?;
+    let last = numbers.pop();
+    numbers.push(3)?;
+    if let Some(last) = last {
+        numbers.push(last)?;
+    }
+    Ok(numbers)
+}
+
+#[test]
+fn items_are_pushed_and_popped(rt: HostRuntime) -> Result<(), Fail> {
+    let numbers = numbers(rt.alloc())?;
+    assert!(rt; numbers.as_slice() == [1, 3, 2].as_slice());
+    assert!(rt; numbers != Items::new(rt.alloc()));
+    assert!(rt; numbers.into_vec().as_slice() == [1, 3, 2].as_slice());
+    Ok(())
+}
+
+/// Asserts that texts equal their copies, and not other texts.
+fn check_items(rt: &impl Abort, alloc: Global, texts: &Items<Text>) -> Result<(), AllocError> {
+    let copy = texts.clone(alloc)?;
+    assert!(rt; *texts == copy);
+    let copies = Items::from_vec(duplicates(alloc, texts.as_slice())?);
+    assert!(rt; *texts == copies);
+    assert!(rt; *texts != Items::new(alloc));
+    Ok(())
+}
+
+fn texts(alloc: Global) -> Result<Items<Text>, AllocError> {
+    let mut texts = Items::new(alloc);
+    texts.push(Text::from_str(alloc, "a")?)?;
+    Ok(texts)
+}
+
+#[test]
+fn items_equal_their_copies(rt: HostRuntime) -> Result<(), Fail> {
+    check_items(&rt, rt.alloc(), &texts(rt.alloc())?)?;
+    Ok(())
+}
+
+/// A scope, a name in it, and its full name.
+const NAMES: &[(&str, &str, &str)] = &[
+    ("", "M", "M"),
+    ("p", "M", "p.M"),
+    ("p.q", "M", "p.q.M"),
+    ("p", "", "p."),
+    ("", "", ""),
+];
+
+#[test]
+fn names_are_joined_to_their_scope(rt: HostRuntime) -> Result<(), Fail> {
+    for (scope, name, wanted) in NAMES {
+        let full_name = join(rt.alloc(), scope, name)?;
+        assert!(rt; full_name.as_str() == *wanted, "{full_name}");
+    }
+    Ok(())
+}

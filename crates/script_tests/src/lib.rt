@@ -1,0 +1,5 @@
+//! The tests of scripts, of reports, and of devices.
+#![tactic(auto)]
+
+#[cfg(test)]
+mod tests;

@@ -1,0 +1,11 @@
+//! What no contract says of scripts: printed reports, worked scripts, and devices that fail.
+
+mod devices;
+mod faults;
+mod linking;
+mod misplaced;
+mod refusals;
+mod runs;
+mod statements;
+mod streams;
+mod walks;

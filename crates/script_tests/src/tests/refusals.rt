@@ -1,0 +1,109 @@
+//! Scripts whose batches are refused.
+
+use descriptor_linker::Ending;
+
+/// What it shows, a script, its report, and how its run ends.
+pub(super) const REFUSED: &[(&str, &str, &str, Ending)] = &[
+    (
+        "a package may not have the name of a message",
+        "file a.proto\npackage p\nmessage q\nend\nend\nfile b.proto\npackage p.q\nend\nlink\n",
+        "refused 1\nb.proto: name 'p.q' is already defined in file 'a.proto'\n",
+        Ending::Whole,
+    ),
+    (
+        "two messages of a file may not have one name",
+        "file a.proto\npackage p\nmessage M\nend\nmessage M\nend\nend\nlink\n",
+        "refused 1\na.proto: name 'p.M' is defined twice\n",
+        Ending::Whole,
+    ),
+    (
+        "two new files may not have one name",
+        "file a.proto\nend\nfile a.proto\nend\nlink\n",
+        "refused 1\na different file named 'a.proto' has already been added\n",
+        Ending::Whole,
+    ),
+    (
+        "a refused package leaves no name",
+        "file a.proto\nend\nlink\nfile b.proto\npackage .a\nmessage M\nend\nmessage M\nend\nend\n\
+        link\nfind ''\nfind ..a\n",
+        "ok 1 0 0 0 0\nrefused 1\nb.proto: name '.a.M' is defined twice\nnone\nnone\n",
+        Ending::Whole,
+    ),
+    (
+        "all faults of names are told in order",
+        "file a.proto\nmessage M\nfield f 1 ~ ~ ~ ~\nfield f 2 ~ ~ ~ ~\nend\nmessage M\nend\nend\n\
+        file a.proto\nend\nlink\n",
+        "refused 3\na.proto: name 'M.f' is defined twice\na.proto: name 'M' is defined twice\n\
+        a different file named 'a.proto' has already been added\n",
+        Ending::Whole,
+    ),
+    (
+        "a field may not have the name of a nested message",
+        "file a.proto\nmessage A\nfield B 1 optional int32 ~ ~\nmessage B\nend\nend\nend\nlink\n",
+        "refused 1\na.proto: name 'A.B' is defined twice\n",
+        Ending::Whole,
+    ),
+    (
+        "a type name may be missing from the pool",
+        "file a.proto\nmessage M\nfield f 1 optional message N ~\nend\nend\nlink\nfind M\n",
+        "refused 1\na.proto: name 'N' is not defined\nnone\n",
+        Ending::Whole,
+    ),
+    (
+        "a type name may not be that of a package",
+        "file a.proto\npackage p\nmessage M\nfield f 1 optional message .p ~\nend\nend\nlink\n",
+        "refused 1\na.proto: 'p' is not a message or enum type\n",
+        Ending::Whole,
+    ),
+    (
+        "a message type needs a type name",
+        "file a.proto\nmessage M\nfield f 1 optional message ~ ~\nend\nend\nlink\n",
+        "refused 1\na.proto: missing required field at [4, 0, 2, 0, 6]\n",
+        Ending::Whole,
+    ),
+    (
+        "a file does not see another",
+        "file x.proto\npackage foo\nmessage X\nend\nend\nfile y.proto\nmessage Y\n\
+        field f 1 optional ~ .foo.X ~\nend\nend\nlink\n",
+        "refused 1\ny.proto: name 'foo.X' is not defined\n",
+        Ending::Whole,
+    ),
+    (
+        "all faults of references are told in order",
+        "file a.proto\nmessage M\nfield f 0 optional message N ~\nfield g 0 optional group ~ ~\n\
+        field h 1 optional ~ .M.f ~\nend\nend\nlink\n",
+        "refused 5\na.proto: invalid field number '0'\na.proto: name 'N' is not defined\n\
+        a.proto: invalid field number '0'\n\
+        a.proto: missing required field at [4, 0, 2, 1, 6]\n\
+        a.proto: 'M.f' is not a message or enum type\n",
+        Ending::Whole,
+    ),
+    (
+        "faults of references wait for those of names",
+        "file a.proto\nmessage M\nfield f 0 optional message N ~\nend\nmessage M\nend\nend\nlink\n",
+        "refused 1\na.proto: name 'M' is defined twice\n",
+        Ending::Whole,
+    ),
+    (
+        "a nested field has faults",
+        "file a.proto\nmessage A\nmessage B\nfield f 0 optional message .C ~\nend\nend\nend\nlink\n",
+        "refused 2\na.proto: invalid field number '0'\na.proto: name '.C' is not defined\n",
+        Ending::Whole,
+    ),
+    (
+        "fields may not have some numbers",
+        "file a.proto\nmessage M\nfield a -1 optional int32 ~ ~\nfield b 0 optional int32 ~ ~\n\
+        field c 19000 optional int32 ~ ~\nfield d 19999 optional int32 ~ ~\n\
+        field e 536870912 optional int32 ~ ~\nend\nend\nlink\n",
+        "refused 5\na.proto: invalid field number '-1'\na.proto: invalid field number '0'\n\
+        a.proto: invalid field number '19000'\na.proto: invalid field number '19999'\n\
+        a.proto: invalid field number '536870912'\n",
+        Ending::Whole,
+    ),
+    (
+        "the fault of a script stands behind those of a batch",
+        "file a.proto\nmessage M\nfield f 1 optional message N ~\nend\nend\nlink\nend\n",
+        "refused 1\na.proto: name 'N' is not defined\nline 7: misplaced\n",
+        Ending::ScriptFault,
+    ),
+];

@@ -1,0 +1,123 @@
+//! Runs of scripts from memory to memory, and their reports.
+
+use super::faults::FAULTY;
+use super::linking::LINKED;
+use super::misplaced::MISPLACED;
+use super::refusals::REFUSED;
+use super::walks::WALKED;
+use descriptor_linker::{Ending, MemoryInput, MemoryOutput, report_of, run};
+use std::alloc::{AllocError, Global};
+use std::fmt::Write;
+use std::process::Abort;
+use std::test::Fail;
+
+/// More bytes than each report here takes.
+const AMPLE_ROOM: usize = 4096;
+
+/// Asserts that a script has a report, and that its run writes that and ends as is wanted.
+fn check(
+    rt: &impl Abort,
+    alloc: Global,
+    name: &str,
+    script: &[u8],
+    wanted: &str,
+    ending: Ending,
+) -> Result<(), AllocError> {
+    let report = report_of(alloc, script)?;
+    let text = report.text.as_str();
+    assert!(rt; text == wanted, "{name}\n{text}");
+    assert!(rt;
+        report.has_fault == (ending == Ending::ScriptFault),
+        "{name}"
+    );
+    check_run(rt, alloc, name, script, wanted, ending)
+}
+
+/// Asserts that a run writes a report and ends as is wanted. Where memory is refused, nothing is
+/// written.
+fn check_run(
+    rt: &impl Abort,
+    alloc: Global,
+    name: &str,
+    script: &[u8],
+    wanted: &str,
+    ending: Ending,
+) -> Result<(), AllocError> {
+    let mut input = MemoryInput::new(script);
+    let mut output = MemoryOutput::new(alloc, AMPLE_ROOM)?;
+    let ended = run(alloc, &mut input, &mut output);
+    if ended == Ending::OutOfMemory {
+        assert!(rt; output.written().is_empty(), "{name}");
+        return Err(AllocError);
+    }
+    assert!(rt; output.written() == wanted.as_bytes(), "{name}");
+    assert!(rt; ended == ending, "{name} {ended:?}");
+    Ok(())
+}
+
+/// What it shows, a script that is no text, and its report.
+const NO_TEXTS: &[(&str, &[u8], &str)] = &[
+    ("a line that is no text", b"\xff\n", "line 1: bad text\n"),
+    (
+        "a comment that is no text",
+        b"# \xff\n",
+        "line 1: bad text\n",
+    ),
+    (
+        "the first fault is told",
+        b"link\n# \xff\nnone",
+        "ok 0 0 0 0 0\nline 2: bad text\n",
+    ),
+    (
+        "commands before a line that is no text are told",
+        b"link\nfind \xff\n",
+        "ok 0 0 0 0 0\nline 2: bad text\n",
+    ),
+];
+
+#[test]
+fn scripts_are_reported(rt: HostRuntime) -> Result<(), Fail> {
+    for rows in [LINKED, REFUSED, WALKED] {
+        for (name, script, report, ending) in rows {
+            check(&rt, rt.alloc(), name, script.as_bytes(), report, *ending)?;
+        }
+    }
+    for rows in [FAULTY, MISPLACED] {
+        for (name, script, report) in rows {
+            check(
+                &rt,
+                rt.alloc(),
+                name,
+                script.as_bytes(),
+                report,
+                Ending::ScriptFault,
+            )?;
+        }
+    }
+    for (name, script, report) in NO_TEXTS {
+        check(&rt, rt.alloc(), name, script, report, Ending::ScriptFault)?;
+    }
+    Ok(())
+}
+
+/// A script of a thousand files.
+fn large_script(alloc: Global) -> Result<String, AllocError> {
+    let mut script = String::new(alloc);
+    for number in 0..1000u32 {
+        write!(
+            &mut script,
+            "file f{number}.proto\nmessage M{number}\n\
+            field f 1 optional message .M{number} ~\nend\nend\n"
+        )?;
+    }
+    script.push_str("link\n")?;
+    Ok(script)
+}
+
+#[test]
+fn a_batch_of_a_thousand_files_is_linked(rt: HostRuntime) -> Result<(), Fail> {
+    let script = large_script(rt.alloc())?;
+    let report = report_of(rt.alloc(), script.as_bytes())?;
+    assert!(rt; report.text.as_str() == "ok 1000 1000 0 0 0\n");
+    Ok(())
+}

@@ -1,0 +1,235 @@
+//! What each statement of a script says, and the faults of scripts.
+
+use link_script::{ScriptFault, Statement, read_script};
+use plain_values::Text;
+use proto_types::{
+    EnumValueDescriptorProto, FieldDescriptorProto, Location, MethodDescriptorProto,
+};
+use std::alloc::{AllocError, Global};
+use std::fmt::Write;
+use std::test::Fail;
+
+/// What it shows, a script without a fault, and a line for each of its statements.
+const SAID: &[(&str, &str, &str)] = &[
+    (
+        "comments and blank lines say nothing, and absent texts stay absent",
+        "# a pool\n\nfile a.proto\n package  ''\nmessage ~\nfield id 1 optional int32 ~ ~\n\
+        end\nend\nlink\nfind .M",
+        "file 'a.proto'\npackage ''\nmessage none\n\
+        field 'id' Some(1) Some(1) Some(5) none none None\nend\nend\nlink\nfind '.M'\n",
+    ),
+    (
+        "numbers have signs",
+        "file a\nmessage b\nfield c +007 99 -0 ~ -2147483648\nend\nend",
+        "file 'a'\nmessage 'b'\n\
+        field 'c' Some(7) Some(99) Some(0) none none Some(-2147483648)\nend\nend\n",
+    ),
+    (
+        "a file has imports and locations",
+        "file a\nsyntax proto3\nimport ''\npublic +0\nweak -7\nat 4,0 ''\nend",
+        "file 'a'\nsyntax 'proto3'\nimport ''\npublic 0\nweak -7\nat [4, 0] []\nend\n",
+    ),
+    (
+        "an extension has an extendee",
+        "file a\nextend e ~ repeated 5 ~ M\njson ~\npacked false\nend",
+        "file 'a'\nextend 'e' None Some(3) Some(5) none 'M' None\njson none\npacked false\nend\n",
+    ),
+    (
+        "a message has oneofs and ranges",
+        "file a\nmessage M\noneof o\nreserved ~ 8\nextensions 100 ~\nend\nend",
+        "file 'a'\nmessage 'M'\noneof 'o'\nreserved None Some(8)\nextensions Some(100) None\n\
+        end\nend\n",
+    ),
+    (
+        "enums and services have parts",
+        "file a\nenum E\nvalue V -1\nalias\nend\nservice ~\nmethod m A B\nend\nend",
+        "file 'a'\nenum 'E'\nvalue 'V' Some(-1)\nalias\nend\nservice none\nmethod 'm' 'A' 'B'\n\
+        end\nend\n",
+    ),
+    (
+        "the pool is walked over",
+        "walk\n\nfind ~",
+        "walk\nfind ''\n",
+    ),
+];
+
+/// The line of a default, and its text.
+const DEFAULTS: &[(&str, &str)] = &[
+    ("default ''", ""),
+    ("default  ", " "),
+    ("default ~", "~"),
+    ("default a  ", "a  "),
+    ("   default x y\r", "x y\r"),
+    ("default 'x'", "'x'"),
+    ("default \u{e9}", "\u{e9}"),
+];
+
+/// A line for each statement of a script, and one for its fault.
+fn statements(alloc: Global, script: &str) -> Result<String, AllocError> {
+    let script = read_script(alloc, script.as_bytes())?;
+    let mut told = String::new(alloc);
+    for statement in script.statements.as_slice() {
+        tell(&mut told, statement)?;
+    }
+    if let Some((line, fault)) = script.fault {
+        writeln!(&mut told, "line {line}: {fault}")?;
+    }
+    Ok(told)
+}
+
+fn tell(told: &mut String, statement: &Statement) -> Result<(), AllocError> {
+    match statement {
+        Statement::File(name) => tell_given(told, "file", name),
+        Statement::Package(name) => tell_given(told, "package", name),
+        Statement::Syntax(name) => tell_given(told, "syntax", name),
+        Statement::Import(name) => tell_text(told, "import", name),
+        Statement::Public(position) => writeln!(told, "public {position}"),
+        Statement::Weak(position) => writeln!(told, "weak {position}"),
+        Statement::At(location) => tell_location(told, location),
+        Statement::Service(name) => tell_given(told, "service", name),
+        Statement::Message(name) => tell_given(told, "message", name),
+        Statement::Enum(name) => tell_given(told, "enum", name),
+        Statement::Extend(field) => tell_field(told, "extend", field),
+        Statement::Field(field) => tell_field(told, "field", field),
+        Statement::Oneof(name) => tell_given(told, "oneof", name),
+        Statement::Reserved(start, end) => writeln!(told, "reserved {start:?} {end:?}"),
+        Statement::Extensions(start, end) => writeln!(told, "extensions {start:?} {end:?}"),
+        Statement::Value(value) => tell_value(told, value),
+        Statement::Alias => writeln!(told, "alias"),
+        Statement::Method(method) => tell_method(told, method),
+        Statement::Json(name) => tell_given(told, "json", name),
+        Statement::Packed(packed) => writeln!(told, "packed {packed}"),
+        Statement::Default(text) => tell_text(told, "default", text),
+        Statement::End => writeln!(told, "end"),
+        Statement::Link => writeln!(told, "link"),
+        Statement::Find(name) => tell_text(told, "find", name),
+        Statement::Walk => writeln!(told, "walk"),
+    }
+}
+
+fn tell_text(told: &mut String, word: &str, text: &Text) -> Result<(), AllocError> {
+    let text = text.as_str();
+    writeln!(told, "{word} '{text}'")
+}
+
+fn tell_given(told: &mut String, word: &str, text: &Option<Text>) -> Result<(), AllocError> {
+    match text {
+        Some(text) => tell_text(told, word, text),
+        None => writeln!(told, "{word} none"),
+    }
+}
+
+/// A text that may be missing, in quotes or not.
+fn tell_part(told: &mut String, text: &Option<Text>) -> Result<(), AllocError> {
+    match text {
+        Some(text) => {
+            let text = text.as_str();
+            write!(told, " '{text}'")
+        }
+        None => write!(told, " none"),
+    }
+}
+
+fn tell_location(told: &mut String, location: &Location) -> Result<(), AllocError> {
+    let (path, span) = (location.path.as_slice(), location.span.as_slice());
+    writeln!(told, "at {path:?} {span:?}")
+}
+
+fn tell_field(
+    told: &mut String,
+    word: &str,
+    field: &FieldDescriptorProto,
+) -> Result<(), AllocError> {
+    let (number, label, type_) = (field.number, field.label, field.type_);
+    let oneof_index = field.oneof_index;
+    write!(told, "{word}")?;
+    tell_part(told, &field.name)?;
+    write!(told, " {number:?} {label:?} {type_:?}")?;
+    tell_part(told, &field.type_name)?;
+    tell_part(told, &field.extendee)?;
+    writeln!(told, " {oneof_index:?}")
+}
+
+fn tell_value(told: &mut String, value: &EnumValueDescriptorProto) -> Result<(), AllocError> {
+    let (name, number) = (value.name(), value.number);
+    writeln!(told, "value '{name}' {number:?}")
+}
+
+fn tell_method(told: &mut String, method: &MethodDescriptorProto) -> Result<(), AllocError> {
+    let (name, input, output) = (method.name(), method.input_type(), method.output_type());
+    writeln!(told, "method '{name}' '{input}' '{output}'")
+}
+
+/// The statements of a script whose one extension has the default of a line.
+fn default_told(alloc: Global, line: &str) -> Result<String, AllocError> {
+    let script = format!(in alloc; "file a\nextend e 1 ~ ~ ~ ~\n{line}\nend")?;
+    statements(alloc, script.as_str())
+}
+
+/// The statements that are wanted of it.
+fn default_wanted(alloc: Global, text: &str) -> Result<String, AllocError> {
+    format!(in alloc;
+        "file 'a'\nextend 'e' Some(1) None None none none None\ndefault '{text}'\nend\n"
+    )
+}
+
+#[test]
+fn scripts_say_their_statements(rt: HostRuntime) -> Result<(), Fail> {
+    for (name, script, wanted) in SAID {
+        let told = statements(rt.alloc(), script)?;
+        assert!(rt; told.as_str() == *wanted, "{name}\n{told}");
+    }
+    for (line, text) in DEFAULTS {
+        let told = default_told(rt.alloc(), line)?;
+        assert!(rt; told == default_wanted(rt.alloc(), text)?, "{line}");
+    }
+    Ok(())
+}
+
+/// A script, the line of its fault, the fault, and how that is printed.
+const FAULTS: &[(&[u8], u64, ScriptFault, &str)] = &[
+    (b"link\n# \xff\nnone", 2, ScriptFault::BadText, "bad text"),
+    (b"File a", 1, ScriptFault::UnknownWord, "unknown word"),
+    (
+        b"file a\nlink x\nend",
+        2,
+        ScriptFault::Misplaced,
+        "misplaced",
+    ),
+    (b"find", 1, ScriptFault::WrongCount, "wrong count of words"),
+    (
+        b"file a\nmessage b\nfield c 2147483648 x y ~ ~",
+        3,
+        ScriptFault::BadNumber,
+        "bad number",
+    ),
+    (
+        b"file a\nmessage b\nfield c 1 x y ~ -",
+        3,
+        ScriptFault::BadWord,
+        "bad word",
+    ),
+    (
+        b"file a\nmessage b\nend\n",
+        4,
+        ScriptFault::MissingEnd,
+        "missing end",
+    ),
+];
+
+fn fault_of(alloc: Global, script: &[u8]) -> Result<Option<(u64, ScriptFault)>, AllocError> {
+    Ok(read_script(alloc, script)?.fault)
+}
+
+#[test]
+fn scripts_have_a_first_fault(rt: HostRuntime) -> Result<(), Fail> {
+    for (script, line, fault, wanted) in FAULTS {
+        let words = format!(in rt.alloc(); "{fault}")?;
+        assert!(rt; words.as_str() == *wanted, "{words}");
+        assert!(rt;
+            fault_of(rt.alloc(), script)? == Some((*line, *fault)),
+            "{words}"
+        );
+    }
+    Ok(())
+}

@@ -1,0 +1,32 @@
+//! Scripts that walk over the linked files.
+
+use descriptor_linker::Ending;
+
+/// What it shows, a script, its report, and how its run ends.
+pub(super) const WALKED: &[(&str, &str, &str, Ending)] = &[
+    (
+        "declarations of every kind are told in order",
+        "file a.proto\npackage p\nmessage M\nfield f 1 optional int32 ~ ~\noneof o\n\
+        message N\nend\nenum E\nvalue V 0\nend\nextensions 100 200\n\
+        extend e 100 optional int32 ~ M\nend\nservice S\nmethod m .p.M .p.M\nend\n\
+        extend x 101 optional int32 ~ .p.M\nend\nlink\nwalk\n",
+        "ok 1 2 0 0 0\nwalk 11\nfile 0 a.proto []\nmessage 0 p.M [4, 0]\n\
+        oneof 0 p.M.o [4, 0, 8, 0]\nfield 0 p.M.f [4, 0, 2, 0]\nmessage 1 p.M.N [4, 0, 3, 0]\n\
+        enum 0 p.M.E [4, 0, 4, 0]\nvalue 0 p.M.V [4, 0, 4, 0, 2, 0]\n\
+        extension 0 p.M.e [4, 0, 6, 0]\nservice 0 p.S [6, 0]\nmethod 0 p.S.m [6, 0, 2, 0]\n\
+        extension 1 p.x [7, 0]\n",
+        Ending::Whole,
+    ),
+    (
+        "an empty pool declares nothing",
+        "walk\n",
+        "walk 0\n",
+        Ending::Whole,
+    ),
+    (
+        "empty names are shown in quotes",
+        "file ~\nmessage ~\nend\nend\nfile b\nmessage M\nend\nend\nlink\nwalk\n",
+        "ok 2 2 0 0 0\nwalk 4\nfile 0 '' []\nmessage 0 '' [4, 0]\nfile 1 b []\nmessage 1 M [4, 0]\n",
+        Ending::Whole,
+    ),
+];
