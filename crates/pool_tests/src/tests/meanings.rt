@@ -63,6 +63,20 @@ fn a_name_means_its_first_entry(rt: HostRuntime) -> Result<(), Fail> {
     Ok(())
 }
 
+/// Asserts that a label for which memory was there tells a file and a path.
+fn check_label(
+    rt: &impl Abort,
+    alloc: Global,
+    label: Result<Label, AllocError>,
+    wanted: &str,
+) -> Result<(), AllocError> {
+    let label = label?;
+    let (file, path) = (label.file(), label.path());
+    let told = format!(in alloc; "'{file}' {path:?}")?;
+    assert!(rt; told.as_str() == wanted, "{told}");
+    Ok(())
+}
+
 /// Asserts that three ways make one label of the second file, and that a file that is not there
 /// has no name.
 fn check_labels(
@@ -70,16 +84,23 @@ fn check_labels(
     alloc: Global,
     linked: &[FileDescriptorInner],
 ) -> Result<(), AllocError> {
-    let label = label_at(alloc, linked, 1, &[4])?;
-    assert!(rt; label.file() == "b.proto");
-    assert!(rt; label.path() == [4].as_slice());
     let [_, second] = linked else {
         panic!(rt; "no two files");
     };
-    assert!(rt; label == Label::in_record(alloc, &second.raw, &[4])?);
-    assert!(rt; label == Label::new(alloc, linked, 1, &[4])?);
-    assert!(rt; label_at(alloc, linked, 2, &[4])?.file() == "");
-    Ok(())
+    check_label(
+        rt,
+        alloc,
+        Label::in_record(alloc, &second.raw, &[4]),
+        "'b.proto' [4]",
+    )?;
+    check_label(
+        rt,
+        alloc,
+        Label::new(alloc, linked, 1, &[4]),
+        "'b.proto' [4]",
+    )?;
+    check_label(rt, alloc, label_at(alloc, linked, 1, &[4]), "'b.proto' [4]")?;
+    check_label(rt, alloc, label_at(alloc, linked, 2, &[4]), "'' [4]")
 }
 
 #[test]
@@ -103,33 +124,30 @@ const REFERENCES: &[(u32, &str, &str, &str)] = &[
         1,
         "p",
         ".p.M",
-        "not imported p.M 0: b.proto: name 'p.M' is not defined",
+        "of the first file p.M: b.proto: name 'p.M' is not defined",
     ),
     (
         0,
         "p",
         "p.M",
-        "not found: b.proto: name 'p.M' is not defined",
+        "not found : b.proto: name 'p.M' is not defined",
     ),
-    (0, "p", ".q", "not found: b.proto: name '.q' is not defined"),
+    (
+        0,
+        "p",
+        ".q",
+        "not found : b.proto: name '.q' is not defined",
+    ),
 ];
 
-/// What a reference means.
-fn meaning(alloc: Global, resolved: &ResolveNameResult) -> Result<String, AllocError> {
+/// What a reference means, and the name that means it.
+fn meaning<'a>(resolved: &'a ResolveNameResult) -> (&'static str, &'a str) {
     match resolved {
-        ResolveNameResult::Found { name, .. } => {
-            let name = name.as_str();
-            format!(in alloc; "found {name}")
-        }
-        ResolveNameResult::InvalidType { name, .. } => {
-            let name = name.as_str();
-            format!(in alloc; "invalid {name}")
-        }
-        ResolveNameResult::NotImported { name, file } => {
-            let name = name.as_str();
-            format!(in alloc; "not imported {name} {file}")
-        }
-        ResolveNameResult::NotFound => String::from_str(alloc, "not found"),
+        ResolveNameResult::Found { name, .. } => ("found", name.as_str()),
+        ResolveNameResult::InvalidType { name, .. } => ("invalid", name.as_str()),
+        ResolveNameResult::NotImported { name, file: 0 } => ("of the first file", name.as_str()),
+        ResolveNameResult::NotImported { name, .. } => ("of another file", name.as_str()),
+        ResolveNameResult::NotFound => ("not found", ""),
     }
 }
 
@@ -165,12 +183,10 @@ fn check_reference(
         name,
         ResolveNameFilter::FieldType,
     )?;
-    let (meaning, fault) = (
-        meaning(alloc, &resolved)?,
-        fault_words(alloc, &resolved, name, linked)?,
-    );
-    assert!(rt; resolved.is_found() == (fault.as_str() == "none"), "{name}");
-    let told = format!(in alloc; "{meaning}: {fault}")?;
+    let (word, full_name) = meaning(&resolved);
+    let fault = fault_words(alloc, &resolved, name, linked)?;
+    let told = format!(in alloc; "{word} {full_name}: {fault}")?;
+    assert!(rt; resolved.is_found() == (word == "found"), "{told}");
     assert!(rt; told.as_str() == wanted, "{told}");
     Ok(())
 }

@@ -1,8 +1,11 @@
 //! The laws of the walk, and the example of a visitor of a user's own, on the file of each kind.
 
 use super::counting::{EVERY_KIND, NONE};
+use proto_files::FileDescriptorProto;
 use proto_records::{declared_indexes, declared_paths};
 use script_files::files_of;
+use std::alloc::{AllocError, Global};
+use std::process::Abort;
 use std::test::Fail;
 use visitor_example::fields_of;
 
@@ -14,14 +17,22 @@ fn laws_are_called_and_take_nothing(rt: HostRuntime) -> Result<(), Fail> {
     Ok(())
 }
 
+fn check_fields(
+    rt: &impl Abort,
+    alloc: Global,
+    files: &[FileDescriptorProto],
+) -> Result<(), AllocError> {
+    assert!(rt; NONE.with_files(files).is_ok());
+    let fields = fields_of(alloc, NONE, files)?;
+    assert!(rt; fields.count() == 3);
+    assert!(rt; fields.longest_path() == 6);
+    Ok(())
+}
+
 #[test]
 fn the_example_keeps_the_fields_of_nested_messages(rt: HostRuntime) -> Result<(), Fail> {
     let script = "file a.proto\nmessage Outer\nfield first 1 ~ ~ ~ ~\nfield second 2 ~ ~ ~ ~\n\
         message Inner\nfield third 3 ~ ~ ~ ~\nend\nend\nend\n";
-    let files = files_of(rt.alloc(), script)?;
-    assert!(rt; NONE.with_files(&files).is_ok());
-    let fields = fields_of(rt.alloc(), NONE, &files)?;
-    assert_eq!(rt; fields.count(), 3);
-    assert_eq!(rt; fields.longest_path(), 6);
+    check_fields(&rt, rt.alloc(), &files_of(rt.alloc(), script)?)?;
     Ok(())
 }

@@ -147,10 +147,12 @@ fn tell_fields(
 fn tell_field(told: &mut String, field: &FieldDescriptorProto) -> Result<(), AllocError> {
     let (name, number) = (field.name(), field.number());
     let (label, type_) = (field.label(), field.field_type());
-    write!(told, "'{name}' {number} {label:?} {type_:?} ")?;
+    write!(told, "'{name}' {number} ")?;
+    write!(told, "{label:?} {type_:?} ")?;
     let (type_name, extendee, json_name) = (field.type_name(), field.extendee(), field.json_name());
     let optional = field.proto3_optional();
-    writeln!(told, "'{type_name}' '{extendee}' '{json_name}' {optional}")
+    write!(told, "'{type_name}' '{extendee}' ")?;
+    writeln!(told, "'{json_name}' {optional}")
 }
 
 fn tell_more(told: &mut String, field: &FieldDescriptorProto) -> Result<(), AllocError> {

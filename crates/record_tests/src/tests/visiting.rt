@@ -150,6 +150,14 @@ impl Visitor for Limited {
     }
 }
 
+/// A visitor that takes as many declarations as are left.
+fn boxed(alloc: Global, left: &Rc<Cell<u32>>) -> Result<Box<dyn Visitor>, AllocError>
+    ensures { IfOk result (λ visitor. (list : List Shown) → ready visitor list) }
+{
+    let left = left.clone()?;
+    Ok(Box::new(alloc, Limited { left })?)
+}
+
 /// Asserts that a visitor that takes some declarations leaves some, and that it refuses or not.
 fn check(
     rt: &impl Abort,
@@ -159,10 +167,8 @@ fn check(
     is_taken: bool,
 ) -> Result<(), AllocError> {
     assert!(rt; NONE.with_files(files).is_ok());
-    let mut visitor = Limited {
-        left: left.clone()?,
-    };
-    let shown = visit(alloc, NONE, files, &mut visitor);
+    let mut visitor = boxed(alloc, left)?;
+    let shown = visit(alloc, NONE, files, &mut *visitor);
     assert!(rt; shown.is_ok() == is_taken);
     Ok(())
 }
@@ -185,6 +191,12 @@ fn check_no_visitors(rt: &impl Abort, alloc: Global, files: &[FileDescriptorProt
     assert!(rt; visit_each(alloc, NONE, files, &mut visitors).is_ok());
 }
 
+fn boxed_lister(alloc: Global) -> Result<Box<dyn Visitor>, AllocError>
+    ensures { IfOk result (λ visitor. (list : List Shown) → ready visitor list) }
+{
+    Ok(Box::new(alloc, Lister::new(alloc))?)
+}
+
 fn show_listers(
     rt: &impl Abort,
     alloc: Global,
@@ -192,8 +204,8 @@ fn show_listers(
 ) -> Result<(), AllocError> {
     assert!(rt; NONE.with_files(files).is_ok());
     let mut visitors: Vec<Box<dyn Visitor>> = Vec::new(alloc);
-    visitors.push(Box::new(alloc, Lister::new(alloc))?)?;
-    visitors.push(Box::new(alloc, Lister::new(alloc))?)?;
+    visitors.push(boxed_lister(alloc)?)?;
+    visitors.push(boxed_lister(alloc)?)?;
     visit_each(alloc, NONE, files, &mut visitors)
 }
 
@@ -219,13 +231,6 @@ fn show_limited(
     visitors.push(boxed(alloc, second)?)?;
     visitors.push(boxed(alloc, third)?)?;
     visit_each(alloc, NONE, files, &mut visitors)
-}
-
-fn boxed(alloc: Global, left: &Rc<Cell<u32>>) -> Result<Box<dyn Visitor>, AllocError>
-    ensures { IfOk result (λ visitor. (list : List Shown) → ready visitor list) }
-{
-    let left = left.clone()?;
-    Ok(Box::new(alloc, Limited { left })?)
 }
 
 #[test]

@@ -7,6 +7,7 @@ use proto_types::{
 };
 use std::alloc::{AllocError, Global};
 use std::fmt::Write;
+use std::process::Abort;
 use std::test::Fail;
 
 /// What it shows, a script without a fault, and a line for each of its statements.
@@ -179,9 +180,19 @@ fn scripts_say_their_statements(rt: HostRuntime) -> Result<(), Fail> {
         let told = statements(rt.alloc(), script)?;
         assert!(rt; told.as_str() == *wanted, "{name}\n{told}");
     }
+    Ok(())
+}
+
+fn check_default(rt: &impl Abort, alloc: Global, line: &str, text: &str) -> Result<(), AllocError> {
+    let (told, wanted) = (default_told(alloc, line)?, default_wanted(alloc, text)?);
+    assert!(rt; told == wanted, "{told}");
+    Ok(())
+}
+
+#[test]
+fn a_default_is_the_rest_of_its_line(rt: HostRuntime) -> Result<(), Fail> {
     for (line, text) in DEFAULTS {
-        let told = default_told(rt.alloc(), line)?;
-        assert!(rt; told == default_wanted(rt.alloc(), text)?, "{line}");
+        check_default(&rt, rt.alloc(), line, text)?;
     }
     Ok(())
 }
