@@ -124,30 +124,33 @@ const REFERENCES: &[(u32, &str, &str, &str)] = &[
         1,
         "p",
         ".p.M",
-        "of the first file p.M: b.proto: name 'p.M' is not defined",
+        "not imported p.M 0: b.proto: name 'p.M' is not defined",
     ),
     (
         0,
         "p",
         "p.M",
-        "not found : b.proto: name 'p.M' is not defined",
+        "not found: b.proto: name 'p.M' is not defined",
     ),
-    (
-        0,
-        "p",
-        ".q",
-        "not found : b.proto: name '.q' is not defined",
-    ),
+    (0, "p", ".q", "not found: b.proto: name '.q' is not defined"),
 ];
 
-/// What a reference means, and the name that means it.
-fn meaning<'a>(resolved: &'a ResolveNameResult) -> (&'static str, &'a str) {
+/// What a reference means.
+fn meaning(alloc: Global, resolved: &ResolveNameResult) -> Result<String, AllocError> {
     match resolved {
-        ResolveNameResult::Found { name, .. } => ("found", name.as_str()),
-        ResolveNameResult::InvalidType { name, .. } => ("invalid", name.as_str()),
-        ResolveNameResult::NotImported { name, file: 0 } => ("of the first file", name.as_str()),
-        ResolveNameResult::NotImported { name, .. } => ("of another file", name.as_str()),
-        ResolveNameResult::NotFound => ("not found", ""),
+        ResolveNameResult::Found { name, .. } => {
+            let name = name.as_str();
+            format!(in alloc; "found {name}")
+        }
+        ResolveNameResult::InvalidType { name, .. } => {
+            let name = name.as_str();
+            format!(in alloc; "invalid {name}")
+        }
+        ResolveNameResult::NotImported { name, file } => {
+            let name = name.as_str();
+            format!(in alloc; "not imported {name} {file}")
+        }
+        ResolveNameResult::NotFound => String::from_str(alloc, "not found"),
     }
 }
 
@@ -183,10 +186,12 @@ fn check_reference(
         name,
         ResolveNameFilter::FieldType,
     )?;
-    let (word, full_name) = meaning(&resolved);
-    let fault = fault_words(alloc, &resolved, name, linked)?;
-    let told = format!(in alloc; "{word} {full_name}: {fault}")?;
-    assert!(rt; resolved.is_found() == (word == "found"), "{told}");
+    let (meaning, fault) = (
+        meaning(alloc, &resolved)?,
+        fault_words(alloc, &resolved, name, linked)?,
+    );
+    assert!(rt; resolved.is_found() == (fault.as_str() == "none"), "{name}");
+    let told = format!(in alloc; "{meaning}: {fault}")?;
     assert!(rt; told.as_str() == wanted, "{told}");
     Ok(())
 }

@@ -191,12 +191,6 @@ fn check_no_visitors(rt: &impl Abort, alloc: Global, files: &[FileDescriptorProt
     assert!(rt; visit_each(alloc, NONE, files, &mut visitors).is_ok());
 }
 
-fn boxed_lister(alloc: Global) -> Result<Box<dyn Visitor>, AllocError>
-    ensures { IfOk result (λ visitor. (list : List Shown) → ready visitor list) }
-{
-    Ok(Box::new(alloc, Lister::new(alloc))?)
-}
-
 fn show_listers(
     rt: &impl Abort,
     alloc: Global,
@@ -204,8 +198,8 @@ fn show_listers(
 ) -> Result<(), AllocError> {
     assert!(rt; NONE.with_files(files).is_ok());
     let mut visitors: Vec<Box<dyn Visitor>> = Vec::new(alloc);
-    visitors.push(boxed_lister(alloc)?)?;
-    visitors.push(boxed_lister(alloc)?)?;
+    visitors.push(Box::new(alloc, Lister::new(alloc))?)?;
+    visitors.push(Box::new(alloc, Lister::new(alloc))?)?;
     visit_each(alloc, NONE, files, &mut visitors)
 }
 
