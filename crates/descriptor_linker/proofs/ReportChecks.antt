@@ -63,7 +63,7 @@ unfolding scripts
 nothing_to_walk = refl
 
 pub walk_over_two_files : report (script (codes "file a.proto\npackage p\nenum E\nvalue V 0\nend\nend\nfile b.proto\nmessage M\nmessage N\nend\nend\nend\nlink\nwalk\n"))
-    ≡ codes "ok 2 2 0 0 0\nwalk 6\nfile 0 a.proto []\nenum 0 p.E [5, 0]\nvalue 0 p.V [5, 0, 2, 0]\nfile 1 b.proto []\nmessage 0 M [4, 0]\nmessage 1 M.N [4, 0, 3, 0]\n"
+    ≡ codes "ok 2 2 1 0 0\nwalk 6\nfile 0 a.proto []\nenum 0 p.E [5, 0]\nvalue 0 p.V [5, 0, 2, 0]\nfile 1 b.proto []\nmessage 0 M [4, 0]\nmessage 1 M.N [4, 0, 3, 0]\n"
 unfolding scripts
 walk_over_two_files = refl
 

@@ -15,11 +15,12 @@ pub use devices::{
 pub use ending::Ending;
 pub use link_script::{Block, Keyword, Open, Script, ScriptFault, Statement, read_script};
 pub use plain_values::{Items, Text};
+pub use pool_faults::DescriptorErrorKind;
 pub use pool_parts::DescriptorError;
 pub use pool_types::{
-    Cardinality, Definition, DefinitionKind, DescriptorErrorKind, FieldDescriptorInner,
-    FileDescriptor, FileDescriptorInner, Identity, KindIndex, Label, MessageDescriptor,
-    MessageDescriptorInner,
+    Cardinality, Definition, DefinitionKind, FieldDescriptorInner, FileDescriptor,
+    FileDescriptorInner, Identity, KindIndex, Label, MessageDescriptor, MessageDescriptorInner,
+    OneofDescriptorInner,
 };
 pub use proto_files::{DescriptorProto, FileDescriptorProto};
 pub use proto_records::{CountKind, Counts};

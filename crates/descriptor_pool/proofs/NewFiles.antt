@@ -1,5 +1,5 @@
 -- What a batch does to a pool goes by its new files alone.
-use Rattle.std.proofs.Common.{◌≡◌, ◌<◌, ◌^◌, Bool, true, false, not, ◌||◌, cond, List, [], ◌∷◌, ◌++◌, length, map, refl, ap, subst, sym, ◌∙◌, arith, append-nil}
+use Rattle.std.proofs.Common.{◌≡◌, Bool, true, false, not, ◌||◌, cond, List, [], ◌∷◌, ◌++◌, map, refl, ap, subst, sym, ◌∙◌, arith, append-nil}
 use Rattle.std.proofs.lemmas.Bool.Decides.{nat_tests}
 use Rattle.std.specs.List.{list_any, filter}
 use Rattle.std.specs.Result.{IsOk}
@@ -9,8 +9,9 @@ use Rattle.proto_files.specs.declared.file.FileDescriptorProto.{FileDescriptorPr
 use Rattle.pool_types.specs.Contents.{Contents, files_of}
 use Rattle.proto_records.specs.Counts.{no_counts, counts_in}
 use Rattle.proto_records.specs.Fits.{counts_with}
+use Rattle.proto_records.specs.Walking.{WithinLimits}
+use Rattle.proto_records.specs.declared.counts.Counts.{Counts}
 use Rattle.proto_records.specs.Declarations.{declarations}
-use Rattle.descriptor_pool.specs.ReadDeclarations.{read_declarations}
 use Rattle.proto_types.specs.Readers.{text_of}
 use Rattle.pool_parts.specs.Entries.{names}
 use Rattle.descriptor_pool.specs.declared.error.BuildError.{BuildError}
@@ -19,9 +20,8 @@ use Rattle.descriptor_pool.specs.Entered.{entries}
 use Rattle.descriptor_pool.specs.FirstPass.{first_pass}
 use Rattle.descriptor_pool.specs.Outcome.{Outcome, IsLinked}
 use Rattle.descriptor_pool.specs.Passes.{TellsFaults}
-use Rattle.descriptor_pool.specs.Pool.{Batch, Fits, has_file, new_files, faults, known_names, first_of_both, with_items}
-use Rattle.descriptor_pool.specs.SecondPass.{second_pass}
-use Rattle.descriptor_pool.specs.Setting.{setting}
+use Rattle.descriptor_pool.specs.Pool.{Batch, Fits, has_file, new_files, faults, known_names, first_of_both, setting, with_items}
+use Rattle.link_rules.specs.Broken.{second_pass}
 use Rattle.std.specs.declared.result.Result.TheVariants.{Err}
 
 any-raw : (name : List _) (files : List FileDescriptorInner)
@@ -55,17 +55,17 @@ module _ (p : Contents) (a b : Batch) (same : new_files p a ≡ new_files p b) w
   same_fits fits = let P : Batch → Type 0 = λ new. IsOk (counts_with (counts_in p) new) in subst P same fits
 
   pub same_faults : faults p a ≡ faults p b
-  same_faults = λ i. first_of_both (first_pass (files_of p ++ same i) (known_names p) (read_declarations (counts_in p) (same i)))
-      (second_pass (setting (files_of p ++ same i)) (read_declarations (counts_in p) (same i)))
+  same_faults = λ i. first_of_both (first_pass (files_of p ++ same i) (known_names p) (declarations (counts_in p) (same i)))
+      (second_pass (setting (files_of p ++ same i)) (declarations (counts_in p) (same i)))
 
   pub same_linked : (q : Contents) → IsLinked p a q → IsLinked p b q
   same_linked q linked = record {
     fits = same_fits linked.fits;
     accepted = (
-      let P : Batch → Type 0 = λ new. first_pass (files_of p ++ new) (known_names p) (read_declarations (counts_in p) new) ≡ [] in subst P same linked.accepted.0,
-      let Q : Batch → Type 0 = λ new. second_pass (setting (files_of p ++ new)) (read_declarations (counts_in p) new) ≡ [] in subst Q same linked.accepted.1,
+      let P : Batch → Type 0 = λ new. first_pass (files_of p ++ new) (known_names p) (declarations (counts_in p) new) ≡ [] in subst P same linked.accepted.0,
+      let Q : Batch → Type 0 = λ new. second_pass (setting (files_of p ++ new)) (declarations (counts_in p) new) ≡ [] in subst Q same linked.accepted.1,
     );
-    is = linked.is ∙ (λ i. with_items p (setting (files_of p ++ same i)) (read_declarations (counts_in p) (same i)));
+    is = linked.is ∙ (λ i. with_items p (setting (files_of p ++ same i)) (declarations (counts_in p) (same i)));
   }
 
   -- an error that tells the faults is an outcome that leaves the pool as it was
@@ -74,20 +74,23 @@ module _ (p : Contents) (a b : Batch) (same : new_files p a ≡ new_files p b) w
   told_outcome U (Descriptor error) fits told = record { fits = same_fits fits; all = told ∙ same_faults; unchanged = refl }
   told_outcome U OutOfMemory fits told = record { fits = same_fits fits; unchanged = refl }
 
-few_fit : (p : Contents) → length p.files < 2 ^ 32 → length p.messages < 2 ^ 32 → IsOk (counts_with (counts_in p) [])
-few_fit p files messages = grind (arith, nat_tests)
+-- counts within the limits stay so where nothing comes
+few_fit : (c : Counts) → WithinLimits c → IsOk (counts_with c [])
+few_fit c within = grind (arith, nat_tests, within.files, within.messages, within.enums, within.services, within.extensions)
 
 -- a batch without new files leaves the pool as it is
-pub nothing_linked : (p : Contents) (batch : Batch) → new_files p batch ≡ [] → p.names ≡ names (known_names p)
-    → length p.files < 2 ^ 32 → length p.messages < 2 ^ 32 → IsLinked p batch p
-nothing_linked p batch none names_are files messages =
+pub nothing_linked : (p : Contents) (batch : Batch) → new_files p batch ≡ [] → p.names ≡ names (known_names p) → WithinLimits (counts_in p) → IsLinked p batch p
+nothing_linked p batch none names_are within =
     let start : IsLinked p [] p = record {
-      fits = few_fit p files messages;
+      fits = few_fit (counts_in p) within;
       accepted = (refl, refl);
       is = λ i. record {
         files = sym (append-nil p.files) i;
         messages = sym (append-nil p.messages) i;
-        names = (names_are ∙ ap (λ fs. names (entries (read_declarations no_counts fs))) (sym (append-nil (files_of p)))) i;
+        enums = sym (append-nil p.enums) i;
+        services = sym (append-nil p.services) i;
+        extensions = sym (append-nil p.extensions) i;
+        names = (names_are ∙ ap (λ fs. names (entries (declarations no_counts fs))) (sym (append-nil (files_of p)))) i;
       };
     } in
     same_linked p [] batch (sym none) p start

@@ -1,97 +1,126 @@
--- In a pool each reference names its definition.
-use Rattle.std.proofs.Common.{◌≡◌, ℕ, ◌+◌, Option, None, Some, IsSome, List, [], ◌∷◌, ◌++◌, length, refl, ap, subst, sym, ◌∙◌}
+-- Each reference of linked declarations is a dot and a name that the setting has, where the second pass finds no fault.
+use Rattle.std.proofs.Common.{◌≡◌, ℕ, ℤ, Bool, true, false, not, ◌==◌, if◌then◌else◌, Option, None, Some, is_some, IsSome, List, [], ◌∷◌, ◌++◌, map, codes, refl, subst, sym}
+use Rattle.std.proofs.lemmas.Grind.{flat_map-append}
 use Rattle.std.specs.FinMap as finite
 use Rattle.std.specs.List.{AllByRecursion, flat_map}
-use Rattle.std.specs.Option.{option_or}
-use Rattle.proto_files.specs.declared.file.FileDescriptorProto.{FileDescriptorProto}
+use Rattle.std.specs.Option.{option_map_or}
+use Rattle.proto_types.specs.declared.records.field.FieldDescriptorProto.{FieldDescriptorProto}
+use Rattle.proto_types.specs.declared.tag.field.TheConstants as field
+use Rattle.proto_types.specs.Lists.{listed, only_if}
+use Rattle.proto_types.specs.Readers.{text_of, type_of}
 use Rattle.pool_types.specs.declared.contents.definition.Definition.{Definition}
-use Rattle.pool_types.specs.declared.contents.definition.Entry.{Entry}
-use Rattle.pool_types.specs.Contents.{Contents, files_of}
-use Rattle.proto_records.specs.Counts.{no_counts, counted, counts_in}
-use Rattle.proto_records.specs.Declarations.{declarations}
+use Rattle.pool_faults.specs.declared.fault.DescriptorErrorKind.TheVariants.{MissingRequiredField}
+use Rattle.pool_types.specs.Contents.{ByText}
+use Rattle.pool_types.specs.Labels.{label_in}
+use Rattle.proto_records.specs.Changed.{changed}
+use Rattle.proto_records.specs.Protos.{Proto, of_file, of_message, of_field, of_oneof, of_service, of_method, of_enum, of_value, of_extension}
 use Rattle.proto_records.specs.Shown.{Shown}
-use Rattle.proto_records.proofs.Appended.{declarations-append}
-use Rattle.pool_parts.specs.Entries.{first_of, names}
-use Rattle.pool_parts.proofs.NamesFirst.{names_first}
-use Rattle.descriptor_pool.specs.Entered.{entries}
-use Rattle.descriptor_pool.specs.Invariant.{IsPool}
-use Rattle.descriptor_pool.specs.Pool.{Batch, Made, empty, linked_to, known_names, new_files, setting_of, faults_of_references, link}
-use Rattle.descriptor_pool.specs.ReadDeclarations.{read, read_declarations}
-use Rattle.descriptor_pool.specs.References.{Reference, references_in, AllResolved}
-use Rattle.descriptor_pool.specs.Setting.{Setting}
-use Rattle.descriptor_pool.proofs.Linking.{files_linked}
-use Rattle.descriptor_pool.proofs.Outline.{entries-append, entries_linked, linked_from}
-use Rattle.descriptor_pool.proofs.ReadWalk.{file_counts, files_read, files-append, declarations-read, read-append}
-use Rattle.descriptor_pool.proofs.References.{Names, AllNamed, named-append, follows-files, pass-read}
-use Rattle.descriptor_pool.proofs.SameNames.{first-append}
+use Rattle.pool_parts.specs.declared.filter.ResolveNameFilter.{ResolveNameFilter}
+use Rattle.pool_parts.specs.declared.filter.ResolveNameFilter.TheVariants.{FieldType}
+use Rattle.pool_parts.specs.Kinds.{is_match, simple_kind}
+use Rattle.pool_parts.specs.References.{reference_fault}
+use Rattle.pool_parts.specs.Resolution.{Resolution, found, invalid_type, not_imported, not_found, look, relative, resolution}
+use Rattle.proto_types.specs.Names.{is_dot}
+use Rattle.link_rules.specs.Broken.{Faults, number_faults, second_faults, second_pass}
+use Rattle.link_rules.specs.FieldTypes.{type_meaning, type_faults}
+use Rattle.link_rules.specs.Linked.{resolved, typed, linking}
+use Rattle.link_rules.specs.Setting.{Setting}
+use Rattle.descriptor_pool.specs.References.{Reference, reference_in, references_in}
 
-some-first : (a b : Option Definition) → IsSome a → IsSome (option_or a b)
-some-first None b has = absurd (cc)
-some-first (Some def) b has = refl
+-- what is found is a name that the names have
+abbrev IsNamed : ByText Definition → Resolution → Type 0
+IsNamed names (found name _) = IsSome (finite.get names name)
+IsNamed names _ = Unit {0}
 
--- a name that entries have is one of these and others behind them
-named-behind : (known more : List Entry) (name : List ℕ) → IsSome (finite.get (names known) name) → IsSome (finite.get (names (known ++ more)) name)
-named-behind known more name has =
-    subst IsSome (sym (names_first (known ++ more) name ∙ first-append known more name))
-    (some-first (first_of known name) (first_of more name) (subst IsSome (names_first known name) has))
+module _ (names : ByText Definition) (is_seen : ℕ → Bool) (filter : ResolveNameFilter) where
+  seen-named : (name : List ℕ) (def : Definition) (seen matches : Bool) → IsSome (finite.get names name)
+      → IsNamed names (if not seen then not_imported name def.file else (if not matches then invalid_type name def filter else found name def))
+  seen-named name def true true has = has
+  seen-named name def true false has = tt
+  seen-named name def false matches has = tt
 
-all-behind : (known more : List Entry) (rs : List Reference) → AllByRecursion (Names (names known)) rs → AllByRecursion (Names (names (known ++ more))) rs
-all-behind known more [] all = tt
-all-behind known more (r ∷ rs) all = ((all.0.0, all.0.1, named-behind known more all.0.0 all.0.2), all-behind known more rs all.1)
+  got-named : (name : List ℕ) (got : Option Definition) → finite.get names name ≡ got
+      → IsNamed names (option_map_or (λ def.
+      if not (is_seen def.file) then not_imported name def.file
+      else (if not (is_match filter def.kind) then invalid_type name def filter
+      else found name def)) got not_found)
+  got-named name None is = tt
+  got-named name (Some def) is = seen-named name def (is_seen def.file) (is_match filter def.kind) (subst IsSome (sym is) refl)
 
--- linked files enter the names that they entered before, behind others too
-same-entries : (s : Setting) (n : ℕ) (fs gs : List FileDescriptorProto)
-    → entries (read_declarations no_counts (fs ++ linked_from s n gs)) ≡ entries (read_declarations no_counts (fs ++ gs))
-same-entries s n fs gs =
-    let before = files_read 0 0 fs in
-    let behind = λ (more : List FileDescriptorProto). files_read (0 + length fs) (0 + file_counts fs) more in
-    ap entries (declarations-read no_counts (fs ++ linked_from s n gs) ∙ files-append 0 0 fs (linked_from s n gs))
-    ∙ entries-append before (behind (linked_from s n gs))
-    ∙ ap (λ es. entries before ++ es) (entries_linked s n (0 + length fs) (0 + file_counts fs) gs)
-    ∙ sym (entries-append before (behind gs))
-    ∙ ap entries (sym (declarations-read no_counts (fs ++ gs) ∙ files-append 0 0 fs gs))
+  look-named : (name : List ℕ) → IsNamed names (look (finite.get names) is_seen filter name)
+  look-named name = got-named name (finite.get names name) refl
 
--- the names of a pool are those that its files enter
-names_made : (p : Contents) → Made p → p.names ≡ names (known_names p)
-names_made p (empty is) = let P : Contents → Type 0 = λ q. q.names ≡ names (known_names q) in subst P (sym is) refl
-names_made p (linked_to {q = q} batch made accepts fits is) =
-    let s = setting_of q batch in
-    let new = new_files q batch in
-    ap (λ c. c.names) is
-    ∙ ap names (sym (same-entries s (length q.files) (files_of q) new) ∙ ap (λ fs. entries (read_declarations no_counts fs)) (sym (files_linked q s new)))
-    ∙ ap (λ c. names (known_names c)) (sym is)
+  relative-named : (scope name : List ℕ) → IsNamed names (relative (finite.get names) is_seen filter scope name)
+  relative-named [] name = look-named name
+  relative-named (c ∷ cs) name = tt
 
-module _ (q : Contents) (batch : Batch) where
-  abbrev s : Setting
-  s = setting_of q batch
+  resolution-named : (scope written : List ℕ) → IsNamed names (resolution (finite.get names) is_seen filter scope written)
+  resolution-named scope [] = relative-named scope []
+  resolution-named scope (c ∷ cs) =
+      elim (is_dot c) as (λ b. IsNamed names (if b then look (finite.get names) is_seen filter cs else relative (finite.get names) is_seen filter scope (c ∷ cs)))
+      [ true ↦ look-named cs | false ↦ relative-named scope (c ∷ cs) ]
 
-  abbrev new : List FileDescriptorProto
-  new = new_files q batch
+-- a reference is a dot and a name that these names have
+abbrev pub Names : ByText Definition → Reference → Type 0
+Names names r = (name : List ℕ) × (r.text ≡ 46 ∷ name) × IsSome (finite.get names name)
 
-  abbrev before : List Shown
-  before = declarations no_counts (files_of q)
+abbrev pub AllNamed : ByText Definition → List Shown → Type 0
+AllNamed names ds = AllByRecursion (Names names) (flat_map references_in ds)
 
-  -- what the new files are read against has the names of the pool
-  names_split : s.names ≡ names (known_names q ++ entries (read (declarations (counted no_counts before) new)))
-  names_split =
-      let more = declarations (counted no_counts before) new in
-      ap names (ap (λ ds. entries (read ds)) (declarations-append no_counts (files_of q) new) ∙ ap entries (read-append before more) ∙ entries-append (read before) (read more))
+all-append : {X : Type 0} (P : X → Type 0) (xs ys : List X) → AllByRecursion P xs → AllByRecursion P ys → AllByRecursion P (xs ++ ys)
+all-append P [] ys first second = second
+all-append P (x ∷ xs) ys first second = (first.0, all-append P xs ys first.1 second)
 
-  link-resolved : q.names ≡ names (known_names q) → AllResolved q → faults_of_references q batch ≡ [] → AllResolved (link q batch)
-  link-resolved names_are resolved none =
-      let linked = linked_from s (length q.files) new in
-      let next = counted no_counts before in
-      let earlier : AllNamed s.names before =
-      subst (λ m. AllNamed m before) (sym names_split)
-      (all-behind (known_names q) (entries (read (declarations next new))) (flat_map references_in before) (subst (λ m. AllNamed m before) names_are resolved)) in
-      let later = follows-files s (length q.files) (counts_in q) next new refl (sym (pass-read s (declarations (counts_in q) new)) ∙ none) in
-      subst (AllNamed s.names) (sym (ap (declarations no_counts) (files_linked q s new) ∙ declarations-append no_counts (files_of q) linked))
-      (named-append s.names before (declarations next linked) earlier later)
+pub named-append : (names : ByText Definition) (ds es : List Shown) → AllNamed names ds → AllNamed names es → AllNamed names (ds ++ es)
+named-append names ds es first second =
+    subst (AllByRecursion (Names names)) (sym (flat_map-append references_in ds es))
+    (all-append (Names names) (flat_map references_in ds) (flat_map references_in es) first second)
 
-resolved_made : (p : Contents) → Made p → AllResolved p
-resolved_made p (empty is) = subst AllResolved (sym is) tt
-resolved_made p (linked_to {q = q} batch made accepts fits is) =
-    subst AllResolved (sym is) (link-resolved q batch (names_made q made) (resolved_made q made) accepts.1)
+-- a reference without a fault was found
+found-resolved : (s : Setting) (path : List ℤ) (file : ℕ) (written : List ℕ) (given : Option (List ℕ)) (e : Shown) (part : List ℕ) (r : Resolution)
+    → IsNamed s.names r → listed (reference_fault s.files written file path r) ≡ [] → AllByRecursion (Names s.names) (reference_in e part (text_of (resolved r given)))
+found-resolved s path file written given e part (found name def) named none = ((name, refl, named), tt)
+found-resolved s path file written given e part (invalid_type name def filter) named none = absurd (cc)
+found-resolved s path file written given e part (not_imported name other) named none = absurd (cc)
+found-resolved s path file written given e part not_found named none = absurd (cc)
 
-pub all_resolved : (p : Contents) → IsPool p → AllResolved p
-all_resolved p pool = resolved_made p pool.made
+-- a type name without a fault is linked as one that was found
+type-resolved : (s : Setting) (d e : Shown) (f : FieldDescriptorProto) (part written : List ℕ) → text_of f.type_name ≡ written
+    → let faults : Faults = elim written [
+      | [] ↦ only_if (not (is_some (simple_kind (type_of f.type_)))) (MissingRequiredField (label_in s.files d.file (d.path ++ field.TYPE_NAME ∷ [])))
+      | _ ∷ _ ↦ listed (reference_fault s.files (text_of f.type_name) d.file (d.path ++ field.TYPE_NAME ∷ []) (type_meaning s d f))
+    ] in
+    let after : FieldDescriptorProto = elim written [ [] ↦ f | _ ∷ _ ↦ typed (type_meaning s d f) f ] in
+    faults ≡ [] → AllByRecursion (Names s.names) (reference_in e part (text_of after.type_name))
+type-resolved s d e f part [] is none = subst (λ t. AllByRecursion (Names s.names) (reference_in e part t)) (sym is) tt
+type-resolved s d e f part (c ∷ cs) is none =
+    found-resolved s _ d.file (text_of f.type_name) f.type_name e part (type_meaning s d f) (resolution-named s.names (λ n. d.file == n) FieldType d.full_name (text_of f.type_name)) none
+
+no_items : {X : Type 0} (xs ys : List X) → xs ++ ys ≡ [] → (xs ≡ []) × (ys ≡ [])
+no_items [] ys none = (refl, none)
+no_items (x ∷ xs) ys none = absurd (cc)
+
+-- a declaration without a fault has only references that are resolved, once it is linked
+one-resolved : (s : Setting) (file : ℕ) (parent : Option ℕ) (index : ℕ) (path : List ℤ) (full_name : List ℕ) (p : Proto)
+    → let d : Shown = record { file = file; parent = parent; index = index; path = path; full_name = full_name; proto = p } in
+    second_faults s d ≡ [] → AllByRecursion (Names s.names) (references_in (changed (linking s) d))
+one-resolved s file parent index path full_name (of_field f) none =
+    let d : Shown = record { file = file; parent = parent; index = index; path = path; full_name = full_name; proto = of_field f } in
+    let own = no_items (number_faults s d f) (type_faults s d f) none in
+    type-resolved s d (changed (linking s) d) f (codes "type_name") (text_of f.type_name) refl own.1
+one-resolved s file parent index path full_name (of_file f) none = tt
+one-resolved s file parent index path full_name (of_message m) none = tt
+one-resolved s file parent index path full_name (of_oneof o) none = tt
+one-resolved s file parent index path full_name (of_service v) none = tt
+one-resolved s file parent index path full_name (of_method m) none = tt
+one-resolved s file parent index path full_name (of_enum e) none = tt
+one-resolved s file parent index path full_name (of_value v) none = tt
+one-resolved s file parent index path full_name (of_extension x) none = tt
+
+-- and so have declarations
+pub linked-resolved : (s : Setting) (ds : List Shown) → second_pass s ds ≡ [] → AllNamed s.names (map (changed (linking s)) ds)
+linked-resolved s [] none = tt
+linked-resolved s (d ∷ ds) none =
+    let both = no_items (second_faults s d) (second_pass s ds) none in
+    all-append (Names s.names) (references_in (changed (linking s) d)) (flat_map references_in (map (changed (linking s)) ds))
+    (one-resolved s d.file d.parent d.index d.path d.full_name d.proto both.0) (linked-resolved s ds both.1)

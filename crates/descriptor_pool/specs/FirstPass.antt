@@ -5,18 +5,15 @@ use Rattle.std.specs.Option.{option_map}
 use Rattle.std.specs.Str.{bytes_eq}
 use Rattle.pool_types.specs.declared.contents.definition.Entry.{Entry}
 use Rattle.proto_files.specs.declared.file.FileDescriptorProto.{FileDescriptorProto}
-use Rattle.pool_types.specs.declared.fault.DescriptorErrorKind.{DescriptorErrorKind}
-use Rattle.pool_types.specs.declared.fault.DescriptorErrorKind.TheVariants as fault
+use Rattle.pool_faults.specs.declared.fault.DescriptorErrorKind.TheVariants as fault
 use Rattle.pool_types.specs.Labels.{label_in}
 use Rattle.proto_types.specs.Lists.{after_each, flat_map_after, listed, only_if}
 use Rattle.proto_types.specs.Readers.{text_of}
 use Rattle.proto_records.specs.Protos.{of_file}
 use Rattle.proto_records.specs.Shown.{Shown}
 use Rattle.pool_parts.specs.Entries.{clash}
+use Rattle.link_rules.specs.Broken.{Faults}
 use Rattle.descriptor_pool.specs.Entered.{entries_of, entries}
-
-abbrev pub Faults : Type 0
-Faults = List DescriptorErrorKind
 
 -- the names of files that are declared
 abbrev pub file_names_of : Shown → List (List ℕ)

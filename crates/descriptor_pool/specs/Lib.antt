@@ -1,12 +1,5 @@
-pub mod ReadDeclarations
 pub mod Entered
-pub mod Setting
 pub mod FirstPass
-pub mod FieldTypes
-pub mod Items
-pub mod Linked
-pub mod SecondPass
-pub mod NamesBegin
 pub mod Pool
 pub mod Passes
 pub mod Seen

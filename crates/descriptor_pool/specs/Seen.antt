@@ -1,16 +1,13 @@
 -- What the two passes hold, as their definitions have it.
 use Rattle.std.specs.Prelude.{map}
+use Rattle.pool_parts.specs.Entries.{names}
+use Rattle.link_rules.specs.Setting.{Setting}
 use Rattle.descriptor_pool.specs.declared.build.names.NameVisitor.{NameVisitor}
 use Rattle.descriptor_pool.specs.declared.build.resolve.ResolveVisitor.{ResolveVisitor}
-use Rattle.descriptor_pool.specs.declared.build.setting.Setting.{Setting as Borrowed}
 use Rattle.descriptor_pool.specs.declared.inner.DescriptorPoolInner.{DescriptorPoolInner}
-use Rattle.pool_parts.specs.Entries.{names}
 use Rattle.descriptor_pool.specs.Growing.{kept_in}
-use Rattle.descriptor_pool.specs.Passes.{NamesSeen, ReferencesSeen}
-use Rattle.descriptor_pool.specs.Setting.{Setting}
-
-abbrev pub setting_in : Borrowed → Setting
-setting_in s = record { files = map (λ f. f.raw) s.files.now; names = names s.entries.now }
+use Rattle.descriptor_pool.specs.Invariant.{contents_in}
+use Rattle.descriptor_pool.specs.Passes.{NamesSeen, ReferencesSeen, unnamed}
 
 -- what is read against the files and the names of a pool
 abbrev pub setting_with : DescriptorPoolInner → Setting
@@ -18,8 +15,7 @@ setting_with p = record { files = map (λ f. f.raw) p.files.items; names = names
 
 abbrev pub names_seen : NameVisitor → NamesSeen
 names_seen v = record {
-  files = v.pool.inner.files.items;
-  messages = v.pool.inner.messages.items;
+  pool = unnamed (contents_in v.pool.inner);
   entries = v.pool.inner.entries.items;
   file_names = v.file_names.items;
   faults = v.faults.items;
@@ -28,8 +24,7 @@ names_seen v = record {
 abbrev pub references_seen : ResolveVisitor → ReferencesSeen
 references_seen v = record {
   setting = setting_with v.pool.inner;
-  pool = kept_in v.pool;
+  pool = record (contents_in v.pool.inner) { files = (kept_in v.pool).files };
   files = v.files.items;
-  messages = v.messages.items;
   faults = v.faults.items;
 }

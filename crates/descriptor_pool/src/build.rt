@@ -11,30 +11,26 @@ ghost use Rattle.descriptor_pool.specs.Entered.{entries};
 ghost use Rattle.descriptor_pool.specs.FirstPass.{first_pass};
 ghost use Rattle.descriptor_pool.specs.Growing.{kept_in};
 ghost use Rattle.descriptor_pool.specs.Invariant.{contents_in};
-ghost use Rattle.descriptor_pool.specs.NamesBegin.{NamesBegin};
+ghost use Rattle.link_rules.specs.NamesBegin.{NamesBegin};
 ghost use Rattle.descriptor_pool.specs.Passes.{TellsFaults, named, names_progress, referred, references_progress};
 ghost use Rattle.descriptor_pool.specs.Pool.{with_items};
-ghost use Rattle.descriptor_pool.specs.ReadDeclarations.{read_declarations};
-ghost use Rattle.descriptor_pool.specs.SecondPass.{second_pass};
+ghost use Rattle.link_rules.specs.Broken.{second_pass};
 ghost use Rattle.descriptor_pool.specs.Seen.{names_seen, references_seen, setting_with};
 
-mod field;
 mod growing;
-mod linked;
 mod names;
 mod resolve;
-mod setting;
 
 use crate::error::BuildError;
 use crate::inner::DescriptorPoolInner;
 use growing::GrowingPool;
 pub use names::NameVisitor;
+use pool_faults::DescriptorErrorKind;
 use pool_parts::DescriptorError;
-use pool_types::{DescriptorErrorKind, FileDescriptorInner};
+use pool_types::FileDescriptorInner;
 use proto_files::FileDescriptorProto;
 use proto_records::{Counts, visit};
 pub use resolve::ResolveVisitor;
-pub(crate) use setting::Setting;
 use std::alloc::{AllocError, Global};
 use std::mem;
 
@@ -45,13 +41,13 @@ pub(crate) fn link(
     pool: &mut DescriptorPoolInner,
     new: &[FileDescriptorProto],
 ) -> Result<(), BuildError>
-    requires { IsOk (counts_with base new.now) }
+    requires counts { IsOk (counts_with base new.now) }
+    requires names { NamesBegin pool.old.messages.items }
     ensures ok { OnOk result (contents_in pool.new
-        ≡ with_items (contents_in pool.old) (setting_behind (contents_in pool.old) pool.old.entries.items base new.now) (read_declarations base new.now)) }
+        ≡ with_items (contents_in pool.old) (setting_behind (contents_in pool.old) pool.old.entries.items base new.now) (declarations base new.now)) }
     ensures faults { MatchResult result (λ _. faults_behind (contents_in pool.old) pool.old.entries.items base new.now ≡ []) (λ error. TellsFaults error (faults_behind (contents_in pool.old) pool.old.entries.items base new.now)) }
     ensures err { OnErr result (contents_in pool.new ≡ contents_in pool.old) }
-    ensures names { NamesBegin (contents_in pool.old).messages
-        → NamesBegin (contents_in pool.new).messages }
+    ensures names { NamesBegin pool.new.messages.items }
 {
     let before = mem::replace(pool, DescriptorPoolInner::new(alloc));
     let mut growing = GrowingPool::new(before);
@@ -64,20 +60,22 @@ pub(crate) fn link(
     linked
 }
 
-/// Links new files behind those of a pool. A refusal may leave anything behind them.
+/// Links new files behind those of a pool, to which nothing came yet. A refusal may leave anything
+/// behind them.
 fn link_behind(
     alloc: Global,
     base: Counts,
     pool: &mut GrowingPool,
     new: &[FileDescriptorProto],
 ) -> Result<(), BuildError>
-    requires { IsOk (counts_with base new.now) }
+    requires counts { IsOk (counts_with base new.now) }
+    requires whole { kept_in pool.old ≡ contents_in pool.old.inner }
+    requires names { NamesBegin pool.old.inner.messages.items }
     ensures ok { OnOk result (contents_in pool.new.inner
-        ≡ with_items (kept_in pool.old) (setting_behind (contents_in pool.old.inner) pool.old.inner.entries.items base new.now) (read_declarations base new.now)) }
+        ≡ with_items (contents_in pool.old.inner) (setting_behind (contents_in pool.old.inner) pool.old.inner.entries.items base new.now) (declarations base new.now)) }
     ensures faults { MatchResult result (λ _. faults_behind (contents_in pool.old.inner) pool.old.inner.entries.items base new.now ≡ []) (λ error. TellsFaults error (faults_behind (contents_in pool.old.inner) pool.old.inner.entries.items base new.now)) }
     ensures kept { OnErr result (kept_in pool.new ≡ kept_in pool.old) }
-    ensures names { OnOk result (NamesBegin (kept_in pool.old).messages
-        → NamesBegin (contents_in pool.new.inner).messages) }
+    ensures names { OnOk result (NamesBegin pool.new.inner.messages.items) }
 {
     let mut files = unlinked_files(alloc, new)?;
     pool.inner.files.append(&mut files)?;
@@ -112,9 +110,9 @@ fn enter_names(
 ) -> Result<(), BuildError>
     requires { IsOk (counts_with base new.now) }
     ensures entered { OnOk result (contents_in pool.new.inner
-        ≡ record (contents_in pool.old.inner) { names = names (pool.old.inner.entries.items ++ entries (read_declarations base new.now)) }) }
-    ensures faults { MatchResult result (λ _. first_pass (map (λ f. f.raw) pool.old.inner.files.items) pool.old.inner.entries.items (read_declarations base new.now) ≡ [])
-        (λ error. TellsFaults error (first_pass (map (λ f. f.raw) pool.old.inner.files.items) pool.old.inner.entries.items (read_declarations base new.now))) }
+        ≡ record (contents_in pool.old.inner) { names = names (pool.old.inner.entries.items ++ entries (declarations base new.now)) }) }
+    ensures faults { MatchResult result (λ _. first_pass (map (λ f. f.raw) pool.old.inner.files.items) pool.old.inner.entries.items (declarations base new.now) ≡ [])
+        (λ error. TellsFaults error (first_pass (map (λ f. f.raw) pool.old.inner.files.items) pool.old.inner.entries.items (declarations base new.now))) }
     ensures kept { kept_in pool.new ≡ kept_in pool.old }
 {
     let mut visitor = NameVisitor {
@@ -141,7 +139,7 @@ fn show_names(
     visitor: &mut NameVisitor,
 ) -> Result<(), AllocError>
     requires { IsOk (counts_with base new.now) }
-    ensures ok { OnOk result (names_progress (names_seen visitor.new) ≡ names_progress (fold named (names_seen visitor.old) (read_declarations base new.now))) }
+    ensures ok { OnOk result (names_progress (names_seen visitor.new) ≡ names_progress (fold named (names_seen visitor.old) (declarations base new.now))) }
     ensures kept { kept_in visitor.new.pool ≡ kept_in visitor.old.pool }
 {
     visit(alloc, base, new, visitor)
@@ -155,32 +153,30 @@ fn make_items(
     pool: &mut GrowingPool,
     new: &[FileDescriptorProto],
 ) -> Result<(), BuildError>
-    requires { IsOk (counts_with base new.now) }
-    ensures made { OnOk result (contents_in pool.new.inner ≡ with_items (kept_in pool.old) (setting_with pool.old.inner) (read_declarations base new.now)) }
-    ensures faults { MatchResult result (λ _. second_pass (setting_with pool.old.inner) (read_declarations base new.now) ≡ [])
-        (λ error. TellsFaults error (second_pass (setting_with pool.old.inner) (read_declarations base new.now))) }
+    requires counts { IsOk (counts_with base new.now) }
+    requires names { NamesBegin pool.old.inner.messages.items }
+    ensures made { OnOk result (contents_in pool.new.inner ≡ with_items (record (contents_in pool.old.inner) { files = (kept_in pool.old).files }) (setting_with pool.old.inner) (declarations base new.now)) }
+    ensures faults { MatchResult result (λ _. second_pass (setting_with pool.old.inner) (declarations base new.now) ≡ [])
+        (λ error. TellsFaults error (second_pass (setting_with pool.old.inner) (declarations base new.now))) }
     ensures kept { OnErr result (kept_in pool.new ≡ kept_in pool.old) }
-    ensures names { OnOk result (NamesBegin (kept_in pool.old).messages
-        → NamesBegin (contents_in pool.new.inner).messages) }
+    ensures names { OnOk result (NamesBegin pool.new.inner.messages.items) }
 {
     let mut visitor = ResolveVisitor {
         alloc,
         pool: mem::replace(pool, GrowingPool::new(DescriptorPoolInner::new(alloc))),
         files: Vec::new(alloc),
-        messages: Vec::new(alloc),
         faults: Vec::new(alloc),
     };
     let shown = show_references(alloc, base, new, &mut visitor);
     let ResolveVisitor {
         pool: read,
         files,
-        messages,
         faults,
         ..
     } = visitor;
     *pool = read;
     verdict(shown, faults)?;
-    pool.put_items(files, messages)?;
+    pool.put_files(files)?;
     Ok(())
 }
 
@@ -192,7 +188,7 @@ fn show_references(
 ) -> Result<(), AllocError>
     requires { IsOk (counts_with base new.now) }
     ensures ok { OnOk result (references_progress (references_seen visitor.new)
-        ≡ references_progress (fold referred (references_seen visitor.old) (read_declarations base new.now))) }
+        ≡ references_progress (fold referred (references_seen visitor.old) (declarations base new.now))) }
     ensures kept { kept_in visitor.new.pool ≡ kept_in visitor.old.pool }
 {
     visit(alloc, base, new, visitor)

@@ -1,18 +1,25 @@
 ghost use Rattle.std.specs.Prelude.{◌≡◌};
 ghost use Rattle.pool_types.specs.Contents.{no_contents};
+ghost use Rattle.link_rules.specs.SettingCode.{setting_in};
 ghost use Rattle.descriptor_pool.specs.Invariant.{contents_in};
-ghost use Rattle.descriptor_pool.specs.Seen.{setting_in, setting_with};
+ghost use Rattle.descriptor_pool.specs.Seen.{setting_with};
 
-use crate::build::Setting;
-use pool_types::{Entry, FileDescriptorInner, MessageDescriptorInner};
+use link_rules::Setting;
+use pool_types::{
+    Entry, EnumDescriptorInner, ExtensionDescriptorInner, FileDescriptorInner,
+    MessageDescriptorInner, ServiceDescriptorInner,
+};
 use std::alloc::Global;
 
-/// What a pool holds: files and messages in the order of their indexes, and the names that these
-/// enter.
+/// What a pool holds: the items of each kind in the order of their indexes, and the names that the
+/// files enter.
 #[derive(Drop)]
 pub(crate) struct DescriptorPoolInner {
     pub(crate) files: Vec<FileDescriptorInner>,
     pub(crate) messages: Vec<MessageDescriptorInner>,
+    pub(crate) enums: Vec<EnumDescriptorInner>,
+    pub(crate) services: Vec<ServiceDescriptorInner>,
+    pub(crate) extensions: Vec<ExtensionDescriptorInner>,
     pub(crate) entries: Vec<Entry>,
 }
 
@@ -24,6 +31,9 @@ impl DescriptorPoolInner {
         DescriptorPoolInner {
             files: Vec::new(alloc),
             messages: Vec::new(alloc),
+            enums: Vec::new(alloc),
+            services: Vec::new(alloc),
+            extensions: Vec::new(alloc),
             entries: Vec::new(alloc),
         }
     }

@@ -8,10 +8,9 @@ ghost use Rattle.descriptor_pool.specs.LookUps.{without_dot};
 use crate::build::link;
 use crate::error::BuildError;
 use crate::inner::DescriptorPoolInner;
+use pool_kinds::{FileDescriptor, MessageDescriptor};
 use pool_parts::first_definition;
-use pool_types::{
-    Definition, FileDescriptor, FileDescriptorInner, MessageDescriptor, MessageDescriptorInner,
-};
+use pool_types::{Definition, FileDescriptorInner, MessageDescriptorInner};
 use proto_files::FileDescriptorProto;
 use proto_records::Counts;
 use std::alloc::{AllocError, Global};
@@ -41,9 +40,10 @@ impl Model for DescriptorPool {
 
 impl DescriptorPool {
     ghost use Rattle.pool_types.specs.Contents.{no_contents, files_of};
-    ghost use Rattle.proto_records.specs.Counts.{counts_in};
+    ghost use Rattle.proto_records.specs.Counts.{counts_in, no_counts};
+    ghost use Rattle.proto_records.specs.Fits.{counts_with};
     ghost use Rattle.descriptor_pool.specs.LookUps.{definition_named};
-    ghost use Rattle.descriptor_pool.specs.NamesBegin.{MessageNamesBegin};
+    ghost use Rattle.link_rules.specs.NamesBegin.{MessageNamesBegin};
     ghost use Rattle.descriptor_pool.specs.Outcome.{Outcome};
     ghost use Rattle.descriptor_pool.specs.Pool.{new_files};
     ghost use Rattle.descriptor_pool.specs.References.{AllResolved};
@@ -81,28 +81,31 @@ impl DescriptorPool {
         self.inner.messages.get(message.index() as usize)
     }
 
-    /// How many files and messages the pool has.
+    /// How many the pool has of each kind that has an index.
     pub fn counts(&self) -> Counts
         ensures { result ≡ counts_in self.now }
     {
+        let inner = &self.inner;
         Counts {
-            files: self.inner.files.len() as u32,
-            messages: self.inner.messages.len() as u32,
-            enums: 0,
-            services: 0,
-            extensions: 0,
+            files: inner.files.len() as u32,
+            messages: inner.messages.len() as u32,
+            enums: inner.enums.len() as u32,
+            services: inner.services.len() as u32,
+            extensions: inner.extensions.len() as u32,
         }
     }
 
     /// The linked records of the pool's files, in the order of linking. In them each reference that
-    /// is resolved is a dot and the full name of its definition, which the pool has.
+    /// is resolved is a dot and the full name of its definition, which the pool has. What they declare fits into a pool, as
+    /// `Counts::of` tells.
     ///
     /// # Errors
     /// `AllocError` where memory was refused.
-    #[tactic(auto, using(crate::proofs::Resolved::all_resolved))]
+    #[tactic(auto, using(crate::proofs::Sound::all_resolved, crate::proofs::Sound::fits_again))]
     pub fn linked_files(&self) -> Result<Vec<FileDescriptorProto>, AllocError>
         ensures files { IfOk result (λ files. files.items ≡ files_of self.now) }
         ensures resolved { AllResolved self.now }
+        ensures fit { IsOk (counts_with no_counts (files_of self.now)) }
     {
         let mut files = Vec::new(self.alloc);
         for file in &self.inner.files {

@@ -2,8 +2,8 @@
 use Rattle.std.specs.Prelude.{ℕ, ℤ, List}
 use Rattle.std.specs.declared.option.Option.{Option}
 use Rattle.std.specs.declared.option.Option.TheVariants.{None, Some}
-use Rattle.pool_types.specs.declared.fault.DescriptorErrorKind.{DescriptorErrorKind}
-use Rattle.pool_types.specs.declared.fault.DescriptorErrorKind.TheVariants.{NameNotFound, InvalidType}
+use Rattle.pool_faults.specs.declared.fault.DescriptorErrorKind.{DescriptorErrorKind}
+use Rattle.pool_faults.specs.declared.fault.DescriptorErrorKind.TheVariants.{NameNotFound, InvalidType}
 use Rattle.proto_files.specs.declared.file.FileDescriptorProto.{FileDescriptorProto}
 use Rattle.pool_parts.specs.Kinds.{filter_text}
 use Rattle.pool_types.specs.Labels.{label_in}

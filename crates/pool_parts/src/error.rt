@@ -1,9 +1,11 @@
 ghost use Rattle.std.specs.Prelude.{◌≡◌, ◌≢◌, []};
-ghost use Rattle.std.specs.Option.{option_copied, option_map};
-ghost use Rattle.pool_types.specs.Texts.{first_label};
+ghost use Rattle.std.specs.Option.{option_copied, option_map, option_and_then};
+ghost use Rattle.pool_types.specs.Labels.{label_line, label_column};
+ghost use Rattle.pool_faults.specs.Texts.{first_label};
 
 use plain_values::Items;
-use pool_types::{DescriptorErrorKind, Label, Labelled};
+use pool_faults::{DescriptorErrorKind, Labelled};
+use pool_types::Label;
 use std::error::Error;
 use std::fmt;
 
@@ -42,6 +44,20 @@ impl DescriptorError {
         }
     }
 
+    /// The line at which what the first fault shows begins, from 0, or none where it isn't known.
+    pub fn line(&self) -> Option<usize>
+        ensures { result ≡ option_and_then label_line (first_label self.now.errors) }
+    {
+        self.first_label()?.line()
+    }
+
+    /// The column at which what the first fault shows begins, from 0, or none where it isn't known.
+    pub fn column(&self) -> Option<usize>
+        ensures { result ≡ option_and_then label_column (first_label self.now.errors) }
+    {
+        self.first_label()?.column()
+    }
+
     /// The path that the first fault shows, or none where it shows no label.
     pub fn path(&self) -> Option<&[i32]>
         ensures { option_copied result ≡ option_map (λ l. l.path) (first_label self.now.errors) }
@@ -61,7 +77,7 @@ impl DescriptorError {
 
 impl fmt::Display for DescriptorError {
     ghost use Rattle.std.specs.Prelude.{Some};
-    ghost use Rattle.pool_types.specs.Texts.{first_text};
+    ghost use Rattle.pool_faults.specs.Texts.{first_text};
 
     ghost output = { λ e. Some (first_text e.errors) };
 
@@ -75,7 +91,7 @@ impl fmt::Display for DescriptorError {
 
 impl fmt::Debug for DescriptorError {
     ghost use Rattle.std.specs.Prelude.{Some};
-    ghost use Rattle.pool_types.specs.Texts.{first_labelled_text};
+    ghost use Rattle.pool_faults.specs.Texts.{first_labelled_text};
 
     ghost debug_output = { λ e. Some (first_labelled_text e.errors) };
 

@@ -20,6 +20,7 @@ pub fn label_at(
         None => Ok(Label {
             file: Text::new(alloc),
             path: Items::from_slice(alloc, path)?,
+            span: None,
         }),
     }
 }

@@ -1,5 +1,6 @@
 //! The parts of a pool: what a name means, which numbers a field may have, and a batch's faults.
-//! It hands on the data of a pool's contents, which stand in `pool_types`.
+//! It hands on the data of a pool's contents, which stand in `pool_types`, and the faults of
+//! `pool_faults`.
 #![tactic(auto)]
 
 mod error;
@@ -16,9 +17,13 @@ pub use files::label_at;
 pub use filter::ResolveNameFilter;
 pub use kinds::{cardinality_of, named_kind, simple_kind};
 pub use names::first_definition;
+pub use pool_faults::DescriptorErrorKind;
 pub use pool_types::{
-    Cardinality, Definition, DefinitionKind, DescriptorErrorKind, Entry, FieldDescriptorInner,
-    FileDescriptor, FileDescriptorInner, Identity, KindIndex, Label, MessageDescriptor,
-    MessageDescriptorInner,
+    Cardinality, DefaultValue, Definition, DefinitionKind, Entry, EnumDescriptor,
+    EnumDescriptorInner, EnumValueDescriptor, EnumValueDescriptorInner, ExtensionDescriptor,
+    ExtensionDescriptorInner, FieldDescriptor, FieldDescriptorInner, FileDescriptor,
+    FileDescriptorInner, Identity, Kind, KindIndex, Label, MessageDescriptor,
+    MessageDescriptorInner, MethodDescriptor, MethodDescriptorInner, OneofDescriptor,
+    OneofDescriptorInner, ServiceDescriptor, ServiceDescriptorInner, Syntax,
 };
 pub use resolve::{ResolveNameResult, resolve_name};

@@ -7,7 +7,8 @@ use crate::files::label_at;
 use crate::filter::ResolveNameFilter;
 use crate::names::first_definition;
 use plain_values::Text;
-use pool_types::{Definition, DescriptorErrorKind, Entry, FileDescriptorInner};
+use pool_faults::DescriptorErrorKind;
+use pool_types::{Definition, Entry, FileDescriptorInner};
 use std::alloc::{AllocError, Global};
 
 /// What a reference means.

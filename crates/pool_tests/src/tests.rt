@@ -5,3 +5,4 @@ mod errors;
 mod items;
 mod kinds;
 mod meanings;
+mod names;

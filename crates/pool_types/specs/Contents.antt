@@ -4,8 +4,11 @@ use Rattle.std.specs.Ordering.{nat_cmp}
 use Rattle.std.specs.Cmp.Lexicographic.{slice_cmp}
 use Rattle.std.specs.FinMap as map
 use Rattle.pool_types.specs.declared.contents.definition.Definition.{Definition}
+use Rattle.pool_types.specs.declared.contents.enumeration.EnumDescriptorInner.{EnumDescriptorInner}
+use Rattle.pool_types.specs.declared.contents.extension.ExtensionDescriptorInner.{ExtensionDescriptorInner}
 use Rattle.pool_types.specs.declared.contents.file.FileDescriptorInner.{FileDescriptorInner}
 use Rattle.pool_types.specs.declared.contents.message.MessageDescriptorInner.{MessageDescriptorInner}
+use Rattle.pool_types.specs.declared.contents.service.ServiceDescriptorInner.{ServiceDescriptorInner}
 use Rattle.proto_files.specs.declared.file.FileDescriptorProto.{FileDescriptorProto}
 
 -- finite maps from texts
@@ -15,10 +18,13 @@ ByText X = map.FinMap (slice_cmp nat_cmp) X
 pub record Contents : Type 0 where
   pub files : List FileDescriptorInner
   pub messages : List MessageDescriptorInner
+  pub enums : List EnumDescriptorInner
+  pub services : List ServiceDescriptorInner
+  pub extensions : List ExtensionDescriptorInner
   pub names : ByText Definition
 
 abbrev pub no_contents : Contents
-no_contents = record { files = []; messages = []; names = map.empty }
+no_contents = record { files = []; messages = []; enums = []; services = []; extensions = []; names = map.empty }
 
 -- the linked records of a pool's files
 abbrev pub files_of : Contents → List FileDescriptorProto

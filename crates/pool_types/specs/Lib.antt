@@ -1,5 +1,5 @@
+pub mod DefinitionKinds
 pub mod Contents
 pub mod ContentsCode
 pub mod Labels
-pub mod Texts
 pub mod Equality

@@ -1,21 +1,14 @@
-ghost use Rattle.pool_types.specs.Equality.{definition_kind-exact, cardinality-exact, kind-exact, identity-exact, definition-exact, entry-exact, field_inner-exact, file_inner-exact, message_inner-exact, label-exact, fault-exact};
+ghost use Rattle.pool_types.specs.Equality.{definition_kind-exact, identity-exact, definition-exact, entry-exact, field_inner-exact, file_inner-exact, message_inner-exact, oneof_inner-exact, enum_inner-exact, value_inner-exact, extension_inner-exact, service_inner-exact, method_inner-exact, label-exact};
 
 use crate::{
-    Cardinality, Definition, DefinitionKind, DescriptorErrorKind, Entry, FieldDescriptorInner,
-    FileDescriptorInner, Identity, KindIndex, Label, MessageDescriptorInner,
+    Definition, DefinitionKind, Entry, EnumDescriptorInner, EnumValueDescriptorInner,
+    ExtensionDescriptorInner, FieldDescriptorInner, FileDescriptorInner, Identity, Label,
+    MessageDescriptorInner, MethodDescriptorInner, OneofDescriptorInner, ServiceDescriptorInner,
 };
 use plain_values::ExactEq;
 
 impl ExactEq for DefinitionKind {
     ghost exact = { definition_kind-exact };
-}
-
-impl ExactEq for Cardinality {
-    ghost exact = { cardinality-exact };
-}
-
-impl ExactEq for KindIndex {
-    ghost exact = { kind-exact };
 }
 
 impl ExactEq for Identity {
@@ -42,10 +35,30 @@ impl ExactEq for MessageDescriptorInner {
     ghost exact = { message_inner-exact };
 }
 
-impl ExactEq for Label {
-    ghost exact = { label-exact };
+impl ExactEq for OneofDescriptorInner {
+    ghost exact = { oneof_inner-exact };
 }
 
-impl ExactEq for DescriptorErrorKind {
-    ghost exact = { fault-exact };
+impl ExactEq for EnumDescriptorInner {
+    ghost exact = { enum_inner-exact };
+}
+
+impl ExactEq for EnumValueDescriptorInner {
+    ghost exact = { value_inner-exact };
+}
+
+impl ExactEq for ExtensionDescriptorInner {
+    ghost exact = { extension_inner-exact };
+}
+
+impl ExactEq for ServiceDescriptorInner {
+    ghost exact = { service_inner-exact };
+}
+
+impl ExactEq for MethodDescriptorInner {
+    ghost exact = { method_inner-exact };
+}
+
+impl ExactEq for Label {
+    ghost exact = { label-exact };
 }

@@ -1,18 +1,19 @@
-//! The data that linking makes of the records: contents, labels and faults.
+//! The data that linking makes of the records: contents and labels. It hands on the indexes and kinds
+//! of which they are made, which stand in `pool_kinds`.
 #![tactic(auto)]
 
 mod contents;
 mod exact;
-mod fault;
-mod indexes;
-mod kinds;
 mod label;
 
 pub use contents::{
-    Definition, DefinitionKind, Entry, FieldDescriptorInner, FileDescriptorInner, Identity,
-    MessageDescriptorInner,
+    Definition, DefinitionKind, Entry, EnumDescriptorInner, EnumValueDescriptorInner,
+    ExtensionDescriptorInner, FieldDescriptorInner, FileDescriptorInner, Identity,
+    MessageDescriptorInner, MethodDescriptorInner, OneofDescriptorInner, ServiceDescriptorInner,
 };
-pub use fault::{DescriptorErrorKind, Labelled};
-pub use indexes::{FileDescriptor, MessageDescriptor};
-pub use kinds::{Cardinality, KindIndex};
 pub use label::Label;
+pub use pool_kinds::{
+    Cardinality, DefaultValue, EnumDescriptor, EnumValueDescriptor, ExtensionDescriptor,
+    FieldDescriptor, FileDescriptor, Kind, KindIndex, MessageDescriptor, MethodDescriptor,
+    OneofDescriptor, ServiceDescriptor, Syntax,
+};

@@ -1,14 +1,14 @@
 -- What two lists of files in a row declare.
-use Rattle.std.proofs.Common.{◌≡◌, List, [], ◌∷◌, ◌++◌, refl, ap, sym, ◌∙◌, append_assoc}
+use Rattle.std.proofs.Common.{List, [], ◌∷◌, ◌++◌, refl, ap, sym, ◌∙◌, append_assoc}
 use Rattle.proto_files.specs.declared.file.FileDescriptorProto.{FileDescriptorProto}
 use Rattle.proto_records.specs.declared.counts.Counts.{Counts}
 use Rattle.proto_records.specs.Counts.{counted}
 use Rattle.proto_records.specs.Declarations.{declarations, file_walk}
+use Rattle.proto_records.specs.InTurn.{DeclareInTurn}
 use Rattle.proto_records.proofs.Counted.{counted-append}
 
 -- the files behind are numbered on from those before them
-pub declarations-append : (base : Counts) (fs gs : List FileDescriptorProto)
-    → declarations base (fs ++ gs) ≡ declarations base fs ++ declarations (counted base (declarations base fs)) gs
+pub declarations-append : (base : Counts) (fs gs : List FileDescriptorProto) → DeclareInTurn base fs gs
 declarations-append base [] gs = refl
 declarations-append base (f ∷ fs) gs =
     let first = file_walk base f in

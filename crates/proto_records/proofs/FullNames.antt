@@ -1,17 +1,21 @@
 -- The full name of each declaration ends with the name in its record.
-use Rattle.std.proofs.Common.{ℕ, List, [], ◌∷◌, ◌++◌, refl, sym, append_assoc}
-use Rattle.std.specs.List.{All}
+use Rattle.std.proofs.Common.{◌≡◌, ℕ, true, IsOk, List, [], ◌∷◌, ◌++◌, refl, sym, append_assoc}
+use Rattle.std.specs.List.{All, AllByRecursion, list_all}
 use Rattle.std.proofs.lemmas.List.Elements.{All-nil, All-append, recursion_from_All}
 use Rattle.proto_files.specs.declared.file.FileDescriptorProto.{FileDescriptorProto}
 use Rattle.proto_types.specs.Names.{join}
 use Rattle.proto_records.specs.declared.counts.Counts.{Counts}
-use Rattle.proto_records.specs.Counts.{counted}
+use Rattle.proto_records.specs.Counts.{counted, lists_fit}
+use Rattle.proto_records.specs.Fits.{counts_with}
+use Rattle.proto_records.specs.Shown.{Shown}
 use Rattle.proto_records.specs.Declarations.{declarations, file_walk}
-use Rattle.proto_records.specs.FullNames.{EndsWith, EndsWithName, EndWithNames}
+use Rattle.proto_records.specs.FullNames.{EndsWith, EndsWithName, CanBeRead}
 use Rattle.proto_records.specs.Protos.{name_of}
+use Rattle.proto_records.proofs.Listings.{first-true, second-true}
+use Rattle.proto_records.proofs.Room.{room-fits}
 use Rattle.proto_records.proofs.Walks.{file-all}
 
-join-ends : (scope name : List ℕ) → EndsWith (join scope name) name
+pub join-ends : (scope name : List ℕ) → EndsWith (join scope name) name
 join-ends [] name = ([], refl)
 join-ends (c ∷ cs) name = ((c ∷ cs) ++ 46 ∷ [], sym (append_assoc (c ∷ cs) (46 ∷ []) name))
 
@@ -24,5 +28,13 @@ all-end base (f ∷ fs) =
     base f ([], refl) tt)
     (all-end (counted base first) fs)
 
-pub declarations-end : (base : Counts) (fs : List FileDescriptorProto) → EndWithNames (declarations base fs)
-declarations-end base fs = recursion_from_All EndsWithName (declarations base fs) (all-end base fs)
+read-each : (ds : List Shown) → AllByRecursion EndsWithName ds → list_all (λ d. lists_fit d.proto) ds ≡ true → CanBeRead ds
+read-each [] ends short = tt
+read-each (d ∷ ds) ends short =
+    let rest = list_all (λ e. lists_fit e.proto) ds in
+    ((ends.0, first-true (lists_fit d.proto) rest short), read-each ds ends.1 (second-true (lists_fit d.proto) rest short))
+
+-- the declarations of files that fit can be read
+pub declarations-read : (base : Counts) (fs : List FileDescriptorProto) → IsOk (counts_with base fs) → CanBeRead (declarations base fs)
+declarations-read base fs ok =
+    let ds = declarations base fs in read-each ds (recursion_from_All EndsWithName ds (all-end base fs)) (room-fits base fs ok).short

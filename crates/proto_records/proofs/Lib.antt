@@ -14,3 +14,4 @@ pub mod Room
 pub mod InTurn
 pub mod Appended
 pub mod FullNames
+pub mod Changed

@@ -34,7 +34,7 @@ files-keep c (d ∷ ds) all =
     ∙ files-keep-one c d.proto (All-head (λ e. IsInside e.proto) d ds all)
 
 -- a file and what it declares are one file
-one-file : (base : Counts) (f : FileDescriptorProto) → (counted base (file_walk base f)).files ≡ suc base.files
+pub one-file : (base : Counts) (f : FileDescriptorProto) → (counted base (file_walk base f)).files ≡ suc base.files
 one-file base f =
     files-keep (counting base (of_file f)) (within_file base.files base f)
     (within-all (λ d. IsInside d.proto) (λ _. Unit {0}) (λ here tag position index proto inside _. inside) (λ here tag position index proto _. tt) (λ here tag position index proto _. tt) base f tt)

@@ -77,4 +77,10 @@ added_to base (Ok c) = within_limit (plus base c)
 added_to base (Err kind) = Err kind
 
 abbrev pub counts_in : Contents → Counts
-counts_in p = record { files = length p.files; messages = length p.messages; enums = 0; services = 0; extensions = 0 }
+counts_in p = record {
+  files = length p.files;
+  messages = length p.messages;
+  enums = length p.enums;
+  services = length p.services;
+  extensions = length p.extensions;
+}

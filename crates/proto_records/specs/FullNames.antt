@@ -1,6 +1,7 @@
--- How full names end.
-use Rattle.std.specs.Prelude.{◌≡◌, ℕ, List, [], ◌∷◌, ◌++◌}
+-- How full names end, and which declarations can be read.
+use Rattle.std.specs.Prelude.{◌≡◌, ℕ, true, List, [], ◌∷◌, ◌++◌}
 use Rattle.std.specs.List.{AllByRecursion}
+use Rattle.proto_records.specs.Counts.{lists_fit}
 use Rattle.proto_records.specs.Protos.{name_of}
 use Rattle.proto_records.specs.Shown.{Shown}
 
@@ -12,11 +13,11 @@ EndsWith text ending = (front : List ℕ) × (text ≡ front ++ ending)
 abbrev pub EndsWithName : Shown → Type 0
 EndsWithName d = EndsWith d.full_name (name_of d.proto)
 
--- so do those of declarations
-abbrev pub EndWithNames : List Shown → Type 0
-EndWithNames ds = AllByRecursion EndsWithName ds
+-- so do those of declarations, and their lists are short enough
+abbrev pub CanBeRead : List Shown → Type 0
+CanBeRead ds = AllByRecursion (λ d. EndsWithName d × (lists_fit d.proto ≡ true)) ds
 
 -- law: and of a front of them
-pub front-ends : (ds es : List Shown) → EndWithNames (ds ++ es) → EndWithNames ds
-front-ends [] es all = tt
-front-ends (d ∷ ds) es all = (all.0, front-ends ds es all.1)
+pub front-read : (ds es : List Shown) → CanBeRead (ds ++ es) → CanBeRead ds
+front-read [] es all = tt
+front-read (d ∷ ds) es all = (all.0, front-read ds es all.1)

@@ -6,6 +6,8 @@ pub mod FullNames
 pub mod Fits
 pub mod Leads
 pub mod Indexes
+pub mod Changed
+pub mod InTurn
 pub mod Records
 pub mod Totals
 pub mod Walking

@@ -1,7 +1,7 @@
 -- What a visitor has made of the declarations that it was shown.
 use Rattle.std.specs.Prelude.{◌≡◌, ◌↔◌, ℕ, zero, suc, List, [], ◌∷◌, ◌++◌}
 use Rattle.proto_records.specs.declared.declaration.Declaration.{Declaration}
-use Rattle.pool_types.specs.declared.fault.DescriptorErrorKind.{DescriptorErrorKind}
+use Rattle.pool_faults.specs.declared.fault.DescriptorErrorKind.{DescriptorErrorKind}
 use Rattle.pool_types.specs.Contents.{Contents}
 use Rattle.proto_records.specs.Shown.{Shown}
 

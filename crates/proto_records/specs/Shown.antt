@@ -1,5 +1,7 @@
 -- A declaration with its record: what a file declares, where, and under which name.
-use Rattle.std.specs.Prelude.{ℕ, suc, ℤ, pos, List, [], ◌∷◌, ◌++◌}
+use Rattle.std.specs.Prelude.{ℕ, suc, ◌-◌, ℤ, pos, List, [], ◌∷◌, ◌++◌, length, take}
+use Rattle.std.specs.List.{filter_map}
+use Rattle.std.specs.Option.{option_map}
 use Rattle.std.specs.declared.option.Option.{Option}
 use Rattle.std.specs.declared.option.Option.TheVariants.{None, Some}
 use Rattle.proto_types.specs.Names.{join}
@@ -43,6 +45,10 @@ shown here tag position index proto = record {
 abbrev pub inside : Shown → Surrounding
 inside d = record { file = d.file; path = d.path; scope = d.full_name; parent = Some d.index }
 
+-- the full name of what stands beside a declaration: another name in place of its own
+abbrev pub beside_name : Shown → List ℕ → List ℕ
+beside_name d name = take (length d.full_name - length (name_of d.proto)) d.full_name ++ name
+
 -- what stands beside its values: an enum's scope is the one around it
 abbrev pub beside : List ℕ → Shown → Surrounding
 beside scope d = record { file = d.file; path = d.path; scope = scope; parent = Some d.index }
@@ -55,6 +61,10 @@ row of here tag position index (x ∷ xs) = shown here tag position index (of x)
 -- the entries of a list, numbered by their positions
 abbrev pub parts : {X : Type 0} → (X → Proto) → Surrounding → ℤ → List X → List Shown
 parts of here tag xs = row of here tag 0 0 xs
+
+-- the declarations with records of one kind
+abbrev pub of_kind : {X : Type 0} → (Proto → Option X) → List Shown → List (Shown × X)
+of_kind pick ds = filter_map (λ d. option_map (λ x. (d, x)) (pick d.proto)) ds
 
 -- a file as it is shown to a visitor
 abbrev pub file_shown : List ℤ → ℕ → FileDescriptorProto → Shown

@@ -1,6 +1,8 @@
 //! Laws on the list of all declarations. A call does nothing: its contract is the law, and is proved of all arguments.
 ghost use Rattle.proto_records.specs.Leads.{PathsLeadIn};
 ghost use Rattle.proto_records.specs.Indexes.{IndexesCountOn};
+ghost use Rattle.proto_records.specs.Changed.{Changes, KeepNames, DeclareChanged};
+ghost use Rattle.proto_records.specs.InTurn.{DeclareInTurn};
 
 use crate::counts::Counts;
 use proto_files::FileDescriptorProto;
@@ -16,4 +18,16 @@ pub fn declared_paths(base: Counts, files: &[FileDescriptorProto])
 /// which its path ends.
 pub fn declared_indexes(base: Counts, files: &[FileDescriptorProto])
     ensures { IndexesCountOn base files.now }
+{}
+
+/// Two lists of files, one behind the other, declare what the first declares, and then what the second does, numbered on
+/// from the counts behind the first.
+pub fn declared_in_turn(base: Counts, files: &[FileDescriptorProto], more: &[FileDescriptorProto])
+    ensures { DeclareInTurn base files.now more.now }
+{}
+
+/// Where fields, extensions and methods are changed so that they keep their names, files declare what they declared, each
+/// with its record changed.
+pub fn declared_changed(base: Counts, files: &[FileDescriptorProto])
+    ensures { (c : Changes) → KeepNames c → DeclareChanged c base files.now }
 {}

@@ -17,13 +17,15 @@ pub use find::{
     find_enum_proto, find_enum_value_proto, find_field_proto, find_message_proto,
     find_method_proto, find_oneof_proto, find_service_proto,
 };
-pub use laws::{declared_indexes, declared_paths};
+pub use laws::{declared_changed, declared_in_turn, declared_indexes, declared_paths};
 pub use lister::{Lister, list_declarations};
 pub use plain_values::{Duplicate, ExactEq, Items, Text, duplicate_given, duplicates, same};
+pub use pool_faults::{DescriptorErrorKind, Labelled};
 pub use pool_types::{
-    Cardinality, Definition, DefinitionKind, DescriptorErrorKind, Entry, FieldDescriptorInner,
-    FileDescriptor, FileDescriptorInner, Identity, KindIndex, Label, Labelled, MessageDescriptor,
-    MessageDescriptorInner,
+    Cardinality, Definition, DefinitionKind, Entry, EnumDescriptorInner, EnumValueDescriptorInner,
+    ExtensionDescriptorInner, FieldDescriptorInner, FileDescriptor, FileDescriptorInner, Identity,
+    KindIndex, Label, MessageDescriptor, MessageDescriptorInner, MethodDescriptorInner,
+    OneofDescriptorInner, ServiceDescriptorInner,
 };
 pub use proto_files::{
     DescriptorProto, ExtensionRange, FileDescriptorProto, FileDescriptorSet, OneofDescriptorProto,

@@ -3,12 +3,9 @@ use Rattle.std.specs.Prelude.{ℕ, List, [], ◌∷◌, ◌++◌, length, map, c
 use Rattle.std.specs.List.{flat_map}
 use Rattle.std.specs.Fmt.{decimal}
 use Rattle.std.specs.Option.{option_map_or}
-use Rattle.std.specs.declared.result.Result.{Result}
-use Rattle.std.specs.declared.result.Result.TheVariants.{Ok, Err}
 use Rattle.proto_records.specs.declared.declaration.Declaration.{Declaration}
 use Rattle.proto_records.specs.declared.declaration.DeclarationKind.{DeclarationKind}
 use Rattle.proto_records.specs.declared.declaration.DeclarationKind.TheVariants as declared
-use Rattle.proto_records.specs.declared.counts.Counts.{Counts}
 use Rattle.proto_records.specs.declared.counts.CountKind.{CountKind}
 use Rattle.proto_records.specs.declared.counts.CountKind.TheVariants as too_many
 use Rattle.pool_types.specs.declared.contents.definition.Definition.{Definition}
@@ -16,16 +13,14 @@ use Rattle.pool_types.specs.declared.contents.definition.DefinitionKind.{Definit
 use Rattle.pool_types.specs.declared.contents.definition.DefinitionKind.TheVariants as definition
 use Rattle.pool_types.specs.Contents.{Contents, files_of}
 use Rattle.proto_records.specs.Counts.{no_counts, counts_in}
-use Rattle.proto_records.specs.Fits.{counts_with}
 use Rattle.proto_records.specs.Declarations.{declarations}
 use Rattle.pool_types.specs.Labels.{file_at}
 use Rattle.proto_records.specs.Listed.{declaration_of}
 use Rattle.proto_types.specs.Readers.{text_of}
-use Rattle.proto_records.specs.Shown.{Shown}
-use Rattle.pool_types.specs.Texts.{path_text, labelled_text}
+use Rattle.pool_faults.specs.Texts.{path_text, labelled_text}
 use Rattle.link_script.specs.declared.script.statement.ScriptFault.{ScriptFault}
 use Rattle.link_script.specs.Script.Faults.{fault_words}
-use Rattle.descriptor_pool.specs.FirstPass.{Faults}
+use Rattle.link_rules.specs.Broken.{Faults}
 use Rattle.descriptor_pool.specs.LookUps.{definition_named}
 
 -- words with a space between each two, and the line's end
@@ -103,13 +98,9 @@ declaration_line d = line (declared_word d.kind ∷ decimal d.index ∷ alone d.
 abbrev pub declaration_lines : List Declaration → List ℕ
 declaration_lines ds = line (codes "walk" ∷ decimal (length ds) ∷ []) ++ flat_map declaration_line ds
 
-abbrev walked : List Shown → Result Counts CountKind → List ℕ
-walked ds (Ok _) = declaration_lines (map declaration_of ds)
-walked ds (Err kind) = too_many_line kind
-
--- what the pool's files declare, where their counts fit
+-- what the pool's files declare
 abbrev pub walk_answer : Contents → List ℕ
-walk_answer p = walked (declarations no_counts (files_of p)) (counts_with no_counts (files_of p))
+walk_answer p = declaration_lines (map declaration_of (declarations no_counts (files_of p)))
 
 -- the last line of a report, where the script has a fault
 abbrev pub fault_line : ℕ × ScriptFault → List ℕ

@@ -8,7 +8,8 @@ ghost use Rattle.descriptor_linker.specs.Report.Answers as spec;
 
 use descriptor_pool::DescriptorPool;
 use link_script::ScriptFault;
-use pool_types::{DefinitionKind, DescriptorErrorKind, FileDescriptor, Labelled};
+use pool_faults::{DescriptorErrorKind, Labelled};
+use pool_types::{DefinitionKind, FileDescriptor};
 use proto_records::{CountKind, Counts, Declaration, DeclarationKind, list_declarations};
 use std::alloc::{AllocError, Global};
 use std::fmt;
@@ -167,7 +168,7 @@ fn tell_declarations(told: &mut String, list: &[Declaration]) -> Result<(), Allo
     Ok(())
 }
 
-/// Tells what the files of a pool declare, or what of it there is too much of.
+/// Tells what the files of a pool declare.
 pub(super) fn tell_walk(
     alloc: Global,
     told: &mut String,
@@ -183,9 +184,6 @@ pub(super) fn tell_walk(
         services: 0,
         extensions: 0,
     };
-    if let Err(kind) = base.with_files(&files) {
-        return tell_too_many(told, kind);
-    }
     tell_declarations(told, &list_declarations(alloc, base, &files)?)
 }
 

@@ -9,8 +9,9 @@ ghost use Rattle.descriptor_pool.specs.FirstPass.{clash_faults};
 
 use super::growing::GrowingPool;
 use plain_values::{Items, Text};
+use pool_faults::DescriptorErrorKind;
 use pool_parts::{first_definition, label_at};
-use pool_types::{Definition, DefinitionKind, DescriptorErrorKind, Entry, FileDescriptorInner};
+use pool_types::{Definition, DefinitionKind, Entry, FileDescriptorInner};
 use proto_files::{DescriptorProto, FileDescriptorProto, OneofDescriptorProto};
 use proto_records::Visitor;
 use proto_types::{
@@ -124,10 +125,9 @@ impl Visitor for NameVisitor {
     ghost use Rattle.std.specs.List.{fold};
     ghost use Rattle.descriptor_pool.specs.Growing.{kept_in};
     ghost use Rattle.descriptor_pool.specs.Passes.{named, names_progress};
-    ghost use Rattle.descriptor_pool.specs.ReadDeclarations.{read};
     ghost use Rattle.descriptor_pool.specs.Seen.{names_seen};
 
-    ghost after = { λ v ds. names_progress (fold named (names_seen v) (read ds)) };
+    ghost after = { λ v ds. names_progress (fold named (names_seen v) ds) };
 
     ghost ready = { λ _ _. Unit {0} };
 
@@ -171,73 +171,73 @@ impl Visitor for NameVisitor {
 
     fn visit_oneof(
         &mut self,
-        _path: &[i32],
-        _full_name: &str,
-        _file: u32,
-        _parent: u32,
+        path: &[i32],
+        full_name: &str,
+        file: u32,
+        parent: u32,
         _index: u32,
         _oneof: &OneofDescriptorProto,
     ) -> Result<(), AllocError> {
-        Ok(())
+        self.enter_own(full_name, file, path, DefinitionKind::Oneof(parent))
     }
 
     fn visit_service(
         &mut self,
-        _path: &[i32],
-        _full_name: &str,
-        _file: u32,
-        _index: u32,
+        path: &[i32],
+        full_name: &str,
+        file: u32,
+        index: u32,
         _service: &ServiceDescriptorProto,
     ) -> Result<(), AllocError> {
-        Ok(())
+        self.enter_own(full_name, file, path, DefinitionKind::Service(index))
     }
 
     fn visit_method(
         &mut self,
-        _path: &[i32],
-        _full_name: &str,
-        _file: u32,
-        _parent: u32,
+        path: &[i32],
+        full_name: &str,
+        file: u32,
+        parent: u32,
         _index: u32,
         _method: &MethodDescriptorProto,
     ) -> Result<(), AllocError> {
-        Ok(())
+        self.enter_own(full_name, file, path, DefinitionKind::Method(parent))
     }
 
     fn visit_enum(
         &mut self,
-        _path: &[i32],
-        _full_name: &str,
-        _file: u32,
+        path: &[i32],
+        full_name: &str,
+        file: u32,
         _parent: Option<u32>,
-        _index: u32,
+        index: u32,
         _enumeration: &EnumDescriptorProto,
     ) -> Result<(), AllocError> {
-        Ok(())
+        self.enter_own(full_name, file, path, DefinitionKind::Enum(index))
     }
 
     fn visit_enum_value(
         &mut self,
-        _path: &[i32],
-        _full_name: &str,
-        _file: u32,
-        _parent: u32,
+        path: &[i32],
+        full_name: &str,
+        file: u32,
+        parent: u32,
         _index: u32,
         _value: &EnumValueDescriptorProto,
     ) -> Result<(), AllocError> {
-        Ok(())
+        self.enter_own(full_name, file, path, DefinitionKind::EnumValue(parent))
     }
 
     fn visit_extension(
         &mut self,
-        _path: &[i32],
-        _full_name: &str,
-        _file: u32,
+        path: &[i32],
+        full_name: &str,
+        file: u32,
         _parent: Option<u32>,
-        _index: u32,
+        index: u32,
         _extension: &FieldDescriptorProto,
     ) -> Result<(), AllocError> {
-        Ok(())
+        self.enter_own(full_name, file, path, DefinitionKind::Extension(index))
     }
 }
 

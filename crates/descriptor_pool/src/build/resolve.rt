@@ -1,10 +1,9 @@
-ghost use Rattle.descriptor_pool.specs.NamesBegin.{NamesBegin};
+ghost use Rattle.link_rules.specs.NamesBegin.{NamesBegin};
 
-use super::field::{add_field, add_given, identity, read_field};
 use super::growing::GrowingPool;
-use super::linked::linked_file;
-use plain_values::Items;
-use pool_types::{DescriptorErrorKind, FileDescriptorInner, MessageDescriptorInner};
+use link_rules::{Place, linked_file, read_enum, read_extension, read_message, read_service};
+use pool_faults::DescriptorErrorKind;
+use pool_types::FileDescriptorInner;
 use proto_files::{DescriptorProto, FileDescriptorProto, OneofDescriptorProto};
 use proto_records::Visitor;
 use proto_types::{
@@ -14,33 +13,33 @@ use proto_types::{
 use std::alloc::{AllocError, Global};
 
 /// The second pass: it reads a batch against a pool whose files and names are those of the batch as
-/// well, makes the items of files, messages and fields, and gathers the faults of numbers and of
-/// references. The full name of each declaration that it is shown ends with the declared name.
+/// well, puts the items of messages, enums, services and extensions into the pool and makes those of
+/// files, and gathers the faults of numbers and of references. A message is read with its oneofs and
+/// fields, an enum with its values, and a service with its methods. The full name of each declaration
+/// that it is shown ends with the declared name, and its lists are short enough for a pool.
 #[derive(Drop)]
 pub struct ResolveVisitor {
     pub(crate) alloc: Global,
     pub(crate) pool: GrowingPool,
     pub(crate) files: Vec<FileDescriptorInner>,
-    pub(crate) messages: Vec<MessageDescriptorInner>,
     pub(crate) faults: Vec<DescriptorErrorKind>,
-    ghost names_begin: { NamesBegin messages.items },
+    ghost names_begin: { NamesBegin pool.inner.messages.items },
 }
 
 impl Visitor for ResolveVisitor {
     ghost use Rattle.std.specs.List.{fold};
-    ghost use Rattle.proto_records.specs.FullNames.{EndWithNames, front-ends};
+    ghost use Rattle.proto_records.specs.FullNames.{CanBeRead, front-read};
     ghost use Rattle.descriptor_pool.specs.Growing.{kept_in};
     ghost use Rattle.descriptor_pool.specs.Passes.{referred, references_progress};
-    ghost use Rattle.descriptor_pool.specs.ReadDeclarations.{read};
     ghost use Rattle.descriptor_pool.specs.Seen.{references_seen};
 
-    ghost after = { λ v ds. references_progress (fold referred (references_seen v) (read ds)) };
+    ghost after = { λ v ds. references_progress (fold referred (references_seen v) ds) };
 
-    ghost ready = { λ _ ds. EndWithNames ds };
+    ghost ready = { λ _ ds. CanBeRead ds };
 
     ghost kept = { λ v. kept_in v.pool };
 
-    ghost front_ready = { λ _ ds es. front-ends ds es };
+    ghost front_ready = { λ _ ds es. front-read ds es };
 
     fn visit_file(
         &mut self,
@@ -59,38 +58,32 @@ impl Visitor for ResolveVisitor {
         full_name: &str,
         file: u32,
         parent: Option<u32>,
-        _index: u32,
+        index: u32,
         message: &DescriptorProto,
     ) -> Result<(), AllocError> {
-        let id = identity(self.alloc, path, full_name, file, message.name())?;
-        self.messages.push(MessageDescriptorInner {
-            id,
+        let place = Place {
+            file,
             parent,
-            fields: Items::new(self.alloc),
-        })?;
-        Ok(())
+            index,
+            path,
+            full_name,
+        };
+        let pool = &self.pool;
+        let setting = pool.inner.setting();
+        let item = read_message(self.alloc, setting, place, message, &mut self.faults)?;
+        self.pool.put_message(item)
     }
 
     fn visit_field(
         &mut self,
-        path: &[i32],
-        full_name: &str,
-        file: u32,
+        _path: &[i32],
+        _full_name: &str,
+        _file: u32,
         _parent: u32,
         _index: u32,
-        field: &FieldDescriptorProto,
+        _field: &FieldDescriptorProto,
     ) -> Result<(), AllocError> {
-        let read = read_field(
-            self.alloc,
-            self.pool.inner.setting(),
-            path,
-            full_name,
-            file,
-            field,
-        )?;
-        add_field(&mut self.messages, read.item)?;
-        add_given(&mut self.faults, read.number_fault)?;
-        add_given(&mut self.faults, read.type_fault)
+        Ok(())
     }
 
     fn visit_oneof(
@@ -107,12 +100,21 @@ impl Visitor for ResolveVisitor {
 
     fn visit_service(
         &mut self,
-        _path: &[i32],
-        _full_name: &str,
-        _file: u32,
-        _index: u32,
-        _service: &ServiceDescriptorProto,
+        path: &[i32],
+        full_name: &str,
+        file: u32,
+        index: u32,
+        service: &ServiceDescriptorProto,
     ) -> Result<(), AllocError> {
+        let place = Place {
+            file,
+            parent: None,
+            index,
+            path,
+            full_name,
+        };
+        let item = read_service(self.alloc, place, service)?;
+        self.pool.inner.services.push(item)?;
         Ok(())
     }
 
@@ -130,13 +132,22 @@ impl Visitor for ResolveVisitor {
 
     fn visit_enum(
         &mut self,
-        _path: &[i32],
-        _full_name: &str,
-        _file: u32,
-        _parent: Option<u32>,
-        _index: u32,
-        _enumeration: &EnumDescriptorProto,
+        path: &[i32],
+        full_name: &str,
+        file: u32,
+        parent: Option<u32>,
+        index: u32,
+        enumeration: &EnumDescriptorProto,
     ) -> Result<(), AllocError> {
+        let place = Place {
+            file,
+            parent,
+            index,
+            path,
+            full_name,
+        };
+        let item = read_enum(self.alloc, place, enumeration)?;
+        self.pool.inner.enums.push(item)?;
         Ok(())
     }
 
@@ -154,13 +165,22 @@ impl Visitor for ResolveVisitor {
 
     fn visit_extension(
         &mut self,
-        _path: &[i32],
-        _full_name: &str,
-        _file: u32,
-        _parent: Option<u32>,
-        _index: u32,
-        _extension: &FieldDescriptorProto,
+        path: &[i32],
+        full_name: &str,
+        file: u32,
+        parent: Option<u32>,
+        index: u32,
+        extension: &FieldDescriptorProto,
     ) -> Result<(), AllocError> {
+        let place = Place {
+            file,
+            parent,
+            index,
+            path,
+            full_name,
+        };
+        let item = read_extension(self.alloc, place, extension)?;
+        self.pool.inner.extensions.push(item)?;
         Ok(())
     }
 }

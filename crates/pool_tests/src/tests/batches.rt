@@ -37,6 +37,21 @@ const BATCHES: &[(&str, &str, &str, &str)] = &[
         "none",
     ),
     (GOOD, "ok 2 2 0 0 0", ".Good", "message 1 1 [4, 0, 1]"),
+    (
+        "file parts.proto\nenum E\nvalue V 0\nend\nservice S\nend\n\
+        extend x 1 optional int32 ~ ~\nmessage Good\nend\nend\n",
+        "refused parts.proto: name 'Good' is already defined in file 'good.proto'",
+        "V",
+        "none",
+    ),
+    (
+        "file parts.proto\nenum E\nvalue V 0\nend\nservice S\nend\n\
+        extend x 1 optional int32 ~ ~\nend\n",
+        "ok 3 2 1 1 1",
+        "V",
+        "value 0 2 [5, 0, 2, 0, 1]",
+    ),
+    ("", "ok 3 2 1 1 1", "x", "extension 0 2 [7, 0, 1]"),
 ];
 
 /// Gives a pool a batch, and tells what it answers.
@@ -103,8 +118,9 @@ fn a_pool_takes_and_refuses_batches(rt: HostRuntime) -> Result<(), Fail> {
     Ok(())
 }
 
-/// A file whose field means a message that is not there.
-const BAD: &str = "file bad.proto\nmessage Bad\nfield f 1 optional message .Missing ~\nend\nend\n";
+/// A file whose field means a message that is not there, and that declares an item of each kind.
+const BAD: &str = "file bad.proto\nmessage Bad\nfield f 1 optional message .Missing ~\nend\n\
+    enum E\nvalue V 0\nend\nservice S\nend\nextend x 1 optional int32 ~ ~\nend\n";
 
 /// A pool that was given batches in turn.
 fn pool_of(alloc: Global, scripts: &[&str]) -> Result<DescriptorPool, AllocError> {

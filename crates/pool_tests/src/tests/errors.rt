@@ -2,8 +2,8 @@
 
 use descriptor_pool::{BuildError, DescriptorPool};
 use plain_values::Text;
+use pool_faults::{DescriptorErrorKind, Labelled};
 use pool_parts::DescriptorError;
-use pool_types::{DescriptorErrorKind, Labelled};
 use proto_records::CountKind;
 use script_files::files_of;
 use std::alloc::{AllocError, Global};

@@ -1,8 +1,9 @@
 //! What names and references mean among the names of a pool.
 
 use plain_values::{Items, Text};
+use pool_faults::Labelled;
 use pool_parts::{ResolveNameFilter, ResolveNameResult, first_definition, label_at, resolve_name};
-use pool_types::{Definition, DefinitionKind, Entry, FileDescriptorInner, Label, Labelled};
+use pool_types::{Definition, DefinitionKind, Entry, FileDescriptorInner, Label};
 use script_files::files_of;
 use std::alloc::{AllocError, Global};
 use std::process::Abort;

@@ -1,8 +1,9 @@
 ghost use Rattle.std.specs.Prelude.{◌≡◌, IfOk, drop};
 ghost use Rattle.std.specs.Str.{IsCharBoundary};
+ghost use Rattle.pool_types.specs.DefinitionKinds.{is_parent};
 
-use crate::indexes::FileDescriptor;
 use plain_values::{Duplicate, Items, Text};
+use pool_kinds::FileDescriptor;
 use std::alloc::{AllocError, Global};
 
 /// Where a declaration stands, and its name.
@@ -82,6 +83,21 @@ impl Identity {
             full_name: self.full_name.clone(alloc)?,
             name_index: self.name_index,
         })
+    }
+}
+
+impl DefinitionKind {
+    /// Whether other declarations may stand in it.
+    pub fn is_parent(&self) -> bool
+        ensures { result ≡ is_parent self.now }
+    {
+        matches!(
+            self,
+            DefinitionKind::Package
+                | DefinitionKind::Message(_)
+                | DefinitionKind::Service(_)
+                | DefinitionKind::Enum(_)
+        )
     }
 }
 

@@ -1,8 +1,8 @@
 ghost use Rattle.std.specs.Prelude.{◌≡◌, IfOk};
 
 use super::definition::Identity;
-use crate::kinds::{Cardinality, KindIndex};
 use plain_values::Duplicate;
+use pool_kinds::{Cardinality, KindIndex};
 use std::alloc::{AllocError, Global};
 
 /// A field of a message.

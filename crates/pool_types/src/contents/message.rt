@@ -2,16 +2,18 @@ ghost use Rattle.std.specs.Prelude.{◌≡◌, IfOk};
 
 use super::definition::Identity;
 use super::field::FieldDescriptorInner;
+use super::oneof::OneofDescriptorInner;
 use plain_values::{Duplicate, Items};
 use std::alloc::{AllocError, Global};
 
-/// A message, with its fields in the order of their positions.
+/// A message, with its fields and its oneofs in the order of their positions.
 #[derive(PartialEq, Drop)]
 pub struct MessageDescriptorInner {
     pub id: Identity,
     /// The index of the message around it, where it is nested.
     pub parent: Option<u32>,
     pub fields: Items<FieldDescriptorInner>,
+    pub oneofs: Items<OneofDescriptorInner>,
 }
 
 impl MessageDescriptorInner {
@@ -23,6 +25,7 @@ impl MessageDescriptorInner {
             id: self.id.clone(alloc)?,
             parent: self.parent,
             fields: self.fields.clone(alloc)?,
+            oneofs: self.oneofs.clone(alloc)?,
         })
     }
 }

@@ -3,8 +3,10 @@
 use super::copies::check_made;
 use plain_values::{Items, Text, same};
 use pool_types::{
-    Cardinality, Definition, DefinitionKind, Entry, FieldDescriptorInner, FileDescriptor, Identity,
-    KindIndex, MessageDescriptor, MessageDescriptorInner,
+    Cardinality, Definition, DefinitionKind, Entry, EnumDescriptorInner, EnumValueDescriptorInner,
+    ExtensionDescriptorInner, FieldDescriptorInner, FileDescriptor, Identity, KindIndex,
+    MessageDescriptor, MessageDescriptorInner, MethodDescriptorInner, OneofDescriptorInner,
+    ServiceDescriptorInner,
 };
 use std::alloc::{AllocError, Global};
 use std::process::Abort;
@@ -44,10 +46,50 @@ fn field(alloc: Global, number: u32) -> Result<FieldDescriptorInner, AllocError>
 fn message(alloc: Global, parent: Option<u32>) -> Result<MessageDescriptorInner, AllocError> {
     let mut fields = Items::new(alloc);
     fields.push(field(alloc, 7)?)?;
+    let mut oneofs = Items::new(alloc);
+    oneofs.push(OneofDescriptorInner {
+        id: identity(alloc)?,
+    })?;
     Ok(MessageDescriptorInner {
         id: identity(alloc)?,
         parent,
         fields,
+        oneofs,
+    })
+}
+
+/// An enum with a value of this number.
+fn enumeration(alloc: Global, number: i32) -> Result<EnumDescriptorInner, AllocError> {
+    let mut values = Items::new(alloc);
+    values.push(EnumValueDescriptorInner {
+        id: identity(alloc)?,
+        number,
+    })?;
+    Ok(EnumDescriptorInner {
+        id: identity(alloc)?,
+        parent: None,
+        values,
+    })
+}
+
+/// A service with so many methods.
+fn service(alloc: Global, count: u32) -> Result<ServiceDescriptorInner, AllocError> {
+    let mut methods = Items::new(alloc);
+    for _ in 0..count {
+        methods.push(MethodDescriptorInner {
+            id: identity(alloc)?,
+        })?;
+    }
+    Ok(ServiceDescriptorInner {
+        id: identity(alloc)?,
+        methods,
+    })
+}
+
+fn extension(alloc: Global, parent: Option<u32>) -> Result<ExtensionDescriptorInner, AllocError> {
+    Ok(ExtensionDescriptorInner {
+        id: identity(alloc)?,
+        parent,
     })
 }
 
@@ -89,5 +131,13 @@ fn entries_and_items_equal_their_copies(rt: HostRuntime) -> Result<(), Fail> {
     check_made(&rt, alloc, entry(alloc, first), entry(alloc, second))?;
     check_made(&rt, alloc, field(alloc, 7), field(alloc, 8))?;
     check_made(&rt, alloc, message(alloc, Some(2)), message(alloc, None))?;
+    check_made(&rt, alloc, enumeration(alloc, -1), enumeration(alloc, 1))?;
+    check_made(&rt, alloc, service(alloc, 1), service(alloc, 2))?;
+    check_made(
+        &rt,
+        alloc,
+        extension(alloc, Some(2)),
+        extension(alloc, None),
+    )?;
     Ok(())
 }

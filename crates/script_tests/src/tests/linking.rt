@@ -2,7 +2,7 @@
 
 use descriptor_linker::Ending;
 
-/// A script that looks up a name of each kind that is linked, and one that is none.
+/// A script that looks up packages, a message, a field, and a name that is none.
 pub(super) const FIRST_SCRIPT: &str =
     "file a.proto\npackage p.q\nmessage M\nfield f 1 optional int32 ~ ~\n\
     field g 2 optional message .p.q.M ~\nend\nend\nlink\n\
@@ -68,7 +68,8 @@ pub(super) const LINKED: &[(&str, &str, &str, Ending)] = &[
         enum F\nend\nservice S\nmethod m .p.M .p.M\nend\n\
         extend x 101 optional int32 ~ .p.M\npacked false\nend\nlink\n\
         find p.M.f\nfind p.M.N\nfind p.S\n",
-        "ok 1 2 0 0 0\nfield 0 a.proto [4, 0, 2, 0, 1]\nmessage 1 a.proto [4, 0, 3, 0, 1]\nnone\n",
+        "ok 1 2 2 1 2\nfield 0 a.proto [4, 0, 2, 0, 1]\nmessage 1 a.proto [4, 0, 3, 0, 1]\n\
+        service 0 a.proto [6, 0, 1]\n",
         Ending::Whole,
     ),
     (
@@ -79,14 +80,48 @@ pub(super) const LINKED: &[(&str, &str, &str, Ending)] = &[
         Ending::Whole,
     ),
     (
-        "enums, services and extensions are carried without a name",
+        "enums, services and extensions have names",
         "file a.proto\npackage p\nsyntax proto2\nimport b.proto\nmessage M\n\
         field id 1 optional int32 ~ ~\nextensions 100 200\nend\nenum E\nvalue ZERO 0\n\
         value ONE 1\nend\nservice S\nmethod get .p.M .p.M\nend\n\
         extend tags 100 repeated int32 ~ .p.M\njson allTags\npacked true\n\
         extend note 101 optional string ~ .p.M\ndefault  two words\nend\nlink\n\
         find p.M.id\nfind p.E\nfind p.S\nfind p.tags\n",
-        "ok 1 1 0 0 0\nfield 0 a.proto [4, 0, 2, 0, 1]\nnone\nnone\nnone\n",
+        "ok 1 1 1 1 2\nfield 0 a.proto [4, 0, 2, 0, 1]\nenum 0 a.proto [5, 0, 1]\n\
+        service 0 a.proto [6, 0, 1]\nextension 0 a.proto [7, 0, 1]\n",
+        Ending::Whole,
+    ),
+    (
+        "whatever a file declares is found",
+        "file a.proto\npackage p\nmessage M\noneof o\nfield f 1 optional int32 ~ 0\n\
+        enum E\nvalue V 0\nend\nextend e 100 optional int32 ~ M\nend\nservice S\n\
+        method m .p.M .p.M\nend\nend\nlink\n\
+        find p.M.o\nfind p.M.E\nfind p.M.V\nfind p.M.e\nfind p.S\nfind p.S.m\n",
+        "ok 1 1 1 1 1\noneof 0 a.proto [4, 0, 8, 0, 1]\nenum 0 a.proto [4, 0, 4, 0, 1]\n\
+        value 0 a.proto [4, 0, 4, 0, 2, 0, 1]\nextension 0 a.proto [4, 0, 6, 0, 1]\n\
+        service 0 a.proto [6, 0, 1]\nmethod 0 a.proto [6, 0, 2, 0, 1]\n",
+        Ending::Whole,
+    ),
+    (
+        "a type name may mean an enum",
+        "file a.proto\npackage p\nenum E\nvalue V 0\nend\nmessage M\n\
+        field f 1 optional enum .p.E ~\nend\nend\nlink\n",
+        "ok 1 1 1 0 0\n",
+        Ending::Whole,
+    ),
+    (
+        "a value stands beside its enum",
+        "file a.proto\npackage p\nenum E\nvalue V 0\nend\nend\nlink\nfind p.V\nfind p.E.V\n",
+        "ok 1 0 1 0 0\nvalue 0 a.proto [5, 0, 2, 0, 1]\nnone\n",
+        Ending::Whole,
+    ),
+    (
+        "items of all kinds are numbered on over batches",
+        "file a.proto\nenum E\nend\nservice S\nend\nextend x 1 optional int32 ~ ~\nend\nlink\n\
+        file b.proto\nenum F\nend\nservice T\nend\nextend y 1 optional int32 ~ ~\nend\nlink\n\
+        find F\nfind T\nfind y\n",
+        "ok 1 0 1 1 1\nok 2 0 2 2 2\nenum 1 b.proto [5, 0, 1]\nservice 1 b.proto [6, 0, 1]\n\
+        extension 1 b.proto [7, 0, 1]\n",
         Ending::Whole,
     ),
     (

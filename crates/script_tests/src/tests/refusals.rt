@@ -44,6 +44,33 @@ pub(super) const REFUSED: &[(&str, &str, &str, Ending)] = &[
         Ending::Whole,
     ),
     (
+        "a fault shows the place of its location, from 1",
+        "file a.proto\npackage p\nmessage M\nend\nmessage M\nend\nat 4,1,1 7,8,9\nend\nlink\n",
+        "refused 1\na.proto:8:9: name 'p.M' is defined twice\n",
+        Ending::Whole,
+    ),
+    (
+        "the first location of a path counts, though its span is none",
+        "file a.proto\npackage p\nmessage M\nend\nmessage M\nend\nat 4,1,1 7,8\n\
+        at 4,1,1 7,8,9\nend\nlink\n",
+        "refused 1\na.proto: name 'p.M' is defined twice\n",
+        Ending::Whole,
+    ),
+    (
+        "values of two enums of a scope may not have one name",
+        "file a.proto\npackage p\nenum E\nvalue V 0\nend\nenum F\nvalue V 0\nend\nend\nlink\n\
+        find p.V\nfind p.E.V\nwalk\n",
+        "refused 1\na.proto: name 'p.V' is defined twice\nnone\nnone\nwalk 0\n",
+        Ending::Whole,
+    ),
+    (
+        "a value may not have the name of one in another file",
+        "file a.proto\npackage p\nenum E\nvalue V 0\nend\nend\nlink\n\
+        file b.proto\npackage p\nenum F\nvalue V 0\nend\nend\nlink\n",
+        "ok 1 0 1 0 0\nrefused 1\nb.proto: name 'p.V' is already defined in file 'a.proto'\n",
+        Ending::Whole,
+    ),
+    (
         "a type name may be missing from the pool",
         "file a.proto\nmessage M\nfield f 1 optional message N ~\nend\nend\nlink\nfind M\n",
         "refused 1\na.proto: name 'N' is not defined\nnone\n",

@@ -10,7 +10,7 @@ pub(super) const WALKED: &[(&str, &str, &str, Ending)] = &[
         message N\nend\nenum E\nvalue V 0\nend\nextensions 100 200\n\
         extend e 100 optional int32 ~ M\nend\nservice S\nmethod m .p.M .p.M\nend\n\
         extend x 101 optional int32 ~ .p.M\nend\nlink\nwalk\n",
-        "ok 1 2 0 0 0\nwalk 11\nfile 0 a.proto []\nmessage 0 p.M [4, 0]\n\
+        "ok 1 2 1 1 2\nwalk 11\nfile 0 a.proto []\nmessage 0 p.M [4, 0]\n\
         oneof 0 p.M.o [4, 0, 8, 0]\nfield 0 p.M.f [4, 0, 2, 0]\nmessage 1 p.M.N [4, 0, 3, 0]\n\
         enum 0 p.M.E [4, 0, 4, 0]\nvalue 0 p.M.V [4, 0, 4, 0, 2, 0]\n\
         extension 0 p.M.e [4, 0, 6, 0]\nservice 0 p.S [6, 0]\nmethod 0 p.S.m [6, 0, 2, 0]\n\

@@ -2,7 +2,7 @@ use Rattle.std.proofs.Common.{[], ap, ◌∙◌, sym, refl}
 use Rattle.pool_types.specs.Contents.{Contents}
 use Rattle.proto_records.specs.Declarations.{declarations}
 use Rattle.proto_records.specs.Progress.{Progress}
-use Rattle.proto_records.proofs.FullNames.{declarations-end}
+use Rattle.proto_records.proofs.FullNames.{declarations-read}
 use Rattle.proto_records.proofs.Listings.{on-ok}
 use Rattle.descriptor_pool.specs.Growing.{kept_in}
 use Rattle.descriptor_pool.specs.Passes.{references_progress}
@@ -35,4 +35,4 @@ returns-clause-kept c =
     ap (λ w. kept_in w.pool) last ∙ sym there ∙ here ∙ c.visit.ensures.kept ∙ old
 
 pub visit-requires-clause-ready : goal.visit-requires-clause-ready
-visit-requires-clause-ready c = declarations-end c.args.base c.args.new.now
+visit-requires-clause-ready c = declarations-read c.args.base c.args.new.now c.requires

@@ -1,5 +1,5 @@
 use Rattle.std.proofs.Common.{rules}
-use Rattle.pool_types.proofs.PathText.{debug_list-path}
+use Rattle.pool_faults.proofs.PathText.{debug_list-path}
 use Rattle.descriptor_linker.proofs.report.answers.tell_found.Goals as goal
 
 -- the path is printed as the library prints it

@@ -1,6 +1,6 @@
 use Rattle.std.proofs.Common.{◌≡◌, ◌++◌, [], ◌∷◌, string_bytes, take}
 use Rattle.std.specs.List.{flat_map}
-use Rattle.pool_types.specs.Texts.{labelled_text}
+use Rattle.pool_faults.specs.Texts.{labelled_text}
 use Rattle.descriptor_linker.specs.Report.Answers.{line}
 use Rattle.descriptor_linker.proofs.report.answers.tell_refused.Given as goal
 

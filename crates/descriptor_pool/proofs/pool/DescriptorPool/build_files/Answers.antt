@@ -22,7 +22,7 @@ returns-then-is_empty-clause-outcome c =
     let batch = c.keep_new.new.batch in
     let none = nothing_in batch.items batch.len batch.ok.0 c.if-is_empty.ensures in
     let P : Contents → Type 0 = λ q. IsLinked q c.args.files.items q in
-    subst P c.self.view_is (nothing_linked p c.args.files.items (sym kept ∙ none) c.self.invariant.names_are c.self.invariant.few_files c.self.invariant.few_messages)
+    subst P c.self.view_is (nothing_linked p c.args.files.items (sym kept ∙ none) c.self.invariant.names_are c.self.invariant.within)
 
 pub returns-in-Err-clause-outcome : goal.returns-in-Err-clause-outcome
 returns-in-Err-clause-outcome c =

@@ -2,12 +2,12 @@ use Rattle.std.proofs.Common.{refl, subst, sym, arith}
 use Rattle.std.proofs.lemmas.List.Elements.{All-nil}
 use Rattle.pool_types.specs.Contents.{no_contents}
 use Rattle.descriptor_pool.specs.Invariant.{IsPool}
-use Rattle.descriptor_pool.specs.NamesBegin.{MessageNamesBegin}
+use Rattle.link_rules.specs.NamesBegin.{MessageNamesBegin}
 use Rattle.descriptor_pool.specs.Pool.{empty}
 use Rattle.descriptor_pool.proofs.pool.DescriptorPool.new.Goals as goal
 
 empty_pool : IsPool no_contents
-empty_pool = record { made = empty refl; names_are = refl; messages = refl; few_files = omega arith; few_messages = omega arith; names_begin = All-nil MessageNamesBegin }
+empty_pool = record { made = empty refl; names_are = refl; counts_are = refl; within = record { files = omega arith; messages = omega arith; enums = omega arith; services = omega arith; extensions = omega arith }; names_begin = All-nil MessageNamesBegin }
 
 -- nothing is made, and nothing is declared
 pub invariant_of-result : goal.invariant_of-result

@@ -1,0 +1,168 @@
+-- What the files of a pool declare, and linked files behind them: the names that these enter, and how many of each kind there are.
+use Rattle.std.proofs.Common.{◌≡◌, ℕ, ℤ, ◌+◌, Option, List, [], ◌∷◌, ◌++◌, length, length-append, map, refl, ap, sym, ◌∙◌, arith}
+use Rattle.std.proofs.lemmas.Grind.{flat_map-append}
+use Rattle.std.proofs.lemmas.List.{length-map, map-append}
+use Rattle.std.proofs.lemmas.List.Elements.{filter_map-append, All-head, All-tail}
+use Rattle.std.specs.List.{All}
+use Rattle.std.specs.Option.{option_map}
+use Rattle.pool_types.specs.Contents.{Contents, files_of}
+use Rattle.pool_parts.specs.declared.filter.ResolveNameFilter.TheVariants.{FieldType}
+use Rattle.proto_files.specs.declared.file.FileDescriptorProto.{FileDescriptorProto}
+use Rattle.proto_types.specs.declared.records.field.FieldDescriptorProto.{FieldDescriptorProto}
+use Rattle.proto_types.specs.Readers.{text_of}
+use Rattle.proto_records.specs.declared.counts.Counts.{Counts}
+use Rattle.proto_records.specs.Changed.{Changes, KeepNames, changed, changed_files}
+use Rattle.proto_records.specs.Counts.{no_counts, counted, counting, counts_in}
+use Rattle.proto_records.specs.Declarations.{declarations, file_walk}
+use Rattle.proto_records.specs.Protos.{Proto, of_file, of_message, of_field, of_oneof, of_service, of_method, of_enum, of_value, of_extension, as_file, as_message, as_enum, as_service, as_extension}
+use Rattle.proto_records.specs.Shown.{Shown, of_kind, file_shown}
+use Rattle.proto_records.specs.Walking.{within_file}
+use Rattle.proto_records.proofs.Appended.{declarations-append}
+use Rattle.proto_records.proofs.Changed.{counted-changed, declare-changed}
+use Rattle.proto_records.proofs.Counted.{counted-append, counts_are}
+use Rattle.proto_records.proofs.Paths.{one-file}
+use Rattle.proto_records.proofs.Walks.{IsInside, within-all}
+use Rattle.link_rules.specs.Items.{file_item, message_item, enum_item, service_item, extension_item}
+use Rattle.link_rules.specs.Linked.{linking, linked, linked_field, typed}
+use Rattle.link_rules.specs.Setting.{Setting, meaning}
+use Rattle.descriptor_pool.specs.Entered.{entries_of, entries}
+use Rattle.descriptor_pool.specs.Pool.{known_names, with_items}
+
+pub entries-append : (ds es : List Shown) → entries (ds ++ es) ≡ entries ds ++ entries es
+entries-append ds es = flat_map-append entries_of ds es
+
+-- linking keeps the names of fields
+field-name : (s : Setting) (n : ℕ) (full_name : List ℕ) (f : FieldDescriptorProto) → text_of (linked_field s n full_name f).name ≡ text_of f.name
+field-name s n full_name f =
+    elim (text_of f.type_name) as (λ t. let g : FieldDescriptorProto = elim t [ [] ↦ f | _ ∷ _ ↦ typed (meaning s n full_name FieldType (text_of f.type_name)) f ] in text_of g.name ≡ text_of f.name)
+    [ [] ↦ refl | _ ∷ _ ↦ refl ]
+
+pub linking-keeps : (s : Setting) → KeepNames (linking s)
+linking-keeps s = record { fields = field-name s; extensions = λ _ _ _. refl; methods = λ _ _ _. refl }
+
+-- a changed declaration enters the names that it entered
+entries-one : (c : Changes) (file : ℕ) (parent : Option ℕ) (index : ℕ) (path : List ℤ) (full_name : List ℕ) (p : Proto)
+    → let d : Shown = record { file = file; parent = parent; index = index; path = path; full_name = full_name; proto = p } in entries_of (changed c d) ≡ entries_of d
+entries-one c file parent index path full_name (of_file f) = refl
+entries-one c file parent index path full_name (of_message m) = refl
+entries-one c file parent index path full_name (of_field f) = refl
+entries-one c file parent index path full_name (of_oneof o) = refl
+entries-one c file parent index path full_name (of_service s) = refl
+entries-one c file parent index path full_name (of_method m) = refl
+entries-one c file parent index path full_name (of_enum e) = refl
+entries-one c file parent index path full_name (of_value v) = refl
+entries-one c file parent index path full_name (of_extension x) = refl
+
+entries-changed : (c : Changes) (ds : List Shown) → entries (map (changed c) ds) ≡ entries ds
+entries-changed c [] = refl
+entries-changed c (d ∷ ds) = λ i. entries-one c d.file d.parent d.index d.path d.full_name d.proto i ++ entries-changed c ds i
+
+-- no file is declared inside a file
+none-inside-one : (file : ℕ) (parent : Option ℕ) (index : ℕ) (path : List ℤ) (full_name : List ℕ) (p : Proto) (ds : List Shown) → IsInside p
+    → of_kind as_file (record { file = file; parent = parent; index = index; path = path; full_name = full_name; proto = p } ∷ ds) ≡ of_kind as_file ds
+none-inside-one file parent index path full_name (of_file f) ds inside = absurd inside
+none-inside-one file parent index path full_name (of_message m) ds inside = refl
+none-inside-one file parent index path full_name (of_field f) ds inside = refl
+none-inside-one file parent index path full_name (of_oneof o) ds inside = refl
+none-inside-one file parent index path full_name (of_service s) ds inside = refl
+none-inside-one file parent index path full_name (of_method m) ds inside = refl
+none-inside-one file parent index path full_name (of_enum e) ds inside = refl
+none-inside-one file parent index path full_name (of_value v) ds inside = refl
+none-inside-one file parent index path full_name (of_extension x) ds inside = refl
+
+none-inside : (ds : List Shown) → All (λ d. IsInside d.proto) ds → of_kind as_file ds ≡ []
+none-inside [] all = refl
+none-inside (d ∷ ds) all =
+    none-inside-one d.file d.parent d.index d.path d.full_name d.proto ds (All-head (λ e. IsInside e.proto) d ds all)
+    ∙ none-inside ds (All-tail (λ e. IsInside e.proto) d ds all)
+
+-- the items of files are the linked files
+raw-items : (s : Setting) (base : Counts) (fs : List FileDescriptorProto)
+    → map (λ f. f.raw) (map (λ e. file_item s e.0 e.1) (of_kind as_file (declarations base fs))) ≡ changed_files (linking s) base.files fs
+raw-items s base [] = refl
+raw-items s base (f ∷ fs) =
+    let inside = within_file base.files base f in
+    let next = counted base (file_walk base f) in
+    let rest = declarations next fs in
+    let none = none-inside inside (within-all (λ d. IsInside d.proto) (λ _. Unit {0}) (λ here tag position index proto is _. is)
+    (λ here tag position index proto _. tt) (λ here tag position index proto _. tt) base f tt) in
+    ap (λ xs. map (λ f. f.raw) (map (λ e. file_item s e.0 e.1) ((file_shown [] base.files f, f) ∷ xs)))
+    (filter_map-append (λ d. option_map (λ x. (d, x)) (as_file d.proto)) inside rest ∙ ap (λ xs. xs ++ of_kind as_file rest) none)
+    ∙ ap (λ gs. linked s base.files f ∷ gs) (raw-items s next fs ∙ ap (λ n. changed_files (linking s) n fs) (one-file base f))
+
+-- how many of each kind a list of declarations has
+abbrev many : Counts → List Shown → Counts
+many c ds = record {
+  files = c.files + length (of_kind as_file ds);
+  messages = c.messages + length (of_kind as_message ds);
+  enums = c.enums + length (of_kind as_enum ds);
+  services = c.services + length (of_kind as_service ds);
+  extensions = c.extensions + length (of_kind as_extension ds);
+}
+
+many-one : (c : Counts) (file : ℕ) (parent : Option ℕ) (index : ℕ) (path : List ℤ) (full_name : List ℕ) (p : Proto) (ds : List Shown)
+    → many (counting c p) ds ≡ many c (record { file = file; parent = parent; index = index; path = path; full_name = full_name; proto = p } ∷ ds)
+many-one c file parent index path full_name (of_file f) ds = counts_are _ _ (omega arith) refl refl refl refl
+many-one c file parent index path full_name (of_message m) ds = counts_are _ _ refl (omega arith) refl refl refl
+many-one c file parent index path full_name (of_field f) ds = refl
+many-one c file parent index path full_name (of_oneof o) ds = refl
+many-one c file parent index path full_name (of_service s) ds = counts_are _ _ refl refl refl (omega arith) refl
+many-one c file parent index path full_name (of_method m) ds = refl
+many-one c file parent index path full_name (of_enum e) ds = counts_are _ _ refl refl (omega arith) refl refl
+many-one c file parent index path full_name (of_value v) ds = refl
+many-one c file parent index path full_name (of_extension x) ds = counts_are _ _ refl refl refl refl (omega arith)
+
+counted-many : (c : Counts) (ds : List Shown) → counted c ds ≡ many c ds
+counted-many c [] = counts_are _ _ (omega arith) (omega arith) (omega arith) (omega arith) (omega arith)
+counted-many c (d ∷ ds) = counted-many (counting c d.proto) ds ∙ many-one c d.file d.parent d.index d.path d.full_name d.proto ds
+
+longer : {X Y : Type 0} (xs : List Y) (f : X → Y) (ys : List X) → length (xs ++ map f ys) ≡ length xs + length ys
+longer xs f ys = length-append xs (map f ys) ∙ ap (λ n. length xs + n) (length-map ys f)
+
+-- the counts of contents with the items of declarations
+pub counts-with : (p : Contents) (s : Setting) (ds : List Shown) → counts_in (with_items p s ds) ≡ counted (counts_in p) ds
+counts-with p s ds =
+    counts_are _ _
+    (longer p.files (λ e. file_item s e.0 e.1) (of_kind as_file ds))
+    (longer p.messages (λ e. message_item s e.0 e.1) (of_kind as_message ds))
+    (longer p.enums (λ e. enum_item e.0 e.1) (of_kind as_enum ds))
+    (longer p.services (λ e. service_item e.0 e.1) (of_kind as_service ds))
+    (longer p.extensions (λ e. extension_item e.0) (of_kind as_extension ds))
+    ∙ sym (counted-many (counts_in p) ds)
+
+-- contents whose counts are those of what their files declare, and new files
+module _ (p : Contents) (fs : List FileDescriptorProto) (counts : counts_in p ≡ counted no_counts (declarations no_counts (files_of p))) where
+  abbrev earlier : List Shown
+  earlier = declarations no_counts (files_of p)
+
+  abbrev new : List Shown
+  new = declarations (counts_in p) fs
+
+  declared-behind : (gs : List FileDescriptorProto) → declarations no_counts (files_of p ++ gs) ≡ earlier ++ declarations (counts_in p) gs
+  declared-behind gs = declarations-append no_counts (files_of p) gs ∙ ap (λ c. earlier ++ declarations c gs) (sym counts)
+
+  -- the names that the files enter, with the new files behind them
+  pub entries-behind : entries (declarations no_counts (files_of p ++ fs)) ≡ known_names p ++ entries new
+  entries-behind = ap entries (declared-behind fs) ∙ entries-append earlier new
+
+  module _ (s : Setting) where
+    pub files-linked : files_of (with_items p s new) ≡ files_of p ++ changed_files (linking s) (length p.files) fs
+    files-linked = map-append (λ f. f.raw) p.files _ ∙ ap (λ gs. files_of p ++ gs) (raw-items s (counts_in p) fs)
+
+    -- what the files declare once the new ones are linked
+    pub declared-linked : declarations no_counts (files_of (with_items p s new)) ≡ earlier ++ map (changed (linking s)) new
+    declared-linked =
+        ap (declarations no_counts) files-linked ∙ declared-behind (changed_files (linking s) (length p.files) fs)
+        ∙ ap (λ ds. earlier ++ ds) (declare-changed (linking s) (linking-keeps s) (counts_in p) fs)
+
+    pub names-linked : known_names (with_items p s new) ≡ known_names p ++ entries new
+    names-linked =
+        ap entries declared-linked ∙ entries-append earlier (map (changed (linking s)) new)
+        ∙ ap (λ es. known_names p ++ es) (entries-changed (linking s) new)
+
+    pub counts-linked : counts_in (with_items p s new) ≡ counted no_counts (declarations no_counts (files_of (with_items p s new)))
+    counts-linked =
+        counts-with p s new ∙ sym (counted-changed (linking s) (counts_in p) new)
+        ∙ ap (λ c. counted c (map (changed (linking s)) new)) counts
+        ∙ sym (counted-append no_counts earlier (map (changed (linking s)) new))
+        ∙ ap (counted no_counts) (sym declared-linked)

@@ -1,0 +1,99 @@
+-- What is true of all contents that are made: their names, their counts, and their references.
+use Rattle.std.proofs.Common.{Bool, true, false, ◌&&◌, cond, IsOk, arith, ◌≡◌, ℕ, Option, None, Some, IsSome, List, [], ◌∷◌, ◌++◌, map, refl, ap, subst, sym, ◌∙◌}
+use Rattle.std.specs.FinMap as finite
+use Rattle.std.specs.List.{AllByRecursion, flat_map, list_all}
+use Rattle.std.proofs.lemmas.Bool.Decides.{nat_tests}
+use Rattle.std.specs.declared.result.Result.TheVariants.{Err}
+use Rattle.proto_records.specs.declared.counts.Counts.{Counts}
+use Rattle.proto_records.specs.declared.counts.CountKind.TheVariants.{ListTooLong}
+use Rattle.proto_records.specs.Fits.{counts_with}
+use Rattle.proto_records.specs.Walking.{WithinLimits}
+use Rattle.proto_records.specs.Shown.{Shown}
+use Rattle.proto_records.proofs.Changed.{all-fit-changed}
+use Rattle.proto_records.proofs.Listings.{first-true, second-true}
+use Rattle.proto_records.proofs.Room.{room-fits}
+use Rattle.std.specs.Option.{option_or}
+use Rattle.pool_types.specs.declared.contents.definition.Definition.{Definition}
+use Rattle.pool_types.specs.declared.contents.definition.Entry.{Entry}
+use Rattle.pool_types.specs.Contents.{Contents, no_contents, files_of}
+use Rattle.proto_records.specs.Changed.{changed}
+use Rattle.proto_records.specs.Counts.{no_counts, counted, counts_in, lists_fit, added_to, within_limit}
+use Rattle.proto_records.specs.Declarations.{declarations}
+use Rattle.pool_parts.specs.Entries.{first_of, names}
+use Rattle.pool_parts.proofs.NamesFirst.{names_first}
+use Rattle.link_rules.specs.Linked.{linking}
+use Rattle.descriptor_pool.specs.Entered.{entries}
+use Rattle.descriptor_pool.specs.Invariant.{IsPool}
+use Rattle.descriptor_pool.specs.Pool.{Batch, Made, empty, linked_to, known_names, Fits, new_files, new_declarations, setting_of, faults_of_references, link}
+use Rattle.descriptor_pool.specs.References.{Reference, references_in, AllResolved}
+use Rattle.descriptor_pool.proofs.Declared.{entries-behind, declared-linked, names-linked, counts-linked}
+use Rattle.descriptor_pool.proofs.Resolved.{Names, AllNamed, named-append, linked-resolved}
+use Rattle.descriptor_pool.proofs.SameNames.{first-append}
+
+some-first : (a b : Option Definition) → IsSome a → IsSome (option_or a b)
+some-first None b has = absurd (cc)
+some-first (Some def) b has = refl
+
+-- a name that entries have is one of these and others behind them
+named-behind : (known more : List Entry) (name : List ℕ) → IsSome (finite.get (names known) name) → IsSome (finite.get (names (known ++ more)) name)
+named-behind known more name has =
+    subst IsSome (sym (names_first (known ++ more) name ∙ first-append known more name))
+    (some-first (first_of known name) (first_of more name) (subst IsSome (names_first known name) has))
+
+all-behind : (known more : List Entry) (rs : List Reference) → AllByRecursion (Names (names known)) rs → AllByRecursion (Names (names (known ++ more))) rs
+all-behind known more [] all = tt
+all-behind known more (r ∷ rs) all = ((all.0.0, all.0.1, named-behind known more all.0.0 all.0.2), all-behind known more rs all.1)
+
+both-fit : (ds es : List Shown) → list_all (λ d. lists_fit d.proto) ds ≡ true → list_all (λ d. lists_fit d.proto) es ≡ true → list_all (λ d. lists_fit d.proto) (ds ++ es) ≡ true
+both-fit [] es first second = second
+both-fit (d ∷ ds) es first second =
+    let rest = list_all (λ e. lists_fit e.proto) ds in
+    λ i. first-true (lists_fit d.proto) rest first i && both-fit ds es (second-true (lists_fit d.proto) rest first) second i
+
+-- the names are those that the files enter, the counts those of what they declare, no list of theirs is too long, and each
+-- reference names its definition
+pub record Sound (p : Contents) : Type 0 where
+  pub names_are : p.names ≡ names (known_names p)
+  pub counts_are : counts_in p ≡ counted no_counts (declarations no_counts (files_of p))
+  pub short : list_all (λ d. lists_fit d.proto) (declarations no_counts (files_of p)) ≡ true
+  pub resolved : AllResolved p
+
+nothing-sound : Sound no_contents
+nothing-sound = record { names_are = refl; counts_are = refl; short = refl; resolved = tt }
+
+link-sound : (q : Contents) (batch : Batch) → Sound q → faults_of_references q batch ≡ [] → Fits q batch → Sound (link q batch)
+link-sound q batch sound none fits =
+    let s = setting_of q batch in
+    let new = new_files q batch in
+    let ds = new_declarations q batch in
+    let names_split : s.names ≡ names (known_names q ++ entries ds) = ap names (entries-behind q new sound.counts_are) in
+    let earlier : AllNamed s.names (declarations no_counts (files_of q)) =
+    subst (λ m. AllNamed m (declarations no_counts (files_of q))) (sym names_split)
+    (all-behind (known_names q) (entries ds) (flat_map references_in (declarations no_counts (files_of q)))
+    (subst (λ m. AllNamed m (declarations no_counts (files_of q))) sound.names_are sound.resolved)) in
+    record {
+      names_are = names_split ∙ ap names (sym (names-linked q new sound.counts_are s));
+      counts_are = counts-linked q new sound.counts_are s;
+      short = ap (list_all (λ d. lists_fit d.proto)) (declared-linked q new sound.counts_are s)
+          ∙ both-fit (declarations no_counts (files_of q)) (map (changed (linking s)) ds) sound.short
+          (all-fit-changed (linking s) ds ∙ (room-fits (counts_in q) new fits).short);
+      resolved = subst (AllNamed s.names) (sym (declared-linked q new sound.counts_are s))
+          (named-append s.names (declarations no_counts (files_of q)) (map (changed (linking s)) ds) earlier (linked-resolved s ds none));
+    }
+
+pub made-sound : (p : Contents) → Made p → Sound p
+made-sound p (empty is) = subst Sound (sym is) nothing-sound
+made-sound p (linked_to {q = q} batch made accepts fits is) = subst Sound (sym is) (link-sound q batch (made-sound q made) accepts.1 fits)
+
+pub all_resolved : (p : Contents) → IsPool p → AllResolved p
+all_resolved p pool = (made-sound p pool.made).resolved
+
+fit-by : (c : Counts) (short : Bool) → short ≡ true → WithinLimits c → IsOk (added_to no_counts (cond short (within_limit c) (Err ListTooLong)))
+fit-by c true is within = grind (arith, nat_tests, within.files, within.messages, within.enums, within.services, within.extensions)
+fit-by c false is within = absurd (cc)
+
+-- what the files of a pool declare fits into a pool
+pub fits_again : (p : Contents) → IsPool p → IsOk (counts_with no_counts (files_of p))
+fits_again p pool =
+    let ds = declarations no_counts (files_of p) in
+    fit-by (counted no_counts ds) (list_all (λ d. lists_fit d.proto) ds) (made-sound p pool.made).short (subst WithinLimits pool.counts_are pool.within)

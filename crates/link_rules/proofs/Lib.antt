@@ -1,0 +1,4 @@
+pub mod NamesBegin
+pub mod Each
+pub mod Unchanged
+pub mod Owners

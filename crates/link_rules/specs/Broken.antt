@@ -1,0 +1,46 @@
+-- What a declaration breaks in the second pass: rules of field numbers and of types.
+use Rattle.std.specs.Prelude.{not, List, [], ◌∷◌, ◌++◌}
+use Rattle.std.specs.List.{flat_map}
+use Rattle.proto_types.specs.declared.tag.field.TheConstants as field
+use Rattle.proto_types.specs.declared.tag.message.TheConstants as message
+use Rattle.proto_types.specs.declared.records.field.FieldDescriptorProto.{FieldDescriptorProto}
+use Rattle.proto_files.specs.declared.message.DescriptorProto.{DescriptorProto, out-DescriptorProto}
+use Rattle.pool_faults.specs.declared.fault.DescriptorErrorKind.{DescriptorErrorKind}
+use Rattle.pool_faults.specs.declared.fault.DescriptorErrorKind.TheVariants.{InvalidFieldNumber}
+use Rattle.pool_types.specs.Labels.{label_in}
+use Rattle.proto_types.specs.Lists.{only_if}
+use Rattle.proto_types.specs.Readers.{number_of}
+use Rattle.proto_records.specs.Protos.{of_message, of_field}
+use Rattle.proto_records.specs.Shown.{Shown, inside}
+use Rattle.pool_parts.specs.FieldNumbers.{is_valid_number}
+use Rattle.link_rules.specs.Each.{each}
+use Rattle.link_rules.specs.FieldTypes.{type_faults}
+use Rattle.link_rules.specs.Places.{part_inside}
+use Rattle.link_rules.specs.Setting.{Setting}
+
+abbrev pub Faults : Type 0
+Faults = List DescriptorErrorKind
+
+-- of a number that no field may have
+abbrev pub number_faults : Setting → Shown → FieldDescriptorProto → Faults
+number_faults s d f =
+    let found = label_in s.files d.file (d.path ++ field.NUMBER ∷ []) in
+    only_if (not (is_valid_number (number_of f.number))) (InvalidFieldNumber (number_of f.number) found)
+
+abbrev pub field_faults : Setting → Shown → FieldDescriptorProto → Faults
+field_faults s d f = number_faults s d f ++ type_faults s d f
+
+-- what a declaration breaks
+abbrev pub second_faults : Setting → Shown → Faults
+second_faults s d = elim d.proto [ of_field f ↦ field_faults s d f | _ ↦ [] ]
+
+-- all faults of the second pass over declarations
+abbrev pub second_pass : Setting → List Shown → Faults
+second_pass s ds = flat_map (second_faults s) ds
+
+-- the same told of owners: what the fields of a message break, one field after another
+abbrev pub message_faults : Setting → Shown → DescriptorProto → Faults
+message_faults s d m = flat_map (λ faults. faults) (each (λ i f. field_faults s (part_inside (inside d) message.FIELD i (of_field f)) f) 0 (out-DescriptorProto m).field)
+
+abbrev pub owner_faults : Setting → Shown → Faults
+owner_faults s d = elim d.proto [ of_message m ↦ message_faults s d m | _ ↦ [] ]

@@ -1,0 +1,90 @@
+-- The records that a pool holds of messages, enums, services and extensions.
+use Rattle.std.specs.Prelude.{ℕ, suc, ◌-◌, ◌^◌, ℤ, pos, negsuc, List, length, unwrap_or}
+use Rattle.proto_types.specs.declared.tag.message.TheConstants as message
+use Rattle.proto_types.specs.declared.tag.enum_.TheConstants as enumeration
+use Rattle.proto_types.specs.declared.tag.service.TheConstants as service
+use Rattle.pool_types.specs.declared.contents.definition.Identity.{Identity}
+use Rattle.pool_types.specs.declared.contents.enumeration.EnumDescriptorInner.{EnumDescriptorInner}
+use Rattle.pool_types.specs.declared.contents.enumeration.EnumValueDescriptorInner.{EnumValueDescriptorInner}
+use Rattle.pool_types.specs.declared.contents.extension.ExtensionDescriptorInner.{ExtensionDescriptorInner}
+use Rattle.pool_types.specs.declared.contents.field.FieldDescriptorInner.{FieldDescriptorInner}
+use Rattle.pool_types.specs.declared.contents.file.FileDescriptorInner.{FileDescriptorInner}
+use Rattle.pool_types.specs.declared.contents.message.MessageDescriptorInner.{MessageDescriptorInner}
+use Rattle.pool_types.specs.declared.contents.oneof.OneofDescriptorInner.{OneofDescriptorInner}
+use Rattle.pool_types.specs.declared.contents.service.ServiceDescriptorInner.{ServiceDescriptorInner}
+use Rattle.pool_types.specs.declared.contents.service.MethodDescriptorInner.{MethodDescriptorInner}
+use Rattle.pool_kinds.specs.declared.kinds.KindIndex.TheVariants.{Double}
+use Rattle.proto_types.specs.declared.records.enumeration.EnumDescriptorProto.{EnumDescriptorProto}
+use Rattle.proto_types.specs.declared.records.field.FieldDescriptorProto.{FieldDescriptorProto}
+use Rattle.proto_types.specs.declared.records.service.ServiceDescriptorProto.{ServiceDescriptorProto}
+use Rattle.proto_files.specs.declared.file.FileDescriptorProto.{FileDescriptorProto}
+use Rattle.proto_files.specs.declared.message.DescriptorProto.{DescriptorProto, out-DescriptorProto}
+use Rattle.proto_types.specs.Readers.{number_of, label_of}
+use Rattle.proto_records.specs.Protos.{name_of, of_field, of_oneof, of_value, of_method}
+use Rattle.proto_records.specs.Shown.{Shown, inside}
+use Rattle.pool_parts.specs.Kinds.{cardinality_of}
+use Rattle.link_rules.specs.Each.{each}
+use Rattle.link_rules.specs.FieldTypes.{field_kind}
+use Rattle.link_rules.specs.Linked.{linked}
+use Rattle.link_rules.specs.Places.{part_inside, part_beside}
+use Rattle.link_rules.specs.Setting.{Setting}
+
+-- where a declaration stands that has a name, which begins in the full name so many bytes before its end
+abbrev pub named_at : ℕ → List ℤ → List ℕ → List ℕ → Identity
+named_at file path full_name name = record { file = file; path = path; full_name = full_name; name_index = length full_name - length name }
+
+abbrev pub identity : Shown → Identity
+identity d = named_at d.file d.path d.full_name (name_of d.proto)
+
+-- a file by its linked record
+abbrev pub file_item : Setting → Shown → FileDescriptorProto → FileDescriptorInner
+file_item s d f = record { raw = linked s d.index f }
+
+-- a field's number as an item has it; a negative one, which is a fault, stands there as itself plus 2 ^ 32
+abbrev pub item_number : ℤ → ℕ
+item_number (pos n) = n
+item_number (negsuc n) = 2 ^ 32 - suc n
+
+abbrev pub field_item : Setting → Shown → FieldDescriptorProto → FieldDescriptorInner
+field_item s d f = record {
+  id = identity d;
+  number = item_number (number_of f.number);
+  kind = unwrap_or (field_kind s d f) Double;
+  cardinality = cardinality_of (label_of f.label);
+}
+
+abbrev pub oneof_item : Shown → OneofDescriptorInner
+oneof_item d = record { id = identity d }
+
+-- a message with its fields and its oneofs
+abbrev pub message_item : Setting → Shown → DescriptorProto → MessageDescriptorInner
+message_item s d m = record {
+  id = identity d;
+  parent = d.parent;
+  fields = each (λ i f. field_item s (part_inside (inside d) message.FIELD i (of_field f)) f) 0 (out-DescriptorProto m).field;
+  oneofs = each (λ i o. oneof_item (part_inside (inside d) message.ONEOF_DECL i (of_oneof o))) 0 (out-DescriptorProto m).oneof_decl;
+}
+
+abbrev pub value_item : Shown → ℤ → EnumValueDescriptorInner
+value_item d number = record { id = identity d; number = number }
+
+-- an enum with its values, which stand beside it
+abbrev pub enum_item : Shown → EnumDescriptorProto → EnumDescriptorInner
+enum_item d e = record {
+  id = identity d;
+  parent = d.parent;
+  values = each (λ i v. value_item (part_beside d enumeration.VALUE i (of_value v)) (number_of v.number)) 0 e.value;
+}
+
+abbrev pub method_item : Shown → MethodDescriptorInner
+method_item d = record { id = identity d }
+
+-- a service with its methods
+abbrev pub service_item : Shown → ServiceDescriptorProto → ServiceDescriptorInner
+service_item d s = record {
+  id = identity d;
+  methods = each (λ i m. method_item (part_inside (inside d) service.METHOD i (of_method m))) 0 s.method;
+}
+
+abbrev pub extension_item : Shown → ExtensionDescriptorInner
+extension_item d = record { id = identity d; parent = d.parent }

@@ -1,0 +1,9 @@
+pub mod Each
+pub mod Setting
+pub mod SettingCode
+pub mod Places
+pub mod FieldTypes
+pub mod Linked
+pub mod Items
+pub mod Broken
+pub mod NamesBegin

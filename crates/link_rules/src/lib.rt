@@ -1,0 +1,20 @@
+//! The rules of one declaration: what it breaks, the item that it makes, and its linked record.
+#![tactic(auto)]
+
+mod enumeration;
+mod extension;
+mod field;
+mod identity;
+mod linked;
+mod message;
+mod place;
+mod service;
+mod setting;
+
+pub use enumeration::read_enum;
+pub use extension::read_extension;
+pub use linked::linked_file;
+pub use message::read_message;
+pub use place::Place;
+pub use service::read_service;
+pub use setting::Setting;

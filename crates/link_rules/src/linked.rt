@@ -1,0 +1,139 @@
+ghost use Rattle.std.specs.Prelude.{◌≡◌, IfOk, map};
+ghost use Rattle.proto_types.specs.Names.{join};
+ghost use Rattle.proto_types.specs.Readers.{text_of};
+ghost use Rattle.proto_files.specs.declared.message.DescriptorProto.{out-DescriptorProto};
+ghost use Rattle.proto_records.specs.Changed.{changed_message, changed_messages, changed_fields};
+ghost use Rattle.link_rules.specs.Linked.{linking, linked, linked_field, type_number, kind_number};
+ghost use Rattle.link_rules.specs.SettingCode.{setting_in};
+
+use crate::setting::Setting;
+use plain_values::{Items, Text, duplicate_given};
+use pool_parts::{ResolveNameFilter, ResolveNameResult};
+use pool_types::DefinitionKind;
+use proto_files::{DescriptorProto, FileDescriptorProto};
+use proto_types::{FieldDescriptorProto, FieldType, join};
+use std::alloc::{AllocError, Global};
+
+/// The record of the file with an index, with each type name that is found as a dot and a full name.
+///
+/// # Errors
+/// `AllocError` where memory was refused.
+pub fn linked_file(
+    alloc: Global,
+    setting: Setting,
+    index: u32,
+    file: &FileDescriptorProto,
+) -> Result<FileDescriptorProto, AllocError>
+    ensures { IfOk result (λ f. f ≡ linked (setting_in setting.entry) index file.now) }
+{
+    let mut message_type = Items::new(alloc);
+    for message in file.message_type.as_slice() {
+        message_type.push(linked_message(alloc, setting, index, file.package(), message)?)?;
+    }
+    Ok(FileDescriptorProto {
+        name: duplicate_given(alloc, &file.name)?,
+        package: duplicate_given(alloc, &file.package)?,
+        dependency: file.dependency.clone(alloc)?,
+        message_type,
+        enum_type: file.enum_type.clone(alloc)?,
+        service: file.service.clone(alloc)?,
+        extension: file.extension.clone(alloc)?,
+        options: duplicate_given(alloc, &file.options)?,
+        source_code_info: duplicate_given(alloc, &file.source_code_info)?,
+        public_dependency: Items::from_slice(alloc, file.public_dependency.as_slice())?,
+        weak_dependency: Items::from_slice(alloc, file.weak_dependency.as_slice())?,
+        syntax: duplicate_given(alloc, &file.syntax)?,
+    })
+}
+
+/// A message in a scope, with its fields and its nested messages.
+fn linked_message(
+    alloc: Global,
+    setting: Setting,
+    index: u32,
+    scope: &str,
+    message: &DescriptorProto,
+) -> Result<DescriptorProto, AllocError>
+    ensures { IfOk result (λ m. m ≡ changed_message (linking (setting_in setting.entry)) index
+        (join scope.now (text_of (out-DescriptorProto message.now).name)) message.now) }
+{
+    let within = join(alloc, scope, message.name())?;
+    let field = linked_fields(alloc, setting, index, &within, message.field.as_slice())?;
+    let mut nested_type = Items::new(alloc);
+    for nested in message.nested_type.as_slice() {
+        nested_type.push(linked_message(alloc, setting, index, &within, nested)?)?;
+    }
+    Ok(DescriptorProto {
+        name: duplicate_given(alloc, &message.name)?,
+        field,
+        nested_type,
+        enum_type: message.enum_type.clone(alloc)?,
+        extension_range: message.extension_range.clone(alloc)?,
+        extension: message.extension.clone(alloc)?,
+        options: duplicate_given(alloc, &message.options)?,
+        oneof_decl: message.oneof_decl.clone(alloc)?,
+        reserved_range: message.reserved_range.clone(alloc)?,
+        reserved_name: message.reserved_name.clone(alloc)?,
+    })
+}
+
+fn linked_fields(
+    alloc: Global,
+    setting: Setting,
+    index: u32,
+    scope: &str,
+    fields: &[FieldDescriptorProto],
+) -> Result<Items<FieldDescriptorProto>, AllocError>
+    ensures { IfOk result (λ linked. linked ≡ changed_fields (linked_field (setting_in setting.entry)) index scope.now fields.now) }
+{
+    let mut linked = Items::new(alloc);
+    for field in fields {
+        linked.push(linked_field(alloc, setting, index, scope, field)?)?;
+    }
+    Ok(linked)
+}
+
+fn linked_field(
+    alloc: Global,
+    setting: Setting,
+    index: u32,
+    scope: &str,
+    field: &FieldDescriptorProto,
+) -> Result<FieldDescriptorProto, AllocError>
+    ensures { IfOk result (λ f. f ≡ linked_field (setting_in setting.entry) index (join scope.now (text_of field.now.name)) field.now) }
+{
+    let mut linked = field.clone(alloc)?;
+    if field.type_name().is_empty() {
+        return Ok(linked);
+    }
+    let full_name = join(alloc, scope, field.name())?;
+    let filter = ResolveNameFilter::FieldType;
+    let meaning = setting.meaning(alloc, index, &full_name, filter, field.type_name())?;
+    if let ResolveNameResult::Found { name, def } = &meaning {
+        let name = name.as_str();
+        linked.type_name = Some(Text::from_string(format!(in alloc; ".{name}")?));
+        linked.type_ = type_number(field.field_type(), def.kind, field.type_);
+    }
+    Ok(linked)
+}
+
+/// The number of the type that a type name means; a group keeps its own.
+fn type_number(written: FieldType, kind: DefinitionKind, given: Option<i32>) -> Option<i32>
+    ensures { result ≡ type_number written kind given }
+{
+    match written {
+        FieldType::Group => given,
+        _ => kind_number(kind, given),
+    }
+}
+
+/// The number of the type that a definition is, by descriptor.proto; or as it was.
+fn kind_number(kind: DefinitionKind, given: Option<i32>) -> Option<i32>
+    ensures { result ≡ kind_number kind given }
+{
+    match kind {
+        DefinitionKind::Message(_) => Some(11),
+        DefinitionKind::Enum(_) => Some(14),
+        _ => given,
+    }
+}

@@ -1,0 +1,34 @@
+ghost use Rattle.std.specs.Prelude.{◌≡◌, ◌<◌, ◌^◌, IfOk};
+ghost use Rattle.proto_records.specs.Shown.{step};
+
+use std::alloc::{AllocError, Global};
+
+/// Where a declaration stands, and its full name.
+#[derive(Clone, Copy)]
+pub struct Place<'p, 'n> {
+    /// The index of its file, from 0 in the order of linking.
+    pub file: u32,
+    /// The index of the innermost message, enum or service around it.
+    pub parent: Option<u32>,
+    /// Its index in the pool; of a field, oneof, method or value the position in its list, from 0.
+    pub index: u32,
+    /// Field numbers and positions, from the file to the declaration.
+    pub path: &'p [i32],
+    pub full_name: &'n str,
+}
+
+/// The path of an entry of a list.
+pub(crate) fn step(
+    alloc: Global,
+    path: &[i32],
+    tag: i32,
+    position: usize,
+) -> Result<Vec<i32>, AllocError>
+    requires { position < 2 ^ 31 }
+    ensures { IfOk result (λ entry. entry.items ≡ step path.now tag position) }
+{
+    let mut entry = Vec::from_slice(alloc, path)?;
+    entry.push(tag)?;
+    entry.push(position as i32)?;
+    Ok(entry)
+}

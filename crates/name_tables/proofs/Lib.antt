@@ -1,0 +1,3 @@
+pub mod Earlier
+pub mod Names
+pub mod Texts

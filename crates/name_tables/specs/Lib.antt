@@ -1,0 +1,2 @@
+pub mod HashedNames
+pub mod NameTables

@@ -1,0 +1,8 @@
+ghost use Rattle.pool_faults.specs.Equality.{fault-exact};
+
+use crate::DescriptorErrorKind;
+use plain_values::ExactEq;
+
+impl ExactEq for DescriptorErrorKind {
+    ghost exact = { fault-exact };
+}

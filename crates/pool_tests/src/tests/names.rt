@@ -1,0 +1,55 @@
+//! A table of names, by its trait alone.
+
+use name_tables::{HashedNames, NameTable};
+use plain_values::Items;
+use pool_types::{Definition, DefinitionKind};
+use std::alloc::{AllocError, Global};
+use std::process::Abort;
+use std::test::Fail;
+
+fn package_of(alloc: Global, file: u32) -> Definition {
+    Definition {
+        file,
+        path: Items::new(alloc),
+        kind: DefinitionKind::Package,
+    }
+}
+
+/// Enters a name where the table lacks it, and tells whether it did.
+fn enter<N: NameTable>(
+    table: &mut N,
+    name: &str,
+    definition: Definition,
+) -> Result<bool, AllocError> {
+    if table.get(name).is_some() {
+        return Ok(false);
+    }
+    table.insert(name, definition)?;
+    Ok(true)
+}
+
+fn later_files_go_and_a_copy_stays<N: NameTable>(
+    rt: &impl Abort,
+    alloc: Global,
+    table: &mut N,
+) -> Result<(), AllocError> {
+    assert!(rt; enter(table, "p", package_of(alloc, 0))?);
+    assert!(rt; enter(table, "q", package_of(alloc, 1))?);
+    assert!(rt; !enter(table, "q", package_of(alloc, 2))?);
+    let mut copy = table.clone()?;
+    assert!(rt; copy.same(table));
+    table.remove_from(1);
+    assert!(rt; table.get("p").is_some());
+    assert!(rt; table.get("q").is_none());
+    assert!(rt; !copy.same(table));
+    copy.remove_from(1);
+    assert!(rt; copy.same(table));
+    Ok(())
+}
+
+#[test]
+fn names_of_later_files_go(rt: HostRuntime) -> Result<(), Fail> {
+    let mut table = HashedNames::new(rt.alloc());
+    later_files_go_and_a_copy_stays(&rt, rt.alloc(), &mut table)?;
+    Ok(())
+}

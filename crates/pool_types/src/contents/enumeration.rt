@@ -1,0 +1,58 @@
+ghost use Rattle.std.specs.Prelude.{◌≡◌, IfOk};
+
+use super::definition::Identity;
+use plain_values::{Duplicate, Items};
+use std::alloc::{AllocError, Global};
+
+/// An enum, with its values in the order of their positions.
+#[derive(PartialEq, Drop)]
+pub struct EnumDescriptorInner {
+    pub id: Identity,
+    /// The index of the message around it, where it is nested.
+    pub parent: Option<u32>,
+    pub values: Items<EnumValueDescriptorInner>,
+}
+
+/// A value of an enum.
+#[derive(PartialEq, Drop)]
+pub struct EnumValueDescriptorInner {
+    pub id: Identity,
+    pub number: i32,
+}
+
+impl EnumDescriptorInner {
+    /// An equal enum.
+    pub fn clone(&self, alloc: Global) -> Result<EnumDescriptorInner, AllocError>
+        ensures { IfOk result (λ copy. copy ≡ self.now) }
+    {
+        Ok(EnumDescriptorInner {
+            id: self.id.clone(alloc)?,
+            parent: self.parent,
+            values: self.values.clone(alloc)?,
+        })
+    }
+}
+
+impl Duplicate for EnumDescriptorInner {
+    fn duplicate(&self, alloc: Global) -> Result<EnumDescriptorInner, AllocError> {
+        self.clone(alloc)
+    }
+}
+
+impl EnumValueDescriptorInner {
+    /// An equal value.
+    pub fn clone(&self, alloc: Global) -> Result<EnumValueDescriptorInner, AllocError>
+        ensures { IfOk result (λ copy. copy ≡ self.now) }
+    {
+        Ok(EnumValueDescriptorInner {
+            id: self.id.clone(alloc)?,
+            number: self.number,
+        })
+    }
+}
+
+impl Duplicate for EnumValueDescriptorInner {
+    fn duplicate(&self, alloc: Global) -> Result<EnumValueDescriptorInner, AllocError> {
+        self.clone(alloc)
+    }
+}

@@ -1,0 +1,28 @@
+ghost use Rattle.std.specs.Prelude.{◌≡◌, IfOk};
+
+use super::definition::Identity;
+use plain_values::Duplicate;
+use std::alloc::{AllocError, Global};
+
+/// A oneof of a message.
+#[derive(PartialEq, Drop)]
+pub struct OneofDescriptorInner {
+    pub id: Identity,
+}
+
+impl OneofDescriptorInner {
+    /// An equal oneof.
+    pub fn clone(&self, alloc: Global) -> Result<OneofDescriptorInner, AllocError>
+        ensures { IfOk result (λ copy. copy ≡ self.now) }
+    {
+        Ok(OneofDescriptorInner {
+            id: self.id.clone(alloc)?,
+        })
+    }
+}
+
+impl Duplicate for OneofDescriptorInner {
+    fn duplicate(&self, alloc: Global) -> Result<OneofDescriptorInner, AllocError> {
+        self.clone(alloc)
+    }
+}

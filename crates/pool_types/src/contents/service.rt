@@ -1,0 +1,53 @@
+ghost use Rattle.std.specs.Prelude.{◌≡◌, IfOk};
+
+use super::definition::Identity;
+use plain_values::{Duplicate, Items};
+use std::alloc::{AllocError, Global};
+
+/// A service, with its methods in the order of their positions.
+#[derive(PartialEq, Drop)]
+pub struct ServiceDescriptorInner {
+    pub id: Identity,
+    pub methods: Items<MethodDescriptorInner>,
+}
+
+/// A method of a service.
+#[derive(PartialEq, Drop)]
+pub struct MethodDescriptorInner {
+    pub id: Identity,
+}
+
+impl ServiceDescriptorInner {
+    /// An equal service.
+    pub fn clone(&self, alloc: Global) -> Result<ServiceDescriptorInner, AllocError>
+        ensures { IfOk result (λ copy. copy ≡ self.now) }
+    {
+        Ok(ServiceDescriptorInner {
+            id: self.id.clone(alloc)?,
+            methods: self.methods.clone(alloc)?,
+        })
+    }
+}
+
+impl Duplicate for ServiceDescriptorInner {
+    fn duplicate(&self, alloc: Global) -> Result<ServiceDescriptorInner, AllocError> {
+        self.clone(alloc)
+    }
+}
+
+impl MethodDescriptorInner {
+    /// An equal method.
+    pub fn clone(&self, alloc: Global) -> Result<MethodDescriptorInner, AllocError>
+        ensures { IfOk result (λ copy. copy ≡ self.now) }
+    {
+        Ok(MethodDescriptorInner {
+            id: self.id.clone(alloc)?,
+        })
+    }
+}
+
+impl Duplicate for MethodDescriptorInner {
+    fn duplicate(&self, alloc: Global) -> Result<MethodDescriptorInner, AllocError> {
+        self.clone(alloc)
+    }
+}
