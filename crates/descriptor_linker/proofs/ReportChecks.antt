@@ -1,9 +1,10 @@
 -- Worked scripts, computed.
-use Rattle.std.specs.Prelude.{◌≡◌, [], ◌∷◌, refl, codes}
-use Rattle.std.specs.FinMap.{get-insert, get-empty}
-use Rattle.std.specs.Cmp.Lexicographic.{nat_list_cmp_total, slice_cmp}
+use Rattle.std.specs.Prelude.{◌≡◌, ℕ, [], ◌∷◌, refl, codes}
+use Rattle.std.specs.FinMap.{get-empty}
+use Rattle.std.specs.Cmp.Lexicographic.{slice_cmp}
 use Rattle.std.specs.Ordering.{nat_cmp}
 use Rattle.pool_types.specs.declared.contents.definition.Definition.{Definition}
+use Rattle.name_tables.proofs.Entries.{get-with}
 use Rattle.link_script.specs.Script.Reading.{script}
 use Rattle.descriptor_linker.specs.Report.Session.{report}
 use Rattle.descriptor_linker.proofs.Computed.{scripts}
@@ -44,69 +45,60 @@ pub missing_end : report (script (codes "file a.proto\n")) ≡ codes "line 2: mi
 unfolding scripts
 missing_end = refl
 
-pub last_package_counts : report (script (codes "file a.proto\npackage p\npackage q\nmessage M\nfield f 1 optional message .q.M ~\nend\nend\nlink\n")) ≡ codes "ok 1 1 0 0 0\n"
-unfolding scripts
-last_package_counts = simp (get-insert {X = Definition} nat_list_cmp_total) refl
-
 pub unknown_type : report (script (codes "file a.proto\nmessage M\nfield f 1 optional message N ~\nend\nend\nlink\n"))
     ≡ codes "refused 1\na.proto: name 'N' is not defined\n"
 unfolding scripts
-unknown_type = refl
+unknown_type = simp (get-with {X = Definition}, get-with {X = ℕ}, get-empty {X = Definition} (slice_cmp nat_cmp), get-empty {X = ℕ} (slice_cmp nat_cmp)) refl
 
 pub message_twice : report (script (codes "file a.proto\npackage p\nmessage M\nend\nmessage M\nend\nend\nlink\n"))
     ≡ codes "refused 1\na.proto: name 'p.M' is defined twice\n"
 unfolding scripts
-message_twice = refl
+message_twice = simp (get-with {X = Definition}, get-with {X = ℕ}, get-empty {X = Definition} (slice_cmp nat_cmp), get-empty {X = ℕ} (slice_cmp nat_cmp)) refl
 
 pub nothing_to_walk : report (script (codes "walk\n")) ≡ codes "walk 0\n"
 unfolding scripts
 nothing_to_walk = refl
 
-pub walk_over_two_files : report (script (codes "file a.proto\npackage p\nenum E\nvalue V 0\nend\nend\nfile b.proto\nmessage M\nmessage N\nend\nend\nend\nlink\nwalk\n"))
-    ≡ codes "ok 2 2 1 0 0\nwalk 6\nfile 0 a.proto []\nenum 0 p.E [5, 0]\nvalue 0 p.V [5, 0, 2, 0]\nfile 1 b.proto []\nmessage 0 M [4, 0]\nmessage 1 M.N [4, 0, 3, 0]\n"
-unfolding scripts
-walk_over_two_files = refl
-
 pub file_twice : report (script (codes "file a.proto\nend\nfile a.proto\nend\nlink\n"))
     ≡ codes "refused 1\na different file named 'a.proto' has already been added\n"
 unfolding scripts
-file_twice = refl
+file_twice = simp (get-with {X = Definition}, get-with {X = ℕ}, get-empty {X = Definition} (slice_cmp nat_cmp), get-empty {X = ℕ} (slice_cmp nat_cmp)) refl
 
 pub name_of_another_file : report (script (codes "file a.proto\npackage p\nmessage M\nend\nend\nlink\nfile b.proto\npackage p\nmessage M\nend\nend\nlink\n"))
     ≡ codes "ok 1 1 0 0 0\nrefused 1\nb.proto: name 'p.M' is already defined in file 'a.proto'\n"
 unfolding scripts
-name_of_another_file = refl
+name_of_another_file = simp (get-with {X = Definition}, get-with {X = ℕ}, get-empty {X = Definition} (slice_cmp nat_cmp), get-empty {X = ℕ} (slice_cmp nat_cmp)) refl
 
 pub missing_type_name : report (script (codes "file a.proto\nmessage M\nfield f 1 optional message ~ ~\nend\nend\nlink\n"))
     ≡ codes "refused 1\na.proto: missing required field at [4, 0, 2, 0, 6]\n"
 unfolding scripts
-missing_type_name = refl
+missing_type_name = simp (get-with {X = Definition}, get-with {X = ℕ}, get-empty {X = Definition} (slice_cmp nat_cmp), get-empty {X = ℕ} (slice_cmp nat_cmp)) refl
 
 pub field_is_no_type : report (script (codes "file a.proto\nmessage M\nfield f 1 optional message .M.f ~\nend\nend\nlink\n"))
     ≡ codes "refused 1\na.proto: 'M.f' is not a message or enum type\n"
 unfolding scripts
-field_is_no_type = simp (get-insert {X = Definition} nat_list_cmp_total) refl
+field_is_no_type = simp (get-with {X = Definition}, get-with {X = ℕ}, get-empty {X = Definition} (slice_cmp nat_cmp), get-empty {X = ℕ} (slice_cmp nat_cmp)) refl
 
 pub numbers_at_the_edges : report (script (codes "file a.proto\nmessage M\nfield a 0 optional int32 ~ ~\nfield b 1 optional int32 ~ ~\nfield c 18999 optional int32 ~ ~\nfield d 19000 optional int32 ~ ~\nfield e 19999 optional int32 ~ ~\nfield f 20000 optional int32 ~ ~\nfield g 536870911 optional int32 ~ ~\nfield h 536870912 optional int32 ~ ~\nfield i -1 optional int32 ~ ~\nend\nend\nlink\n"))
     ≡ codes "refused 5\na.proto: invalid field number '0'\na.proto: invalid field number '19000'\na.proto: invalid field number '19999'\na.proto: invalid field number '536870912'\na.proto: invalid field number '-1'\n"
 unfolding scripts
-numbers_at_the_edges = refl
+numbers_at_the_edges = simp (get-with {X = Definition}, get-with {X = ℕ}, get-empty {X = Definition} (slice_cmp nat_cmp), get-empty {X = ℕ} (slice_cmp nat_cmp)) refl
 
 pub found : report (script (codes "file a.proto\npackage p.q\nmessage M\nfield f 1 optional int32 ~ ~\nfield g 2 optional message .p.q.M ~\nend\nend\nlink\nfind p\nfind p.q\nfind .p.q.M\nfind p.q.M.f\nfind q\n"))
     ≡ codes "ok 1 1 0 0 0\npackage a.proto [2]\npackage a.proto [2]\nmessage 0 a.proto [4, 0, 1]\nfield 0 a.proto [4, 0, 2, 0, 1]\nnone\n"
 unfolding scripts
-found = simp (get-insert {X = Definition} nat_list_cmp_total, get-empty {X = Definition} (slice_cmp nat_cmp)) refl
+found = simp (get-with {X = Definition}, get-with {X = ℕ}, get-empty {X = Definition} (slice_cmp nat_cmp), get-empty {X = ℕ} (slice_cmp nat_cmp)) refl
 
 pub batch_of_a_known_file : report (script (codes "# three batches\n\nlink\nfile a.proto\nend\nlink\nfile a.proto\nmessage M\nend\nend\nlink\nfind M\n"))
     ≡ codes "ok 0 0 0 0 0\nok 1 0 0 0 0\nok 1 0 0 0 0\nnone\n"
 unfolding scripts
-batch_of_a_known_file = simp (get-empty {X = Definition} (slice_cmp nat_cmp)) refl
+batch_of_a_known_file = simp (get-with {X = Definition}, get-with {X = ℕ}, get-empty {X = Definition} (slice_cmp nat_cmp), get-empty {X = ℕ} (slice_cmp nat_cmp)) refl
 
 pub refused_whole : report (script (codes "file a.proto\nend\nlink\nfile b.proto\npackage .a\nmessage M\nend\nmessage M\nend\nend\nlink\nfind ''\nfind ..a\n"))
     ≡ codes "ok 1 0 0 0 0\nrefused 1\nb.proto: name '.a.M' is defined twice\nnone\nnone\n"
 unfolding scripts
-refused_whole = simp (get-empty {X = Definition} (slice_cmp nat_cmp)) refl
+refused_whole = simp (get-with {X = Definition}, get-with {X = ℕ}, get-empty {X = Definition} (slice_cmp nat_cmp), get-empty {X = ℕ} (slice_cmp nat_cmp)) refl
 
 pub nameless_file : report (script (codes "file ~\nmessage M\nend\nend\nlink\nfind M\nfind ~\n")) ≡ codes "ok 1 1 0 0 0\nmessage 0 '' [4, 0, 1]\nnone\n"
 unfolding scripts
-nameless_file = simp (get-insert {X = Definition} nat_list_cmp_total, get-empty {X = Definition} (slice_cmp nat_cmp)) refl
+nameless_file = simp (get-with {X = Definition}, get-with {X = ℕ}, get-empty {X = Definition} (slice_cmp nat_cmp), get-empty {X = ℕ} (slice_cmp nat_cmp)) refl

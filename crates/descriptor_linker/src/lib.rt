@@ -20,7 +20,7 @@ pub use pool_parts::DescriptorError;
 pub use pool_types::{
     Cardinality, Definition, DefinitionKind, FieldDescriptorInner, FileDescriptor,
     FileDescriptorInner, Identity, KindIndex, Label, MessageDescriptor, MessageDescriptorInner,
-    OneofDescriptorInner,
+    OneofDescriptorInner, Syntax,
 };
 pub use proto_files::{DescriptorProto, FileDescriptorProto};
 pub use proto_records::{CountKind, Counts};

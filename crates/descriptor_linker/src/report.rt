@@ -21,7 +21,8 @@ pub struct Report {
 /// The report of a script's bytes. The error comes where memory is refused.
 pub fn report_of(alloc: Global, bytes: &[u8]) -> Result<Report, AllocError>
     ensures text { IfOk result (λ r. string_bytes r.text ≡ report (script bytes.now)) }
-    ensures fault { IfOk result (λ r. (r.has_fault ≡ false → (script bytes.now).fault ≡ None) × (r.has_fault ≡ true → (script bytes.now).fault ≢ None)) }
+    ensures fault { IfOk result (λ r. (r.has_fault ≡ false → (script bytes.now).fault ≡ None)
+        × (r.has_fault ≡ true → (script bytes.now).fault ≢ None)) }
 {
     let Script { statements, fault } = read_script(alloc, bytes)?;
     let mut session = Session::new(alloc);

@@ -23,9 +23,13 @@ enum ReadError {
 pub fn run<R: ScriptInput, W: ReportOutput>(alloc: Global, input: &mut R, output: &mut W) -> Ending
     requires readable { (R.source input.old).failures < failure_limit }
     requires writable { (W.sink output.old).failures < failure_limit }
-    ensures report { (bytes taken : List ℕ) → (R.source input.old).bytes ≡ Some bytes → (W.sink output.old).bytes ≡ Some taken →
-        RunsTo bytes (R.source input.old) (R.source input.new) (W.sink output.old) (W.sink output.new) result }
-    ensures stopped { result ≡ Ending.Device → HasStopped (R.source input.old) (R.source input.new) (W.sink output.old) (W.sink output.new) }
+    ensures report { (bytes taken : List ℕ)
+        → (R.source input.old).bytes ≡ Some bytes → (W.sink output.old).bytes ≡ Some taken →
+        RunsTo bytes (R.source input.old) (R.source input.new)
+        (W.sink output.old) (W.sink output.new) result }
+    ensures stopped { result ≡ Ending.Device
+        → HasStopped (R.source input.old) (R.source input.new)
+        (W.sink output.old) (W.sink output.new) }
 {
     let bytes = match read_all(alloc, input) {
         Ok(bytes) => bytes,
@@ -50,7 +54,8 @@ fn read_all<R: ScriptInput>(alloc: Global, input: &mut R) -> Result<Vec<u8>, Rea
     requires { (R.source input.old).failures < failure_limit }
     ensures whole { (bytes : List ℕ) → (R.source input.old).bytes ≡ Some bytes →
         IfOk result (λ v. (v.items ≡ bytes) × ((R.source input.new).bytes ≡ Some [])) }
-    ensures failed { IsErrOf result ReadError.Device → (R.source input.old).failures < (R.source input.new).failures }
+    ensures failed { IsErrOf result ReadError.Device
+        → (R.source input.old).failures < (R.source input.new).failures }
 {
     let mut bytes = Vec::new(alloc);
     let mut buffer = [0u8; BUFFER_LEN];
@@ -69,9 +74,12 @@ fn read_all<R: ScriptInput>(alloc: Global, input: &mut R) -> Result<Vec<u8>, Rea
 /// no byte: a beginning of the bytes is written then.
 fn write_all<W: ReportOutput>(output: &mut W, bytes: &[u8]) -> io::Result<()>
     requires { (W.sink output.old).failures < failure_limit }
-    ensures whole { OnOk result (Took (W.sink output.old).bytes bytes.now (W.sink output.new).bytes) }
-    ensures began { (front rest : List ℕ) × (bytes.now ≡ front ++ rest) × Took (W.sink output.old).bytes front (W.sink output.new).bytes }
-    ensures stopped { OnErr result (((W.sink output.old).failures < (W.sink output.new).failures) ⊎ ((W.sink output.old).idle < (W.sink output.new).idle)) }
+    ensures whole { OnOk result
+        (Took (W.sink output.old).bytes bytes.now (W.sink output.new).bytes) }
+    ensures began { (front rest : List ℕ) × (bytes.now ≡ front ++ rest)
+        × Took (W.sink output.old).bytes front (W.sink output.new).bytes }
+    ensures stopped { OnErr result (((W.sink output.old).failures < (W.sink output.new).failures)
+        ⊎ ((W.sink output.old).idle < (W.sink output.new).idle)) }
 {
     let mut rest = bytes;
     while !rest.is_empty() {

@@ -6,6 +6,7 @@ use Rattle.std.proofs.lemmas.List.Elements.{filter_map-append, All-head, All-tai
 use Rattle.std.specs.List.{All}
 use Rattle.std.specs.Option.{option_map}
 use Rattle.pool_types.specs.Contents.{Contents, files_of}
+use Rattle.name_tables.specs.Entries.{Entry}
 use Rattle.pool_parts.specs.declared.filter.ResolveNameFilter.TheVariants.{FieldType}
 use Rattle.proto_files.specs.declared.file.FileDescriptorProto.{FileDescriptorProto}
 use Rattle.proto_types.specs.declared.records.field.FieldDescriptorProto.{FieldDescriptorProto}
@@ -25,8 +26,16 @@ use Rattle.proto_records.proofs.Walks.{IsInside, within-all}
 use Rattle.link_rules.specs.Items.{file_item, message_item, enum_item, service_item, extension_item}
 use Rattle.link_rules.specs.Linked.{linking, linked, linked_field, typed}
 use Rattle.link_rules.specs.Setting.{Setting, meaning}
-use Rattle.descriptor_pool.specs.Entered.{entries_of, entries}
-use Rattle.descriptor_pool.specs.Pool.{known_names, with_items}
+use Rattle.descriptor_pool.specs.Entered.{entries_of, entries, file_entries_of, file_entries}
+use Rattle.descriptor_pool.specs.Behind.{with_items}
+
+-- the names that the files of a pool enter
+abbrev pub known_names : Contents → List Entry
+known_names p = entries (declarations no_counts (files_of p))
+
+-- and their own names
+abbrev pub known_file_names : Contents → List (List ℕ × ℕ)
+known_file_names p = file_entries (declarations no_counts (files_of p))
 
 pub entries-append : (ds es : List Shown) → entries (ds ++ es) ≡ entries ds ++ entries es
 entries-append ds es = flat_map-append entries_of ds es
@@ -56,6 +65,22 @@ entries-one c file parent index path full_name (of_extension x) = refl
 entries-changed : (c : Changes) (ds : List Shown) → entries (map (changed c) ds) ≡ entries ds
 entries-changed c [] = refl
 entries-changed c (d ∷ ds) = λ i. entries-one c d.file d.parent d.index d.path d.full_name d.proto i ++ entries-changed c ds i
+
+file-entry-one : (c : Changes) (file : ℕ) (parent : Option ℕ) (index : ℕ) (path : List ℤ) (full_name : List ℕ) (p : Proto)
+    → let d : Shown = record { file = file; parent = parent; index = index; path = path; full_name = full_name; proto = p } in file_entries_of (changed c d) ≡ file_entries_of d
+file-entry-one c file parent index path full_name (of_file f) = refl
+file-entry-one c file parent index path full_name (of_message m) = refl
+file-entry-one c file parent index path full_name (of_field f) = refl
+file-entry-one c file parent index path full_name (of_oneof o) = refl
+file-entry-one c file parent index path full_name (of_service s) = refl
+file-entry-one c file parent index path full_name (of_method m) = refl
+file-entry-one c file parent index path full_name (of_enum e) = refl
+file-entry-one c file parent index path full_name (of_value v) = refl
+file-entry-one c file parent index path full_name (of_extension x) = refl
+
+file-entries-changed : (c : Changes) (ds : List Shown) → file_entries (map (changed c) ds) ≡ file_entries ds
+file-entries-changed c [] = refl
+file-entries-changed c (d ∷ ds) = λ i. file-entry-one c d.file d.parent d.index d.path d.full_name d.proto i ++ file-entries-changed c ds i
 
 -- no file is declared inside a file
 none-inside-one : (file : ℕ) (parent : Option ℕ) (index : ℕ) (path : List ℤ) (full_name : List ℕ) (p : Proto) (ds : List Shown) → IsInside p
@@ -141,10 +166,6 @@ module _ (p : Contents) (fs : List FileDescriptorProto) (counts : counts_in p �
   declared-behind : (gs : List FileDescriptorProto) → declarations no_counts (files_of p ++ gs) ≡ earlier ++ declarations (counts_in p) gs
   declared-behind gs = declarations-append no_counts (files_of p) gs ∙ ap (λ c. earlier ++ declarations c gs) (sym counts)
 
-  -- the names that the files enter, with the new files behind them
-  pub entries-behind : entries (declarations no_counts (files_of p ++ fs)) ≡ known_names p ++ entries new
-  entries-behind = ap entries (declared-behind fs) ∙ entries-append earlier new
-
   module _ (s : Setting) where
     pub files-linked : files_of (with_items p s new) ≡ files_of p ++ changed_files (linking s) (length p.files) fs
     files-linked = map-append (λ f. f.raw) p.files _ ∙ ap (λ gs. files_of p ++ gs) (raw-items s (counts_in p) fs)
@@ -159,6 +180,11 @@ module _ (p : Contents) (fs : List FileDescriptorProto) (counts : counts_in p �
     names-linked =
         ap entries declared-linked ∙ entries-append earlier (map (changed (linking s)) new)
         ∙ ap (λ es. known_names p ++ es) (entries-changed (linking s) new)
+
+    pub file-names-linked : known_file_names (with_items p s new) ≡ known_file_names p ++ file_entries new
+    file-names-linked =
+        ap file_entries declared-linked ∙ flat_map-append file_entries_of earlier (map (changed (linking s)) new)
+        ∙ ap (λ es. known_file_names p ++ es) (file-entries-changed (linking s) new)
 
     pub counts-linked : counts_in (with_items p s new) ≡ counted no_counts (declarations no_counts (files_of (with_items p s new)))
     counts-linked =

@@ -13,7 +13,7 @@ use Rattle.link_rules.specs.Items.{file_item, message_item, enum_item, service_i
 use Rattle.link_rules.specs.Setting.{Setting}
 use Rattle.link_rules.proofs.Owners.{owners-tell}
 use Rattle.descriptor_pool.specs.Passes.{ReferencesSeen, referred, references_progress}
-use Rattle.descriptor_pool.specs.Pool.{with_items}
+use Rattle.descriptor_pool.specs.Behind.{with_items}
 
 abbrev files_in : Setting → List Shown → List FileDescriptorInner
 files_in s ds = map (λ e. file_item s e.0 e.1) (of_kind as_file ds)

@@ -1,4 +1,3 @@
-pub mod SameNames
 pub mod Fronts
 pub mod Packages
 pub mod NamesFold
@@ -6,6 +5,10 @@ pub mod ItemsFold
 pub mod Passed
 pub mod Declared
 pub mod Resolved
+pub mod Files
 pub mod Sound
 pub mod NewFiles
 pub mod Grown
+pub mod Kept
+pub mod Entering
+pub mod Stages

@@ -1,86 +1,122 @@
 -- The first pass, one declaration after another, has the names and the faults of its definition.
 use Rattle.std.proofs.Common.{◌≡◌, ℕ, ℤ, Option, List, [], ◌∷◌, ◌++◌, ap, sym, ◌∙◌, append_assoc, append-nil}
 use Rattle.std.proofs.lemmas.Grind.{flat_map-append}
+use Rattle.std.specs.FinMap.{get}
 use Rattle.std.specs.List.{fold, flat_map}
 use Rattle.proto_types.specs.Lists.{after_each}
 use Rattle.proto_types.specs.Readers.{text_of}
+use Rattle.name_tables.specs.Entries.{Entry, names_with}
+use Rattle.name_tables.proofs.Entries.{get-with, with-more, with-nothing}
 use Rattle.proto_records.specs.Protos.{Proto, of_file, of_message, of_field, of_oneof, of_service, of_method, of_enum, of_value, of_extension}
 use Rattle.proto_records.specs.Shown.{Shown}
-use Rattle.pool_parts.specs.Entries.{names}
 use Rattle.pool_types.specs.Contents.{Contents, files_of}
-use Rattle.pool_types.specs.declared.contents.definition.Entry.{Entry}
+use Rattle.syntax_rules.specs.Syntaxes.{syntax_faults}
 use Rattle.link_rules.specs.Broken.{Faults}
-use Rattle.descriptor_pool.specs.Entered.{entries_of, entries}
-use Rattle.descriptor_pool.specs.FirstPass.{clash_faults, file_names, file_names_of, own_faults, first_faults, first_pass}
-use Rattle.descriptor_pool.specs.Passes.{NamesSeen, entered, own_named, named, names_progress}
-
--- entries in turn
-fold-entered : (seen : NamesSeen) (es : List Entry)
-    → fold entered seen es ≡ record seen { entries = seen.entries ++ es; faults = seen.faults ++ after_each (clash_faults (files_of seen.pool)) seen.entries es }
-fold-entered seen [] = λ i. record seen { entries = sym (append-nil seen.entries) i; faults = sym (append-nil seen.faults) i }
-fold-entered seen (e ∷ es) =
-    fold-entered (entered seen e) es
-    ∙ (λ i. record seen {
-      entries = append_assoc seen.entries (e ∷ []) es i;
-      faults = append_assoc seen.faults (clash_faults (files_of seen.pool) seen.entries e) (after_each (clash_faults (files_of seen.pool)) (seen.entries ++ e ∷ []) es) i;
-    })
+use Rattle.descriptor_pool.specs.Behind.{with_names}
+use Rattle.descriptor_pool.specs.Entered.{entries_of, entries, file_entries_of, file_entries}
+use Rattle.descriptor_pool.specs.FirstPass.{holder, holder_faults, clashes, file_name_faults, file_faults, own_faults, first_faults, first_pass}
+use Rattle.descriptor_pool.specs.Passes.{NamesSeen, entered, file_seen, own_seen, named, names_progress}
 
 push : {A B : Type 0} (f : A → List B) (xs : List A) (x : A) → flat_map f xs ++ f x ≡ flat_map f (xs ++ x ∷ [])
 push f xs x = sym (flat_map-append f xs (x ∷ []) ∙ ap (λ ys. flat_map f xs ++ ys) (append-nil (f x)))
 
-module _ (p : Contents) (known : List Entry) where
+module _ (p : Contents) where
+  -- what is seen behind a pool once names and file names came
+  abbrev seen : List Entry → List (List ℕ × ℕ) → Faults → NamesSeen
+  seen es files faults = record { pool = record p { names = names_with p.names es; file_names = names_with p.file_names files }; faults = faults }
+
+  -- entries in turn
+  fold-entered : (before : List Entry) (files : List (List ℕ × ℕ)) (faults : Faults) (es : List Entry)
+      → fold entered (seen before files faults) es ≡ seen (before ++ es) files (faults ++ clashes (files_of p) p.names before es)
+  fold-entered before files faults [] = λ i. seen (sym (append-nil before) i) files (sym (append-nil faults) i)
+  fold-entered before files faults (e ∷ es) =
+      let own = holder_faults (files_of p) (holder p.names before e.0) e in
+      (λ i. fold entered (record {
+        pool = record p { names = with-more p.names before (e ∷ []) i; file_names = names_with p.file_names files };
+        faults = faults ++ holder_faults (files_of p) (get-with p.names before e.0 i) e;
+      }) es)
+      ∙ fold-entered (before ++ e ∷ []) files (faults ++ own) es
+      ∙ (λ i. seen (append_assoc before (e ∷ []) es i) files (append_assoc faults own (clashes (files_of p) p.names (before ++ e ∷ []) es) i))
+
   -- what is seen after declarations
   abbrev seen_after : List Shown → Faults → NamesSeen
-  seen_after before faults = record { pool = p; entries = known ++ entries before; file_names = file_names before; faults = faults }
+  seen_after before faults = seen (entries before) (file_entries before) faults
 
-  stays : (before : List Shown) (faults : Faults)
-      → seen_after before faults ≡ record (seen_after before faults) { file_names = file_names before ++ []; faults = faults ++ [] }
-  stays before faults = λ i. record (seen_after before faults) { file_names = sym (append-nil (file_names before)) i; faults = sym (append-nil faults) i }
+  stays : (before : List Shown) (faults : Faults) → seen_after before faults ≡ seen (entries before) (file_entries before ++ []) (faults ++ [])
+  stays before faults = λ i. seen (entries before) (sym (append-nil (file_entries before)) i) (sym (append-nil faults) i)
 
-  -- what a declaration breaks beside the clashes of its names
-  own-step : (before : List Shown) (faults : Faults) (file : ℕ) (parent : Option ℕ) (index : ℕ) (path : List ℤ) (full_name : List ℕ) (q : Proto)
+  no-more : (es : List Entry) (files : List (List ℕ × ℕ)) (faults : Faults) → seen es files faults ≡ seen es files (faults ++ [])
+  no-more es files faults = λ i. seen es files (sym (append-nil faults) i)
+
+  -- what a file breaks by itself
+  file-step : (before : List Shown) (faults : Faults) (file : ℕ) (parent : Option ℕ) (index : ℕ) (path : List ℤ) (full_name : List ℕ) (q : Proto)
       → let d : Shown = record { file = file; parent = parent; index = index; path = path; full_name = full_name; proto = q } in
-      own_named (seen_after before faults) d ≡ record (seen_after before faults) { file_names = file_names before ++ file_names_of d; faults = faults ++ own_faults before d }
-  own-step before faults file parent index path full_name (of_file f) = λ i. record (seen_after before faults) {
-    file_names = file_names before ++ text_of f.name ∷ [];
-    faults = faults ++ own_faults before (record { file = file; parent = parent; index = index; path = path; full_name = full_name; proto = of_file f });
-  }
-  own-step before faults file parent index path full_name (of_message m) = stays before faults
-  own-step before faults file parent index path full_name (of_field f) = stays before faults
-  own-step before faults file parent index path full_name (of_oneof o) = stays before faults
-  own-step before faults file parent index path full_name (of_service s) = stays before faults
-  own-step before faults file parent index path full_name (of_method m) = stays before faults
-  own-step before faults file parent index path full_name (of_enum e) = stays before faults
-  own-step before faults file parent index path full_name (of_value v) = stays before faults
-  own-step before faults file parent index path full_name (of_extension x) = stays before faults
+      file_seen (seen_after before faults) d
+      ≡ seen (entries before) (file_entries before ++ file_entries_of d) (faults ++ file_faults (files_of p) p.file_names (file_entries before) d)
+  file-step before faults file parent index path full_name (of_file f) =
+      let held = get-with p.file_names (file_entries before) (text_of f.name) in
+      λ i. record {
+        pool = record p { names = names_with p.names (entries before); file_names = with-more p.file_names (file_entries before) ((text_of f.name, file) ∷ []) i };
+        faults = (append_assoc faults (syntax_faults (files_of p) file f) (file_name_faults (get (names_with p.file_names (file_entries before)) (text_of f.name)) (text_of f.name))
+            ∙ (λ j. faults ++ (syntax_faults (files_of p) file f ++ file_name_faults (held j) (text_of f.name)))) i;
+      }
+  file-step before faults file parent index path full_name (of_message m) = stays before faults
+  file-step before faults file parent index path full_name (of_field f) = stays before faults
+  file-step before faults file parent index path full_name (of_oneof o) = stays before faults
+  file-step before faults file parent index path full_name (of_service s) = stays before faults
+  file-step before faults file parent index path full_name (of_method m) = stays before faults
+  file-step before faults file parent index path full_name (of_enum e) = stays before faults
+  file-step before faults file parent index path full_name (of_value v) = stays before faults
+  file-step before faults file parent index path full_name (of_extension x) = stays before faults
+
+  -- what a message or an enum breaks by itself
+  own-step : (es : List Entry) (files : List (List ℕ × ℕ)) (faults : Faults) (file : ℕ) (parent : Option ℕ) (index : ℕ) (path : List ℤ) (full_name : List ℕ) (q : Proto)
+      → let d : Shown = record { file = file; parent = parent; index = index; path = path; full_name = full_name; proto = q } in
+      own_seen (seen es files faults) d ≡ seen es files (faults ++ own_faults (files_of p) d)
+  own-step es files faults file parent index path full_name (of_file f) = no-more es files faults
+  own-step es files faults file parent index path full_name (of_message m) = λ i. seen es files
+      (faults ++ own_faults (files_of p) (record { file = file; parent = parent; index = index; path = path; full_name = full_name; proto = of_message m }))
+  own-step es files faults file parent index path full_name (of_field f) = no-more es files faults
+  own-step es files faults file parent index path full_name (of_oneof o) = no-more es files faults
+  own-step es files faults file parent index path full_name (of_service s) = no-more es files faults
+  own-step es files faults file parent index path full_name (of_method m) = no-more es files faults
+  own-step es files faults file parent index path full_name (of_enum e) = λ i. seen es files
+      (faults ++ own_faults (files_of p) (record { file = file; parent = parent; index = index; path = path; full_name = full_name; proto = of_enum e }))
+  own-step es files faults file parent index path full_name (of_value v) = no-more es files faults
+  own-step es files faults file parent index path full_name (of_extension x) = no-more es files faults
+
+  step-of : (before : List Shown) (faults : Faults) (file : ℕ) (parent : Option ℕ) (index : ℕ) (path : List ℤ) (full_name : List ℕ) (q : Proto)
+      → let d : Shown = record { file = file; parent = parent; index = index; path = path; full_name = full_name; proto = q } in
+      named (seen_after before faults) d ≡ seen_after (before ++ d ∷ []) (faults ++ first_faults (files_of p) p before d)
+  step-of before faults file parent index path full_name q =
+      let d : Shown = record { file = file; parent = parent; index = index; path = path; full_name = full_name; proto = q } in
+      let first = file_faults (files_of p) p.file_names (file_entries before) d in
+      let files = file_entries before ++ file_entries_of d in
+      let es = entries before ++ entries_of d in
+      let next = clashes (files_of p) p.names (entries before) (entries_of d) in
+      let own = own_faults (files_of p) d in
+      ap (λ s. own_seen (fold entered s (entries_of d)) d) (file-step before faults file parent index path full_name q)
+      ∙ ap (λ s. own_seen s d) (fold-entered (entries before) files (faults ++ first) (entries_of d))
+      ∙ own-step es files ((faults ++ first) ++ next) file parent index path full_name q
+      ∙ (λ i. seen (push entries_of before d i) (push file_entries_of before d i) ((ap (λ xs. xs ++ own) (append_assoc faults first next) ∙ append_assoc faults (first ++ next) own) i))
 
   step : (before : List Shown) (faults : Faults) (d : Shown)
-      → named (seen_after before faults) d ≡ seen_after (before ++ d ∷ []) (faults ++ first_faults (files_of p) known before d)
-  step before faults d =
-      let own = own_faults before d in
-      let clashes = after_each (clash_faults (files_of p)) (known ++ entries before) (entries_of d) in
-      ap (λ seen. fold entered seen (entries_of d)) (own-step before faults d.file d.parent d.index d.path d.full_name d.proto)
-      ∙ fold-entered (record (seen_after before faults) { file_names = file_names before ++ file_names_of d; faults = faults ++ own }) (entries_of d)
-      ∙ (λ i. record {
-        pool = p;
-        entries = (append_assoc known (entries before) (entries_of d) ∙ ap (λ ys. known ++ ys) (push entries_of before d)) i;
-        file_names = push file_names_of before d i;
-        faults = append_assoc faults own clashes i;
-      })
+      → named (seen_after before faults) d ≡ seen_after (before ++ d ∷ []) (faults ++ first_faults (files_of p) p before d)
+  step before faults d = step-of before faults d.file d.parent d.index d.path d.full_name d.proto
 
   fold-after : (before : List Shown) (faults : Faults) (ds : List Shown)
-      → fold named (seen_after before faults) ds ≡ seen_after (before ++ ds) (faults ++ after_each (first_faults (files_of p) known) before ds)
+      → fold named (seen_after before faults) ds ≡ seen_after (before ++ ds) (faults ++ after_each (first_faults (files_of p) p) before ds)
   fold-after before faults [] = λ i. seen_after (sym (append-nil before) i) (sym (append-nil faults) i)
   fold-after before faults (d ∷ ds) =
-      let own = first_faults (files_of p) known before d in
-      ap (λ seen. fold named seen ds) (step before faults d)
+      let own = first_faults (files_of p) p before d in
+      ap (λ s. fold named s ds) (step before faults d)
       ∙ fold-after (before ++ d ∷ []) (faults ++ own) ds
-      ∙ (λ i. seen_after (append_assoc before (d ∷ []) ds i) (append_assoc faults own (after_each (first_faults (files_of p) known) (before ++ d ∷ []) ds) i))
+      ∙ (λ i. seen_after (append_assoc before (d ∷ []) ds i) (append_assoc faults own (after_each (first_faults (files_of p) p) (before ++ d ∷ []) ds) i))
 
-  -- the whole pass, behind the names that are known, as progress after a visitor has been shown all
-  pub progress_named : (seen : NamesSeen) (ds : List Shown) → seen ≡ record { pool = p; entries = known; file_names = []; faults = [] }
-      → names_progress (fold named seen ds) ≡ record { contents = record p { names = names (known ++ entries ds) }; faults = first_pass (files_of p) known ds; listed = [] }
-  progress_named seen ds is =
+  -- the whole pass behind a pool, as progress after a visitor has been shown all
+  pub progress_named : (s : NamesSeen) (ds : List Shown) → s ≡ record { pool = p; faults = [] }
+      → names_progress (fold named s ds) ≡ record { contents = with_names p ds; faults = first_pass (files_of p) p ds; listed = [] }
+  progress_named s ds is =
       (λ i. names_progress (fold named (is i) ds))
-      ∙ (λ i. names_progress (fold named (record { pool = p; entries = sym (append-nil known) i; file_names = []; faults = [] }) ds))
+      ∙ (λ i. names_progress (fold named (record { pool = record p { names = sym (with-nothing p.names) i; file_names = sym (with-nothing p.file_names) i }; faults = [] }) ds))
       ∙ ap names_progress (fold-after [] [] ds)

@@ -47,17 +47,17 @@ module _ (names : ByText Definition) (is_seen : ℕ → Bool) (filter : ResolveN
   got-named name None is = tt
   got-named name (Some def) is = seen-named name def (is_seen def.file) (is_match filter def.kind) (subst IsSome (sym is) refl)
 
-  look-named : (name : List ℕ) → IsNamed names (look (finite.get names) is_seen filter name)
+  look-named : (name : List ℕ) → IsNamed names (look names is_seen filter name)
   look-named name = got-named name (finite.get names name) refl
 
-  relative-named : (scope name : List ℕ) → IsNamed names (relative (finite.get names) is_seen filter scope name)
+  relative-named : (scope name : List ℕ) → IsNamed names (relative names is_seen filter scope name)
   relative-named [] name = look-named name
   relative-named (c ∷ cs) name = tt
 
-  resolution-named : (scope written : List ℕ) → IsNamed names (resolution (finite.get names) is_seen filter scope written)
+  resolution-named : (scope written : List ℕ) → IsNamed names (resolution names is_seen filter scope written)
   resolution-named scope [] = relative-named scope []
   resolution-named scope (c ∷ cs) =
-      elim (is_dot c) as (λ b. IsNamed names (if b then look (finite.get names) is_seen filter cs else relative (finite.get names) is_seen filter scope (c ∷ cs)))
+      elim (is_dot c) as (λ b. IsNamed names (if b then look names is_seen filter cs else relative names is_seen filter scope (c ∷ cs)))
       [ true ↦ look-named cs | false ↦ relative-named scope (c ∷ cs) ]
 
 -- a reference is a dot and a name that these names have
@@ -67,7 +67,7 @@ Names names r = (name : List ℕ) × (r.text ≡ 46 ∷ name) × IsSome (finite.
 abbrev pub AllNamed : ByText Definition → List Shown → Type 0
 AllNamed names ds = AllByRecursion (Names names) (flat_map references_in ds)
 
-all-append : {X : Type 0} (P : X → Type 0) (xs ys : List X) → AllByRecursion P xs → AllByRecursion P ys → AllByRecursion P (xs ++ ys)
+pub all-append : {X : Type 0} (P : X → Type 0) (xs ys : List X) → AllByRecursion P xs → AllByRecursion P ys → AllByRecursion P (xs ++ ys)
 all-append P [] ys first second = second
 all-append P (x ∷ xs) ys first second = (first.0, all-append P xs ys first.1 second)
 

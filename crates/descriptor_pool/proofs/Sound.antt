@@ -1,5 +1,6 @@
 -- What is true of all contents that are made: their names, their counts, and their references.
-use Rattle.std.proofs.Common.{Bool, true, false, ◌&&◌, cond, IsOk, arith, ◌≡◌, ℕ, Option, None, Some, IsSome, List, [], ◌∷◌, ◌++◌, map, refl, ap, subst, sym, ◌∙◌}
+use Rattle.std.proofs.Common.{Bool, true, false, ◌&&◌, cond, IsOk, arith, ◌≡◌, ℕ, Option, None, Some, IsSome, List, [], ◌∷◌, ◌++◌, ◌+◌, length, map, refl, ap, subst, sym, ◌∙◌}
+use Rattle.std.proofs.lemmas.List.{length-map}
 use Rattle.std.specs.FinMap as finite
 use Rattle.std.specs.List.{AllByRecursion, flat_map, list_all}
 use Rattle.std.proofs.lemmas.Bool.Decides.{nat_tests}
@@ -14,33 +15,32 @@ use Rattle.proto_records.proofs.Listings.{first-true, second-true}
 use Rattle.proto_records.proofs.Room.{room-fits}
 use Rattle.std.specs.Option.{option_or}
 use Rattle.pool_types.specs.declared.contents.definition.Definition.{Definition}
-use Rattle.pool_types.specs.declared.contents.definition.Entry.{Entry}
-use Rattle.pool_types.specs.Contents.{Contents, no_contents, files_of}
+use Rattle.pool_types.specs.Contents.{ByText, Contents, no_contents, files_of}
 use Rattle.proto_records.specs.Changed.{changed}
 use Rattle.proto_records.specs.Counts.{no_counts, counted, counts_in, lists_fit, added_to, within_limit}
 use Rattle.proto_records.specs.Declarations.{declarations}
-use Rattle.pool_parts.specs.Entries.{first_of, names}
-use Rattle.pool_parts.proofs.NamesFirst.{names_first}
+use Rattle.name_tables.specs.Entries.{Entry, first_of, names, names_with}
+use Rattle.name_tables.specs.NameTables.{AllBefore, FileNamesBefore}
+use Rattle.name_tables.proofs.Entries.{get-with, with-names}
 use Rattle.link_rules.specs.Linked.{linking}
-use Rattle.descriptor_pool.specs.Entered.{entries}
-use Rattle.descriptor_pool.specs.Invariant.{IsPool}
-use Rattle.descriptor_pool.specs.Pool.{Batch, Made, empty, linked_to, known_names, Fits, new_files, new_declarations, setting_of, faults_of_references, link}
+use Rattle.descriptor_pool.specs.Entered.{entries, file_entries}
+use Rattle.descriptor_pool.specs.Invariant.{IsPool, NamesLieIn}
+use Rattle.descriptor_pool.specs.Pool.{Batch, Made, empty, linked_to, Fits, new_files, faults_of_references, link}
+use Rattle.descriptor_pool.specs.Behind.{declared_behind, setting_behind, with_names}
 use Rattle.descriptor_pool.specs.References.{Reference, references_in, AllResolved}
-use Rattle.descriptor_pool.proofs.Declared.{entries-behind, declared-linked, names-linked, counts-linked}
+use Rattle.descriptor_pool.proofs.Declared.{known_names, known_file_names, declared-linked, names-linked, file-names-linked, counts-linked}
+use Rattle.descriptor_pool.proofs.Files.{names-before, file-names-before}
 use Rattle.descriptor_pool.proofs.Resolved.{Names, AllNamed, named-append, linked-resolved}
-use Rattle.descriptor_pool.proofs.SameNames.{first-append}
 
 some-first : (a b : Option Definition) → IsSome a → IsSome (option_or a b)
 some-first None b has = absurd (cc)
 some-first (Some def) b has = refl
 
--- a name that entries have is one of these and others behind them
-named-behind : (known more : List Entry) (name : List ℕ) → IsSome (finite.get (names known) name) → IsSome (finite.get (names (known ++ more)) name)
-named-behind known more name has =
-    subst IsSome (sym (names_first (known ++ more) name ∙ first-append known more name))
-    (some-first (first_of known name) (first_of more name) (subst IsSome (names_first known name) has))
+-- a name that is known is known behind further entries
+named-behind : (known : ByText Definition) (more : List Entry) (name : List ℕ) → IsSome (finite.get known name) → IsSome (finite.get (names_with known more) name)
+named-behind known more name has = subst IsSome (sym (get-with known more name)) (some-first (finite.get known name) (first_of more name) has)
 
-all-behind : (known more : List Entry) (rs : List Reference) → AllByRecursion (Names (names known)) rs → AllByRecursion (Names (names (known ++ more))) rs
+all-behind : (known : ByText Definition) (more : List Entry) (rs : List Reference) → AllByRecursion (Names known) rs → AllByRecursion (Names (names_with known more)) rs
 all-behind known more [] all = tt
 all-behind known more (r ∷ rs) all = ((all.0.0, all.0.1, named-behind known more all.0.0 all.0.2), all-behind known more rs all.1)
 
@@ -54,36 +54,48 @@ both-fit (d ∷ ds) es first second =
 -- reference names its definition
 pub record Sound (p : Contents) : Type 0 where
   pub names_are : p.names ≡ names (known_names p)
+  pub file_names_are : p.file_names ≡ names (known_file_names p)
   pub counts_are : counts_in p ≡ counted no_counts (declarations no_counts (files_of p))
   pub short : list_all (λ d. lists_fit d.proto) (declarations no_counts (files_of p)) ≡ true
   pub resolved : AllResolved p
 
 nothing-sound : Sound no_contents
-nothing-sound = record { names_are = refl; counts_are = refl; short = refl; resolved = tt }
+nothing-sound = record { names_are = refl; file_names_are = refl; counts_are = refl; short = refl; resolved = tt }
 
 link-sound : (q : Contents) (batch : Batch) → Sound q → faults_of_references q batch ≡ [] → Fits q batch → Sound (link q batch)
 link-sound q batch sound none fits =
-    let s = setting_of q batch in
     let new = new_files q batch in
-    let ds = new_declarations q batch in
-    let names_split : s.names ≡ names (known_names q ++ entries ds) = ap names (entries-behind q new sound.counts_are) in
+    let s = setting_behind q new in
+    let ds = declared_behind q new in
+    let named = with_names q ds in
     let earlier : AllNamed s.names (declarations no_counts (files_of q)) =
-    subst (λ m. AllNamed m (declarations no_counts (files_of q))) (sym names_split)
-    (all-behind (known_names q) (entries ds) (flat_map references_in (declarations no_counts (files_of q)))
-    (subst (λ m. AllNamed m (declarations no_counts (files_of q))) sound.names_are sound.resolved)) in
+    all-behind q.names (entries ds) (flat_map references_in (declarations no_counts (files_of q))) sound.resolved in
     record {
-      names_are = names_split ∙ ap names (sym (names-linked q new sound.counts_are s));
-      counts_are = counts-linked q new sound.counts_are s;
-      short = ap (list_all (λ d. lists_fit d.proto)) (declared-linked q new sound.counts_are s)
+      names_are = ap (λ known. names_with known (entries ds)) sound.names_are ∙ with-names (known_names q) (entries ds)
+          ∙ ap names (sym (names-linked named new sound.counts_are s));
+      file_names_are = ap (λ known. names_with known (file_entries ds)) sound.file_names_are ∙ with-names (known_file_names q) (file_entries ds)
+          ∙ ap names (sym (file-names-linked named new sound.counts_are s));
+      counts_are = counts-linked named new sound.counts_are s;
+      short = ap (list_all (λ d. lists_fit d.proto)) (declared-linked named new sound.counts_are s)
           ∙ both-fit (declarations no_counts (files_of q)) (map (changed (linking s)) ds) sound.short
           (all-fit-changed (linking s) ds ∙ (room-fits (counts_in q) new fits).short);
-      resolved = subst (AllNamed s.names) (sym (declared-linked q new sound.counts_are s))
+      resolved = subst (AllNamed s.names) (sym (declared-linked named new sound.counts_are s))
           (named-append s.names (declarations no_counts (files_of q)) (map (changed (linking s)) ds) earlier (linked-resolved s ds none));
     }
 
 pub made-sound : (p : Contents) → Made p → Sound p
 made-sound p (empty is) = subst Sound (sym is) nothing-sound
 made-sound p (linked_to {q = q} batch made accepts fits is) = subst Sound (sym is) (link-sound q batch (made-sound q made) accepts.1 fits)
+
+-- the names of a pool mean something in its files
+pub names_lie : (p : Contents) → IsPool p → NamesLieIn p
+names_lie p pool =
+    let sound = made-sound p pool.made in
+    let same : length (files_of p) ≡ length p.files = length-map p.files (λ f. f.raw) in
+    let many : 0 + length (files_of p) ≡ length p.files = omega (arith, same) in (
+      subst (λ n. AllBefore n p.names) many (subst (AllBefore (0 + length (files_of p))) (sym sound.names_are) (names-before no_counts (files_of p))),
+      subst (λ n. FileNamesBefore n p.file_names) many (subst (FileNamesBefore (0 + length (files_of p))) (sym sound.file_names_are) (file-names-before no_counts (files_of p))),
+    )
 
 pub all_resolved : (p : Contents) → IsPool p → AllResolved p
 all_resolved p pool = (made-sound p pool.made).resolved

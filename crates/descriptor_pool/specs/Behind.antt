@@ -1,24 +1,56 @@
--- New files behind those of a pool, numbered on from some counts. The entries are those of the pool's names.
-use Rattle.std.specs.Prelude.{List, ◌++◌}
-use Rattle.proto_records.specs.declared.counts.Counts.{Counts}
-use Rattle.pool_types.specs.declared.contents.definition.Entry.{Entry}
+-- New files behind those of a pool: what they declare, what they are read against, what they break, and the pool with them.
+use Rattle.std.specs.Prelude.{List, [], ◌∷◌, ◌++◌, map}
 use Rattle.proto_files.specs.declared.file.FileDescriptorProto.{FileDescriptorProto}
 use Rattle.pool_types.specs.Contents.{Contents, files_of}
-use Rattle.pool_parts.specs.Entries.{names}
-use Rattle.descriptor_pool.specs.Entered.{entries}
-use Rattle.descriptor_pool.specs.FirstPass.{first_pass}
-use Rattle.link_rules.specs.Broken.{Faults}
-use Rattle.descriptor_pool.specs.Pool.{first_of_both}
+use Rattle.name_tables.specs.Entries.{names_with}
+use Rattle.proto_records.specs.Counts.{counts_in}
 use Rattle.proto_records.specs.Declarations.{declarations}
-use Rattle.link_rules.specs.Broken.{second_pass}
+use Rattle.proto_records.specs.Protos.{as_file, as_message, as_enum, as_service, as_extension}
+use Rattle.proto_records.specs.Shown.{Shown, of_kind}
+use Rattle.link_rules.specs.Broken.{Faults, second_pass}
+use Rattle.link_rules.specs.Items.{file_item, message_item, enum_item, service_item, extension_item}
 use Rattle.link_rules.specs.Setting.{Setting}
+use Rattle.descriptor_pool.specs.Entered.{entries, file_entries}
+use Rattle.descriptor_pool.specs.FirstPass.{first_pass}
 
--- what they are read against
-abbrev pub setting_behind : Contents → List Entry → Counts → List FileDescriptorProto → Setting
-setting_behind p known base new = record { files = files_of p ++ new; names = names (known ++ entries (declarations base new)) }
+-- numbered on from the pool's counts
+abbrev pub declared_behind : Contents → List FileDescriptorProto → List Shown
+declared_behind p new = declarations (counts_in p) new
 
--- their faults, of the first pass that has any
-abbrev pub faults_behind : Contents → List Entry → Counts → List FileDescriptorProto → Faults
-faults_behind p known base new =
-    let ds = declarations base new in
-    first_of_both (first_pass (files_of p ++ new) known ds) (second_pass (setting_behind p known base new) ds)
+-- the pool with the names of declarations
+abbrev pub with_names : Contents → List Shown → Contents
+with_names p ds = record p { names = names_with p.names (entries ds); file_names = names_with p.file_names (file_entries ds) }
+
+-- the pool's files and these, and what their names mean
+abbrev pub setting_behind : Contents → List FileDescriptorProto → Setting
+setting_behind p new = record { files = files_of p ++ new; names = (with_names p (declared_behind p new)).names }
+
+-- faults of the first pass
+abbrev pub names_behind : Contents → List FileDescriptorProto → Faults
+names_behind p new = first_pass (files_of p ++ new) p (declared_behind p new)
+
+-- faults of the second pass
+abbrev pub references_behind : Contents → List FileDescriptorProto → Faults
+references_behind p new = second_pass (setting_behind p new) (declared_behind p new)
+
+-- the faults of the first pass that has any
+abbrev pub first_of_both : Faults → Faults → Faults
+first_of_both [] second = second
+first_of_both (f ∷ fs) second = f ∷ fs
+
+abbrev pub faults_behind : Contents → List FileDescriptorProto → Faults
+faults_behind p new = first_of_both (names_behind p new) (references_behind p new)
+
+-- the pool with the items of declarations added
+abbrev pub with_items : Contents → Setting → List Shown → Contents
+with_items p s ds = record p {
+  files = p.files ++ map (λ e. file_item s e.0 e.1) (of_kind as_file ds);
+  messages = p.messages ++ map (λ e. message_item s e.0 e.1) (of_kind as_message ds);
+  enums = p.enums ++ map (λ e. enum_item e.0 e.1) (of_kind as_enum ds);
+  services = p.services ++ map (λ e. service_item e.0 e.1) (of_kind as_service ds);
+  extensions = p.extensions ++ map (λ e. extension_item e.0) (of_kind as_extension ds);
+}
+
+-- the pool with the new files: their names, and their items
+abbrev pub linked_behind : Contents → List FileDescriptorProto → Contents
+linked_behind p new = with_items (with_names p (declared_behind p new)) (setting_behind p new) (declared_behind p new)

@@ -1,11 +1,11 @@
--- The names that declarations enter: a file its package and the packages around it, and any other its full name.
+-- The names that declarations enter: a file its package, the packages around it and its own name, and any other its full name.
 use Rattle.std.specs.Prelude.{ℕ, List, [], ◌∷◌, ◌++◌, map, unwrap_or}
 use Rattle.std.specs.List.{flat_map}
 use Rattle.proto_types.specs.declared.tag.file.TheConstants as file
 use Rattle.proto_types.specs.declared.tag.message.TheConstants as message
-use Rattle.pool_types.specs.declared.contents.definition.Entry.{Entry}
 use Rattle.pool_types.specs.declared.contents.definition.DefinitionKind.{DefinitionKind}
 use Rattle.pool_types.specs.declared.contents.definition.DefinitionKind.TheVariants as definition
+use Rattle.name_tables.specs.Entries.{Entry}
 use Rattle.proto_types.specs.Names.{fronts}
 use Rattle.proto_types.specs.Readers.{text_of}
 use Rattle.proto_records.specs.Protos.{of_file, of_message, of_field, of_oneof, of_service, of_method, of_enum, of_value, of_extension}
@@ -27,7 +27,7 @@ definition_kind d = elim d.proto [
 
 -- a package's name, at the package of its file
 abbrev pub package_entry : ℕ → List ℕ → Entry
-package_entry n name = record { name = name; definition = record { file = n; path = file.PACKAGE ∷ []; kind = definition.Package } }
+package_entry n name = (name, record { file = n; path = file.PACKAGE ∷ []; kind = definition.Package })
 
 -- a package and those around it, from the outermost in
 abbrev pub packages : List ℕ → List (List ℕ)
@@ -36,7 +36,7 @@ packages (c ∷ cs) = fronts (c ∷ cs) ++ (c ∷ cs) ∷ []
 
 -- a declaration's full name, at the name of its record
 abbrev pub own_entry : Shown → Entry
-own_entry d = record { name = d.full_name; definition = record { file = d.file; path = d.path ++ message.NAME ∷ []; kind = definition_kind d } }
+own_entry d = (d.full_name, record { file = d.file; path = d.path ++ message.NAME ∷ []; kind = definition_kind d })
 
 abbrev pub entries_of : Shown → List Entry
 entries_of d = elim d.proto [
@@ -46,3 +46,10 @@ entries_of d = elim d.proto [
 
 abbrev pub entries : List Shown → List Entry
 entries ds = flat_map entries_of ds
+
+-- a file's own name, and its index
+abbrev pub file_entries_of : Shown → List (List ℕ × ℕ)
+file_entries_of d = elim d.proto [ of_file f ↦ (text_of f.name, d.file) ∷ [] | _ ↦ [] ]
+
+abbrev pub file_entries : List Shown → List (List ℕ × ℕ)
+file_entries ds = flat_map file_entries_of ds

@@ -1,12 +1,12 @@
 -- What a pool holds, as its contents, and what is true of that.
-use Rattle.std.specs.Prelude.{◌≡◌}
+use Rattle.std.specs.Prelude.{◌≡◌, length}
 use Rattle.proto_records.specs.Counts.{no_counts, counted, counts_in}
 use Rattle.proto_records.specs.Declarations.{declarations}
 use Rattle.proto_records.specs.Walking.{WithinLimits}
 use Rattle.pool_types.specs.Contents.{Contents, files_of}
-use Rattle.pool_parts.specs.Entries.{names}
+use Rattle.name_tables.specs.NameTables.{AllBefore, FileNamesBefore}
 use Rattle.link_rules.specs.NamesBegin.{NamesBegin}
-use Rattle.descriptor_pool.specs.Pool.{Made, known_names}
+use Rattle.descriptor_pool.specs.Pool.{Made}
 use Rattle.descriptor_pool.specs.declared.inner.DescriptorPoolInner.{DescriptorPoolInner}
 
 abbrev pub contents_in : DescriptorPoolInner → Contents
@@ -16,14 +16,18 @@ contents_in p = record {
   enums = p.enums.items;
   services = p.services.items;
   extensions = p.extensions.items;
-  names = names p.entries.items;
+  names = p.names;
+  file_names = p.file_names;
 }
 
--- the contents are made, their names are those that the files enter, their counts are those of what the files declare and
--- are within the limits, and each name begins where a character begins
+-- what names mean lies in the pool's files
+abbrev pub NamesLieIn : Contents → Type 0
+NamesLieIn p = AllBefore (length p.files) p.names × FileNamesBefore (length p.files) p.file_names
+
+-- the contents are made, their counts are those of what the files declare and are within the limits, and each name begins
+-- where a character begins
 pub record IsPool (p : Contents) : Type 0 where
   pub made : Made p
-  pub names_are : p.names ≡ names (known_names p)
   pub counts_are : counts_in p ≡ counted no_counts (declarations no_counts (files_of p))
   pub within : WithinLimits (counts_in p)
   pub names_begin : NamesBegin p.messages

@@ -1,23 +1,20 @@
 -- What the two passes hold, as their definitions have it.
 use Rattle.std.specs.Prelude.{map}
-use Rattle.pool_parts.specs.Entries.{names}
 use Rattle.link_rules.specs.Setting.{Setting}
 use Rattle.descriptor_pool.specs.declared.build.names.NameVisitor.{NameVisitor}
 use Rattle.descriptor_pool.specs.declared.build.resolve.ResolveVisitor.{ResolveVisitor}
 use Rattle.descriptor_pool.specs.declared.inner.DescriptorPoolInner.{DescriptorPoolInner}
 use Rattle.descriptor_pool.specs.Growing.{kept_in}
 use Rattle.descriptor_pool.specs.Invariant.{contents_in}
-use Rattle.descriptor_pool.specs.Passes.{NamesSeen, ReferencesSeen, unnamed}
+use Rattle.descriptor_pool.specs.Passes.{NamesSeen, ReferencesSeen}
 
 -- what is read against the files and the names of a pool
 abbrev pub setting_with : DescriptorPoolInner → Setting
-setting_with p = record { files = map (λ f. f.raw) p.files.items; names = names p.entries.items }
+setting_with p = record { files = map (λ f. f.raw) p.files.items; names = p.names }
 
 abbrev pub names_seen : NameVisitor → NamesSeen
 names_seen v = record {
-  pool = unnamed (contents_in v.pool.inner);
-  entries = v.pool.inner.entries.items;
-  file_names = v.file_names.items;
+  pool = contents_in v.pool.inner;
   faults = v.faults.items;
 }
 

@@ -2,19 +2,18 @@
 
 ghost use Rattle.std.specs.Prelude.{◌≡◌, ◌++◌, [], IsOk, IfOk, IfErr, OnOk, OnErr, MatchResult, map};
 ghost use Rattle.std.specs.List.{fold};
+ghost use Rattle.pool_types.specs.Contents.{files_of};
+ghost use Rattle.proto_records.specs.Counts.{counts_in};
 ghost use Rattle.proto_records.specs.Fits.{counts_with};
 ghost use Rattle.proto_records.specs.Declarations.{declarations};
-ghost use Rattle.pool_parts.specs.Entries.{names};
-ghost use Rattle.descriptor_pool.specs.declared.error.BuildError.TheVariants.{OutOfMemory};
-ghost use Rattle.descriptor_pool.specs.Behind.{setting_behind, faults_behind};
-ghost use Rattle.descriptor_pool.specs.Entered.{entries};
-ghost use Rattle.descriptor_pool.specs.FirstPass.{first_pass};
-ghost use Rattle.descriptor_pool.specs.Growing.{kept_in};
-ghost use Rattle.descriptor_pool.specs.Invariant.{contents_in};
-ghost use Rattle.link_rules.specs.NamesBegin.{NamesBegin};
-ghost use Rattle.descriptor_pool.specs.Passes.{TellsFaults, named, names_progress, referred, references_progress};
-ghost use Rattle.descriptor_pool.specs.Pool.{with_items};
 ghost use Rattle.link_rules.specs.Broken.{second_pass};
+ghost use Rattle.link_rules.specs.NamesBegin.{NamesBegin};
+ghost use Rattle.descriptor_pool.specs.declared.error.BuildError.TheVariants.{OutOfMemory};
+ghost use Rattle.descriptor_pool.specs.Behind.{faults_behind, linked_behind, with_items, with_names};
+ghost use Rattle.descriptor_pool.specs.FirstPass.{first_pass};
+ghost use Rattle.descriptor_pool.specs.Growing.{first_new, kept_in, before_items};
+ghost use Rattle.descriptor_pool.specs.Invariant.{contents_in, NamesLieIn};
+ghost use Rattle.descriptor_pool.specs.Passes.{TellsAll, TellsFaults, named, names_progress, referred, references_progress};
 ghost use Rattle.descriptor_pool.specs.Seen.{names_seen, references_seen, setting_with};
 
 mod growing;
@@ -33,6 +32,7 @@ use proto_records::{Counts, visit};
 pub use resolve::ResolveVisitor;
 use std::alloc::{AllocError, Global};
 use std::mem;
+use syntax_rules::syntax_of;
 
 /// Links new files behind those of a pool, in the pool itself. A refusal is rolled back.
 pub(crate) fn link(
@@ -41,17 +41,17 @@ pub(crate) fn link(
     pool: &mut DescriptorPoolInner,
     new: &[FileDescriptorProto],
 ) -> Result<(), BuildError>
+    requires base { base ≡ counts_in (contents_in pool.old) }
     requires counts { IsOk (counts_with base new.now) }
+    requires before { NamesLieIn (contents_in pool.old) }
     requires names { NamesBegin pool.old.messages.items }
-    ensures ok { OnOk result (contents_in pool.new
-        ≡ with_items (contents_in pool.old) (setting_behind (contents_in pool.old) pool.old.entries.items base new.now) (declarations base new.now)) }
-    ensures faults { MatchResult result (λ _. faults_behind (contents_in pool.old) pool.old.entries.items base new.now ≡ []) (λ error. TellsFaults error (faults_behind (contents_in pool.old) pool.old.entries.items base new.now)) }
+    ensures ok { OnOk result (contents_in pool.new ≡ linked_behind (contents_in pool.old) new.now) }
+    ensures faults { TellsAll result (faults_behind (contents_in pool.old) new.now) }
     ensures err { OnErr result (contents_in pool.new ≡ contents_in pool.old) }
     ensures names { NamesBegin pool.new.messages.items }
 {
     let before = mem::replace(pool, DescriptorPoolInner::new(alloc));
-    let mut growing = GrowingPool::new(before);
-    let linked = link_behind(alloc, base, &mut growing, new);
+    let (mut growing, linked) = link_behind(alloc, GrowingPool::new(base, before), new);
     if linked.is_err() {
         growing.rollback();
     }
@@ -64,27 +64,49 @@ pub(crate) fn link(
 /// behind them.
 fn link_behind(
     alloc: Global,
-    base: Counts,
+    mut pool: GrowingPool,
+    new: &[FileDescriptorProto],
+) -> (GrowingPool, Result<(), BuildError>)
+    requires base { pool.base ≡ counts_in (contents_in pool.inner) }
+    requires counts { IsOk (counts_with pool.base new.now) }
+    requires whole { kept_in pool ≡ contents_in pool.inner }
+    requires names { NamesBegin pool.inner.messages.items }
+    ensures ok { OnOk result.1 (contents_in result.0.inner
+        ≡ linked_behind (contents_in pool.inner) new.now) }
+    ensures faults { TellsAll result.1 (faults_behind (contents_in pool.inner) new.now) }
+    ensures kept { OnErr result.1 (kept_in result.0 ≡ kept_in pool) }
+    ensures names { OnOk result.1 (NamesBegin result.0.inner.messages.items) }
+{
+    let base = pool.base;
+    if let Err(error) = add_records(alloc, &mut pool, new) {
+        return (pool, Err(error.into()));
+    }
+    let (pool, entered) = enter_names(alloc, base, pool, new);
+    if entered.is_err() {
+        return (pool, entered);
+    }
+    make_items(alloc, base, pool, new)
+}
+
+/// Puts the records of new files behind the files of a pool as they are. Labels name them, until
+/// the linked ones take their place.
+fn add_records(
+    alloc: Global,
     pool: &mut GrowingPool,
     new: &[FileDescriptorProto],
-) -> Result<(), BuildError>
-    requires counts { IsOk (counts_with base new.now) }
-    requires whole { kept_in pool.old ≡ contents_in pool.old.inner }
-    requires names { NamesBegin pool.old.inner.messages.items }
+) -> Result<(), AllocError>
     ensures ok { OnOk result (contents_in pool.new.inner
-        ≡ with_items (contents_in pool.old.inner) (setting_behind (contents_in pool.old.inner) pool.old.inner.entries.items base new.now) (declarations base new.now)) }
-    ensures faults { MatchResult result (λ _. faults_behind (contents_in pool.old.inner) pool.old.inner.entries.items base new.now ≡ []) (λ error. TellsFaults error (faults_behind (contents_in pool.old.inner) pool.old.inner.entries.items base new.now)) }
-    ensures kept { OnErr result (kept_in pool.new ≡ kept_in pool.old) }
-    ensures names { OnOk result (NamesBegin pool.new.inner.messages.items) }
+        ≡ record (contents_in pool.old.inner) { files = pool.new.inner.files.items }) }
+    ensures files { OnOk result (files_of (contents_in pool.new.inner)
+        ≡ files_of (contents_in pool.old.inner) ++ new.now) }
+    ensures kept { kept_in pool.new ≡ kept_in pool.old }
 {
     let mut files = unlinked_files(alloc, new)?;
     pool.inner.files.append(&mut files)?;
-    enter_names(alloc, base, pool, new)?;
-    make_items(alloc, base, pool, new)?;
     Ok(())
 }
 
-/// The records of files as they are, which labels name until the linked ones replace them.
+/// The records of files as they are, as items.
 fn unlinked_files(
     alloc: Global,
     new: &[FileDescriptorProto],
@@ -94,42 +116,38 @@ fn unlinked_files(
     let mut files = Vec::new(alloc);
     for file in new {
         files.push(FileDescriptorInner {
+            syntax: syntax_of(file),
             raw: file.clone(alloc)?,
         })?;
     }
     Ok(files)
 }
 
-/// The first pass: it enters the names of new files, or tells all faults of names. The pool has
-/// the records of the new files.
+/// The first pass: it enters the names of new files, or tells all faults of names, and of what a
+/// file, a message or an enum shows by itself. The pool has the records of the new files.
 fn enter_names(
     alloc: Global,
     base: Counts,
-    pool: &mut GrowingPool,
+    pool: GrowingPool,
     new: &[FileDescriptorProto],
-) -> Result<(), BuildError>
-    requires { IsOk (counts_with base new.now) }
-    ensures entered { OnOk result (contents_in pool.new.inner
-        ≡ record (contents_in pool.old.inner) { names = names (pool.old.inner.entries.items ++ entries (declarations base new.now)) }) }
-    ensures faults { MatchResult result (λ _. first_pass (map (λ f. f.raw) pool.old.inner.files.items) pool.old.inner.entries.items (declarations base new.now) ≡ [])
-        (λ error. TellsFaults error (first_pass (map (λ f. f.raw) pool.old.inner.files.items) pool.old.inner.entries.items (declarations base new.now))) }
-    ensures kept { kept_in pool.new ≡ kept_in pool.old }
+) -> (GrowingPool, Result<(), BuildError>)
+    requires counts { IsOk (counts_with base new.now) }
+    requires from { first_new pool ≡ base.files }
+    ensures entered { OnOk result.1 (contents_in result.0.inner
+        ≡ with_names (contents_in pool.inner) (declarations base new.now)) }
+    ensures faults { TellsAll result.1
+        (first_pass (files_of (contents_in pool.inner)) (contents_in pool.inner)
+        (declarations base new.now)) }
+    ensures kept { kept_in result.0 ≡ kept_in pool }
 {
     let mut visitor = NameVisitor {
         alloc,
-        pool: mem::replace(pool, GrowingPool::new(DescriptorPoolInner::new(alloc))),
-        file_names: Vec::new(alloc),
+        pool,
         faults: Vec::new(alloc),
     };
     let shown = show_names(alloc, base, new, &mut visitor);
-    let NameVisitor {
-        pool: entered,
-        faults,
-        ..
-    } = visitor;
-    *pool = entered;
-    verdict(shown, faults)?;
-    Ok(())
+    let NameVisitor { pool, faults, .. } = visitor;
+    (pool, verdict(shown, faults))
 }
 
 fn show_names(
@@ -138,8 +156,10 @@ fn show_names(
     new: &[FileDescriptorProto],
     visitor: &mut NameVisitor,
 ) -> Result<(), AllocError>
-    requires { IsOk (counts_with base new.now) }
-    ensures ok { OnOk result (names_progress (names_seen visitor.new) ≡ names_progress (fold named (names_seen visitor.old) (declarations base new.now))) }
+    requires counts { IsOk (counts_with base new.now) }
+    requires from { first_new visitor.old.pool ≡ base.files }
+    ensures ok { OnOk result (names_progress (names_seen visitor.new)
+        ≡ names_progress (fold named (names_seen visitor.old) (declarations base new.now))) }
     ensures kept { kept_in visitor.new.pool ≡ kept_in visitor.old.pool }
 {
     visit(alloc, base, new, visitor)
@@ -150,32 +170,49 @@ fn show_names(
 fn make_items(
     alloc: Global,
     base: Counts,
-    pool: &mut GrowingPool,
+    pool: GrowingPool,
     new: &[FileDescriptorProto],
-) -> Result<(), BuildError>
+) -> (GrowingPool, Result<(), BuildError>)
     requires counts { IsOk (counts_with base new.now) }
-    requires names { NamesBegin pool.old.inner.messages.items }
-    ensures made { OnOk result (contents_in pool.new.inner ≡ with_items (record (contents_in pool.old.inner) { files = (kept_in pool.old).files }) (setting_with pool.old.inner) (declarations base new.now)) }
-    ensures faults { MatchResult result (λ _. second_pass (setting_with pool.old.inner) (declarations base new.now) ≡ [])
-        (λ error. TellsFaults error (second_pass (setting_with pool.old.inner) (declarations base new.now))) }
-    ensures kept { OnErr result (kept_in pool.new ≡ kept_in pool.old) }
-    ensures names { OnOk result (NamesBegin pool.new.inner.messages.items) }
+    requires names { NamesBegin pool.inner.messages.items }
+    ensures made { OnOk result.1 (contents_in result.0.inner
+        ≡ with_items (before_items pool) (setting_with pool.inner) (declarations base new.now)) }
+    ensures faults { TellsAll result.1
+        (second_pass (setting_with pool.inner) (declarations base new.now)) }
+    ensures kept { OnErr result.1 (kept_in result.0 ≡ kept_in pool) }
+    ensures names { OnOk result.1 (NamesBegin result.0.inner.messages.items) }
 {
     let mut visitor = ResolveVisitor {
         alloc,
-        pool: mem::replace(pool, GrowingPool::new(DescriptorPoolInner::new(alloc))),
+        pool,
         files: Vec::new(alloc),
         faults: Vec::new(alloc),
     };
     let shown = show_references(alloc, base, new, &mut visitor);
     let ResolveVisitor {
-        pool: read,
+        mut pool,
         files,
         faults,
         ..
     } = visitor;
-    *pool = read;
-    verdict(shown, faults)?;
+    let linked = put_linked(&mut pool, verdict(shown, faults), files);
+    (pool, linked)
+}
+
+/// Replaces the records of new files by the linked ones, unless the pass was refused.
+fn put_linked(
+    pool: &mut GrowingPool,
+    passed: Result<(), BuildError>,
+    files: Vec<FileDescriptorInner>,
+) -> Result<(), BuildError>
+    ensures ok { OnOk result (IsOk passed × (contents_in pool.new.inner
+        ≡ record (contents_in pool.old.inner)
+        { files = (kept_in pool.old).files ++ files.items })) }
+    ensures err { IfErr result (λ error.
+        MatchResult passed (λ _. error ≡ OutOfMemory) (λ told. error ≡ told)) }
+    ensures kept { OnErr result (kept_in pool.new ≡ kept_in pool.old) }
+{
+    passed?;
     pool.put_files(files)?;
     Ok(())
 }
@@ -188,7 +225,8 @@ fn show_references(
 ) -> Result<(), AllocError>
     requires { IsOk (counts_with base new.now) }
     ensures ok { OnOk result (references_progress (references_seen visitor.new)
-        ≡ references_progress (fold referred (references_seen visitor.old) (declarations base new.now))) }
+        ≡ references_progress (fold referred (references_seen visitor.old)
+        (declarations base new.now))) }
     ensures kept { kept_in visitor.new.pool ≡ kept_in visitor.old.pool }
 {
     visit(alloc, base, new, visitor)
@@ -200,7 +238,8 @@ fn verdict(
     faults: Vec<DescriptorErrorKind>,
 ) -> Result<(), BuildError>
     ensures ok { OnOk result (IsOk shown × (faults.items ≡ [])) }
-    ensures err { IfErr result (λ error. MatchResult shown (λ _. TellsFaults error faults.items) (λ _. error ≡ OutOfMemory)) }
+    ensures err { IfErr result (λ error.
+        MatchResult shown (λ _. TellsFaults error faults.items) (λ _. error ≡ OutOfMemory)) }
 {
     shown?;
     if faults.is_empty() {

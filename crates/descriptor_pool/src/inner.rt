@@ -5,14 +5,15 @@ ghost use Rattle.descriptor_pool.specs.Invariant.{contents_in};
 ghost use Rattle.descriptor_pool.specs.Seen.{setting_with};
 
 use link_rules::Setting;
+use name_tables::{FileNames, HashedNames};
 use pool_types::{
-    Entry, EnumDescriptorInner, ExtensionDescriptorInner, FileDescriptorInner,
-    MessageDescriptorInner, ServiceDescriptorInner,
+    EnumDescriptorInner, ExtensionDescriptorInner, FileDescriptorInner, MessageDescriptorInner,
+    ServiceDescriptorInner,
 };
 use std::alloc::Global;
 
-/// What a pool holds: the items of each kind in the order of their indexes, and the names that the
-/// files enter.
+/// What a pool holds: the items of each kind in the order of their indexes, what the names mean that
+/// the files enter, and which file has which name.
 #[derive(Drop)]
 pub(crate) struct DescriptorPoolInner {
     pub(crate) files: Vec<FileDescriptorInner>,
@@ -20,7 +21,8 @@ pub(crate) struct DescriptorPoolInner {
     pub(crate) enums: Vec<EnumDescriptorInner>,
     pub(crate) services: Vec<ServiceDescriptorInner>,
     pub(crate) extensions: Vec<ExtensionDescriptorInner>,
-    pub(crate) entries: Vec<Entry>,
+    pub(crate) names: HashedNames,
+    pub(crate) file_names: FileNames,
 }
 
 impl DescriptorPoolInner {
@@ -34,7 +36,8 @@ impl DescriptorPoolInner {
             enums: Vec::new(alloc),
             services: Vec::new(alloc),
             extensions: Vec::new(alloc),
-            entries: Vec::new(alloc),
+            names: HashedNames::new(alloc),
+            file_names: FileNames::new(alloc),
         }
     }
 
@@ -44,7 +47,7 @@ impl DescriptorPoolInner {
     {
         Setting {
             files: &self.files,
-            entries: &self.entries,
+            names: &self.names,
         }
     }
 }

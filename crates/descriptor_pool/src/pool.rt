@@ -1,15 +1,15 @@
-ghost use Rattle.std.specs.Prelude.{◌≡◌, [], not, IsOk, IfOk, IfSome, slice_get};
+ghost use Rattle.std.specs.Prelude.{◌≡◌, [], not, is_some, IsOk, IfOk, IfSome, slice_get};
 ghost use Rattle.std.specs.Option.{option_copied};
-ghost use Rattle.std.specs.List.{list_any, filter};
-ghost use Rattle.std.specs.Str.{bytes_eq};
+ghost use Rattle.std.specs.FinMap as finite;
+ghost use Rattle.std.specs.List.{filter};
 ghost use Rattle.proto_types.specs.Readers.{text_of};
 ghost use Rattle.descriptor_pool.specs.LookUps.{without_dot};
 
 use crate::build::link;
 use crate::error::BuildError;
 use crate::inner::DescriptorPoolInner;
+use name_tables::{FileNames, NameTable};
 use pool_kinds::{FileDescriptor, MessageDescriptor};
-use pool_parts::first_definition;
 use pool_types::{Definition, FileDescriptorInner, MessageDescriptorInner};
 use proto_files::FileDescriptorProto;
 use proto_records::Counts;
@@ -62,7 +62,7 @@ impl DescriptorPool {
     pub fn get_by_name(&self, name: &str) -> Option<&Definition>
         ensures { option_copied result ≡ definition_named self.now name.now }
     {
-        first_definition(&self.inner.entries, without_dot(name))
+        self.inner.names.get(without_dot(name))
     }
 
     /// The file with an index, or none past the end.
@@ -96,8 +96,8 @@ impl DescriptorPool {
     }
 
     /// The linked records of the pool's files, in the order of linking. In them each reference that
-    /// is resolved is a dot and the full name of its definition, which the pool has. What they declare fits into a pool, as
-    /// `Counts::of` tells.
+    /// is resolved is a dot and the full name of its definition, which the pool has. What they
+    /// declare fits into a pool, as `Counts::of` tells.
     ///
     /// # Errors
     /// `AllocError` where memory was refused.
@@ -122,7 +122,7 @@ impl DescriptorPool {
         ensures outcome { Outcome self.old files.items result self.new }
         ensures nothing_new { new_files self.old files.items ≡ [] → IsOk result }
     {
-        keep_new(&self.inner.files, &mut files);
+        keep_new(&self.inner.file_names, &mut files);
         if files.is_empty() {
             return Ok(());
         }
@@ -134,23 +134,12 @@ impl DescriptorPool {
     }
 }
 
-/// Whether one of the files has this name.
-fn has_name(files: &[FileDescriptorInner], name: &str) -> bool
-    ensures { result ≡ list_any (λ f. bytes_eq (text_of f.raw.name) name.now) files.now }
+/// Keeps the files of a batch whose names are not among these, and takes no memory.
+fn keep_new(names: &FileNames, batch: &mut Vec<FileDescriptorProto>)
+    ensures { batch.new.items
+        ≡ filter (λ f. not (is_some (finite.get names.now (text_of f.name)))) batch.old.items }
 {
-    for file in files {
-        if file.raw.name() == name {
-            return true;
-        }
-    }
-    false
-}
-
-/// Keeps the files of a batch whose names no linked file has, and takes no memory.
-fn keep_new(linked: &[FileDescriptorInner], batch: &mut Vec<FileDescriptorProto>)
-    ensures { batch.new.items ≡ filter (λ f. not (list_any (λ g. bytes_eq (text_of g.raw.name) (text_of f.name)) linked.now)) batch.old.items }
-{
-    batch.retain(|file| !has_name(linked, file.name()));
+    batch.retain(|file| names.get(file.name()).is_none());
 }
 
 /// A name without one leading dot.

@@ -1,5 +1,5 @@
 -- Lists of which each entry stays.
-use Rattle.std.proofs.Common.{◌≡◌, ℕ, List, [], ◌∷◌, refl, ap}
+use Rattle.std.proofs.Common.{◌≡◌, ℕ, List, [], ◌∷◌, Result, Ok, Err, IfOk, refl, ap, ◌∙◌}
 use Rattle.proto_types.specs.declared.records.field.FieldDescriptorProto.{FieldDescriptorProto}
 use Rattle.proto_types.specs.declared.records.service.MethodDescriptorProto.{MethodDescriptorProto}
 use Rattle.proto_types.specs.declared.records.service.ServiceDescriptorProto.{ServiceDescriptorProto}
@@ -20,3 +20,8 @@ methods-stay index scope (m ∷ ms) = ap (λ ns. m ∷ ns) (methods-stay index s
 pub services-stay : (s : Setting) (index : ℕ) (scope : List ℕ) (ss : List ServiceDescriptorProto) → changed_services (linking s) index scope ss ≡ ss
 services-stay s index scope [] = refl
 services-stay s index scope (v ∷ vs) = λ i. record v { method = methods-stay index (join scope (text_of v.name)) v.method i } ∷ services-stay s index scope vs i
+
+-- what is made is another, where that is equal
+pub if-ok : {X E : Type 0} (r : Result X E) {a b : X} → a ≡ b → IfOk r (λ x. x ≡ a) → IfOk r (λ x. x ≡ b)
+if-ok (Ok x) same is = is ∙ same
+if-ok (Err e) same is = tt

@@ -2,7 +2,6 @@
 use Rattle.std.specs.Prelude.{not, List, [], ◌∷◌, ◌++◌}
 use Rattle.std.specs.List.{flat_map}
 use Rattle.proto_types.specs.declared.tag.field.TheConstants as field
-use Rattle.proto_types.specs.declared.tag.message.TheConstants as message
 use Rattle.proto_types.specs.declared.records.field.FieldDescriptorProto.{FieldDescriptorProto}
 use Rattle.proto_files.specs.declared.message.DescriptorProto.{DescriptorProto, out-DescriptorProto}
 use Rattle.pool_faults.specs.declared.fault.DescriptorErrorKind.{DescriptorErrorKind}
@@ -11,11 +10,11 @@ use Rattle.pool_types.specs.Labels.{label_in}
 use Rattle.proto_types.specs.Lists.{only_if}
 use Rattle.proto_types.specs.Readers.{number_of}
 use Rattle.proto_records.specs.Protos.{of_message, of_field}
-use Rattle.proto_records.specs.Shown.{Shown, inside}
+use Rattle.proto_records.specs.Shown.{Shown, Surrounding, inside}
 use Rattle.pool_parts.specs.FieldNumbers.{is_valid_number}
 use Rattle.link_rules.specs.Each.{each}
 use Rattle.link_rules.specs.FieldTypes.{type_faults}
-use Rattle.link_rules.specs.Places.{part_inside}
+use Rattle.link_rules.specs.Places.{field_at}
 use Rattle.link_rules.specs.Setting.{Setting}
 
 abbrev pub Faults : Type 0
@@ -38,9 +37,13 @@ second_faults s d = elim d.proto [ of_field f ↦ field_faults s d f | _ ↦ [] 
 abbrev pub second_pass : Setting → List Shown → Faults
 second_pass s ds = flat_map (second_faults s) ds
 
--- the same told of owners: what the fields of a message break, one field after another
+-- what fields break that stand in surroundings, one field after another
+abbrev pub faults_of_fields : Setting → Surrounding → List FieldDescriptorProto → Faults
+faults_of_fields s here fs = flat_map (λ faults. faults) (each (λ i f. field_faults s (field_at here i f) f) 0 fs)
+
+-- the same told of owners: what the fields of a message break
 abbrev pub message_faults : Setting → Shown → DescriptorProto → Faults
-message_faults s d m = flat_map (λ faults. faults) (each (λ i f. field_faults s (part_inside (inside d) message.FIELD i (of_field f)) f) 0 (out-DescriptorProto m).field)
+message_faults s d m = faults_of_fields s (inside d) (out-DescriptorProto m).field
 
 abbrev pub owner_faults : Setting → Shown → Faults
 owner_faults s d = elim d.proto [ of_message m ↦ message_faults s d m | _ ↦ [] ]

@@ -1,4 +1,4 @@
--- The records that a pool holds of messages, enums, services and extensions.
+-- The records that a pool holds of files, messages, enums, services and extensions.
 use Rattle.std.specs.Prelude.{ℕ, suc, ◌-◌, ◌^◌, ℤ, pos, negsuc, List, length, unwrap_or}
 use Rattle.proto_types.specs.declared.tag.message.TheConstants as message
 use Rattle.proto_types.specs.declared.tag.enum_.TheConstants as enumeration
@@ -15,18 +15,22 @@ use Rattle.pool_types.specs.declared.contents.service.ServiceDescriptorInner.{Se
 use Rattle.pool_types.specs.declared.contents.service.MethodDescriptorInner.{MethodDescriptorInner}
 use Rattle.pool_kinds.specs.declared.kinds.KindIndex.TheVariants.{Double}
 use Rattle.proto_types.specs.declared.records.enumeration.EnumDescriptorProto.{EnumDescriptorProto}
+use Rattle.proto_types.specs.declared.records.enumeration.EnumValueDescriptorProto.{EnumValueDescriptorProto}
 use Rattle.proto_types.specs.declared.records.field.FieldDescriptorProto.{FieldDescriptorProto}
+use Rattle.proto_types.specs.declared.records.service.MethodDescriptorProto.{MethodDescriptorProto}
 use Rattle.proto_types.specs.declared.records.service.ServiceDescriptorProto.{ServiceDescriptorProto}
 use Rattle.proto_files.specs.declared.file.FileDescriptorProto.{FileDescriptorProto}
 use Rattle.proto_files.specs.declared.message.DescriptorProto.{DescriptorProto, out-DescriptorProto}
+use Rattle.proto_files.specs.declared.message.OneofDescriptorProto.{OneofDescriptorProto}
 use Rattle.proto_types.specs.Readers.{number_of, label_of}
-use Rattle.proto_records.specs.Protos.{name_of, of_field, of_oneof, of_value, of_method}
-use Rattle.proto_records.specs.Shown.{Shown, inside}
+use Rattle.proto_records.specs.Protos.{name_of, of_oneof, of_value, of_method}
+use Rattle.proto_records.specs.Shown.{Shown, Surrounding, inside}
 use Rattle.pool_parts.specs.Kinds.{cardinality_of}
+use Rattle.syntax_rules.specs.Syntaxes.{syntax_of}
 use Rattle.link_rules.specs.Each.{each}
 use Rattle.link_rules.specs.FieldTypes.{field_kind}
 use Rattle.link_rules.specs.Linked.{linked}
-use Rattle.link_rules.specs.Places.{part_inside, part_beside}
+use Rattle.link_rules.specs.Places.{field_at, part_inside, part_beside}
 use Rattle.link_rules.specs.Setting.{Setting}
 
 -- where a declaration stands that has a name, which begins in the full name so many bytes before its end
@@ -36,9 +40,9 @@ named_at file path full_name name = record { file = file; path = path; full_name
 abbrev pub identity : Shown → Identity
 identity d = named_at d.file d.path d.full_name (name_of d.proto)
 
--- a file by its linked record
+-- a file with its syntax, by its linked record
 abbrev pub file_item : Setting → Shown → FileDescriptorProto → FileDescriptorInner
-file_item s d f = record { raw = linked s d.index f }
+file_item s d f = record { syntax = syntax_of f; raw = linked s d.index f }
 
 -- a field's number as an item has it; a negative one, which is a fault, stands there as itself plus 2 ^ 32
 abbrev pub item_number : ℤ → ℕ
@@ -56,34 +60,49 @@ field_item s d f = record {
 abbrev pub oneof_item : Shown → OneofDescriptorInner
 oneof_item d = record { id = identity d }
 
+-- those of the fields and of the oneofs that stand in surroundings
+abbrev pub field_items : Setting → Surrounding → List FieldDescriptorProto → List FieldDescriptorInner
+field_items s here fs = each (λ i f. field_item s (field_at here i f) f) 0 fs
+
+abbrev pub oneof_items : Surrounding → List OneofDescriptorProto → List OneofDescriptorInner
+oneof_items here os = each (λ i o. oneof_item (part_inside here message.ONEOF_DECL i (of_oneof o))) 0 os
+
 -- a message with its fields and its oneofs
 abbrev pub message_item : Setting → Shown → DescriptorProto → MessageDescriptorInner
 message_item s d m = record {
   id = identity d;
   parent = d.parent;
-  fields = each (λ i f. field_item s (part_inside (inside d) message.FIELD i (of_field f)) f) 0 (out-DescriptorProto m).field;
-  oneofs = each (λ i o. oneof_item (part_inside (inside d) message.ONEOF_DECL i (of_oneof o))) 0 (out-DescriptorProto m).oneof_decl;
+  fields = field_items s (inside d) (out-DescriptorProto m).field;
+  oneofs = oneof_items (inside d) (out-DescriptorProto m).oneof_decl;
 }
 
 abbrev pub value_item : Shown → ℤ → EnumValueDescriptorInner
 value_item d number = record { id = identity d; number = number }
 
--- an enum with its values, which stand beside it
+-- those of the values of an enum, which stand beside it
+abbrev pub value_items : Shown → List EnumValueDescriptorProto → List EnumValueDescriptorInner
+value_items d vs = each (λ i v. value_item (part_beside d enumeration.VALUE i (of_value v)) (number_of v.number)) 0 vs
+
+-- an enum with its values
 abbrev pub enum_item : Shown → EnumDescriptorProto → EnumDescriptorInner
 enum_item d e = record {
   id = identity d;
   parent = d.parent;
-  values = each (λ i v. value_item (part_beside d enumeration.VALUE i (of_value v)) (number_of v.number)) 0 e.value;
+  values = value_items d e.value;
 }
 
 abbrev pub method_item : Shown → MethodDescriptorInner
 method_item d = record { id = identity d }
 
+-- those of the methods that stand in surroundings
+abbrev pub method_items : Surrounding → List MethodDescriptorProto → List MethodDescriptorInner
+method_items here ms = each (λ i m. method_item (part_inside here service.METHOD i (of_method m))) 0 ms
+
 -- a service with its methods
 abbrev pub service_item : Shown → ServiceDescriptorProto → ServiceDescriptorInner
 service_item d s = record {
   id = identity d;
-  methods = each (λ i m. method_item (part_inside (inside d) service.METHOD i (of_method m))) 0 s.method;
+  methods = method_items (inside d) s.method;
 }
 
 abbrev pub extension_item : Shown → ExtensionDescriptorInner

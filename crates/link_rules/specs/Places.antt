@@ -1,7 +1,12 @@
 -- Where a declaration stands, and where its parts do.
-use Rattle.std.specs.Prelude.{ℕ, ℤ}
+use Rattle.std.specs.Prelude.{ℕ, ℤ, ◌-◌, List, length, take}
 use Rattle.std.specs.declared.option.Option.TheVariants.{Some}
-use Rattle.proto_records.specs.Protos.{Proto, name_of}
+use Rattle.proto_types.specs.declared.tag.message.TheConstants as message
+use Rattle.proto_types.specs.declared.records.enumeration.EnumDescriptorProto.{EnumDescriptorProto}
+use Rattle.proto_types.specs.declared.records.field.FieldDescriptorProto.{FieldDescriptorProto}
+use Rattle.proto_types.specs.declared.records.service.ServiceDescriptorProto.{ServiceDescriptorProto}
+use Rattle.proto_files.specs.declared.message.DescriptorProto.{DescriptorProto}
+use Rattle.proto_records.specs.Protos.{Proto, name_of, of_message, of_field, of_enum, of_service}
 use Rattle.proto_records.specs.Shown.{Shown, Surrounding, shown, beside_name, step}
 use Rattle.link_rules.specs.declared.place.Place.{Place}
 
@@ -25,3 +30,21 @@ part_beside d tag position proto = record {
   full_name = beside_name d (name_of proto);
   proto = proto;
 }
+
+-- a field in surroundings, by its position
+abbrev pub field_at : Surrounding → ℕ → FieldDescriptorProto → Shown
+field_at here position f = part_inside here message.FIELD position (of_field f)
+
+-- a message, an enum and a service at a place
+abbrev pub message_at : Place → DescriptorProto → Shown
+message_at p m = shown_at p (of_message m)
+
+abbrev pub enum_at : Place → EnumDescriptorProto → Shown
+enum_at p e = shown_at p (of_enum e)
+
+abbrev pub service_at : Place → ServiceDescriptorProto → Shown
+service_at p s = shown_at p (of_service s)
+
+-- a text without its ending
+abbrev pub before_ending : List ℕ → List ℕ → List ℕ
+before_ending text ending = take (length text - length ending) text

@@ -1,6 +1,5 @@
 -- What declarations are read against: files, and what names mean.
 use Rattle.std.specs.Prelude.{ℕ, ◌==◌, List}
-use Rattle.std.specs.FinMap as finite
 use Rattle.pool_types.specs.declared.contents.definition.Definition.{Definition}
 use Rattle.pool_types.specs.Contents.{ByText}
 use Rattle.proto_files.specs.declared.file.FileDescriptorProto.{FileDescriptorProto}
@@ -13,4 +12,4 @@ pub record Setting : Type 0 where
 
 -- what a reference means that is written in a scope of a file, which sees itself alone
 abbrev pub meaning : Setting → ℕ → List ℕ → ResolveNameFilter → List ℕ → Resolution
-meaning s file scope filter written = resolution (finite.get s.names) (λ n. file == n) filter scope written
+meaning s file scope filter written = resolution s.names (λ n. file == n) filter scope written

@@ -1,8 +1,7 @@
 -- What declarations are read against, as the program has it.
 use Rattle.std.specs.Prelude.{map}
-use Rattle.pool_parts.specs.Entries.{names}
 use Rattle.link_rules.specs.declared.setting.Setting.{Setting as Borrowed}
 use Rattle.link_rules.specs.Setting.{Setting}
 
 abbrev pub setting_in : Borrowed → Setting
-setting_in s = record { files = map (λ f. f.raw) s.files.now; names = names s.entries.now }
+setting_in s = record { files = map (λ f. f.raw) s.files.now; names = s.names.now }

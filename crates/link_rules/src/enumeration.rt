@@ -1,12 +1,9 @@
 ghost use Rattle.std.specs.Prelude.{◌≡◌, true, IfOk};
-ghost use Rattle.proto_types.specs.declared.tag.enum_.TheConstants.{VALUE};
-ghost use Rattle.proto_types.specs.Readers.{number_of};
 ghost use Rattle.proto_records.specs.Counts.{lists_fit};
 ghost use Rattle.proto_records.specs.FullNames.{EndsWithName};
-ghost use Rattle.proto_records.specs.Protos.{of_enum, of_value};
-ghost use Rattle.link_rules.specs.Each.{each};
-ghost use Rattle.link_rules.specs.Items.{enum_item, value_item};
-ghost use Rattle.link_rules.specs.Places.{shown_at, part_beside};
+ghost use Rattle.proto_records.specs.Protos.{of_enum};
+ghost use Rattle.link_rules.specs.Items.{enum_item, value_items};
+ghost use Rattle.link_rules.specs.Places.{enum_at};
 
 use crate::identity::{identity, identity_beside};
 use crate::place::Place;
@@ -25,8 +22,9 @@ pub fn read_enum(
     enumeration: &EnumDescriptorProto,
 ) -> Result<EnumDescriptorInner, AllocError>
     requires short { lists_fit (of_enum enumeration.now) ≡ true }
-    requires ends { EndsWithName (shown_at place (of_enum enumeration.now)) }
-    ensures { IfOk result (λ item. item ≡ enum_item (shown_at place.entry (of_enum enumeration.now)) enumeration.now) }
+    requires ends { EndsWithName (enum_at place enumeration.now) }
+    ensures { IfOk result (λ item. item
+        ≡ enum_item (enum_at place.entry enumeration.now) enumeration.now) }
 {
     Ok(EnumDescriptorInner {
         id: identity(alloc, place, enumeration.name())?,
@@ -41,9 +39,9 @@ fn read_values(
     enumeration: &EnumDescriptorProto,
 ) -> Result<Vec<EnumValueDescriptorInner>, AllocError>
     requires short { lists_fit (of_enum enumeration.now) ≡ true }
-    requires ends { EndsWithName (shown_at place (of_enum enumeration.now)) }
-    ensures { IfOk result (λ items. items.items ≡ each (λ i v.
-        value_item (part_beside (shown_at place.entry (of_enum enumeration.now)) VALUE i (of_value v)) (number_of v.number)) 0 enumeration.now.value) }
+    requires ends { EndsWithName (enum_at place enumeration.now) }
+    ensures { IfOk result (λ items. items.items
+        ≡ value_items (enum_at place.entry enumeration.now) enumeration.now.value) }
 {
     let mut items = Vec::new(alloc);
     let own_name = enumeration.name();

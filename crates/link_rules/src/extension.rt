@@ -18,7 +18,8 @@ pub fn read_extension(
     place: Place,
     extension: &FieldDescriptorProto,
 ) -> Result<ExtensionDescriptorInner, AllocError>
-    ensures { IfOk result (λ item. item ≡ extension_item (shown_at place.entry (of_extension extension.now))) }
+    ensures { IfOk result (λ item. item
+        ≡ extension_item (shown_at place.entry (of_extension extension.now))) }
 {
     Ok(ExtensionDescriptorInner {
         id: identity(alloc, place, extension.name())?,

@@ -31,10 +31,14 @@ pub(crate) fn read_field(
     field: &FieldDescriptorProto,
     faults: &mut Vec<DescriptorErrorKind>,
 ) -> Result<FieldDescriptorInner, AllocError>
-    ensures item { IfOk result (λ item. item ≡ field_item (setting_in setting.entry) (shown_at place.entry (of_field field.now)) field.now) }
-    ensures begins { IfOk result (λ item. EndsWith place.entry.full_name.now (text_of field.now.name) → BeginsAtBoundary item.id) }
+    ensures item { IfOk result (λ item. item
+        ≡ field_item (setting_in setting.entry)
+        (shown_at place.entry (of_field field.now)) field.now) }
+    ensures begins { IfOk result (λ item.
+        EndsWith place.entry.full_name.now (text_of field.now.name) → BeginsAtBoundary item.id) }
     ensures faults { OnOk result (faults.new.items ≡ faults.old.items
-        ++ field_faults (setting_in setting.entry) (shown_at place.entry (of_field field.now)) field.now) }
+        ++ field_faults (setting_in setting.entry)
+        (shown_at place.entry (of_field field.now)) field.now) }
 {
     check_number(alloc, setting, place, field, faults)?;
     let kind = field_type(alloc, setting, place, field, faults)?;
@@ -62,7 +66,8 @@ fn check_number(
     faults: &mut Vec<DescriptorErrorKind>,
 ) -> Result<(), AllocError>
     ensures { OnOk result (faults.new.items ≡ faults.old.items
-        ++ number_faults (setting_in setting.entry) (shown_at place.entry (of_field field.now)) field.now) }
+        ++ number_faults (setting_in setting.entry)
+        (shown_at place.entry (of_field field.now)) field.now) }
 {
     let number = field.number();
     if is_valid_number(number) {
@@ -83,9 +88,12 @@ fn field_type(
     field: &FieldDescriptorProto,
     faults: &mut Vec<DescriptorErrorKind>,
 ) -> Result<Option<KindIndex>, AllocError>
-    ensures kind { IfOk result (λ kind. kind ≡ field_kind (setting_in setting.entry) (shown_at place.entry (of_field field.now)) field.now) }
+    ensures kind { IfOk result (λ kind. kind
+        ≡ field_kind (setting_in setting.entry)
+        (shown_at place.entry (of_field field.now)) field.now) }
     ensures faults { OnOk result (faults.new.items ≡ faults.old.items
-        ++ type_faults (setting_in setting.entry) (shown_at place.entry (of_field field.now)) field.now) }
+        ++ type_faults (setting_in setting.entry)
+        (shown_at place.entry (of_field field.now)) field.now) }
 {
     let (kind, fault) = kind_or_fault(alloc, setting, place, field)?;
     if let Some(fault) = fault {
@@ -101,8 +109,12 @@ fn kind_or_fault(
     place: Place,
     field: &FieldDescriptorProto,
 ) -> Result<(Option<KindIndex>, Option<DescriptorErrorKind>), AllocError>
-    ensures kind { IfOk result (λ t. t.0 ≡ field_kind (setting_in setting.entry) (shown_at place.entry (of_field field.now)) field.now) }
-    ensures fault { IfOk result (λ t. listed t.1 ≡ type_faults (setting_in setting.entry) (shown_at place.entry (of_field field.now)) field.now) }
+    ensures kind { IfOk result (λ t. t.0
+        ≡ field_kind (setting_in setting.entry)
+        (shown_at place.entry (of_field field.now)) field.now) }
+    ensures fault { IfOk result (λ t. listed t.1
+        ≡ type_faults (setting_in setting.entry)
+        (shown_at place.entry (of_field field.now)) field.now) }
 {
     let mut type_path = Vec::from_slice(alloc, place.path)?;
     type_path.push(tag::field::TYPE_NAME)?;

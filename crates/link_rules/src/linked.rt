@@ -1,7 +1,7 @@
 ghost use Rattle.std.specs.Prelude.{◌≡◌, IfOk, map};
 ghost use Rattle.proto_types.specs.Names.{join};
 ghost use Rattle.proto_types.specs.Readers.{text_of};
-ghost use Rattle.proto_files.specs.declared.message.DescriptorProto.{out-DescriptorProto};
+ghost use Rattle.proto_files.specs.declared.message.DescriptorProto.{out-DescriptorProto, roll-DescriptorProto};
 ghost use Rattle.proto_records.specs.Changed.{changed_message, changed_messages, changed_fields};
 ghost use Rattle.link_rules.specs.Linked.{linking, linked, linked_field, type_number, kind_number};
 ghost use Rattle.link_rules.specs.SettingCode.{setting_in};
@@ -63,6 +63,19 @@ fn linked_message(
     for nested in message.nested_type.as_slice() {
         nested_type.push(linked_message(alloc, setting, index, &within, nested)?)?;
     }
+    with_parts(alloc, message, field, nested_type)
+}
+
+/// An equal message, but for its fields and its nested messages, which are given.
+fn with_parts(
+    alloc: Global,
+    message: &DescriptorProto,
+    field: Items<FieldDescriptorProto>,
+    nested_type: Items<DescriptorProto>,
+) -> Result<DescriptorProto, AllocError>
+    ensures { IfOk result (λ m. m ≡ roll-DescriptorProto
+        (record (out-DescriptorProto message.now) { field = field; nested_type = nested_type })) }
+{
     Ok(DescriptorProto {
         name: duplicate_given(alloc, &message.name)?,
         field,
@@ -84,7 +97,8 @@ fn linked_fields(
     scope: &str,
     fields: &[FieldDescriptorProto],
 ) -> Result<Items<FieldDescriptorProto>, AllocError>
-    ensures { IfOk result (λ linked. linked ≡ changed_fields (linked_field (setting_in setting.entry)) index scope.now fields.now) }
+    ensures { IfOk result (λ linked. linked
+        ≡ changed_fields (linked_field (setting_in setting.entry)) index scope.now fields.now) }
 {
     let mut linked = Items::new(alloc);
     for field in fields {
@@ -100,7 +114,9 @@ fn linked_field(
     scope: &str,
     field: &FieldDescriptorProto,
 ) -> Result<FieldDescriptorProto, AllocError>
-    ensures { IfOk result (λ f. f ≡ linked_field (setting_in setting.entry) index (join scope.now (text_of field.now.name)) field.now) }
+    ensures { IfOk result (λ f. f
+        ≡ linked_field (setting_in setting.entry) index
+        (join scope.now (text_of field.now.name)) field.now) }
 {
     let mut linked = field.clone(alloc)?;
     if field.type_name().is_empty() {

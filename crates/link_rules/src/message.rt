@@ -1,24 +1,23 @@
 ghost use Rattle.std.specs.Prelude.{◌≡◌, ◌++◌, true, IfOk, OnOk};
-ghost use Rattle.std.specs.List.{All, flat_map};
-ghost use Rattle.proto_types.specs.declared.tag.message.TheConstants.{FIELD, ONEOF_DECL};
+ghost use Rattle.std.specs.List.{All};
 ghost use Rattle.proto_records.specs.Counts.{fits_list, lists_fit};
 ghost use Rattle.proto_records.specs.FullNames.{EndsWithName};
-ghost use Rattle.proto_records.specs.Protos.{of_message, of_field, of_oneof};
-ghost use Rattle.link_rules.specs.Broken.{field_faults, message_faults};
-ghost use Rattle.link_rules.specs.Each.{each};
-ghost use Rattle.link_rules.specs.Items.{field_item, oneof_item, message_item};
+ghost use Rattle.proto_records.specs.Protos.{of_message};
+ghost use Rattle.link_rules.specs.Broken.{faults_of_fields, message_faults};
+ghost use Rattle.link_rules.specs.Items.{field_items, oneof_items, message_item};
 ghost use Rattle.link_rules.specs.NamesBegin.{BeginsAtBoundary, MessageNamesBegin};
-ghost use Rattle.link_rules.specs.Places.{shown_at, inside_of, part_inside};
+ghost use Rattle.link_rules.specs.Places.{inside_of, message_at};
 ghost use Rattle.link_rules.specs.SettingCode.{setting_in};
 
 use crate::field::read_field;
 use crate::identity::{identity, identity_inside};
-use crate::place::{Place, step};
+use crate::place::Place;
 use crate::setting::Setting;
 use plain_values::Items;
 use pool_faults::DescriptorErrorKind;
 use pool_types::{FieldDescriptorInner, MessageDescriptorInner, OneofDescriptorInner};
 use proto_files::{DescriptorProto, OneofDescriptorProto};
+use proto_records::entry_path;
 use proto_types::{FieldDescriptorProto, join, tag};
 use std::alloc::{AllocError, Global};
 
@@ -35,10 +34,14 @@ pub fn read_message(
     faults: &mut Vec<DescriptorErrorKind>,
 ) -> Result<MessageDescriptorInner, AllocError>
     requires { lists_fit (of_message message.now) ≡ true }
-    ensures item { IfOk result (λ item. item ≡ message_item (setting_in setting.entry) (shown_at place.entry (of_message message.now)) message.now) }
-    ensures begins { IfOk result (λ item. EndsWithName (shown_at place.entry (of_message message.now)) → MessageNamesBegin item) }
+    ensures item { IfOk result (λ item. item
+        ≡ message_item (setting_in setting.entry)
+        (message_at place.entry message.now) message.now) }
+    ensures begins { IfOk result (λ item.
+        EndsWithName (message_at place.entry message.now) → MessageNamesBegin item) }
     ensures faults { OnOk result (faults.new.items ≡ faults.old.items
-        ++ message_faults (setting_in setting.entry) (shown_at place.entry (of_message message.now)) message.now) }
+        ++ message_faults (setting_in setting.entry)
+        (message_at place.entry message.now) message.now) }
 {
     let fields = read_fields(alloc, setting, place, message.field.as_slice(), faults)?;
     let oneofs = read_oneofs(alloc, place, message.oneof_decl.as_slice())?;
@@ -59,14 +62,14 @@ fn read_fields(
 ) -> Result<Vec<FieldDescriptorInner>, AllocError>
     requires { fits_list fields.now ≡ true }
     ensures items { IfOk result (λ items. items.items
-        ≡ each (λ i f. field_item (setting_in setting.entry) (part_inside (inside_of message.entry) FIELD i (of_field f)) f) 0 fields.now) }
+        ≡ field_items (setting_in setting.entry) (inside_of message.entry) fields.now) }
     ensures begin { IfOk result (λ items. All (λ f. BeginsAtBoundary f.id) items.items) }
-    ensures faults { OnOk result (faults.new.items ≡ faults.old.items ++ flat_map (λ faults. faults)
-        (each (λ i f. field_faults (setting_in setting.entry) (part_inside (inside_of message.entry) FIELD i (of_field f)) f) 0 fields.now)) }
+    ensures faults { OnOk result (faults.new.items ≡ faults.old.items
+        ++ faults_of_fields (setting_in setting.entry) (inside_of message.entry) fields.now) }
 {
     let mut items = Vec::new(alloc);
     for (position, field) in fields.iter().enumerate() {
-        let path = step(alloc, message.path, tag::message::FIELD, position)?;
+        let path = entry_path(alloc, message.path, tag::message::FIELD, position)?;
         let full_name = join(alloc, message.full_name, field.name())?;
         let place = Place {
             file: message.file,
@@ -87,7 +90,7 @@ fn read_oneofs(
 ) -> Result<Vec<OneofDescriptorInner>, AllocError>
     requires { fits_list oneofs.now ≡ true }
     ensures items { IfOk result (λ items. items.items
-        ≡ each (λ i o. oneof_item (part_inside (inside_of message.entry) ONEOF_DECL i (of_oneof o))) 0 oneofs.now) }
+        ≡ oneof_items (inside_of message.entry) oneofs.now) }
     ensures begin { IfOk result (λ items. All (λ o. BeginsAtBoundary o.id) items.items) }
 {
     let mut items = Vec::new(alloc);

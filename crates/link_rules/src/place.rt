@@ -1,8 +1,3 @@
-ghost use Rattle.std.specs.Prelude.{◌≡◌, ◌<◌, ◌^◌, IfOk};
-ghost use Rattle.proto_records.specs.Shown.{step};
-
-use std::alloc::{AllocError, Global};
-
 /// Where a declaration stands, and its full name.
 #[derive(Clone, Copy)]
 pub struct Place<'p, 'n> {
@@ -15,20 +10,4 @@ pub struct Place<'p, 'n> {
     /// Field numbers and positions, from the file to the declaration.
     pub path: &'p [i32],
     pub full_name: &'n str,
-}
-
-/// The path of an entry of a list.
-pub(crate) fn step(
-    alloc: Global,
-    path: &[i32],
-    tag: i32,
-    position: usize,
-) -> Result<Vec<i32>, AllocError>
-    requires { position < 2 ^ 31 }
-    ensures { IfOk result (λ entry. entry.items ≡ step path.now tag position) }
-{
-    let mut entry = Vec::from_slice(alloc, path)?;
-    entry.push(tag)?;
-    entry.push(position as i32)?;
-    Ok(entry)
 }

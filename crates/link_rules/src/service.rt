@@ -1,10 +1,8 @@
 ghost use Rattle.std.specs.Prelude.{◌≡◌, true, IfOk};
-ghost use Rattle.proto_types.specs.declared.tag.service.TheConstants.{METHOD};
 ghost use Rattle.proto_records.specs.Counts.{fits_list, lists_fit};
-ghost use Rattle.proto_records.specs.Protos.{of_service, of_method};
-ghost use Rattle.link_rules.specs.Each.{each};
-ghost use Rattle.link_rules.specs.Items.{service_item, method_item};
-ghost use Rattle.link_rules.specs.Places.{shown_at, inside_of, part_inside};
+ghost use Rattle.proto_records.specs.Protos.{of_service};
+ghost use Rattle.link_rules.specs.Items.{service_item, method_items};
+ghost use Rattle.link_rules.specs.Places.{inside_of, service_at};
 
 use crate::identity::{identity, identity_inside};
 use crate::place::Place;
@@ -23,7 +21,8 @@ pub fn read_service(
     service: &ServiceDescriptorProto,
 ) -> Result<ServiceDescriptorInner, AllocError>
     requires { lists_fit (of_service service.now) ≡ true }
-    ensures { IfOk result (λ item. item ≡ service_item (shown_at place.entry (of_service service.now)) service.now) }
+    ensures { IfOk result (λ item. item
+        ≡ service_item (service_at place.entry service.now) service.now) }
 {
     let methods = read_methods(alloc, place, service.method.as_slice())?;
     Ok(ServiceDescriptorInner {
@@ -39,7 +38,7 @@ fn read_methods(
 ) -> Result<Vec<MethodDescriptorInner>, AllocError>
     requires { fits_list methods.now ≡ true }
     ensures { IfOk result (λ items. items.items
-        ≡ each (λ i m. method_item (part_inside (inside_of service.entry) METHOD i (of_method m))) 0 methods.now) }
+        ≡ method_items (inside_of service.entry) methods.now) }
 {
     let mut items = Vec::new(alloc);
     for (position, method) in methods.iter().enumerate() {

@@ -164,7 +164,8 @@ fn state_in_message(
     extends: bool,
     said: Statement,
 ) -> Result<(), AllocError>
-    ensures { OnOk result (message.new ≡ roll-DescriptorProto (in_message extends said (out-DescriptorProto message.old))) }
+    ensures { OnOk result (message.new
+        ≡ roll-DescriptorProto (in_message extends said (out-DescriptorProto message.old))) }
 {
     match said {
         Statement::Field(field) => message.field.push(field)?,

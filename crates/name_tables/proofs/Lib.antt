@@ -1,3 +1,4 @@
 pub mod Earlier
+pub mod Entries
 pub mod Names
 pub mod Texts

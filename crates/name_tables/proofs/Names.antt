@@ -9,27 +9,27 @@ use Rattle.std.specs.Ordering.{nat_cmp}
 use Rattle.std.specs.Str.{bytes_eq}
 use Rattle.std.proofs.lemmas.Map.Entries.{option_filter}
 use Rattle.pool_types.specs.Contents.{ByText}
-use Rattle.pool_types.specs.declared.contents.definition.Definition.{Definition}
-use Rattle.name_tables.specs.NameTables.{without_files_from}
+use Rattle.name_tables.specs.NameTables.{kept_before}
 
-pub same_names : (m n : ByText Definition) → ((name : List ℕ) → map.get m name ≡ map.get n name) → m ≡ n
+pub same_names : {X : Type 0} (m n : ByText X) → ((name : List ℕ) → map.get m name ≡ map.get n name) → m ≡ n
 same_names = same_map nat_list_cmp_total (slice_cmp-IsAntisymmetric nat_cmp-IsAntisymmetric)
 
-find-lookup : (es : List (List ℕ × Definition)) (name : List ℕ) → find (slice_cmp nat_cmp) name es ≡ lookup (bytes_eq name) es
-find-lookup [] name = refl
-find-lookup (e ∷ es) name = λ i. cond (sym (texts_ties name e.0) i) (Some e.1) (find-lookup es name i)
+module _ {X : Type 0} where
+  pub find-lookup : (es : List (List ℕ × X)) (name : List ℕ) → find (slice_cmp nat_cmp) name es ≡ lookup (bytes_eq name) es
+  find-lookup [] name = refl
+  find-lookup (e ∷ es) name = λ i. cond (sym (texts_ties name e.0) i) (Some e.1) (find-lookup es name i)
 
--- a finite map that is made of entries has what the first entry of a name says
-pub get-lookup : (es : List (List ℕ × Definition)) (name : List ℕ) → map.get (map.from_entries {R = slice_cmp nat_cmp} es) name ≡ lookup (bytes_eq name) es
-get-lookup es name = get-from_entries nat_list_cmp_total es name ∙ find-lookup es name
+  -- a finite map that is made of entries has what the first entry of a name says
+  pub get-lookup : (es : List (List ℕ × X)) (name : List ℕ) → map.get (map.from_entries {R = slice_cmp nat_cmp} es) name ≡ lookup (bytes_eq name) es
+  get-lookup es name = get-from_entries nat_list_cmp_total es name ∙ find-lookup es name
 
-kept : (p : Definition → Bool) (found : Option Definition) → cond (option_map_or p found false) found None ≡ option_filter p found
-kept p None = refl
-kept p (Some d) = refl
+  kept : (p : X → Bool) (found : Option X) → cond (option_map_or p found false) found None ≡ option_filter p found
+  kept p None = refl
+  kept p (Some d) = refl
 
--- without files a map has what it had, where that lies in an earlier file
-pub get-without_files_from : (n : ℕ) (m : ByText Definition) (name : List ℕ) → map.get (without_files_from n m) name ≡ option_filter (λ d. ltb d.file n) (map.get m name)
-get-without_files_from n m name =
-    let before : List ℕ → Bool = λ x. option_map_or (λ d. ltb d.file n) (map.get m x) false in
-    get-retain_keys m before name (λ x tied. ap before (sym (slice_cmp-IsAntisymmetric nat_cmp-IsAntisymmetric name x tied)))
-    ∙ kept (λ d. ltb d.file n) (map.get m name)
+  -- without later files a map has what it had, where that lies in an earlier file
+  pub get-kept_before : (file_of : X → ℕ) (n : ℕ) (m : ByText X) (name : List ℕ) → map.get (kept_before file_of n m) name ≡ option_filter (λ x. ltb (file_of x) n) (map.get m name)
+  get-kept_before file_of n m name =
+      let before : List ℕ → Bool = λ q. option_map_or (λ x. ltb (file_of x) n) (map.get m q) false in
+      get-retain_keys m before name (λ q tied. ap before (sym (slice_cmp-IsAntisymmetric nat_cmp-IsAntisymmetric name q tied)))
+      ∙ kept (λ x. ltb (file_of x) n) (map.get m name)

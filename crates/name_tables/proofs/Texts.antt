@@ -17,27 +17,26 @@ use Rattle.std.proofs.lemmas.List.{map-append}
 use Rattle.std.proofs.lemmas.Map.Entries.{option_filter, lookup-filter-values}
 use Rattle.std.proofs.lemmas.Map.Iter.{rest_more, rest_so_far}
 use Rattle.std.proofs.lemmas.Map.Text.{hash_map_updates_text}
-use Rattle.pool_types.specs.declared.contents.definition.Definition.{Definition}
 use Rattle.name_tables.specs.HashedNames.{texts, by_text}
-use Rattle.name_tables.specs.NameTables.{without_files_from}
-use Rattle.name_tables.proofs.Names.{same_names, get-lookup, get-without_files_from}
+use Rattle.name_tables.specs.NameTables.{kept_before}
+use Rattle.name_tables.proofs.Names.{same_names, get-lookup, get-kept_before}
 
-lookup-texts : {A : Type 0} (es : List (String A × Definition)) (name : List ℕ) → lookup (bytes_eq name) (texts es) ≡ lookup (λ k. bytes_eq name (string_bytes k)) es
+lookup-texts : {A X : Type 0} (es : List (String A × X)) (name : List ℕ) → lookup (bytes_eq name) (texts es) ≡ lookup (λ k. bytes_eq name (string_bytes k)) es
 lookup-texts [] name = refl
 lookup-texts (e ∷ es) name = λ i. cond (bytes_eq name (string_bytes e.0)) (Some e.1) (lookup-texts es name i)
 
-pub get-by_text : {A S : Type 0} (m : HashMap (String A) Definition S) (name : List ℕ) → map.get (by_text m) name ≡ get_by_text m name
+pub get-by_text : {A S X : Type 0} (m : HashMap (String A) X S) (name : List ℕ) → map.get (by_text m) name ≡ get_by_text m name
 get-by_text m name = get-lookup (texts m.entries) name ∙ lookup-texts m.entries name
 
 -- a name is entered
-pub by_text-insert : {A S : Type 0} (m n : HashMap (String A) Definition S) (k : String A) (d : Definition) → hash.Updates string_eq m n k (Some d) → by_text n ≡ map.insert (by_text m) (string_bytes k) d
+pub by_text-insert : {A S X : Type 0} (m n : HashMap (String A) X S) (k : String A) (d : X) → hash.Updates string_eq m n k (Some d) → by_text n ≡ map.insert (by_text m) (string_bytes k) d
 by_text-insert m n k d updates = same_names (by_text n) _ (λ name.
     get-by_text n name
     ∙ hash_map_updates_text (string_bytes k) m n (Some d) updates name
     ∙ (λ i. cond ((nat_list_eq_equiv.symm (string_bytes k) name ∙ texts_ties name (string_bytes k)) i) (Some d) (sym (get-by_text m name) i))
     ∙ sym (get-insert nat_list_cmp_total (by_text m) (string_bytes k) d name))
 
-texts-filter : {A : Type 0} (p : Definition → Bool) (es : List (String A × Definition)) → texts (filter (λ e. p e.1) es) ≡ filter (λ e. p e.1) (texts es)
+texts-filter : {A X : Type 0} (p : X → Bool) (es : List (String A × X)) → texts (filter (λ e. p e.1) es) ≡ filter (λ e. p e.1) (texts es)
 texts-filter p [] = refl
 texts-filter p (e ∷ es) =
     elim (p e.1) as (λ b. texts (cond b (e ∷ filter (λ e. p e.1) es) (filter (λ e. p e.1) es)) ≡ cond b ((string_bytes e.0, e.1) ∷ filter (λ e. p e.1) (texts es)) (filter (λ e. p e.1) (texts es))) [
@@ -45,37 +44,38 @@ texts-filter p (e ∷ es) =
       | false ↦ texts-filter p es
     ]
 
-apart-texts : {A : Type 0} (k : String A) (es : List (String A × Definition)) → AllByRecursion (λ y. string_eq k y ≡ false) (keys_of es) → AllByRecursion (λ y. bytes_eq (string_bytes k) y ≡ false) (keys_of (texts es))
+apart-texts : {A X : Type 0} (k : String A) (es : List (String A × X)) → AllByRecursion (λ y. string_eq k y ≡ false) (keys_of es) → AllByRecursion (λ y. bytes_eq (string_bytes k) y ≡ false) (keys_of (texts es))
 apart-texts k [] apart = tt
 apart-texts k (e ∷ es) apart = (apart.0, apart-texts k es apart.1)
 
 -- keys that differ have bytes that differ
-pub distinct-texts : {A : Type 0} (es : List (String A × Definition)) → IsDistinct string_eq (keys_of es) → IsDistinct bytes_eq (keys_of (texts es))
+pub distinct-texts : {A X : Type 0} (es : List (String A × X)) → IsDistinct string_eq (keys_of es) → IsDistinct bytes_eq (keys_of (texts es))
 unfolding IsDistinct
 distinct-texts [] distinct = tt
 distinct-texts (e ∷ es) distinct = (apart-texts e.0 es distinct.0, distinct-texts es distinct.1)
 
 -- the entries of later files are dropped
-pub by_text-retain : {A S : Type 0} (file : ℕ) (m n : HashMap (String A) Definition S) → hash.IsUnique string_eq m → n.entries ≡ filter (λ e. ltb e.1.file file) m.entries → by_text n ≡ without_files_from file (by_text m)
-by_text-retain file m n unique is = same_names (by_text n) _ (λ name.
-    let before : Definition → Bool = λ d. ltb d.file file in
+pub by_text-retain : {A S X : Type 0} (file_of : X → ℕ) (file : ℕ) (m n : HashMap (String A) X S) → hash.IsUnique string_eq m
+    → n.entries ≡ filter (λ e. ltb (file_of e.1) file) m.entries → by_text n ≡ kept_before file_of file (by_text m)
+by_text-retain {X} file_of file m n unique is = same_names (by_text n) _ (λ name.
+    let before : X → Bool = λ x. ltb (file_of x) file in
     get-lookup (texts n.entries) name
     ∙ ap (λ es. lookup (bytes_eq name) es) (ap texts is ∙ texts-filter before m.entries)
     ∙ lookup-filter-values nat_list_eq_equiv before name (texts m.entries) (distinct-texts m.entries unique)
     ∙ ap (option_filter before) (sym (get-lookup (texts m.entries) name))
-    ∙ sym (get-without_files_from file (by_text m) name))
+    ∙ sym (get-kept_before file_of file (by_text m) name))
 
 -- a text has no value, or it is the bytes of a string
-key-found : {A : Type 0} (es : List (String A × Definition)) (name : List ℕ) → (lookup (λ k. bytes_eq name (string_bytes k)) es ≡ None) ⊎ ((k : String A) × (string_bytes k ≡ name))
+key-found : {A X : Type 0} (es : List (String A × X)) (name : List ℕ) → (lookup (λ k. bytes_eq name (string_bytes k)) es ≡ None) ⊎ ((k : String A) × (string_bytes k ≡ name))
 key-found [] name = inl refl
-key-found {A} (e ∷ es) name = next (bytes_eq name (string_bytes e.0)) refl (key-found es name)
+key-found {A} {X} (e ∷ es) name = next (bytes_eq name (string_bytes e.0)) refl (key-found es name)
   where
     next : (b : Bool) → bytes_eq name (string_bytes e.0) ≡ b → (lookup (λ k. bytes_eq name (string_bytes k)) es ≡ None) ⊎ ((k : String A) × (string_bytes k ≡ name)) → (cond (bytes_eq name (string_bytes e.0)) (Some e.1) (lookup (λ k. bytes_eq name (string_bytes k)) es) ≡ None) ⊎ ((k : String A) × (string_bytes k ≡ name))
     next true is found = inr (e.0, sym ((bytes_decides name (string_bytes e.0)).0 is))
     next false is (inl none) = inl (ap (λ b. cond b (Some e.1) (lookup (λ k. bytes_eq name (string_bytes k)) es)) is ∙ none)
     next false is (inr found) = inr found
 
-module _ {A S : Type 0} (m n : HashMap (String A) Definition S) where
+module _ {A S X : Type 0} (m n : HashMap (String A) X S) where
   at_each-text : ((k : String A) → hash.get string_eq m k ≡ hash.get string_eq n k) → (name : List ℕ) → get_by_text m name ≡ get_by_text n name
   at_each-text same name = next (key-found m.entries name) (key-found n.entries name)
     where
@@ -92,12 +92,12 @@ module _ {A S : Type 0} (m n : HashMap (String A) Definition S) where
   pub get-from_same : by_text m ≡ by_text n → (k : String A) → hash.get string_eq m k ≡ hash.get string_eq n k
   get-from_same same k = sym (get-by_text m (string_bytes k)) ∙ ap (λ names. map.get names (string_bytes k)) same ∙ get-by_text n (string_bytes k)
 
-apart-last : (e : List ℕ × Definition) (name : List ℕ) (es rest : List (List ℕ × Definition)) → AllByRecursion (λ y. bytes_eq name y ≡ false) (keys_of (es ++ e ∷ rest)) → bytes_eq name e.0 ≡ false
+apart-last : {X : Type 0} (e : List ℕ × X) (name : List ℕ) (es rest : List (List ℕ × X)) → AllByRecursion (λ y. bytes_eq name y ≡ false) (keys_of (es ++ e ∷ rest)) → bytes_eq name e.0 ≡ false
 apart-last e name [] rest apart = apart.0
 apart-last e name (x ∷ es) rest apart = apart-last e name es rest apart.1
 
 -- of entries whose names differ, those before an entry lack its name
-pub lookup-before : (es rest : List (List ℕ × Definition)) (e : List ℕ × Definition) → IsDistinct bytes_eq (keys_of (es ++ e ∷ rest)) → lookup (bytes_eq e.0) es ≡ None
+pub lookup-before : {X : Type 0} (es rest : List (List ℕ × X)) (e : List ℕ × X) → IsDistinct bytes_eq (keys_of (es ++ e ∷ rest)) → lookup (bytes_eq e.0) es ≡ None
 unfolding IsDistinct
 lookup-before [] rest e distinct = refl
 lookup-before (x ∷ es) rest e distinct =
@@ -105,7 +105,7 @@ lookup-before (x ∷ es) rest e distinct =
     ∙ lookup-before es rest e distinct.1
 
 -- a hash map whose entries are copied in order: those before an entry, the entry, and the rest
-module _ {A S : Type 0} (m : HashMap (String A) Definition S) (unique : hash.IsUnique string_eq m) (before rest : List (String A × Definition)) (e : String A × Definition) (is : before ++ e ∷ rest ≡ m.entries) where
+module _ {A S X : Type 0} (m : HashMap (String A) X S) (unique : hash.IsUnique string_eq m) (before rest : List (String A × X)) (e : String A × X) (is : before ++ e ∷ rest ≡ m.entries) where
   distinct : IsDistinct bytes_eq (keys_of (texts before ++ (string_bytes e.0, e.1) ∷ texts rest))
   distinct =
       subst (λ es. IsDistinct bytes_eq (keys_of es)) (map-append (λ e. (string_bytes e.0, e.1)) before (e ∷ rest)) (distinct-texts (before ++ e ∷ rest) (subst (λ es. IsDistinct string_eq (keys_of es)) (sym is) unique))

@@ -1,38 +1,35 @@
--- The finite map of names, and what is left of it where files are taken away.
-use Rattle.std.specs.Prelude.{◌≡◌, ◌<◌, ◌≤◌, ℕ, List, ◌++◌, All, None, Some, IfSome, MatchOption, false, nat_lt, map as each}
+-- What is left of names where files are taken away.
+use Rattle.std.specs.Prelude.{◌≡◌, ◌<◌, ◌≤◌, ℕ, List, None, IfSome, false, nat_lt}
 use Rattle.std.specs.Option.{option_map_or}
 use Rattle.std.specs.FinMap as map
 use Rattle.pool_types.specs.Contents.{ByText}
 use Rattle.pool_types.specs.declared.contents.definition.Definition.{Definition}
-use Rattle.pool_types.specs.declared.contents.definition.Entry.{Entry}
 
--- the map without the definitions that lie in file n or in a later one
+-- of what lies in files, the map of what lies in a file before n
+abbrev pub kept_before : {X : Type 0} → (X → ℕ) → ℕ → ByText X → ByText X
+kept_before file_of n names = map.retain_keys names (λ name. option_map_or (λ x. nat_lt (file_of x) n) (map.get names name) false)
+
+-- names without those whose definitions lie in file n or in a later one
 abbrev pub without_files_from : ℕ → ByText Definition → ByText Definition
-without_files_from n names = map.retain_keys names (λ name. option_map_or (λ d. nat_lt d.file n) (map.get names name) false)
+without_files_from n names = kept_before (λ d. d.file) n names
+
+-- the names of files, without those of file n and of later ones
+abbrev pub file_names_before : ℕ → ByText ℕ → ByText ℕ
+file_names_before n names = kept_before (λ file. file) n names
 
 -- each definition lies in a file before n
 abbrev pub AllBefore : ℕ → ByText Definition → Type 0
 AllBefore n names = (name : List ℕ) → IfSome (map.get names name) (λ d. d.file < n)
 
--- new is old with further names, whose definitions lie in file n or in later ones
-abbrev pub AddsFrom : ℕ → ByText Definition → ByText Definition → Type 0
-AddsFrom n old new =
-    (name : List ℕ) → MatchOption (map.get old name) (IfSome (map.get new name) (λ d. n ≤ d.file)) (λ d. map.get new name ≡ Some d)
+-- each file is one before n
+abbrev pub FileNamesBefore : ℕ → ByText ℕ → Type 0
+FileNamesBefore n names = (name : List ℕ) → IfSome (map.get names name) (λ file. file < n)
 
--- law: what a map was before names of later files were added is what is left without these files
+-- law: names whose definitions all lie in files before n stay where the others are taken away
 abbrev pub EarlierNamesStay : Type 0
-EarlierNamesStay = (n : ℕ) (old new : ByText Definition) → AllBefore n old → AddsFrom n old new → without_files_from n new ≡ old
+EarlierNamesStay = (n : ℕ) (names : ByText Definition) → AllBefore n names → without_files_from n names ≡ names
 
--- each name's first entry, as a finite map
-abbrev pub names_of : List Entry → ByText Definition
-names_of entries = map.from_entries (each (λ e. (e.name, e.definition)) entries)
-
--- law: the same of entries
-abbrev pub EarlierEntriesStay : Type 0
-EarlierEntriesStay =
-    (n : ℕ) (old new : List Entry) → All (λ e. e.definition.file < n) old → All (λ e. n ≤ e.definition.file) new → without_files_from n (names_of (old ++ new)) ≡ names_of old
-
--- law: a name that is added with a later file is not left either
+-- law: a name that is added with file n or a later one goes with these
 abbrev pub LaterNameGoes : Type 0
 LaterNameGoes =
     (n : ℕ) (names : ByText Definition) (name : List ℕ) (d : Definition) → map.get names name ≡ None → n ≤ d.file → without_files_from n (map.insert names name d) ≡ without_files_from n names

@@ -1,10 +1,13 @@
-//! The table of names: what each name means, and which names stay where later files are taken away.
+//! The table of names: what each name means, which file has which name, and which names stay where
+//! later files are taken away.
 #![tactic(auto)]
 
+mod file_names;
 mod hashed_names;
 mod laws;
 mod name_table;
 
+pub use file_names::FileNames;
 pub use hashed_names::HashedNames;
-pub use laws::{earlier_entries_stay, earlier_names_stay, later_name_goes};
+pub use laws::{earlier_names_stay, later_name_goes};
 pub use name_table::NameTable;

@@ -83,7 +83,8 @@ impl<T: Drop> Items<T> {
 impl<T> Items<T> {
     /// Takes the last item away, if there is one.
     pub fn pop(&mut self) -> Option<T>
-        ensures { MatchOption result ((self.old ≡ []) × (self.new ≡ [])) (λ last. self.old ≡ self.new ++ last ∷ []) }
+        ensures { MatchOption result ((self.old ≡ []) × (self.new ≡ [])) (λ last. self.old
+            ≡ self.new ++ last ∷ []) }
     {
         self.inner.pop()
     }

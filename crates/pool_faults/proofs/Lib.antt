@@ -1,1 +1,2 @@
 pub mod PathText
+pub mod Checks

@@ -1,9 +1,11 @@
 -- What a reference means (the protobuf language rules on names).
 use Rattle.std.specs.Prelude.{ℕ, Bool, true, false, not, List, [], ◌∷◌, if◌then◌else◌}
+use Rattle.std.specs.FinMap as finite
 use Rattle.std.specs.Option.{option_map_or}
 use Rattle.std.specs.declared.option.Option.{Option}
 use Rattle.std.specs.declared.option.Option.TheVariants.{None, Some}
 use Rattle.proto_types.specs.Names.{is_dot}
+use Rattle.pool_types.specs.Contents.{ByText}
 use Rattle.pool_types.specs.declared.contents.definition.Definition.{Definition}
 use Rattle.pool_types.specs.declared.contents.definition.DefinitionKind.{DefinitionKind}
 use Rattle.pool_parts.specs.declared.filter.ResolveNameFilter.{ResolveNameFilter}
@@ -31,13 +33,13 @@ is_found (found _ _) = true
 is_found _ = false
 
 -- under what names mean, which files are seen, and which kinds are wanted
-module _ (definition_of : List ℕ → Option Definition) (is_seen : ℕ → Bool) (filter : ResolveNameFilter) where
+module _ (names : ByText Definition) (is_seen : ℕ → Bool) (filter : ResolveNameFilter) where
   -- a full name
   abbrev pub look : List ℕ → Resolution
   look x = option_map_or (λ def.
       if not (is_seen def.file) then not_imported x def.file
       else (if not (is_match filter def.kind) then invalid_type x def filter
-      else found x def)) (definition_of x) not_found
+      else found x def)) (finite.get names x) not_found
 
   -- a name without a leading dot, which is found where nothing is around it
   abbrev pub relative : List ℕ → List ℕ → Resolution

@@ -8,7 +8,6 @@ mod field_number;
 mod files;
 mod filter;
 mod kinds;
-mod names;
 mod resolve;
 
 pub use error::DescriptorError;
@@ -16,14 +15,14 @@ pub use field_number::is_valid_number;
 pub use files::label_at;
 pub use filter::ResolveNameFilter;
 pub use kinds::{cardinality_of, named_kind, simple_kind};
-pub use names::first_definition;
+pub use name_tables::{FileNames, HashedNames, NameTable};
 pub use pool_faults::DescriptorErrorKind;
 pub use pool_types::{
-    Cardinality, DefaultValue, Definition, DefinitionKind, Entry, EnumDescriptor,
-    EnumDescriptorInner, EnumValueDescriptor, EnumValueDescriptorInner, ExtensionDescriptor,
-    ExtensionDescriptorInner, FieldDescriptor, FieldDescriptorInner, FileDescriptor,
-    FileDescriptorInner, Identity, Kind, KindIndex, Label, MessageDescriptor,
-    MessageDescriptorInner, MethodDescriptor, MethodDescriptorInner, OneofDescriptor,
-    OneofDescriptorInner, ServiceDescriptor, ServiceDescriptorInner, Syntax,
+    Cardinality, DefaultValue, Definition, DefinitionKind, EnumDescriptor, EnumDescriptorInner,
+    EnumValueDescriptor, EnumValueDescriptorInner, ExtensionDescriptor, ExtensionDescriptorInner,
+    FieldDescriptor, FieldDescriptorInner, FileDescriptor, FileDescriptorInner, Identity, Kind,
+    KindIndex, Label, MessageDescriptor, MessageDescriptorInner, MethodDescriptor,
+    MethodDescriptorInner, OneofDescriptor, OneofDescriptorInner, ServiceDescriptor,
+    ServiceDescriptorInner, Syntax,
 };
 pub use resolve::{ResolveNameResult, resolve_name};

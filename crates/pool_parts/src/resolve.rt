@@ -1,14 +1,13 @@
 ghost use Rattle.std.specs.Prelude.{◌≡◌, ◌==◌, IfOk, map};
-ghost use Rattle.pool_parts.specs.Entries.{first_of};
 ghost use Rattle.pool_parts.specs.Resolution.{resolution, resolution_in, look, is_found};
 ghost use Rattle.pool_parts.specs.References.{reference_fault};
 
 use crate::files::label_at;
 use crate::filter::ResolveNameFilter;
-use crate::names::first_definition;
+use name_tables::NameTable;
 use plain_values::Text;
 use pool_faults::DescriptorErrorKind;
-use pool_types::{Definition, Entry, FileDescriptorInner};
+use pool_types::{Definition, FileDescriptorInner};
 use std::alloc::{AllocError, Global};
 
 /// What a reference means.
@@ -36,15 +35,19 @@ pub enum ResolveNameResult<'a> {
 
 /// What a reference means that is written in a scope of a file, which sees itself alone: a name
 /// with a leading dot is a full name, and so is any name in the empty scope; any other means nothing.
-pub fn resolve_name<'a>(
+///
+/// # Errors
+/// `AllocError` where memory was refused.
+pub fn resolve_name<'a, N: NameTable>(
     alloc: Global,
     file: u32,
-    names: &'a [Entry],
+    names: &'a N,
     scope: &str,
     name: &str,
     filter: ResolveNameFilter,
 ) -> Result<ResolveNameResult<'a>, AllocError>
-    ensures { IfOk result (λ r. resolution_in r ≡ resolution (first_of names.now) (λ n. file == n) filter scope.now name.now) }
+    ensures { IfOk result (λ r. resolution_in r
+        ≡ resolution (N.names names.now) (λ n. file == n) filter scope.now name.now) }
 {
     match name.strip_prefix('.') {
         Some(full_name) => look_up(alloc, file, names, full_name, filter),
@@ -54,16 +57,17 @@ pub fn resolve_name<'a>(
 }
 
 /// What a full name means.
-fn look_up<'a>(
+fn look_up<'a, N: NameTable>(
     alloc: Global,
     file: u32,
-    names: &'a [Entry],
+    names: &'a N,
     full_name: &str,
     filter: ResolveNameFilter,
 ) -> Result<ResolveNameResult<'a>, AllocError>
-    ensures { IfOk result (λ r. resolution_in r ≡ look (first_of names.now) (λ n. file == n) filter full_name.now) }
+    ensures { IfOk result (λ r. resolution_in r
+        ≡ look (N.names names.now) (λ n. file == n) filter full_name.now) }
 {
-    let Some(def) = first_definition(names, full_name) else {
+    let Some(def) = names.get(full_name) else {
         return Ok(ResolveNameResult::NotFound);
     };
     let name = Text::from_str(alloc, full_name)?;
@@ -97,7 +101,9 @@ impl ResolveNameResult<'_> {
         found_file: u32,
         path: &[i32],
     ) -> Result<Option<DescriptorErrorKind>, AllocError>
-        ensures { IfOk result (λ fault. fault ≡ reference_fault (map (λ f. f.raw) files.now) orig_name.now found_file path.now (resolution_in self.now)) }
+        ensures { IfOk result (λ fault. fault
+            ≡ reference_fault (map (λ f. f.raw) files.now) orig_name.now found_file path.now
+            (resolution_in self.now)) }
     {
         let name = match self {
             ResolveNameResult::Found { .. } => return Ok(None),

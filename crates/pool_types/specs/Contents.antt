@@ -1,5 +1,5 @@
 -- The contents of a pool. Two pools are equal where these are.
-use Rattle.std.specs.Prelude.{List, [], map as each}
+use Rattle.std.specs.Prelude.{ℕ, List, [], map as each}
 use Rattle.std.specs.Ordering.{nat_cmp}
 use Rattle.std.specs.Cmp.Lexicographic.{slice_cmp}
 use Rattle.std.specs.FinMap as map
@@ -22,9 +22,10 @@ pub record Contents : Type 0 where
   pub services : List ServiceDescriptorInner
   pub extensions : List ExtensionDescriptorInner
   pub names : ByText Definition
+  pub file_names : ByText ℕ
 
 abbrev pub no_contents : Contents
-no_contents = record { files = []; messages = []; enums = []; services = []; extensions = []; names = map.empty }
+no_contents = record { files = []; messages = []; enums = []; services = []; extensions = []; names = map.empty; file_names = map.empty }
 
 -- the linked records of a pool's files
 abbrev pub files_of : Contents → List FileDescriptorProto

@@ -3,12 +3,11 @@ use Rattle.std.proofs.Common.{rules}
 use Rattle.std.specs.Cmp.{unsigned_Decides, signed_Decides}
 use Rattle.plain_values.specs.Exact.{Exact, ◌and◌, by-parts, given, items-exact, text-exact, numbers-exact}
 use Rattle.proto_files.specs.Equality.{file-exact}
-use Rattle.pool_kinds.specs.Equality.{cardinality-exact, kind_index-exact}
+use Rattle.pool_kinds.specs.Equality.{cardinality-exact, kind_index-exact, syntax-exact}
 use Rattle.pool_types.specs.contracts.contents.definition.DefinitionKindPartialEq.TheImpl as definition_kind
 use Rattle.pool_types.specs.contracts.label.LabelPartialEq.TheImpl as label
 use Rattle.pool_types.specs.contracts.contents.definition.IdentityPartialEq.TheImpl as identity
 use Rattle.pool_types.specs.contracts.contents.definition.DefinitionPartialEq.TheImpl as definition
-use Rattle.pool_types.specs.contracts.contents.definition.EntryPartialEq.TheImpl as entry
 use Rattle.pool_types.specs.contracts.contents.field.FieldDescriptorInnerPartialEq.TheImpl as field_inner
 use Rattle.pool_types.specs.contracts.contents.file.FileDescriptorInnerPartialEq.TheImpl as file_inner
 use Rattle.pool_types.specs.contracts.contents.message.MessageDescriptorInnerPartialEq.TheImpl as message_inner
@@ -29,14 +28,11 @@ identity-exact = by-parts (λ d. (d.file, (d.path, (d.full_name, d.name_index)))
 pub definition-exact : Exact definition.ghosts.eq
 definition-exact = by-parts (λ d. (d.file, (d.path, d.kind))) (λ a b e. search rules) (unsigned_Decides and numbers-exact and definition_kind-exact)
 
-pub entry-exact : Exact entry.ghosts.eq
-entry-exact = by-parts (λ e. (e.name, e.definition)) (λ a b e. search rules) (text-exact and definition-exact)
-
 pub field_inner-exact : Exact field_inner.ghosts.eq
 field_inner-exact = by-parts (λ f. (f.id, (f.number, (f.kind, f.cardinality)))) (λ a b e. search rules) (identity-exact and unsigned_Decides and kind_index-exact and cardinality-exact)
 
 pub file_inner-exact : Exact file_inner.ghosts.eq
-file_inner-exact = by-parts (λ f. f.raw) (λ a b e. search rules) file-exact
+file_inner-exact = by-parts (λ f. (f.syntax, f.raw)) (λ a b e. search rules) (syntax-exact and file-exact)
 
 pub oneof_inner-exact : Exact oneof_inner.ghosts.eq
 oneof_inner-exact = by-parts (λ o. o.id) (λ a b e. search rules) identity-exact

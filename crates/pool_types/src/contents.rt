@@ -9,7 +9,7 @@ mod message;
 mod oneof;
 mod service;
 
-pub use definition::{Definition, DefinitionKind, Entry, Identity};
+pub use definition::{Definition, DefinitionKind, Identity};
 pub use enumeration::{EnumDescriptorInner, EnumValueDescriptorInner};
 pub use extension::ExtensionDescriptorInner;
 pub use field::FieldDescriptorInner;

@@ -1,7 +1,7 @@
-ghost use Rattle.pool_types.specs.Equality.{definition_kind-exact, identity-exact, definition-exact, entry-exact, field_inner-exact, file_inner-exact, message_inner-exact, oneof_inner-exact, enum_inner-exact, value_inner-exact, extension_inner-exact, service_inner-exact, method_inner-exact, label-exact};
+ghost use Rattle.pool_types.specs.Equality.{definition_kind-exact, identity-exact, definition-exact, field_inner-exact, file_inner-exact, message_inner-exact, oneof_inner-exact, enum_inner-exact, value_inner-exact, extension_inner-exact, service_inner-exact, method_inner-exact, label-exact};
 
 use crate::{
-    Definition, DefinitionKind, Entry, EnumDescriptorInner, EnumValueDescriptorInner,
+    Definition, DefinitionKind, EnumDescriptorInner, EnumValueDescriptorInner,
     ExtensionDescriptorInner, FieldDescriptorInner, FileDescriptorInner, Identity, Label,
     MessageDescriptorInner, MethodDescriptorInner, OneofDescriptorInner, ServiceDescriptorInner,
 };
@@ -17,10 +17,6 @@ impl ExactEq for Identity {
 
 impl ExactEq for Definition {
     ghost exact = { definition-exact };
-}
-
-impl ExactEq for Entry {
-    ghost exact = { entry-exact };
 }
 
 impl ExactEq for FieldDescriptorInner {

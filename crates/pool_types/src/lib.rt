@@ -7,7 +7,7 @@ mod exact;
 mod label;
 
 pub use contents::{
-    Definition, DefinitionKind, Entry, EnumDescriptorInner, EnumValueDescriptorInner,
+    Definition, DefinitionKind, EnumDescriptorInner, EnumValueDescriptorInner,
     ExtensionDescriptorInner, FieldDescriptorInner, FileDescriptorInner, Identity,
     MessageDescriptorInner, MethodDescriptorInner, OneofDescriptorInner, ServiceDescriptorInner,
 };

@@ -46,7 +46,9 @@ pub fn find_field_proto<'a>(
     file: &'a FileDescriptorProto,
     path: &[i32],
 ) -> Option<&'a FieldDescriptorProto>
-    ensures { option_copied result ≡ option_or (option_and_then as_field (leads file.now path.now)) (option_and_then as_extension (leads file.now path.now)) }
+    ensures { option_copied result
+        ≡ option_or (option_and_then as_field (leads file.now path.now))
+        (option_and_then as_extension (leads file.now path.now)) }
 {
     match Record::at(file, path)? {
         Record::Field(field) | Record::Extension(field) => Some(field),

@@ -1,4 +1,5 @@
-//! Laws on the list of all declarations. A call does nothing: its contract is the law, and is proved of all arguments.
+//! Laws on the list of all declarations. A call does nothing: its contract is the law, and is proved
+//! of all arguments.
 ghost use Rattle.proto_records.specs.Leads.{PathsLeadIn};
 ghost use Rattle.proto_records.specs.Indexes.{IndexesCountOn};
 ghost use Rattle.proto_records.specs.Changed.{Changes, KeepNames, DeclareChanged};

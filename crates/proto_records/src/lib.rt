@@ -1,4 +1,5 @@
-//! What the records of descriptor.proto declare: counts, finders, the list of all declarations and its walk.
+//! What the records of descriptor.proto declare: counts, finders, the list of all declarations and
+//! its walk.
 //! It hands on the names of the crates that it stands on: of `plain_values` texts and lists, of
 //! `proto_types` and `proto_files` the records, of `pool_types` the data of a pool's contents.
 #![tactic(auto)]
@@ -22,10 +23,10 @@ pub use lister::{Lister, list_declarations};
 pub use plain_values::{Duplicate, ExactEq, Items, Text, duplicate_given, duplicates, same};
 pub use pool_faults::{DescriptorErrorKind, Labelled};
 pub use pool_types::{
-    Cardinality, Definition, DefinitionKind, Entry, EnumDescriptorInner, EnumValueDescriptorInner,
+    Cardinality, Definition, DefinitionKind, EnumDescriptorInner, EnumValueDescriptorInner,
     ExtensionDescriptorInner, FieldDescriptorInner, FileDescriptor, FileDescriptorInner, Identity,
     KindIndex, Label, MessageDescriptor, MessageDescriptorInner, MethodDescriptorInner,
-    OneofDescriptorInner, ServiceDescriptorInner,
+    OneofDescriptorInner, ServiceDescriptorInner, Syntax,
 };
 pub use proto_files::{
     DescriptorProto, ExtensionRange, FileDescriptorProto, FileDescriptorSet, OneofDescriptorProto,
@@ -37,4 +38,4 @@ pub use proto_types::{
     Options, ServiceDescriptorProto, SourceCodeInfo, Unread, join, tag,
 };
 pub use visitor::Visitor;
-pub use walk::{visit, visit_each};
+pub use walk::{entry_path, visit, visit_each};

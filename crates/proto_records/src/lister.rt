@@ -60,7 +60,14 @@ impl Lister {
         full_name: &str,
     ) -> Result<(), AllocError>
         ensures { OnOk result (self.new ≡ self.old
-            ++ record { kind = kind; file = file; parent = parent; index = index; path = path.now; full_name = full_name.now } ∷ []) }
+            ++ record {
+              kind = kind;
+              file = file;
+              parent = parent;
+              index = index;
+              path = path.now;
+              full_name = full_name.now;
+            } ∷ []) }
     {
         let path = Items::from_slice(self.alloc, path)?;
         let full_name = Text::from_str(self.alloc, full_name)?;
@@ -230,7 +237,8 @@ fn show_lister(
     lister: &mut Lister,
 ) -> Result<(), AllocError>
     requires fits { IsOk (counts_with base files.now) }
-    ensures { OnOk result (lister.new ≡ lister.old ++ map declaration_of (declarations base files.now)) }
+    ensures { OnOk result (lister.new ≡ lister.old
+        ++ map declaration_of (declarations base files.now)) }
 {
     visit(alloc, base, files, lister)
 }

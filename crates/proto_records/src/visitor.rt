@@ -35,7 +35,8 @@ pub trait Visitor: Drop {
         file: &FileDescriptorProto,
     ) -> Result<(), AllocError>
         requires { ready self.old (file_shown path.now index file.now ∷ []) }
-        ensures ok { OnOk result (HasSeen (after self.old) (ready self.old) (after self.new) (ready self.new) (file_shown path.now index file.now ∷ [])) }
+        ensures ok { OnOk result (HasSeen (after self.old) (ready self.old) (after self.new)
+            (ready self.new) (file_shown path.now index file.now ∷ [])) }
         ensures kept { kept self.new ≡ kept self.old };
 
     fn visit_message(
@@ -47,8 +48,11 @@ pub trait Visitor: Drop {
         index: u32,
         message: &DescriptorProto,
     ) -> Result<(), AllocError>
-        requires { ready self.old (shown_as path.now full_name.now file parent index (of_message message.now) ∷ []) }
-        ensures ok { OnOk result (HasSeen (after self.old) (ready self.old) (after self.new) (ready self.new) (shown_as path.now full_name.now file parent index (of_message message.now) ∷ [])) }
+        requires { ready self.old
+            (shown_as path.now full_name.now file parent index (of_message message.now) ∷ []) }
+        ensures ok { OnOk result
+            (HasSeen (after self.old) (ready self.old) (after self.new) (ready self.new)
+            (shown_as path.now full_name.now file parent index (of_message message.now) ∷ [])) }
         ensures kept { kept self.new ≡ kept self.old };
 
     fn visit_field(
@@ -60,8 +64,11 @@ pub trait Visitor: Drop {
         index: u32,
         field: &FieldDescriptorProto,
     ) -> Result<(), AllocError>
-        requires { ready self.old (shown_as path.now full_name.now file (Some parent) index (of_field field.now) ∷ []) }
-        ensures ok { OnOk result (HasSeen (after self.old) (ready self.old) (after self.new) (ready self.new) (shown_as path.now full_name.now file (Some parent) index (of_field field.now) ∷ [])) }
+        requires { ready self.old
+            (shown_as path.now full_name.now file (Some parent) index (of_field field.now) ∷ []) }
+        ensures ok { OnOk result
+            (HasSeen (after self.old) (ready self.old) (after self.new) (ready self.new)
+            (shown_as path.now full_name.now file (Some parent) index (of_field field.now) ∷ [])) }
         ensures kept { kept self.new ≡ kept self.old };
 
     fn visit_oneof(
@@ -73,8 +80,11 @@ pub trait Visitor: Drop {
         index: u32,
         oneof: &OneofDescriptorProto,
     ) -> Result<(), AllocError>
-        requires { ready self.old (shown_as path.now full_name.now file (Some parent) index (of_oneof oneof.now) ∷ []) }
-        ensures ok { OnOk result (HasSeen (after self.old) (ready self.old) (after self.new) (ready self.new) (shown_as path.now full_name.now file (Some parent) index (of_oneof oneof.now) ∷ [])) }
+        requires { ready self.old
+            (shown_as path.now full_name.now file (Some parent) index (of_oneof oneof.now) ∷ []) }
+        ensures ok { OnOk result
+            (HasSeen (after self.old) (ready self.old) (after self.new) (ready self.new)
+            (shown_as path.now full_name.now file (Some parent) index (of_oneof oneof.now) ∷ [])) }
         ensures kept { kept self.new ≡ kept self.old };
 
     fn visit_service(
@@ -85,8 +95,11 @@ pub trait Visitor: Drop {
         index: u32,
         service: &ServiceDescriptorProto,
     ) -> Result<(), AllocError>
-        requires { ready self.old (shown_as path.now full_name.now file None index (of_service service.now) ∷ []) }
-        ensures ok { OnOk result (HasSeen (after self.old) (ready self.old) (after self.new) (ready self.new) (shown_as path.now full_name.now file None index (of_service service.now) ∷ [])) }
+        requires { ready self.old
+            (shown_as path.now full_name.now file None index (of_service service.now) ∷ []) }
+        ensures ok { OnOk result
+            (HasSeen (after self.old) (ready self.old) (after self.new) (ready self.new)
+            (shown_as path.now full_name.now file None index (of_service service.now) ∷ [])) }
         ensures kept { kept self.new ≡ kept self.old };
 
     fn visit_method(
@@ -98,8 +111,12 @@ pub trait Visitor: Drop {
         index: u32,
         method: &MethodDescriptorProto,
     ) -> Result<(), AllocError>
-        requires { ready self.old (shown_as path.now full_name.now file (Some parent) index (of_method method.now) ∷ []) }
-        ensures ok { OnOk result (HasSeen (after self.old) (ready self.old) (after self.new) (ready self.new) (shown_as path.now full_name.now file (Some parent) index (of_method method.now) ∷ [])) }
+        requires { ready self.old
+            (shown_as path.now full_name.now file (Some parent) index (of_method method.now) ∷ []) }
+        ensures ok { OnOk result
+            (HasSeen (after self.old) (ready self.old) (after self.new) (ready self.new)
+            (shown_as path.now full_name.now file (Some parent) index
+            (of_method method.now) ∷ [])) }
         ensures kept { kept self.new ≡ kept self.old };
 
     fn visit_enum(
@@ -111,8 +128,11 @@ pub trait Visitor: Drop {
         index: u32,
         enumeration: &EnumDescriptorProto,
     ) -> Result<(), AllocError>
-        requires { ready self.old (shown_as path.now full_name.now file parent index (of_enum enumeration.now) ∷ []) }
-        ensures ok { OnOk result (HasSeen (after self.old) (ready self.old) (after self.new) (ready self.new) (shown_as path.now full_name.now file parent index (of_enum enumeration.now) ∷ [])) }
+        requires { ready self.old
+            (shown_as path.now full_name.now file parent index (of_enum enumeration.now) ∷ []) }
+        ensures ok { OnOk result
+            (HasSeen (after self.old) (ready self.old) (after self.new) (ready self.new)
+            (shown_as path.now full_name.now file parent index (of_enum enumeration.now) ∷ [])) }
         ensures kept { kept self.new ≡ kept self.old };
 
     fn visit_enum_value(
@@ -124,8 +144,11 @@ pub trait Visitor: Drop {
         index: u32,
         value: &EnumValueDescriptorProto,
     ) -> Result<(), AllocError>
-        requires { ready self.old (shown_as path.now full_name.now file (Some parent) index (of_value value.now) ∷ []) }
-        ensures ok { OnOk result (HasSeen (after self.old) (ready self.old) (after self.new) (ready self.new) (shown_as path.now full_name.now file (Some parent) index (of_value value.now) ∷ [])) }
+        requires { ready self.old
+            (shown_as path.now full_name.now file (Some parent) index (of_value value.now) ∷ []) }
+        ensures ok { OnOk result
+            (HasSeen (after self.old) (ready self.old) (after self.new) (ready self.new)
+            (shown_as path.now full_name.now file (Some parent) index (of_value value.now) ∷ [])) }
         ensures kept { kept self.new ≡ kept self.old };
 
     fn visit_extension(
@@ -137,8 +160,11 @@ pub trait Visitor: Drop {
         index: u32,
         extension: &FieldDescriptorProto,
     ) -> Result<(), AllocError>
-        requires { ready self.old (shown_as path.now full_name.now file parent index (of_extension extension.now) ∷ []) }
-        ensures ok { OnOk result (HasSeen (after self.old) (ready self.old) (after self.new) (ready self.new) (shown_as path.now full_name.now file parent index (of_extension extension.now) ∷ [])) }
+        requires { ready self.old
+            (shown_as path.now full_name.now file parent index (of_extension extension.now) ∷ []) }
+        ensures ok { OnOk result
+            (HasSeen (after self.old) (ready self.old) (after self.new) (ready self.new)
+            (shown_as path.now full_name.now file parent index (of_extension extension.now) ∷ [])) }
         ensures kept { kept self.new ≡ kept self.old };
 
     /// It may be shown a front of a list that it may be shown.

@@ -16,6 +16,7 @@ use crate::visitor::Visitor;
 use listing::Listing;
 use located::{show_all, show_file};
 use proto_files::FileDescriptorProto;
+pub use site::entry_path;
 use std::alloc::{AllocError, Global};
 
 /// Shows a visitor what files declare, in order, numbered on from the counts of a pool.
@@ -41,8 +42,10 @@ pub fn visit(
 ) -> Result<(), AllocError>
     requires fits { IsOk (counts_with base files.now) }
     requires ready { ready visitor.old (declarations base files.now) }
-    ensures ok { OnOk result (HasSeen (after visitor.old) (ready visitor.old) (after visitor.new) (ready visitor.new) (declarations base files.now)) }
-    ensures after { OnOk result (after visitor.new [] ≡ after visitor.old (declarations base files.now)) }
+    ensures ok { OnOk result (HasSeen (after visitor.old) (ready visitor.old) (after visitor.new)
+        (ready visitor.new) (declarations base files.now)) }
+    ensures after { OnOk result (after visitor.new []
+        ≡ after visitor.old (declarations base files.now)) }
     ensures kept { kept visitor.new ≡ kept visitor.old }
 {
     let mut counts = base;
@@ -61,7 +64,8 @@ fn visit_file(
 ) -> Result<Counts, AllocError>
     requires room { Room base (file_walk base file.now) }
     requires ready { ready visitor.old (file_walk base file.now) }
-    ensures ok { OnOk result (HasSeen (after visitor.old) (ready visitor.old) (after visitor.new) (ready visitor.new) (file_walk base file.now)) }
+    ensures ok { OnOk result (HasSeen (after visitor.old) (ready visitor.old) (after visitor.new)
+        (ready visitor.new) (file_walk base file.now)) }
     ensures counts { IfOk result (λ counts. counts ≡ counted base (file_walk base file.now)) }
     ensures kept { kept visitor.new ≡ kept visitor.old }
 {
@@ -87,9 +91,14 @@ pub fn visit_each(
     visitors: &mut Vec<Box<dyn Visitor>>,
 ) -> Result<(), AllocError>
     requires fits { IsOk (counts_with base files.now) }
-    requires ready { AllByRecursion (λ v. ready v (declarations base files.now)) visitors.old.items }
-    ensures ok { OnOk result (AllZip (λ v w. HasSeen (after v) (ready v) (after w) (ready w) (declarations base files.now)) visitors.old.items visitors.new.items) }
-    ensures err { OnErr result ((position : ℕ) × StopsAt (λ v w. HasSeen (after v) (ready v) (after w) (ready w) (declarations base files.now))
+    requires ready { AllByRecursion
+        (λ v. ready v (declarations base files.now)) visitors.old.items }
+    ensures ok { OnOk result
+        (AllZip (λ v w. HasSeen (after v) (ready v) (after w) (ready w)
+        (declarations base files.now)) visitors.old.items visitors.new.items) }
+    ensures err { OnErr result ((position : ℕ)
+        × StopsAt
+        (λ v w. HasSeen (after v) (ready v) (after w) (ready w) (declarations base files.now))
         position visitors.old.items visitors.new.items) }
     ensures kept { AllZip (λ v w. kept w ≡ kept v) visitors.old.items visitors.new.items }
 {
@@ -107,7 +116,8 @@ fn visit_boxed(
 ) -> Result<(), AllocError>
     requires fits { IsOk (counts_with base files.now) }
     requires ready { ready visitor.old (declarations base files.now) }
-    ensures ok { OnOk result (HasSeen (after visitor.old) (ready visitor.old) (after visitor.new) (ready visitor.new) (declarations base files.now)) }
+    ensures ok { OnOk result (HasSeen (after visitor.old) (ready visitor.old) (after visitor.new)
+        (ready visitor.new) (declarations base files.now)) }
     ensures kept { kept visitor.new ≡ kept visitor.old }
 {
     visit(alloc, base, files, &mut **visitor)

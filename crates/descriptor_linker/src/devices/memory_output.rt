@@ -26,7 +26,11 @@ impl Model for MemoryOutput {
 
     ghost Value = { FusedSink };
 
-    ghost view = { λ s. record { sink = sink_over s.taken.items s.failures s.idle; room = s.room; fuse = s.fuse } };
+    ghost view = { λ s. record {
+      sink = sink_over s.taken.items s.failures s.idle;
+      room = s.room;
+      fuse = s.fuse;
+    } };
 
     ghost invariant = { λ s. vec_len s.taken + s.room ≤ vec_capacity s.taken };
 }
@@ -91,7 +95,8 @@ impl ReportOutput for MemoryOutput {
         ensures writes { Writes self.old.sink self.new.sink bytes.now result }
         ensures fails { IsErr result ↔ MustFail self.old bytes.now }
         ensures counted { self.new.fuse ≡ self.old.fuse - 1 }
-        ensures takes { IfOk result (λ n. (n ≡ min (length bytes.now) self.old.room) × (self.new.room ≡ self.old.room - n)) }
+        ensures takes { IfOk result (λ n. (n ≡ min (length bytes.now) self.old.room)
+            × (self.new.room ≡ self.old.room - n)) }
         ensures kept { OnErr result (self.new.room ≡ self.old.room) }
     {
         let count = bytes.len().min(self.room);

@@ -62,7 +62,8 @@ fn count_word(kind: CountKind) -> &'static str
 
 /// Tells how much a pool has of each kind.
 pub(super) fn tell_counts(told: &mut String, pool: &DescriptorPool) -> Result<(), AllocError>
-    ensures { OnOk result (string_bytes told.new ≡ string_bytes told.old ++ spec.counts_line pool.now) }
+    ensures { OnOk result (string_bytes told.new ≡ string_bytes told.old
+        ++ spec.counts_line pool.now) }
 {
     let Counts {
         files,
@@ -79,7 +80,8 @@ pub(super) fn tell_counts(told: &mut String, pool: &DescriptorPool) -> Result<()
 
 /// Tells what there is too much of.
 pub(super) fn tell_too_many(told: &mut String, kind: CountKind) -> Result<(), AllocError>
-    ensures { OnOk result (string_bytes told.new ≡ string_bytes told.old ++ spec.too_many_line kind) }
+    ensures { OnOk result (string_bytes told.new ≡ string_bytes told.old
+        ++ spec.too_many_line kind) }
 {
     let word = count_word(kind);
     writeln!(told, "too many {word}")
@@ -90,7 +92,8 @@ pub(super) fn tell_refused(
     told: &mut String,
     faults: &[DescriptorErrorKind],
 ) -> Result<(), AllocError>
-    ensures { OnOk result (string_bytes told.new ≡ string_bytes told.old ++ spec.refused_lines faults.now) }
+    ensures { OnOk result (string_bytes told.new ≡ string_bytes told.old
+        ++ spec.refused_lines faults.now) }
 {
     let count = faults.len();
     writeln!(told, "refused {count}")?;
@@ -117,7 +120,8 @@ pub(super) fn tell_found(
     pool: &DescriptorPool,
     name: &str,
 ) -> Result<(), AllocError>
-    ensures { OnOk result (string_bytes told.new ≡ string_bytes told.old ++ spec.find_answer pool.now name.now) }
+    ensures { OnOk result (string_bytes told.new ≡ string_bytes told.old
+        ++ spec.find_answer pool.now name.now) }
 {
     let Some(definition) = pool.get_by_name(name) else {
         return writeln!(told, "none");
@@ -147,7 +151,8 @@ fn declared_word(kind: DeclarationKind) -> &'static str
 
 /// Tells a declaration: its kind, its own index, its full name and its path.
 fn tell_declaration(told: &mut String, declaration: &Declaration) -> Result<(), AllocError>
-    ensures { OnOk result (string_bytes told.new ≡ string_bytes told.old ++ spec.declaration_line declaration.now) }
+    ensures { OnOk result (string_bytes told.new ≡ string_bytes told.old
+        ++ spec.declaration_line declaration.now) }
 {
     let kind = declared_word(declaration.kind);
     let index = declaration.index;
@@ -158,7 +163,8 @@ fn tell_declaration(told: &mut String, declaration: &Declaration) -> Result<(), 
 
 /// Tells how many declarations there are, and each on a line of its own.
 fn tell_declarations(told: &mut String, list: &[Declaration]) -> Result<(), AllocError>
-    ensures { OnOk result (string_bytes told.new ≡ string_bytes told.old ++ spec.declaration_lines list.now) }
+    ensures { OnOk result (string_bytes told.new ≡ string_bytes told.old
+        ++ spec.declaration_lines list.now) }
 {
     let count = list.len();
     writeln!(told, "walk {count}")?;
@@ -174,7 +180,8 @@ pub(super) fn tell_walk(
     told: &mut String,
     pool: &DescriptorPool,
 ) -> Result<(), AllocError>
-    ensures { OnOk result (string_bytes told.new ≡ string_bytes told.old ++ spec.walk_answer pool.now) }
+    ensures { OnOk result (string_bytes told.new ≡ string_bytes told.old
+        ++ spec.walk_answer pool.now) }
 {
     let files = pool.linked_files()?;
     let base = Counts {
@@ -189,7 +196,8 @@ pub(super) fn tell_walk(
 
 /// Tells the fault of a script, and its line.
 pub(super) fn tell_fault(told: &mut String, line: u64, fault: ScriptFault) -> Result<(), AllocError>
-    ensures { OnOk result (string_bytes told.new ≡ string_bytes told.old ++ spec.fault_line (line, fault)) }
+    ensures { OnOk result (string_bytes told.new ≡ string_bytes told.old
+        ++ spec.fault_line (line, fault)) }
 {
     writeln!(told, "line {line}: {fault}")
 }

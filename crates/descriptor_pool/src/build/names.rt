@@ -1,17 +1,17 @@
-ghost use Rattle.std.specs.Prelude.{◌≡◌, ◌∷◌, ◌++◌, [], IfOk, OnOk, map};
-ghost use Rattle.std.specs.List.{fold, list_any};
-ghost use Rattle.std.specs.Str.{bytes_eq};
+ghost use Rattle.std.specs.Prelude.{◌≡◌, ◌≤◌, ◌∷◌, ◌++◌, [], IfOk, OnOk, Some, map};
+ghost use Rattle.std.specs.List.{fold};
 ghost use Rattle.proto_types.specs.Lists.{listed};
 ghost use Rattle.proto_types.specs.declared.tag.message.TheConstants.{NAME};
 ghost use Rattle.pool_parts.specs.Kinds.{is_package};
 ghost use Rattle.descriptor_pool.specs.Entered.{packages, package_entry};
-ghost use Rattle.descriptor_pool.specs.FirstPass.{clash_faults};
+ghost use Rattle.descriptor_pool.specs.FirstPass.{holder_faults};
 
 use super::growing::GrowingPool;
+use name_tables::NameTable;
 use plain_values::{Items, Text};
 use pool_faults::DescriptorErrorKind;
-use pool_parts::{first_definition, label_at};
-use pool_types::{Definition, DefinitionKind, Entry, FileDescriptorInner};
+use pool_parts::label_at;
+use pool_types::{Definition, DefinitionKind, FileDescriptorInner};
 use proto_files::{DescriptorProto, FileDescriptorProto, OneofDescriptorProto};
 use proto_records::Visitor;
 use proto_types::{
@@ -19,23 +19,25 @@ use proto_types::{
     ServiceDescriptorProto, tag,
 };
 use std::alloc::{AllocError, Global};
+use syntax_rules::{check_camel_case_names, check_enum_values, check_syntax};
 
 /// The first pass: it enters the names of declarations into a pool whose files are those of a
-/// batch as well, and gathers the faults of names.
+/// batch as well, and gathers the faults of names, and of what a file, a message or an enum shows by
+/// itself.
 #[derive(Drop)]
 pub struct NameVisitor {
     pub(crate) alloc: Global,
     pub(crate) pool: GrowingPool,
-    pub(crate) file_names: Vec<Text>,
     pub(crate) faults: Vec<DescriptorErrorKind>,
 }
 
 impl NameVisitor {
     ghost use Rattle.descriptor_pool.specs.Passes.{entered, file_named, named};
-    ghost use Rattle.descriptor_pool.specs.Growing.{kept_in};
+    ghost use Rattle.descriptor_pool.specs.Growing.{first_new, kept_in};
     ghost use Rattle.descriptor_pool.specs.Seen.{names_seen};
 
-    /// Enters a name; where it clashes with a holder, that is a fault.
+    /// Enters a name, which means something in a new file; where it clashes with a holder, that is
+    /// a fault.
     fn enter(
         &mut self,
         name: &str,
@@ -43,28 +45,30 @@ impl NameVisitor {
         path: &[i32],
         kind: DefinitionKind,
     ) -> Result<(), AllocError>
+        requires { first_new self.old.pool ≤ file }
         ensures ok { OnOk result (names_seen self.new
-            ≡ entered (names_seen self.old) (record { name = name.now; definition = record { file = file; path = path.now; kind = kind } })) }
+            ≡ entered (names_seen self.old)
+            (name.now, record { file = file; path = path.now; kind = kind })) }
         ensures kept { kept_in self.new.pool ≡ kept_in self.old.pool }
     {
-        let entry = Entry {
-            name: Text::from_str(self.alloc, name)?,
-            definition: Definition {
-                file,
-                path: Items::from_slice(self.alloc, path)?,
-                kind,
-            },
+        let definition = Definition {
+            file,
+            path: Items::from_slice(self.alloc, path)?,
+            kind,
         };
         let pool = &self.pool.inner;
-        if let Some(fault) = clash(self.alloc, &pool.files, &pool.entries, &entry)? {
+        let Some(holder) = pool.names.get(name) else {
+            return self.pool.insert_name(name, definition);
+        };
+        if let Some(fault) = clash(self.alloc, &pool.files, name, holder, &definition)? {
             self.faults.push(fault)?;
         }
-        self.pool.inner.entries.push(entry)?;
         Ok(())
     }
 
     /// Enters a package and those around it, from the outermost in.
     fn enter_packages(&mut self, file: u32, name: &str) -> Result<(), AllocError>
+        requires { first_new self.old.pool ≤ file }
         ensures ok { OnOk result (names_seen self.new
             ≡ fold entered (names_seen self.old) (map (package_entry file) (packages name.now))) }
         ensures kept { kept_in self.new.pool ≡ kept_in self.old.pool }
@@ -82,24 +86,27 @@ impl NameVisitor {
     }
 
     fn enter_package(&mut self, file: u32, name: &str) -> Result<(), AllocError>
-        ensures ok { OnOk result (names_seen self.new ≡ entered (names_seen self.old) (package_entry file name.now)) }
+        requires { first_new self.old.pool ≤ file }
+        ensures ok { OnOk result (names_seen self.new
+            ≡ entered (names_seen self.old) (package_entry file name.now)) }
         ensures kept { kept_in self.new.pool ≡ kept_in self.old.pool }
     {
         self.enter(name, file, &[tag::file::PACKAGE], DefinitionKind::Package)
     }
 
-    /// Notes a file's name; where an earlier new file has it, that is a fault.
-    fn name_file(&mut self, name: &str) -> Result<(), AllocError>
-        ensures ok { OnOk result (names_seen self.new ≡ file_named (names_seen self.old) name.now) }
+    /// Enters the name of a new file; where a file has it, that is a fault.
+    fn name_file(&mut self, name: &str, file: u32) -> Result<(), AllocError>
+        requires { first_new self.old.pool ≤ file }
+        ensures ok { OnOk result (names_seen self.new
+            ≡ file_named (names_seen self.old) name.now file) }
         ensures kept { kept_in self.new.pool ≡ kept_in self.old.pool }
     {
-        let name = Text::from_str(self.alloc, name)?;
-        if is_among(name.as_str(), &self.file_names) {
-            self.faults.push(DescriptorErrorKind::DuplicateFileName {
-                name: name.clone(self.alloc)?,
-            })?;
+        if self.pool.inner.file_names.get(name).is_none() {
+            return self.pool.insert_file_name(name, file);
         }
-        self.file_names.push(name)?;
+        let name = Text::from_str(self.alloc, name)?;
+        self.faults
+            .push(DescriptorErrorKind::DuplicateFileName { name })?;
         Ok(())
     }
 
@@ -111,8 +118,10 @@ impl NameVisitor {
         path: &[i32],
         kind: DefinitionKind,
     ) -> Result<(), AllocError>
+        requires { first_new self.old.pool ≤ file }
         ensures ok { OnOk result (names_seen self.new
-            ≡ entered (names_seen self.old) (record { name = full_name.now; definition = record { file = file; path = path.now ++ NAME ∷ []; kind = kind } })) }
+            ≡ entered (names_seen self.old)
+            (full_name.now, record { file = file; path = path.now ++ NAME ∷ []; kind = kind })) }
         ensures kept { kept_in self.new.pool ≡ kept_in self.old.pool }
     {
         let mut name_path = Vec::from_slice(self.alloc, path)?;
@@ -124,16 +133,16 @@ impl NameVisitor {
 impl Visitor for NameVisitor {
     ghost use Rattle.std.specs.List.{fold};
     ghost use Rattle.descriptor_pool.specs.Growing.{kept_in};
-    ghost use Rattle.descriptor_pool.specs.Passes.{named, names_progress};
+    ghost use Rattle.descriptor_pool.specs.Passes.{CanBeEntered, front-entered, named, names_progress};
     ghost use Rattle.descriptor_pool.specs.Seen.{names_seen};
 
     ghost after = { λ v ds. names_progress (fold named (names_seen v) ds) };
 
-    ghost ready = { λ _ _. Unit {0} };
+    ghost ready = { λ v ds. CanBeEntered (kept_in v.pool) ds };
 
     ghost kept = { λ v. kept_in v.pool };
 
-    ghost front_ready = { λ _ _ _ _. tt };
+    ghost front_ready = { λ v ds es. front-entered (kept_in v.pool) ds es };
 
     fn visit_file(
         &mut self,
@@ -141,7 +150,10 @@ impl Visitor for NameVisitor {
         index: u32,
         file: &FileDescriptorProto,
     ) -> Result<(), AllocError> {
-        self.name_file(file.name())?;
+        let pool = &self.pool;
+        let files = &pool.inner.files;
+        check_syntax(self.alloc, files, index, file, &mut self.faults)?;
+        self.name_file(file.name(), index)?;
         self.enter_packages(index, file.package())
     }
 
@@ -152,9 +164,12 @@ impl Visitor for NameVisitor {
         file: u32,
         _parent: Option<u32>,
         index: u32,
-        _message: &DescriptorProto,
+        message: &DescriptorProto,
     ) -> Result<(), AllocError> {
-        self.enter_own(full_name, file, path, DefinitionKind::Message(index))
+        self.enter_own(full_name, file, path, DefinitionKind::Message(index))?;
+        let pool = &self.pool;
+        let files = &pool.inner.files;
+        check_camel_case_names(self.alloc, files, file, path, message, &mut self.faults)
     }
 
     fn visit_field(
@@ -211,9 +226,12 @@ impl Visitor for NameVisitor {
         file: u32,
         _parent: Option<u32>,
         index: u32,
-        _enumeration: &EnumDescriptorProto,
+        enumeration: &EnumDescriptorProto,
     ) -> Result<(), AllocError> {
-        self.enter_own(full_name, file, path, DefinitionKind::Enum(index))
+        self.enter_own(full_name, file, path, DefinitionKind::Enum(index))?;
+        let pool = &self.pool;
+        let files = &pool.inner.files;
+        check_enum_values(self.alloc, files, file, path, enumeration, &mut self.faults)
     }
 
     fn visit_enum_value(
@@ -241,24 +259,22 @@ impl Visitor for NameVisitor {
     }
 }
 
-/// The fault of an entry whose name is defined already; a package may be entered again as a package.
+/// The fault of a name that is defined already; a package may be entered again as a package.
 fn clash(
     alloc: Global,
     files: &[FileDescriptorInner],
-    entries: &[Entry],
-    entry: &Entry,
+    name: &str,
+    holder: &Definition,
+    new: &Definition,
 ) -> Result<Option<DescriptorErrorKind>, AllocError>
-    ensures { IfOk result (λ fault. listed fault ≡ clash_faults (map (λ f. f.raw) files.now) entries.now entry.now) }
+    ensures { IfOk result (λ fault. listed fault
+        ≡ holder_faults (map (λ f. f.raw) files.now) (Some holder.now) (name.now, new.now)) }
 {
-    let Some(holder) = first_definition(entries, entry.name.as_str()) else {
-        return Ok(None);
-    };
-    let new = &entry.definition;
     if is_package(holder.kind) && is_package(new.kind) {
         return Ok(None);
     }
     Ok(Some(DescriptorErrorKind::DuplicateName {
-        name: entry.name.clone(alloc)?,
+        name: Text::from_str(alloc, name)?,
         first: label_at(alloc, files, holder.file, holder.path.as_slice())?,
         second: label_at(alloc, files, new.file, new.path.as_slice())?,
     }))
@@ -268,15 +284,4 @@ fn is_package(kind: DefinitionKind) -> bool
     ensures { result ≡ is_package kind }
 {
     matches!(kind, DefinitionKind::Package)
-}
-
-fn is_among(name: &str, names: &[Text]) -> bool
-    ensures { result ≡ list_any (bytes_eq name.now) names.now }
-{
-    for other in names {
-        if name == other.as_str() {
-            return true;
-        }
-    }
-    false
 }

@@ -11,6 +11,7 @@ use proto_types::{
     ServiceDescriptorProto,
 };
 use std::alloc::{AllocError, Global};
+use syntax_rules::syntax_of;
 
 /// The second pass: it reads a batch against a pool whose files and names are those of the batch as
 /// well, puts the items of messages, enums, services and extensions into the pool and makes those of
@@ -48,7 +49,8 @@ impl Visitor for ResolveVisitor {
         file: &FileDescriptorProto,
     ) -> Result<(), AllocError> {
         let raw = linked_file(self.alloc, self.pool.inner.setting(), index, file)?;
-        self.files.push(FileDescriptorInner { raw })?;
+        let syntax = syntax_of(file);
+        self.files.push(FileDescriptorInner { syntax, raw })?;
         Ok(())
     }
 

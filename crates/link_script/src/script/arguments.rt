@@ -151,7 +151,8 @@ fn of_six(
     type_name: &str,
     last: &str,
 ) -> Result<Statement, LineError>
-    ensures { IsAnswer (spec.of_six keyword name.now number.now label.now type_.now type_name.now last.now) result }
+    ensures { IsAnswer (spec.of_six keyword name.now number.now label.now type_.now
+        type_name.now last.now) result }
 {
     match keyword {
         Keyword::Field => {
@@ -177,7 +178,8 @@ fn typed(
     type_: &str,
     type_name: &str,
 ) -> Result<FieldDescriptorProto, LineError>
-    ensures { IsAnswer (spec.typed_in name.now number.now label.now type_.now type_name.now) result }
+    ensures { IsAnswer
+        (spec.typed_in name.now number.now label.now type_.now type_name.now) result }
 {
     let number = number_of(number)?;
     let label = label_of(label)?;

@@ -124,7 +124,8 @@ pub(super) fn may_say_more(keyword: Keyword) -> bool
 
 /// Opens or closes the block that a statement opens or closes.
 pub(super) fn open_or_close(blocks: &mut Vec<Block>, keyword: Keyword) -> Result<(), AllocError>
-    ensures { OnOk result (reverse blocks.new.items ≡ spec.blocks_after (reverse blocks.old.items) keyword) }
+    ensures { OnOk result (reverse blocks.new.items
+        ≡ spec.blocks_after (reverse blocks.old.items) keyword) }
 {
     match keyword {
         Keyword::File => blocks.push(Block::File)?,

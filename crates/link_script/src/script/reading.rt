@@ -28,7 +28,8 @@ fn statement_said(
     line: &str,
     words: &[&str],
 ) -> Result<Option<(Keyword, Statement)>, LineError>
-    ensures { IsAnswer (of_words (standing_in here.now) line.now (map (λ word. word.now) words.now)) result }
+    ensures { IsAnswer
+        (of_words (standing_in here.now) line.now (map (λ word. word.now) words.now)) result }
 {
     let Some((first, rest)) = words.split_first() else {
         return Ok(None);
@@ -67,8 +68,10 @@ fn read_line(
     here: &mut Standing,
     line: &[u8],
 ) -> Result<(), LineError>
-    ensures ok { OnOk result (after_line (line_said (standing_in here.old) line.now) statements.old (standing_in here.old) ≡ Ok (statements.new, standing_in here.new)) }
-    ensures err { IfErr result (IsFaultOf (line_said (standing_in here.old) line.now) (statements.new ≡ statements.old)) }
+    ensures ok { OnOk result (after_line (line_said (standing_in here.old) line.now) statements.old
+        (standing_in here.old) ≡ Ok (statements.new, standing_in here.new)) }
+    ensures err { IfErr result
+        (IsFaultOf (line_said (standing_in here.old) line.now) (statements.new ≡ statements.old)) }
 {
     let Some((keyword, statement)) = line_said(alloc, here, line)? else {
         return Ok(());

@@ -39,7 +39,8 @@ impl Standing {
 
     /// Goes behind a statement.
     pub(super) fn follow(&mut self, keyword: Keyword) -> Result<(), AllocError>
-        ensures { OnOk result (standing_in self.new ≡ spec.standing_after (standing_in self.old) keyword) }
+        ensures { OnOk result (standing_in self.new
+            ≡ spec.standing_after (standing_in self.old) keyword) }
     {
         open_or_close(&mut self.blocks, keyword)?;
         self.more = may_say_more(keyword);

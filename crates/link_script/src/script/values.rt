@@ -112,7 +112,8 @@ pub(super) fn given_number(word: &str) -> Result<i32, ScriptFault>
 
 /// The parts of a word between commas.
 fn parts(alloc: Global, word: &str) -> Result<Vec<&str>, AllocError>
-    ensures { IfOk result (λ parts. map (λ part. part.now) parts.items ≡ slice_split (λ c. c == 44) word.now) }
+    ensures { IfOk result (λ parts. map (λ part. part.now) parts.items
+        ≡ slice_split (λ c. c == 44) word.now) }
 {
     word.split(',').collect(alloc)
 }

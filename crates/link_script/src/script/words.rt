@@ -8,7 +8,8 @@ use std::alloc::{AllocError, Global};
 
 /// The parts between line feeds.
 fn parts(alloc: Global, bytes: &[u8]) -> Result<Vec<&[u8]>, AllocError>
-    ensures { IfOk result (λ parts. map (λ part. part.now) parts.items ≡ slice_split (λ c. c == 10) bytes.now) }
+    ensures { IfOk result (λ parts. map (λ part. part.now) parts.items
+        ≡ slice_split (λ c. c == 10) bytes.now) }
 {
     bytes.split(|byte| *byte == b'\n').collect(alloc)
 }

@@ -1,31 +1,42 @@
-//! What names and references mean among the names of a pool.
+//! What labels and references tell among the files and the names of a pool.
 
-use plain_values::{Items, Text};
+use name_tables::{HashedNames, NameTable};
+use plain_values::Items;
 use pool_faults::Labelled;
-use pool_parts::{ResolveNameFilter, ResolveNameResult, first_definition, label_at, resolve_name};
-use pool_types::{Definition, DefinitionKind, Entry, FileDescriptorInner, Label};
+use pool_parts::{ResolveNameFilter, ResolveNameResult, label_at, resolve_name};
+use pool_types::{Definition, DefinitionKind, FileDescriptorInner, Label, Syntax};
 use script_files::files_of;
 use std::alloc::{AllocError, Global};
 use std::process::Abort;
 use std::test::Fail;
 
-fn entry(alloc: Global, name: &str, kind: DefinitionKind) -> Result<Entry, AllocError> {
-    Ok(Entry {
-        name: Text::from_str(alloc, name)?,
-        definition: Definition {
-            file: 0,
-            path: Items::from_slice(alloc, &[4, 0, 1])?,
-            kind,
-        },
+fn definition(alloc: Global, kind: DefinitionKind) -> Result<Definition, AllocError> {
+    Ok(Definition {
+        file: 0,
+        path: Items::from_slice(alloc, &[4, 0, 1])?,
+        kind,
     })
 }
 
-/// The names of the first file: a package, and a message that two entries hold.
-fn names(alloc: Global) -> Result<Vec<Entry>, AllocError> {
-    let mut names = Vec::new(alloc);
-    names.push(entry(alloc, "p", DefinitionKind::Package)?)?;
-    names.push(entry(alloc, "p.M", DefinitionKind::Message(0))?)?;
-    names.push(entry(alloc, "p.M", DefinitionKind::Message(1))?)?;
+/// Enters a name of the first file, unless the table has it.
+fn enter(
+    alloc: Global,
+    names: &mut HashedNames,
+    name: &str,
+    kind: DefinitionKind,
+) -> Result<(), AllocError> {
+    if names.get(name).is_some() {
+        return Ok(());
+    }
+    names.insert(name, definition(alloc, kind)?)
+}
+
+/// The names of the first file: a package, and a message.
+fn names(alloc: Global) -> Result<HashedNames, AllocError> {
+    let mut names = HashedNames::new(alloc);
+    let (package, message) = (DefinitionKind::Package, DefinitionKind::Message(0));
+    enter(alloc, &mut names, "p", package)?;
+    enter(alloc, &mut names, "p.M", message)?;
     Ok(names)
 }
 
@@ -36,32 +47,10 @@ fn linked(alloc: Global) -> Result<Vec<FileDescriptorInner>, AllocError> {
         alloc,
         "file a.proto\nend\nfile b.proto\nmessage M\nend\nend\n",
     )? {
-        linked.push(FileDescriptorInner { raw })?;
+        let syntax = Syntax::Proto2;
+        linked.push(FileDescriptorInner { syntax, raw })?;
     }
     Ok(linked)
-}
-
-/// A name, and the kind of its first entry.
-const FIRST: &[(&str, Option<DefinitionKind>)] = &[
-    ("p", Some(DefinitionKind::Package)),
-    ("p.M", Some(DefinitionKind::Message(0))),
-    ("M", None),
-];
-
-fn kind_of(names: &[Entry], name: &str) -> Option<DefinitionKind> {
-    match first_definition(names, name) {
-        Some(definition) => Some(definition.kind),
-        None => None,
-    }
-}
-
-#[test]
-fn a_name_means_its_first_entry(rt: HostRuntime) -> Result<(), Fail> {
-    let names = names(rt.alloc())?;
-    for (name, kind) in FIRST {
-        assert!(rt; kind_of(&names, name) == *kind, "{name}");
-    }
-    Ok(())
 }
 
 /// Asserts that a label for which memory was there tells a file and a path.
@@ -175,7 +164,7 @@ fn check_reference(
     rt: &impl Abort,
     alloc: Global,
     row: &(u32, &str, &str, &str),
-    names: &[Entry],
+    names: &HashedNames,
     linked: &[FileDescriptorInner],
 ) -> Result<(), AllocError> {
     let (file, scope, name, wanted) = *row;

@@ -1,6 +1,6 @@
 //! A table of names, by its trait alone.
 
-use name_tables::{HashedNames, NameTable};
+use name_tables::{FileNames, HashedNames, NameTable};
 use plain_values::Items;
 use pool_types::{Definition, DefinitionKind};
 use std::alloc::{AllocError, Global};
@@ -51,5 +51,28 @@ fn later_files_go_and_a_copy_stays<N: NameTable>(
 fn names_of_later_files_go(rt: HostRuntime) -> Result<(), Fail> {
     let mut table = HashedNames::new(rt.alloc());
     later_files_go_and_a_copy_stays(&rt, rt.alloc(), &mut table)?;
+    Ok(())
+}
+
+/// Names a file where no file has the name, and tells whether it did.
+fn name_file(names: &mut FileNames, name: &str, file: u32) -> Result<bool, AllocError> {
+    if names.get(name).is_some() {
+        return Ok(false);
+    }
+    names.insert(name, file)?;
+    Ok(true)
+}
+
+#[test]
+fn names_of_files_go_with_them(rt: HostRuntime) -> Result<(), Fail> {
+    let mut names = FileNames::new(rt.alloc());
+    assert!(rt; name_file(&mut names, "a.proto", 0)?);
+    assert!(rt; name_file(&mut names, "", 1)?);
+    assert!(rt; !name_file(&mut names, "a.proto", 2)?);
+    assert!(rt; names.get("a.proto") == Some(0));
+    assert!(rt; names.get("") == Some(1));
+    names.remove_from(1);
+    assert!(rt; names.get("a.proto") == Some(0));
+    assert!(rt; names.get("").is_none());
     Ok(())
 }

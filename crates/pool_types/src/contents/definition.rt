@@ -2,7 +2,7 @@ ghost use Rattle.std.specs.Prelude.{◌≡◌, IfOk, drop};
 ghost use Rattle.std.specs.Str.{IsCharBoundary};
 ghost use Rattle.pool_types.specs.DefinitionKinds.{is_parent};
 
-use plain_values::{Duplicate, Items, Text};
+use plain_values::{Items, Text};
 use pool_kinds::FileDescriptor;
 use std::alloc::{AllocError, Global};
 
@@ -40,13 +40,6 @@ pub enum DefinitionKind {
     Extension(u32),
 }
 
-/// A name and what it means.
-#[derive(PartialEq, Drop)]
-pub struct Entry {
-    pub name: Text,
-    pub definition: Definition,
-}
-
 impl Identity {
     pub fn full_name(&self) -> &str
         ensures { result.now ≡ self.now.full_name }
@@ -56,7 +49,8 @@ impl Identity {
 
     /// The declared name, without its scope.
     pub fn name(&self) -> &str
-        ensures { IsCharBoundary self.now.full_name self.now.name_index → result.now ≡ drop self.now.name_index self.now.full_name }
+        ensures { IsCharBoundary self.now.full_name self.now.name_index → result.now
+            ≡ drop self.now.name_index self.now.full_name }
     {
         self.full_name().get(self.name_index..).unwrap_or("")
     }
@@ -111,23 +105,5 @@ impl Definition {
             path: Items::from_slice(alloc, self.path.as_slice())?,
             kind: self.kind,
         })
-    }
-}
-
-impl Entry {
-    /// An equal entry.
-    pub fn clone(&self, alloc: Global) -> Result<Entry, AllocError>
-        ensures { IfOk result (λ copy. copy ≡ self.now) }
-    {
-        Ok(Entry {
-            name: self.name.clone(alloc)?,
-            definition: self.definition.clone(alloc)?,
-        })
-    }
-}
-
-impl Duplicate for Entry {
-    fn duplicate(&self, alloc: Global) -> Result<Entry, AllocError> {
-        self.clone(alloc)
     }
 }

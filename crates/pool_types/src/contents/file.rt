@@ -1,12 +1,15 @@
 ghost use Rattle.std.specs.Prelude.{◌≡◌, IfOk};
 
 use plain_values::Duplicate;
+use pool_kinds::Syntax;
 use proto_files::FileDescriptorProto;
 use std::alloc::{AllocError, Global};
 
-/// A file, by its linked record.
+/// A file: its syntax, and its linked record.
 #[derive(PartialEq, Drop)]
 pub struct FileDescriptorInner {
+    /// The language's version in which it is written.
+    pub syntax: Syntax,
     pub raw: FileDescriptorProto,
 }
 
@@ -16,6 +19,7 @@ impl FileDescriptorInner {
         ensures { IfOk result (λ copy. copy ≡ self.now) }
     {
         Ok(FileDescriptorInner {
+            syntax: self.syntax,
             raw: self.raw.clone(alloc)?,
         })
     }

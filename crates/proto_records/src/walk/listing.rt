@@ -64,7 +64,8 @@ impl<'a> Listing<'a> {
         requires position { position < 2 ^ 31 }
         requires within { WithinLimits (counting self.old.counts (proto_of part)) }
         ensures { OnOk result (Lists self.old self.new
-            (shown (around here.now (parent_of part.entry)) tag position (index_at self.old.counts position (proto_of part.entry)) (proto_of part.entry) ∷ [])) }
+            (shown (around here.now (parent_of part.entry)) tag position
+            (index_at self.old.counts position (proto_of part.entry)) (proto_of part.entry) ∷ [])) }
     {
         self.list.push(Located {
             site: here.entry(self.alloc, tag, position, part.name())?,
@@ -82,8 +83,10 @@ impl<'a> Listing<'a> {
         oneofs: &'a [OneofDescriptorProto],
     ) -> Result<(), AllocError>
         requires short { fits_list oneofs.now ≡ true }
-        requires room { Room self.old.counts (parts of_oneof (around here.now (Some parent)) ONEOF_DECL oneofs.now) }
-        ensures { OnOk result (Lists self.old self.new (parts of_oneof (around here.now (Some parent)) ONEOF_DECL oneofs.now)) }
+        requires room { Room self.old.counts
+            (parts of_oneof (around here.now (Some parent)) ONEOF_DECL oneofs.now) }
+        ensures { OnOk result (Lists self.old self.new
+            (parts of_oneof (around here.now (Some parent)) ONEOF_DECL oneofs.now)) }
     {
         for (position, oneof) in oneofs.iter().enumerate() {
             self.add(
@@ -103,8 +106,10 @@ impl<'a> Listing<'a> {
         fields: &'a [FieldDescriptorProto],
     ) -> Result<(), AllocError>
         requires short { fits_list fields.now ≡ true }
-        requires room { Room self.old.counts (parts of_field (around here.now (Some parent)) FIELD fields.now) }
-        ensures { OnOk result (Lists self.old self.new (parts of_field (around here.now (Some parent)) FIELD fields.now)) }
+        requires room { Room self.old.counts
+            (parts of_field (around here.now (Some parent)) FIELD fields.now) }
+        ensures { OnOk result (Lists self.old self.new
+            (parts of_field (around here.now (Some parent)) FIELD fields.now)) }
     {
         for (position, field) in fields.iter().enumerate() {
             self.add(
@@ -124,8 +129,10 @@ impl<'a> Listing<'a> {
         methods: &'a [MethodDescriptorProto],
     ) -> Result<(), AllocError>
         requires short { fits_list methods.now ≡ true }
-        requires room { Room self.old.counts (parts of_method (around here.now (Some parent)) METHOD methods.now) }
-        ensures { OnOk result (Lists self.old self.new (parts of_method (around here.now (Some parent)) METHOD methods.now)) }
+        requires room { Room self.old.counts
+            (parts of_method (around here.now (Some parent)) METHOD methods.now) }
+        ensures { OnOk result (Lists self.old self.new
+            (parts of_method (around here.now (Some parent)) METHOD methods.now)) }
     {
         for (position, method) in methods.iter().enumerate() {
             self.add(
@@ -145,8 +152,10 @@ impl<'a> Listing<'a> {
         values: &'a [EnumValueDescriptorProto],
     ) -> Result<(), AllocError>
         requires short { fits_list values.now ≡ true }
-        requires room { Room self.old.counts (parts of_value (around here.now (Some parent)) VALUE values.now) }
-        ensures { OnOk result (Lists self.old self.new (parts of_value (around here.now (Some parent)) VALUE values.now)) }
+        requires room { Room self.old.counts
+            (parts of_value (around here.now (Some parent)) VALUE values.now) }
+        ensures { OnOk result (Lists self.old self.new
+            (parts of_value (around here.now (Some parent)) VALUE values.now)) }
     {
         for (position, value) in values.iter().enumerate() {
             self.add(
@@ -167,8 +176,11 @@ impl<'a> Listing<'a> {
         extensions: &'a [FieldDescriptorProto],
     ) -> Result<(), AllocError>
         requires short { fits_list extensions.now ≡ true }
-        requires room { Room self.old.counts (row of_extension (around here.now parent) tag 0 self.old.counts.extensions extensions.now) }
-        ensures { OnOk result (Lists self.old self.new (row of_extension (around here.now parent) tag 0 self.old.counts.extensions extensions.now)) }
+        requires room { Room self.old.counts (row of_extension
+            (around here.now parent) tag 0 self.old.counts.extensions extensions.now) }
+        ensures { OnOk result
+            (Lists self.old self.new (row of_extension
+            (around here.now parent) tag 0 self.old.counts.extensions extensions.now)) }
     {
         for (position, extension) in extensions.iter().enumerate() {
             self.add(here, tag, position, Part::Extension(parent, extension))?;
@@ -186,8 +198,11 @@ impl<'a> Listing<'a> {
         enumeration: &'a EnumDescriptorProto,
     ) -> Result<(), AllocError>
         requires position { position < 2 ^ 31 }
-        requires room { Room self.old.counts (enum_walk (around here.now parent) tag position self.old.counts.enums enumeration.now) }
-        ensures { OnOk result (Lists self.old self.new (enum_walk (around here.now parent) tag position self.old.counts.enums enumeration.now)) }
+        requires room { Room self.old.counts (enum_walk
+            (around here.now parent) tag position self.old.counts.enums enumeration.now) }
+        ensures { OnOk result
+            (Lists self.old self.new (enum_walk
+            (around here.now parent) tag position self.old.counts.enums enumeration.now)) }
     {
         let index = self.counts.enums;
         self.add(here, tag, position, Part::Enum(parent, enumeration))?;
@@ -203,8 +218,10 @@ impl<'a> Listing<'a> {
         enums: &'a [EnumDescriptorProto],
     ) -> Result<(), AllocError>
         requires short { fits_list enums.now ≡ true }
-        requires room { Room self.old.counts (enums_walk (around here.now parent) tag 0 self.old.counts.enums enums.now) }
-        ensures { OnOk result (Lists self.old self.new (enums_walk (around here.now parent) tag 0 self.old.counts.enums enums.now)) }
+        requires room { Room self.old.counts
+            (enums_walk (around here.now parent) tag 0 self.old.counts.enums enums.now) }
+        ensures { OnOk result (Lists self.old self.new
+            (enums_walk (around here.now parent) tag 0 self.old.counts.enums enums.now)) }
     {
         for (position, enumeration) in enums.iter().enumerate() {
             self.list_enum(here, parent, tag, position, enumeration)?;
@@ -220,8 +237,10 @@ impl<'a> Listing<'a> {
         service: &'a ServiceDescriptorProto,
     ) -> Result<(), AllocError>
         requires position { position < 2 ^ 31 }
-        requires room { Room self.old.counts (service_walk (around here.now None) position self.old.counts.services service.now) }
-        ensures { OnOk result (Lists self.old self.new (service_walk (around here.now None) position self.old.counts.services service.now)) }
+        requires room { Room self.old.counts
+            (service_walk (around here.now None) position self.old.counts.services service.now) }
+        ensures { OnOk result (Lists self.old self.new
+            (service_walk (around here.now None) position self.old.counts.services service.now)) }
     {
         let index = self.counts.services;
         self.add(here, tag::file::SERVICE, position, Part::Service(service))?;
@@ -235,8 +254,10 @@ impl<'a> Listing<'a> {
         services: &'a [ServiceDescriptorProto],
     ) -> Result<(), AllocError>
         requires short { fits_list services.now ≡ true }
-        requires room { Room self.old.counts (services_walk (around here.now None) 0 self.old.counts.services services.now) }
-        ensures { OnOk result (Lists self.old self.new (services_walk (around here.now None) 0 self.old.counts.services services.now)) }
+        requires room { Room self.old.counts
+            (services_walk (around here.now None) 0 self.old.counts.services services.now) }
+        ensures { OnOk result (Lists self.old self.new
+            (services_walk (around here.now None) 0 self.old.counts.services services.now)) }
     {
         for (position, service) in services.iter().enumerate() {
             self.list_service(here, position, service)?;
@@ -254,10 +275,14 @@ impl<'a> Listing<'a> {
         message: &'a DescriptorProto,
     ) -> Result<Site, AllocError>
         requires position { position < 2 ^ 31 }
-        requires room { Room self.old.counts (message_opening (around here.now parent) tag position self.old.counts.messages message.now) }
-        ensures lists { OnOk result (Lists self.old self.new (message_opening (around here.now parent) tag position self.old.counts.messages message.now)) }
+        requires room { Room self.old.counts (message_opening
+            (around here.now parent) tag position self.old.counts.messages message.now) }
+        ensures lists { OnOk result
+            (Lists self.old self.new (message_opening
+            (around here.now parent) tag position self.old.counts.messages message.now)) }
         ensures inside { IfOk result (λ position'. around position' (Some self.old.counts.messages)
-            ≡ inside (shown (around here.now parent) tag position self.old.counts.messages (of_message message.now))) }
+            ≡ inside (shown (around here.now parent) tag position self.old.counts.messages
+            (of_message message.now))) }
     {
         let index = self.counts.messages;
         self.add(here, tag, position, Part::Message(parent, message))?;
@@ -277,9 +302,13 @@ impl<'a> Listing<'a> {
         requires enums { fits_list (out-DescriptorProto message.now).enum_type ≡ true }
         requires extensions { fits_list (out-DescriptorProto message.now).extension ≡ true }
         requires room { Room self.old.counts
-            (message_end (around inside.now (Some index)) self.old.counts (out-DescriptorProto message.now).enum_type (out-DescriptorProto message.now).extension) }
+            (message_end (around inside.now (Some index)) self.old.counts
+            (out-DescriptorProto message.now).enum_type
+            (out-DescriptorProto message.now).extension) }
         ensures { OnOk result (Lists self.old self.new
-            (message_end (around inside.now (Some index)) self.old.counts (out-DescriptorProto message.now).enum_type (out-DescriptorProto message.now).extension)) }
+            (message_end (around inside.now (Some index)) self.old.counts
+            (out-DescriptorProto message.now).enum_type
+            (out-DescriptorProto message.now).extension)) }
     {
         let parent = Some(index);
         let enums = message.enum_type.as_slice();
@@ -297,8 +326,10 @@ impl<'a> Listing<'a> {
         messages: &'a [DescriptorProto],
     ) -> Result<(), AllocError>
         requires short { fits_list messages.now ≡ true }
-        requires room { Room self.old.counts (messages_walk (around here.now parent) tag 0 self.old.counts messages.now) }
-        ensures { OnOk result (Lists self.old self.new (messages_walk (around here.now parent) tag 0 self.old.counts messages.now)) }
+        requires room { Room self.old.counts
+            (messages_walk (around here.now parent) tag 0 self.old.counts messages.now) }
+        ensures { OnOk result (Lists self.old self.new
+            (messages_walk (around here.now parent) tag 0 self.old.counts messages.now)) }
     {
         for (position, message) in messages.iter().enumerate() {
             let index = self.counts.messages;
@@ -318,7 +349,8 @@ impl<'a> Listing<'a> {
     ) -> Result<(), AllocError>
         requires short { lists_fit (of_file file.now) ≡ true }
         requires room { Room self.old.counts (within_file index self.old.counts file.now) }
-        ensures { OnOk result (Lists self.old self.new (within_file index self.old.counts file.now)) }
+        ensures { OnOk result
+            (Lists self.old self.new (within_file index self.old.counts file.now)) }
     {
         let here = Site {
             file: index,

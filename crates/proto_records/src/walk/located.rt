@@ -20,7 +20,8 @@ pub(crate) struct Located<'a> {
 impl Located<'_> {
     fn show(&self, visitor: &mut dyn Visitor) -> Result<(), AllocError>
         requires { ready visitor.old (located self.now ∷ []) }
-        ensures ok { OnOk result (HasSeen (after visitor.old) (ready visitor.old) (after visitor.new) (ready visitor.new) (located self.now ∷ [])) }
+        ensures ok { OnOk result (HasSeen (after visitor.old) (ready visitor.old)
+            (after visitor.new) (ready visitor.new) (located self.now ∷ [])) }
         ensures kept { kept visitor.new ≡ kept visitor.old }
     {
         let Site { file, path, name } = &self.site;
@@ -65,7 +66,8 @@ pub(crate) fn show_file(
     visitor: &mut dyn Visitor,
 ) -> Result<(), AllocError>
     requires { ready visitor.old (file_shown [] index file.now ∷ []) }
-    ensures ok { OnOk result (HasSeen (after visitor.old) (ready visitor.old) (after visitor.new) (ready visitor.new) (file_shown [] index file.now ∷ [])) }
+    ensures ok { OnOk result (HasSeen (after visitor.old) (ready visitor.old) (after visitor.new)
+        (ready visitor.new) (file_shown [] index file.now ∷ [])) }
     ensures kept { kept visitor.new ≡ kept visitor.old }
 {
     visitor.visit_file(&[], index, file)
@@ -74,7 +76,8 @@ pub(crate) fn show_file(
 /// Shows a visitor what is listed, in order.
 pub(crate) fn show_all(list: &[Located], visitor: &mut dyn Visitor) -> Result<(), AllocError>
     requires { ready visitor.old (map located list.now) }
-    ensures ok { OnOk result (HasSeen (after visitor.old) (ready visitor.old) (after visitor.new) (ready visitor.new) (map located list.now)) }
+    ensures ok { OnOk result (HasSeen (after visitor.old) (ready visitor.old) (after visitor.new)
+        (ready visitor.new) (map located list.now)) }
     ensures kept { kept visitor.new ≡ kept visitor.old }
 {
     for declaration in list {

@@ -25,12 +25,14 @@ impl Site {
     ) -> Result<Site, AllocError>
         requires { position < 2 ^ 31 }
         ensures file { IfOk result (λ entry. entry.file ≡ self.now.file) }
-        ensures path { IfOk result (λ entry. entry.path.items ≡ step self.now.path.items tag position) }
-        ensures name { IfOk result (λ entry. string_bytes entry.name ≡ join (string_bytes self.now.name) name.now) }
+        ensures path { IfOk result (λ entry. entry.path.items
+            ≡ step self.now.path.items tag position) }
+        ensures name { IfOk result (λ entry. string_bytes entry.name
+            ≡ join (string_bytes self.now.name) name.now) }
     {
         Ok(Site {
             file: self.file,
-            path: step(alloc, &self.path, tag, position)?,
+            path: entry_path(alloc, &self.path, tag, position)?,
             name: join(alloc, &self.name, name)?,
         })
     }
@@ -44,19 +46,29 @@ impl Site {
     ) -> Result<Site, AllocError>
         requires { position < 2 ^ 31 }
         ensures file { IfOk result (λ entry. entry.file ≡ self.now.file) }
-        ensures path { IfOk result (λ entry. entry.path.items ≡ step self.now.path.items tag position) }
+        ensures path { IfOk result (λ entry. entry.path.items
+            ≡ step self.now.path.items tag position) }
         ensures name { IfOk result (λ entry. string_bytes entry.name ≡ string_bytes self.now.name) }
     {
         Ok(Site {
             file: self.file,
-            path: step(alloc, &self.path, tag, position)?,
+            path: entry_path(alloc, &self.path, tag, position)?,
             name: String::from_str(alloc, &self.name)?,
         })
     }
 }
 
-/// The path of an entry of a list.
-fn step(alloc: Global, path: &[i32], tag: i32, position: usize) -> Result<Vec<i32>, AllocError>
+/// The path of an entry of a list: the path of what has the list, the list's field number, and the
+/// entry's position, from 0 (descriptor.proto's `SourceCodeInfo.Location.path`).
+///
+/// # Errors
+/// `AllocError` where memory was refused.
+pub fn entry_path(
+    alloc: Global,
+    path: &[i32],
+    tag: i32,
+    position: usize,
+) -> Result<Vec<i32>, AllocError>
     requires { position < 2 ^ 31 }
     ensures { IfOk result (λ entry. entry.items ≡ step path.now tag position) }
 {

@@ -3,7 +3,7 @@
 use super::copies::check_made;
 use plain_values::{Items, Text, same};
 use pool_types::{
-    Cardinality, Definition, DefinitionKind, Entry, EnumDescriptorInner, EnumValueDescriptorInner,
+    Cardinality, Definition, DefinitionKind, EnumDescriptorInner, EnumValueDescriptorInner,
     ExtensionDescriptorInner, FieldDescriptorInner, FileDescriptor, Identity, KindIndex,
     MessageDescriptor, MessageDescriptorInner, MethodDescriptorInner, OneofDescriptorInner,
     ServiceDescriptorInner,
@@ -22,15 +22,12 @@ fn identity(alloc: Global) -> Result<Identity, AllocError> {
     })
 }
 
-/// An entry of the name `p.M` in the first file.
-fn entry(alloc: Global, kind: DefinitionKind) -> Result<Entry, AllocError> {
-    Ok(Entry {
-        name: Text::from_str(alloc, "p.M")?,
-        definition: Definition {
-            file: 0,
-            path: Items::from_slice(alloc, &[4, 0, 1])?,
-            kind,
-        },
+/// What the name `p.M` means in the first file.
+fn definition(alloc: Global, kind: DefinitionKind) -> Result<Definition, AllocError> {
+    Ok(Definition {
+        file: 0,
+        path: Items::from_slice(alloc, &[4, 0, 1])?,
+        kind,
     })
 }
 
@@ -108,9 +105,13 @@ fn check_identity(rt: &impl Abort, alloc: Global, id: &Identity) -> Result<(), A
     Ok(())
 }
 
-fn check_definition(rt: &impl Abort, alloc: Global, entry: &Entry) -> Result<(), AllocError> {
-    let copy = entry.definition.clone(alloc)?;
-    assert!(rt; same(&entry.definition, &copy));
+fn check_definition(
+    rt: &impl Abort,
+    alloc: Global,
+    definition: &Definition,
+) -> Result<(), AllocError> {
+    let copy = definition.clone(alloc)?;
+    assert!(rt; same(definition, &copy));
     Ok(())
 }
 
@@ -118,17 +119,15 @@ fn check_definition(rt: &impl Abort, alloc: Global, entry: &Entry) -> Result<(),
 fn identities_and_definitions_equal_their_copies(rt: HostRuntime) -> Result<(), Fail> {
     let alloc = rt.alloc();
     check_identity(&rt, alloc, &identity(alloc)?)?;
-    check_definition(&rt, alloc, &entry(alloc, DefinitionKind::Package)?)?;
+    check_definition(&rt, alloc, &definition(alloc, DefinitionKind::Package)?)?;
     assert!(rt; MessageDescriptor::new(4).index() == 4);
     assert!(rt; FileDescriptor::new(5).index() == 5);
     Ok(())
 }
 
 #[test]
-fn entries_and_items_equal_their_copies(rt: HostRuntime) -> Result<(), Fail> {
+fn items_equal_their_copies(rt: HostRuntime) -> Result<(), Fail> {
     let alloc = rt.alloc();
-    let (first, second) = (DefinitionKind::Message(0), DefinitionKind::Message(1));
-    check_made(&rt, alloc, entry(alloc, first), entry(alloc, second))?;
     check_made(&rt, alloc, field(alloc, 7), field(alloc, 8))?;
     check_made(&rt, alloc, message(alloc, Some(2)), message(alloc, None))?;
     check_made(&rt, alloc, enumeration(alloc, -1), enumeration(alloc, 1))?;

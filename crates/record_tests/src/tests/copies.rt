@@ -2,7 +2,7 @@
 
 use super::whole::{Record, WHOLE_SCRIPT, options};
 use plain_values::{Duplicate, ExactEq, Items, duplicate_given, same};
-use pool_types::FileDescriptorInner;
+use pool_types::{FileDescriptorInner, Syntax};
 use proto_files::{DescriptorProto, FileDescriptorProto, FileDescriptorSet};
 use proto_types::{EnumOptions, FieldOptions, Options, SourceCodeInfo, Unread};
 use script_files::files_of;
@@ -113,7 +113,8 @@ fn records_equal_their_copies(rt: HostRuntime) -> Result<(), Fail> {
 
 fn linked(alloc: Global, file: &FileDescriptorProto) -> Result<FileDescriptorInner, AllocError> {
     let raw = file.clone(alloc)?;
-    Ok(FileDescriptorInner { raw })
+    let syntax = Syntax::Proto3;
+    Ok(FileDescriptorInner { syntax, raw })
 }
 
 fn check_linked(

@@ -27,6 +27,13 @@ pub(super) const LINKED: &[(&str, &str, &str, Ending)] = &[
         Ending::Whole,
     ),
     (
+        "the last package of a file counts",
+        "file a.proto\npackage p\npackage q\nmessage M\nfield f 1 optional message .q.M ~\n\
+        end\nend\nlink\n",
+        "ok 1 1 0 0 0\n",
+        Ending::Whole,
+    ),
+    (
         "a keyword may be a name",
         "file a.proto\npackage package\nmessage MyMessage\nend\nend\nlink\nfind package.MyMessage\n",
         "ok 1 1 0 0 0\nmessage 0 a.proto [4, 0, 1]\n",
@@ -65,7 +72,7 @@ pub(super) const LINKED: &[(&str, &str, &str, Ending)] = &[
         at 4,0 1,2,3\nmessage M\nfield f 1 optional int32 ~ 0\njson g\noneof o\n\
         message N\nend\nenum E\nvalue V 0\nreserved 5 6\nalias\nend\nreserved 7 8\n\
         extensions 100 200\nextend e 100 optional int32 ~ M\ndefault 5\nend\n\
-        enum F\nend\nservice S\nmethod m .p.M .p.M\nend\n\
+        enum F\nvalue W 0\nend\nservice S\nmethod m .p.M .p.M\nend\n\
         extend x 101 optional int32 ~ .p.M\npacked false\nend\nlink\n\
         find p.M.f\nfind p.M.N\nfind p.S\n",
         "ok 1 2 2 1 2\nfield 0 a.proto [4, 0, 2, 0, 1]\nmessage 1 a.proto [4, 0, 3, 0, 1]\n\
@@ -117,8 +124,8 @@ pub(super) const LINKED: &[(&str, &str, &str, Ending)] = &[
     ),
     (
         "items of all kinds are numbered on over batches",
-        "file a.proto\nenum E\nend\nservice S\nend\nextend x 1 optional int32 ~ ~\nend\nlink\n\
-        file b.proto\nenum F\nend\nservice T\nend\nextend y 1 optional int32 ~ ~\nend\nlink\n\
+        "file a.proto\nenum E\nvalue A 0\nend\nservice S\nend\nextend x 1 optional int32 ~ ~\nend\nlink\n\
+        file b.proto\nenum F\nvalue B 0\nend\nservice T\nend\nextend y 1 optional int32 ~ ~\nend\nlink\n\
         find F\nfind T\nfind y\n",
         "ok 1 0 1 1 1\nok 2 0 2 2 2\nenum 1 b.proto [5, 0, 1]\nservice 1 b.proto [6, 0, 1]\n\
         extension 1 b.proto [7, 0, 1]\n",

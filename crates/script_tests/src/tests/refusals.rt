@@ -71,6 +71,49 @@ pub(super) const REFUSED: &[(&str, &str, &str, Ending)] = &[
         Ending::Whole,
     ),
     (
+        "an unknown syntax is told, and the file is read all the same",
+        "file a.proto\nsyntax proto4\nmessage M\nend\nmessage M\nend\nend\nlink\n",
+        "refused 2\na.proto: unknown syntax 'proto4'\na.proto: name 'M' is defined twice\n",
+        Ending::Whole,
+    ),
+    (
+        "the empty syntax is unknown, and of a file with a fault the batch is read on",
+        "file a.proto\nsyntax ''\nenum E\nvalue A 1\nend\nend\nfile a.proto\nsyntax proto2\nend\n\
+        link\n",
+        "refused 2\na.proto: unknown syntax ''\n\
+        a different file named 'a.proto' has already been added\n",
+        Ending::Whole,
+    ),
+    (
+        "an enum has a value, which is 0 in proto3",
+        "file a.proto\nsyntax proto3\nenum E\nvalue A 1\nend\nenum F\nend\nend\nlink\n",
+        "refused 2\na.proto: the first value for proto3 enums must be 0\n\
+        a.proto: enums must have at least one value\n",
+        Ending::Whole,
+    ),
+    (
+        "two fields of one name in proto3, and no fault of imports",
+        "file a.proto\nsyntax proto3\nimport b.proto\nmessage M\nfield f 1 optional int32 ~ ~\n\
+        field f 2 optional int32 ~ ~\nend\nend\nlink\n",
+        "refused 2\na.proto: camel-case name of field 'f' conflicts with field 'f'\n\
+        a.proto: name 'M.f' is defined twice\n",
+        Ending::Whole,
+    ),
+    (
+        "two fields whose names in JSON are one in proto3",
+        "file a.proto\nsyntax proto3\nmessage M\nfield foo_bar 1 optional int32 ~ ~\n\
+        field fooBar 2 optional int32 ~ ~\nend\nend\nlink\n",
+        "refused 1\na.proto: camel-case name of field 'foo_bar' conflicts with field 'fooBar'\n",
+        Ending::Whole,
+    ),
+    (
+        "a package may not have the name of a message in another file of the batch",
+        "file a.proto\npackage p\nmessage q\nend\nend\nfile b.proto\npackage p.q\nat 2 3,4,5\nend\n\
+        link\n",
+        "refused 1\nb.proto:4:5: name 'p.q' is already defined in file 'a.proto'\n",
+        Ending::Whole,
+    ),
+    (
         "a type name may be missing from the pool",
         "file a.proto\nmessage M\nfield f 1 optional message N ~\nend\nend\nlink\nfind M\n",
         "refused 1\na.proto: name 'N' is not defined\nnone\n",

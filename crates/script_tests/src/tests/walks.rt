@@ -24,6 +24,14 @@ pub(super) const WALKED: &[(&str, &str, &str, Ending)] = &[
         Ending::Whole,
     ),
     (
+        "two files are walked over one after the other",
+        "file a.proto\npackage p\nenum E\nvalue V 0\nend\nend\n\
+        file b.proto\nmessage M\nmessage N\nend\nend\nend\nlink\nwalk\n",
+        "ok 2 2 1 0 0\nwalk 6\nfile 0 a.proto []\nenum 0 p.E [5, 0]\nvalue 0 p.V [5, 0, 2, 0]\n\
+        file 1 b.proto []\nmessage 0 M [4, 0]\nmessage 1 M.N [4, 0, 3, 0]\n",
+        Ending::Whole,
+    ),
+    (
         "empty names are shown in quotes",
         "file ~\nmessage ~\nend\nend\nfile b\nmessage M\nend\nend\nlink\nwalk\n",
         "ok 2 2 0 0 0\nwalk 4\nfile 0 '' []\nmessage 0 '' [4, 0]\nfile 1 b []\nmessage 1 M [4, 0]\n",

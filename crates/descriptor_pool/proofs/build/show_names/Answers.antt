@@ -1,11 +1,12 @@
-use Rattle.std.proofs.Common.{[], ap, ◌∙◌, sym, refl}
+use Rattle.std.proofs.Common.{[], ap, ◌∙◌, subst, sym, refl}
 use Rattle.pool_types.specs.Contents.{Contents}
 use Rattle.proto_records.specs.Declarations.{declarations}
 use Rattle.proto_records.specs.Progress.{Progress}
 use Rattle.proto_records.proofs.Listings.{on-ok}
 use Rattle.descriptor_pool.specs.Growing.{kept_in}
-use Rattle.descriptor_pool.specs.Passes.{names_progress}
+use Rattle.descriptor_pool.specs.Passes.{CanBeEntered, names_progress}
 use Rattle.descriptor_pool.specs.Seen.{names_seen}
+use Rattle.descriptor_pool.proofs.Files.{declarations-entered}
 use borrow.Pointer.Hide.{carried_sameᵐ}
 use borrow.Rule.Reborrow.{re_n}
 use mir.Syntax.{Dict}
@@ -32,3 +33,10 @@ returns-clause-kept c =
     let here = ap (λ z. (own-1.entry z.now.0).1.kept z.now.1) c.visitor-1.given.1 in
     let old = carried_sameᵐ object.Members Dict entry-1-1 (own-1.entry at-1-1) same-1-1 Contents (λ j r. j.1.kept r.now) (re_n c.visit-arg-1.given c.args.visitor) in
     ap (λ w. kept_in w.pool) last ∙ sym there ∙ here ∙ c.visit.ensures.kept ∙ old
+
+-- the files that come are behind those that a roll-back leaves
+pub visit-requires-clause-ready : goal.visit-requires-clause-ready
+visit-requires-clause-ready c =
+    let ds = declarations c.args.base c.args.new.now in
+    let same = carried_sameᵐ object.Members Dict entry-1-1 (own-1.entry at-1-1) same-1-1 Contents (λ j r. j.1.kept r.now) (re_n c.visit-arg-1.given c.args.visitor) in
+    subst (λ p. CanBeEntered p ds) (sym same) (declarations-entered c.args.base c.args.new.now _ c.requires.from c.requires.counts)

@@ -8,35 +8,24 @@ use Rattle.proto_records.proofs.Changed.{changed-message-is}
 use Rattle.link_rules.specs.Linked.{linking, linked_field}
 use Rattle.link_rules.specs.SettingCode.{setting_in}
 use Rattle.link_rules.proofs.Each.{map-next}
-use Rattle.link_rules.proofs.Unchanged.{extensions-stay}
+use Rattle.link_rules.proofs.Unchanged.{extensions-stay, if-ok}
 use Rattle.link_rules.proofs.linked.+linked_message.Goals as goal
 
--- each part is linked or copied
+-- its fields and its nested messages are linked, and the rest stays
 pub returns : goal.returns
 returns t c =
     let m = out-DescriptorProto c.args.message.now in
     let s = setting_in c.args.setting in
     let within = join c.args.scope.now (text_of m.name) in
-    let name : c.in_ok-duplicate_given.field-0 ≡ m.name = c.in_ok-duplicate_given.ensures in
-    let field : c.field-2.inside.inner.items ≡ changed_fields (linked_field s) c.args.index within m.field =
-    c.field-2.view_is ∙ c.in_ok-field.ensures
+    let field : c.in_ok-field.field ≡ changed_fields (linked_field s) c.args.index within m.field =
+    c.in_ok-field.ensures
     ∙ (λ i. changed_fields (linked_field s) c.args.index ((c.deref.ensures ∙ c.in_ok-within.ensures ∙ ap (join c.args.scope.now) c.name.ensures) i) (c.as_slice.ensures i)) in
-    let nested : c.nested_type-2.inside.inner.items ≡ changed_messages (linking s) c.args.index within m.nested_type =
-    c.nested_type-2.view_is ∙ c.loop-nested.invariant
+    let nested =
+    c.loop-nested.invariant
     ∙ ap (changed_messages (linking s) c.args.index within) (take_all c.loop-nested.nested-index c.as_slice-nested-items.result.now c.loop-nested-test.false ∙ c.as_slice-nested-items.ensures) in
-    ap roll-DescriptorProto (λ i. record {
-      name = name i;
-      field = field i;
-      nested_type = nested i;
-      enum_type = c.in_ok-clone.ensures i;
-      extension_range = c.in_ok-clone-2.ensures i;
-      extension = (c.in_ok-clone-3.ensures ∙ sym (extensions-stay c.args.index within m.extension)) i;
-      options = c.in_ok-duplicate_given-2.ensures i;
-      oneof_decl = c.in_ok-clone-4.ensures i;
-      reserved_range = c.in_ok-clone-5.ensures i;
-      reserved_name = c.in_ok-clone-6.ensures i;
-    })
-    ∙ sym (changed-message-is (linking s) c.args.index within c.args.message.now)
+    let same = ap roll-DescriptorProto (λ i. record m { field = field i; nested_type = nested i; extension = sym (extensions-stay c.args.index within m.extension) i })
+    ∙ sym (changed-message-is (linking s) c.args.index within c.args.message.now) in
+    if-ok c.with_parts.result same c.with_parts.ensures
 
 -- one more nested message is linked
 pub loop-nested-preserved : goal.loop-nested-preserved

@@ -19,8 +19,8 @@ use Rattle.link_rules.specs.SettingCode.{setting_in}
 use Rattle.link_rules.proofs.Each.{each-next, all-next, short-list}
 use Rattle.link_rules.proofs.message.read_fields.Goals as goal
 
-pub step-requires : goal.step-requires
-step-requires c = short-list c.args.fields.now c.loop-position.position c.requires c.loop-position-test.true
+pub entry_path-requires : goal.entry_path-requires
+entry_path-requires c = short-list c.args.fields.now c.loop-position.position c.requires c.loop-position-test.true
 
 -- one more field is read
 pub loop-position-preserved : goal.loop-position-preserved

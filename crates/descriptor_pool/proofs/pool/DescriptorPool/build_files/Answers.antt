@@ -1,13 +1,15 @@
 use Rattle.std.proofs.Common.{◌≡◌, ℕ, true, eqb, List, [], ◌∷◌, length, IsOk, Err, refl, ap, subst, sym, ◌∙◌, rules, arith}
 use Rattle.std.proofs.lemmas.Bool.Decides.{nat_tests}
 use Rattle.pool_types.specs.Contents.{Contents}
+use Rattle.proto_files.specs.declared.file.FileDescriptorProto.{FileDescriptorProto}
 use Rattle.proto_records.specs.Counts.{counts_in}
 use Rattle.proto_records.specs.Fits.{counts_with}
 use Rattle.descriptor_pool.specs.Invariant.{contents_in}
 use Rattle.descriptor_pool.specs.Outcome.{Outcome, IsLinked}
 use Rattle.descriptor_pool.specs.Pool.{new_files, counts_after}
-use Rattle.descriptor_pool.proofs.Grown.{IsBehind, ground_of, outcome_behind, pool_behind}
-use Rattle.descriptor_pool.proofs.NewFiles.{kept_files, new_of_new, nothing_linked}
+use Rattle.descriptor_pool.proofs.Grown.{IsBehind, fits_of, outcome_behind, pool_behind}
+use Rattle.descriptor_pool.proofs.Sound.{names_lie}
+use Rattle.descriptor_pool.proofs.NewFiles.{nothing_linked}
 use Rattle.descriptor_pool.proofs.pool.DescriptorPool.build_files.Goals as goal
 
 -- a list of length 0
@@ -18,59 +20,57 @@ nothing_in (x ∷ xs) n is zero = absurd (grind (arith, nat_tests))
 pub returns-then-is_empty-clause-outcome : goal.returns-then-is_empty-clause-outcome
 returns-then-is_empty-clause-outcome c =
     let p = contents_in c.self.inside.inner in
-    let kept = c.keep_new.ensures ∙ kept_files p c.deref.result.now c.args.files.items c.deref.ensures.value in
+    let kept = c.keep_new.ensures in
     let batch = c.keep_new.new.batch in
     let none = nothing_in batch.items batch.len batch.ok.0 c.if-is_empty.ensures in
     let P : Contents → Type 0 = λ q. IsLinked q c.args.files.items q in
-    subst P c.self.view_is (nothing_linked p c.args.files.items (sym kept ∙ none) c.self.invariant.names_are c.self.invariant.within)
+    subst P c.self.view_is (nothing_linked p c.args.files.items (sym kept ∙ none) c.self.invariant.within)
 
 pub returns-in-Err-clause-outcome : goal.returns-in-Err-clause-outcome
 returns-in-Err-clause-outcome c =
     let p = c.args.self.now in
-    let kept = c.keep_new.ensures ∙ kept_files p c.deref.result.now c.args.files.items (c.deref.ensures.value ∙ ap (λ q. q.files) c.self.view_is) in
+    let kept = c.keep_new.ensures ∙ ap (λ q. new_files q c.args.files.items) c.self.view_is in
     let first : counts_after p c.args.files.items ≡ Err c.in-Err.kind =
-    ap (λ new. counts_with (counts_in p) new) (sym (c.deref-2.ensures.value ∙ kept))
-    ∙ ap (λ base. counts_with base c.deref-2.result.now) (sym c.counts-base.ensures) ∙ sym c.with_files.ensures ∙ c.in-Err.is in
+    ap (λ new. counts_with (counts_in p) new) (sym (c.deref.ensures.value ∙ kept))
+    ∙ ap (λ base. counts_with base c.deref.result.now) (sym c.counts-base.ensures) ∙ sym c.with_files.ensures ∙ c.in-Err.is in
     record { first = first; unchanged = refl }
 
 pub returns-in-Err-clause-nothing_new : goal.returns-in-Err-clause-nothing_new
 returns-in-Err-clause-nothing_new c = λ nothing.
     let p = c.args.self.now in
-    let kept = c.keep_new.ensures ∙ kept_files p c.deref.result.now c.args.files.items (c.deref.ensures.value ∙ ap (λ q. q.files) c.self.view_is) in
+    let kept = c.keep_new.ensures ∙ ap (λ q. new_files q c.args.files.items) c.self.view_is in
     let none : c.keep_new.new.batch.items ≡ [] = kept ∙ nothing in
     absurd (search rules)
 
 pub invariant_of-self : goal.invariant_of-self
 invariant_of-self c =
     let p = contents_in c.self.inside.inner in
-    let kept = c.keep_new.ensures ∙ kept_files p c.deref.result.now c.args.files.items c.deref.ensures.value in
+    let kept = c.keep_new.ensures in
     let base_is = c.counts-base.ensures ∙ ap counts_in (sym c.self.view_is) in
-    let ok : IsOk (counts_with c.counts-base.result c.deref-2.result.now) = rw (← c.with_files.ensures, c.in_default.is) refl in
-    let new = c.deref-3.ensures.value ∙ kept in
-    let ground = ground_of p c.self.inside.inner.entries.items c.counts-base.result c.args.files.items c.deref-2.result.now c.deref-3.result.now
-    c.self.invariant refl base_is (c.deref-2.ensures.value ∙ kept) new ok in
-    let behind : IsBehind p c.self.inside.inner.entries.items c.counts-base.result c.deref-3.result.now c.link.result (contents_in c.link.new.pool) =
-    record { ok = c.link.ensures.ok; faults_are = c.link.ensures.faults; err = c.link.ensures.err; names = c.link.ensures.names } in
-    pool_behind p c.self.inside.inner.entries.items c.counts-base.result c.deref-3.result.now c.link.result (contents_in c.link.new.pool) base_is ground behind
+    let ok : IsOk (counts_with c.counts-base.result c.deref.result.now) = rw (← c.with_files.ensures, c.in_default.is) refl in
+    let fits = fits_of p c.counts-base.result c.args.files.items c.deref.result.now base_is (c.deref.ensures.value ∙ kept) ok in
+    let Behind : List FileDescriptorProto → Type 0 = λ new. IsBehind p new c.link.result (contents_in c.link.new.pool) in
+    let behind : Behind c.deref-2.result.now = record { ok = c.link.ensures.ok; told = c.link.ensures.faults; err = c.link.ensures.err; names = c.link.ensures.names } in
+    pool_behind p c.args.files.items fits c.self.invariant c.link.result (contents_in c.link.new.pool) (subst Behind (c.deref-2.ensures.value ∙ kept) behind)
+
+pub link-requires-clause-before : goal.link-requires-clause-before
+link-requires-clause-before c = names_lie (contents_in c.self.inside.inner) c.self.invariant
 
 pub returns-clause-outcome : goal.returns-clause-outcome
 returns-clause-outcome c =
     let p = contents_in c.self.inside.inner in
-    let kept = c.keep_new.ensures ∙ kept_files p c.deref.result.now c.args.files.items c.deref.ensures.value in
+    let kept = c.keep_new.ensures in
     let base_is = c.counts-base.ensures ∙ ap counts_in (sym c.self.view_is) in
-    let ok : IsOk (counts_with c.counts-base.result c.deref-2.result.now) = rw (← c.with_files.ensures, c.in_default.is) refl in
-    let new = c.deref-3.ensures.value ∙ kept in
-    let ground = ground_of p c.self.inside.inner.entries.items c.counts-base.result c.args.files.items c.deref-2.result.now c.deref-3.result.now
-    c.self.invariant refl base_is (c.deref-2.ensures.value ∙ kept) new ok in
-    let behind : IsBehind p c.self.inside.inner.entries.items c.counts-base.result c.deref-3.result.now c.link.result (contents_in c.link.new.pool) =
-    record { ok = c.link.ensures.ok; faults_are = c.link.ensures.faults; err = c.link.ensures.err; names = c.link.ensures.names } in
-    let same = ap (new_files p) new ∙ new_of_new p c.args.files.items in
+    let ok : IsOk (counts_with c.counts-base.result c.deref.result.now) = rw (← c.with_files.ensures, c.in_default.is) refl in
+    let fits = fits_of p c.counts-base.result c.args.files.items c.deref.result.now base_is (c.deref.ensures.value ∙ kept) ok in
+    let Behind : List FileDescriptorProto → Type 0 = λ new. IsBehind p new c.link.result (contents_in c.link.new.pool) in
+    let behind : Behind c.deref-2.result.now = record { ok = c.link.ensures.ok; told = c.link.ensures.faults; err = c.link.ensures.err; names = c.link.ensures.names } in
     let P : Contents → Type 0 = λ old. Outcome old c.args.files.items c.link.result (contents_in c.link.new.pool) in
-    subst P c.self.view_is (outcome_behind p c.self.inside.inner.entries.items c.counts-base.result c.deref-3.result.now c.args.files.items c.link.result (contents_in c.link.new.pool) base_is ground same behind)
+    subst P c.self.view_is (outcome_behind p c.args.files.items fits c.link.result (contents_in c.link.new.pool) (subst Behind (c.deref-2.ensures.value ∙ kept) behind))
 
 pub returns-clause-nothing_new : goal.returns-clause-nothing_new
 returns-clause-nothing_new c = λ nothing.
     let p = c.args.self.now in
-    let kept = c.keep_new.ensures ∙ kept_files p c.deref.result.now c.args.files.items (c.deref.ensures.value ∙ ap (λ q. q.files) c.self.view_is) in
+    let kept = c.keep_new.ensures ∙ ap (λ q. new_files q c.args.files.items) c.self.view_is in
     let none : c.keep_new.new.batch.items ≡ [] = kept ∙ nothing in
     absurd (search rules)

@@ -7,7 +7,7 @@ use Rattle.descriptor_pool.specs.Pool.{empty}
 use Rattle.descriptor_pool.proofs.pool.DescriptorPool.new.Goals as goal
 
 empty_pool : IsPool no_contents
-empty_pool = record { made = empty refl; names_are = refl; counts_are = refl; within = record { files = omega arith; messages = omega arith; enums = omega arith; services = omega arith; extensions = omega arith }; names_begin = All-nil MessageNamesBegin }
+empty_pool = record { made = empty refl; counts_are = refl; within = record { files = omega arith; messages = omega arith; enums = omega arith; services = omega arith; extensions = omega arith }; names_begin = All-nil MessageNamesBegin }
 
 -- nothing is made, and nothing is declared
 pub invariant_of-result : goal.invariant_of-result

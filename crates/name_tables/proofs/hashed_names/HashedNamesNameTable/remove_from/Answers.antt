@@ -7,5 +7,5 @@ use Rattle.name_tables.proofs.hashed_names.HashedNamesNameTable.remove_from.Goal
 pub returns : goal.returns
 returns c =
     let left = filter_same_pairs _ (λ e. ltb e.1.file c.args.file) _ (λ k v b w f' t. search rules) _ _ c.retain.ensures.filtered in
-    by_text-retain c.args.file c.self.inside.table c.retain.new.self c.retain.ensures.was_unique left
+    by_text-retain (λ d. d.file) c.args.file c.self.inside.table c.retain.new.self c.retain.ensures.was_unique left
     ∙ ap (without_files_from c.args.file) c.self.view_is

@@ -1,0 +1,30 @@
+use Rattle.std.proofs.Common.{ap, subst, sym, ◌∙◌}
+use Rattle.pool_types.specs.Contents.{Contents}
+use Rattle.link_rules.specs.NamesBegin.{NamesBegin}
+use Rattle.descriptor_pool.specs.declared.build.growing.GrowingPool.{GrowingPool}
+use Rattle.descriptor_pool.specs.declared.inner.DescriptorPoolInner.{DescriptorPoolInner}
+use Rattle.descriptor_pool.specs.Behind.{faults_behind}
+use Rattle.descriptor_pool.specs.Invariant.{contents_in}
+use Rattle.descriptor_pool.specs.Passes.{TellsAll}
+use Rattle.descriptor_pool.proofs.Passed.{after-ok, after-err}
+use Rattle.descriptor_pool.proofs.build.link.Goals as goal
+use Rattle.descriptor_pool.proofs.build.link.Goals.{then-is_err, else-is_err}
+
+pub returns-clause-faults : goal.returns-clause-faults
+returns-clause-faults c =
+    let Tells : DescriptorPoolInner → Type 0 = λ q. TellsAll c.link_behind-growing.result.1 (faults_behind (contents_in q) c.args.new.now) in
+    subst Tells (c.new-2.ensures.inner ∙ c.replace-before.ensures.value) c.link_behind-growing.ensures.faults
+
+pub returns-clause-names : goal.returns-clause-names
+returns-clause-names c =
+    let linked = c.link_behind-growing in
+    elim c.if-is_err.branch [
+      | then-is_err w ↦
+          let same = ap (λ (g : GrowingPool). contents_in g.inner) w.growing-is ∙ w.rollback.ensures ∙ after-err linked.result.1 w.if-is_err.ensures.value linked.ensures.kept
+          ∙ c.new-2.ensures.kept ∙ ap contents_in c.replace-before.ensures.value in
+          let Begin : Contents → Type 0 = λ q. NamesBegin q.messages in
+          subst Begin (sym same) c.requires.names
+      | else-is_err w ↦
+          let Begin : GrowingPool → Type 0 = λ g. NamesBegin g.inner.messages.items in
+          subst Begin (sym w.growing-is) (after-ok linked.result.1 w.if-is_err.ensures.value linked.ensures.names)
+    ]

@@ -1,6 +1,0 @@
-use Rattle.link_rules.proofs.NamesBegin.{name-begins}
-use Rattle.link_rules.proofs.identity.identity.Goals as goal
-
-pub returns-clause-begins : goal.returns-clause-begins
-returns-clause-begins c =
-    name-begins c.in_ok-from_str.field-0 c.args.place.full_name.now c.args.name.now c.saturating_sub.result c.in_ok-from_str.ensures c.saturating_sub.ensures c.utf8.name

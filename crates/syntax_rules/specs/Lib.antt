@@ -1,0 +1,3 @@
+pub mod Syntaxes
+pub mod CamelCase
+pub mod Enumeration

@@ -1,0 +1,136 @@
+ghost use Rattle.std.specs.Prelude.{◌≡◌, ◌<◌, ◌^◌, ◌++◌, ℕ, List, Some, true, unwrap_or, if◌then◌else◌, IfOk, OnOk, map, string_bytes};
+ghost use Rattle.std.specs.HashMap.{get_by_text};
+ghost use Rattle.std.specs.Str.{bytes_eq};
+ghost use Rattle.proto_records.specs.Counts.{fits_list, lists_fit};
+ghost use Rattle.proto_records.specs.Protos.{of_message};
+ghost use Rattle.pool_types.specs.Labels.{label_in};
+ghost use Rattle.syntax_rules.specs.CamelCase.{camel_case_key, name_path, camel_case_fault, camel_case_faults, message_own_faults};
+
+use crate::syntax::syntax_at;
+use plain_values::Text;
+use pool_faults::DescriptorErrorKind;
+use pool_kinds::Syntax;
+use pool_parts::label_at;
+use pool_types::{FileDescriptorInner, Label};
+use proto_files::DescriptorProto;
+use proto_types::{FieldDescriptorProto, tag};
+use std::alloc::{AllocError, Global};
+use std::collections::HashMap;
+
+/// Puts behind the faults, in a file of proto3, one for each field whose name is that of an earlier
+/// field but for underscores and the case of ASCII's letters; it cites the earliest such field (the
+/// protobuf language rules on proto3's JSON mapping). The message stands at the path in the file
+/// with the index, from 0 in the order of linking, and its lists are short enough for positions in
+/// paths.
+///
+/// # Errors
+/// `AllocError` where memory was refused.
+pub fn check_camel_case_names(
+    alloc: Global,
+    files: &[FileDescriptorInner],
+    file: u32,
+    path: &[i32],
+    message: &DescriptorProto,
+    faults: &mut Vec<DescriptorErrorKind>,
+) -> Result<(), AllocError>
+    requires { lists_fit (of_message message.now) ≡ true }
+    ensures { OnOk result (faults.new.items ≡ faults.old.items
+        ++ message_own_faults (map (λ f. f.raw) files.now) file path.now message.now) }
+{
+    match syntax_at(files, file) {
+        Syntax::Proto2 => Ok(()),
+        Syntax::Proto3 => check_keys(alloc, files, file, path, message.field.as_slice(), faults),
+    }
+}
+
+/// Puts behind the faults one for each field whose key an earlier field has.
+fn check_keys(
+    alloc: Global,
+    files: &[FileDescriptorInner],
+    file: u32,
+    path: &[i32],
+    fields: &[FieldDescriptorProto],
+    faults: &mut Vec<DescriptorErrorKind>,
+) -> Result<(), AllocError>
+    requires { fits_list fields.now ≡ true }
+    ensures { OnOk result (faults.new.items ≡ faults.old.items
+        ++ camel_case_faults (map (λ f. f.raw) files.now) file path.now fields.now) }
+{
+    let mut holders = HashMap::new(alloc);
+    for (position, field) in fields.iter().enumerate() {
+        let key = camel_case_key(alloc, field.name())?;
+        let first = first_holder(&mut holders, key, position)?;
+        if first != position {
+            let holder = (first, &fields[first]);
+            let fault = camel_case_fault(alloc, files, file, path, holder, (position, field))?;
+            faults.push(fault)?;
+        }
+    }
+    Ok(())
+}
+
+/// What the name of a field is told apart by: the name without underscores, in ASCII's lower case.
+fn camel_case_key(alloc: Global, name: &str) -> Result<String, AllocError>
+    ensures { IfOk result (λ key. string_bytes key ≡ camel_case_key name.now) }
+{
+    let mut key = String::from_str(alloc, name)?;
+    key.retain(|c| c != '_');
+    key.make_ascii_lowercase();
+    Ok(key)
+}
+
+/// The position that holds a key: the one that the map has, or else the given one, which is put in.
+fn first_holder(
+    holders: &mut HashMap<String, usize>,
+    key: String,
+    position: usize,
+) -> Result<usize, AllocError>
+    ensures first { IfOk result (λ first.
+        first ≡ unwrap_or (get_by_text holders.old (string_bytes key)) position) }
+    ensures holders { IfOk result (λ first. (text : List ℕ) → get_by_text holders.new text
+        ≡ (if bytes_eq text (string_bytes key) then Some first else get_by_text holders.old text)) }
+{
+    Ok(*holders.entry(key)?.or_insert(position))
+}
+
+/// The fault of two fields, given with their positions, whose names have one key.
+fn camel_case_fault(
+    alloc: Global,
+    files: &[FileDescriptorInner],
+    file: u32,
+    path: &[i32],
+    first: (usize, &FieldDescriptorProto),
+    second: (usize, &FieldDescriptorProto),
+) -> Result<DescriptorErrorKind, AllocError>
+    requires first_short { first.0 < 2 ^ 31 }
+    requires second_short { second.0 < 2 ^ 31 }
+    ensures { IfOk result (λ fault. fault
+        ≡ camel_case_fault (map (λ f. f.raw) files.now) file path.now
+        (first.entry.0, first.entry.1.now) (second.entry.0, second.entry.1.now)) }
+{
+    Ok(DescriptorErrorKind::DuplicateFieldCamelCaseName {
+        first_name: Text::from_str(alloc, first.1.name())?,
+        second_name: Text::from_str(alloc, second.1.name())?,
+        first: name_label(alloc, files, file, path, first.0)?,
+        second: name_label(alloc, files, file, path, second.0)?,
+    })
+}
+
+/// The label of a field's name.
+fn name_label(
+    alloc: Global,
+    files: &[FileDescriptorInner],
+    file: u32,
+    path: &[i32],
+    position: usize,
+) -> Result<Label, AllocError>
+    requires { position < 2 ^ 31 }
+    ensures { IfOk result (λ l. l
+        ≡ label_in (map (λ f. f.raw) files.now) file (name_path path.now position)) }
+{
+    let mut name_path = Vec::from_slice(alloc, path)?;
+    name_path.push(tag::message::FIELD)?;
+    name_path.push(position as i32)?;
+    name_path.push(tag::field::NAME)?;
+    label_at(alloc, files, file, &name_path)
+}
