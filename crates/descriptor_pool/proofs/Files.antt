@@ -4,11 +4,9 @@ use Rattle.std.specs.List.{All, AllByRecursion}
 use Rattle.std.specs.Option.{IfSome}
 use Rattle.std.specs.Str.{bytes_eq}
 use Rattle.std.proofs.lemmas.List.Elements.{All-nil, All-append, recursion_from_All}
-use Rattle.pool_types.specs.declared.contents.definition.Definition.{Definition}
 use Rattle.proto_files.specs.declared.file.FileDescriptorProto.{FileDescriptorProto}
-use Rattle.name_tables.specs.Entries.{Entry, first_of, names}
+use Rattle.name_tables.specs.Entries.{first_of, names}
 use Rattle.name_tables.specs.NameTables.{AllBefore, FileNamesBefore}
-use Rattle.name_tables.proofs.Entries.{names_first}
 use Rattle.name_tables.proofs.Names.{get-lookup}
 use Rattle.proto_types.specs.Readers.{text_of}
 use Rattle.proto_records.specs.declared.counts.Counts.{Counts}
@@ -55,7 +53,7 @@ lie-from : (base : Counts) (fs : List FileDescriptorProto) → AllByRecursion (�
 lie-from base fs = (lie-between base fs).0
 
 -- what a name means that entries have has what holds of each entry
-first-has : (P : Definition → Type 0) (es : List Entry) (name : List ℕ) → AllByRecursion (λ e. P e.1) es → IfSome (first_of es name) P
+first-has : {X : Type 0} (P : X → Type 0) (es : List (List ℕ × X)) (name : List ℕ) → AllByRecursion (λ e. P e.1) es → IfSome (first_of es name) P
 first-has P [] name all = tt
 first-has P (e ∷ es) name all =
     elim (bytes_eq name e.0) as (λ b. IfSome (cond b (Some e.1) (first_of es name)) P) [ true ↦ all.0 | false ↦ first-has P es name all.1 ]
@@ -82,12 +80,6 @@ entries-lie end [] all = tt
 entries-lie end (d ∷ ds) all =
     all-append (λ e. e.1.file < end) (entries_of d) (entries ds) (entries-lie-of end d.file d.parent d.index d.path d.full_name d.proto all.0) (entries-lie end ds all.1)
 
--- what a file name means that entries have has what holds of each entry
-first-file-has : (P : ℕ → Type 0) (es : List (List ℕ × ℕ)) (name : List ℕ) → AllByRecursion (λ e. P e.1) es → IfSome (first_of es name) P
-first-file-has P [] name all = tt
-first-file-has P (e ∷ es) name all =
-    elim (bytes_eq name e.0) as (λ b. IfSome (cond b (Some e.1) (first_of es name)) P) [ true ↦ all.0 | false ↦ first-file-has P es name all.1 ]
-
 file-lies-of : (end file : ℕ) (parent : Option ℕ) (index : ℕ) (path : List ℤ) (full_name : List ℕ) (p : Proto) → file < end
     → let d : Shown = record { file = file; parent = parent; index = index; path = path; full_name = full_name; proto = p } in
     AllByRecursion (λ e. e.1 < end) (file_entries_of d)
@@ -112,7 +104,7 @@ file-names-before base fs name =
     let end = base.files + length fs in
     let es = file_entries (declarations base fs) in
     subst (λ found. IfSome found (λ file. file < end)) (sym (get-lookup es name))
-    (first-file-has (λ file. file < end) es name (files-lie end (declarations base fs) (lie-between base fs).1))
+    (first-has (λ file. file < end) es name (files-lie end (declarations base fs) (lie-between base fs).1))
 
 -- declarations of files that fit can be entered behind a pool with that many files
 pub declarations-entered : (base : Counts) (fs : List FileDescriptorProto) (n : ℕ) → n ≡ base.files → IsOk (counts_with base fs)
@@ -128,5 +120,5 @@ pub names-before : (base : Counts) (fs : List FileDescriptorProto) → AllBefore
 names-before base fs name =
     let end = base.files + length fs in
     let es = entries (declarations base fs) in
-    subst (λ found. IfSome found (λ d. d.file < end)) (sym (names_first es name))
+    subst (λ found. IfSome found (λ d. d.file < end)) (sym (get-lookup es name))
     (first-has (λ d. d.file < end) es name (entries-lie end (declarations base fs) (lie-between base fs).1))

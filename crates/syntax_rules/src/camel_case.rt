@@ -13,6 +13,7 @@ use pool_kinds::Syntax;
 use pool_parts::label_at;
 use pool_types::{FileDescriptorInner, Label};
 use proto_files::DescriptorProto;
+use proto_records::entry_path;
 use proto_types::{FieldDescriptorProto, tag};
 use std::alloc::{AllocError, Global};
 use std::collections::HashMap;
@@ -128,9 +129,7 @@ fn name_label(
     ensures { IfOk result (λ l. l
         ≡ label_in (map (λ f. f.raw) files.now) file (name_path path.now position)) }
 {
-    let mut name_path = Vec::from_slice(alloc, path)?;
-    name_path.push(tag::message::FIELD)?;
-    name_path.push(position as i32)?;
+    let mut name_path = entry_path(alloc, path, tag::message::FIELD, position)?;
     name_path.push(tag::field::NAME)?;
     label_at(alloc, files, file, &name_path)
 }
