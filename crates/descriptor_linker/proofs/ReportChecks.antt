@@ -1,12 +1,15 @@
 -- Worked scripts, computed.
-use Rattle.std.specs.Prelude.{◌≡◌, ℕ, [], ◌∷◌, refl, codes}
+use Rattle.std.specs.Prelude.{◌≡◌, ℕ, List, [], ◌∷◌, refl, codes}
+use Rattle.std.specs.List.{fold, flat_map}
 use Rattle.std.specs.FinMap.{get-empty}
 use Rattle.std.specs.Cmp.Lexicographic.{slice_cmp}
 use Rattle.std.specs.Ordering.{nat_cmp}
 use Rattle.pool_types.specs.declared.contents.definition.Definition.{Definition}
 use Rattle.name_tables.proofs.Entries.{get-with}
 use Rattle.link_script.specs.Script.Reading.{script}
-use Rattle.descriptor_linker.specs.Report.Session.{report}
+use Rattle.descriptor_pool.specs.References.{references}
+use Rattle.descriptor_linker.specs.Report.Answers.{reference_lines}
+use Rattle.descriptor_linker.specs.Report.Session.{report, new_session, step}
 use Rattle.descriptor_linker.proofs.Computed.{scripts}
 
 pub nothing : report (script []) ≡ []
@@ -64,8 +67,8 @@ pub file_twice : report (script (codes "file a.proto\nend\nfile a.proto\nend\nli
 unfolding scripts
 file_twice = simp (get-with {X = Definition}, get-with {X = ℕ}, get-empty {X = Definition} (slice_cmp nat_cmp), get-empty {X = ℕ} (slice_cmp nat_cmp)) refl
 
-pub name_of_another_file : report (script (codes "file a.proto\npackage p\nmessage M\nend\nend\nlink\nfile b.proto\npackage p\nmessage M\nend\nend\nlink\n"))
-    ≡ codes "ok 1 1 0 0 0\nrefused 1\nb.proto: name 'p.M' is already defined in file 'a.proto'\n"
+pub name_of_another_file : report (script (codes "file a.proto\npackage p\nmessage M\nend\nend\nfile b.proto\npackage p\nmessage M\nend\nend\nlink\n"))
+    ≡ codes "refused 1\nb.proto: name 'p.M' is already defined in file 'a.proto'\n"
 unfolding scripts
 name_of_another_file = simp (get-with {X = Definition}, get-with {X = ℕ}, get-empty {X = Definition} (slice_cmp nat_cmp), get-empty {X = ℕ} (slice_cmp nat_cmp)) refl
 
@@ -89,16 +92,40 @@ pub found : report (script (codes "file a.proto\npackage p.q\nmessage M\nfield f
 unfolding scripts
 found = simp (get-with {X = Definition}, get-with {X = ℕ}, get-empty {X = Definition} (slice_cmp nat_cmp), get-empty {X = ℕ} (slice_cmp nat_cmp)) refl
 
-pub batch_of_a_known_file : report (script (codes "# three batches\n\nlink\nfile a.proto\nend\nlink\nfile a.proto\nmessage M\nend\nend\nlink\nfind M\n"))
-    ≡ codes "ok 0 0 0 0 0\nok 1 0 0 0 0\nok 1 0 0 0 0\nnone\n"
+pub empty_batch : report (script (codes "# an empty batch\n\nlink\n")) ≡ codes "ok 0 0 0 0 0\n"
 unfolding scripts
-batch_of_a_known_file = simp (get-with {X = Definition}, get-with {X = ℕ}, get-empty {X = Definition} (slice_cmp nat_cmp), get-empty {X = ℕ} (slice_cmp nat_cmp)) refl
+empty_batch = refl
 
-pub refused_whole : report (script (codes "file a.proto\nend\nlink\nfile b.proto\npackage .a\nmessage M\nend\nmessage M\nend\nend\nlink\nfind ''\nfind ..a\n"))
-    ≡ codes "ok 1 0 0 0 0\nrefused 1\nb.proto: name '.a.M' is defined twice\nnone\nnone\n"
+pub refused_whole : report (script (codes "link\nfile b.proto\npackage .a\nmessage M\nend\nmessage M\nend\nend\nlink\nfind ''\nfind ..a\n"))
+    ≡ codes "ok 0 0 0 0 0\nrefused 1\nb.proto: name '.a.M' is defined twice\nnone\nnone\n"
 unfolding scripts
 refused_whole = simp (get-with {X = Definition}, get-with {X = ℕ}, get-empty {X = Definition} (slice_cmp nat_cmp), get-empty {X = ℕ} (slice_cmp nat_cmp)) refl
 
 pub nameless_file : report (script (codes "file ~\nmessage M\nend\nend\nlink\nfind M\nfind ~\n")) ≡ codes "ok 1 1 0 0 0\nmessage 0 '' [4, 0, 1]\nnone\n"
 unfolding scripts
 nameless_file = simp (get-with {X = Definition}, get-with {X = ℕ}, get-empty {X = Definition} (slice_cmp nat_cmp), get-empty {X = ℕ} (slice_cmp nat_cmp)) refl
+
+-- the references of the files that a script declares, as they are told
+abbrev references_of : List ℕ → List ℕ
+references_of text = flat_map (λ f. reference_lines (references (f ∷ []))) (fold step new_session (script text).statements).batch
+
+pub references_in_order : references_of (codes "file a.proto\npackage p\nmessage M\nfield f 1 optional message .p.M ~\nfield g 2 optional int32 ~ ~\nmessage N\nfield h 1 repeated message .p.M ~\nend\nfield i 3 optional message .p.M.N ~\nend\nend\n")
+    ≡ codes "refs 3\np.M.f type_name .p.M\np.M.i type_name .p.M.N\np.M.N.h type_name .p.M\n"
+unfolding scripts
+references_in_order = refl
+
+pub reference_of_nothing : references_of (codes "file ''\nmessage ''\nfield '' 1 optional message .M ~\nend\nend\n") ≡ codes "refs 1\n'' type_name .M\n"
+unfolding scripts
+reference_of_nothing = refl
+
+pub no_reference : references_of (codes "file a.proto\nend\n") ≡ codes "refs 0\n"
+unfolding scripts
+no_reference = refl
+
+pub refs_of_no_file : report (script (codes "refs a.proto\nrefs ~\n")) ≡ codes "none\nnone\n"
+unfolding scripts
+refs_of_no_file = refl
+
+pub refs_of_what : report (script (codes "refs\n")) ≡ codes "line 1: wrong count of words\n"
+unfolding scripts
+refs_of_what = refl

@@ -3,15 +3,11 @@
 //! that these hold.
 #![tactic(auto)]
 
-mod devices;
 mod ending;
 mod report;
 mod runs;
 
 pub use descriptor_pool::{BuildError, DescriptorPool, NameVisitor, ResolveVisitor};
-pub use devices::{
-    MemoryInput, MemoryOutput, ReaderInput, ReportOutput, ScriptInput, WriterOutput,
-};
 pub use ending::Ending;
 pub use link_script::{Block, Keyword, Open, Script, ScriptFault, Statement, read_script};
 pub use plain_values::{Items, Text};
@@ -30,3 +26,6 @@ pub use proto_types::{
 };
 pub use report::{Report, report_of};
 pub use runs::run;
+pub use script_devices::{
+    MemoryInput, MemoryOutput, ReaderInput, ReportOutput, ScriptInput, WriterOutput,
+};

@@ -3,6 +3,7 @@ ghost use Rattle.link_script.specs.Script.Reading.{script};
 ghost use Rattle.descriptor_linker.specs.Report.Session.{report};
 
 mod answers;
+mod references;
 mod session;
 
 use answers::tell_fault;

@@ -1,10 +1,10 @@
 ghost use Rattle.std.specs.Prelude.{◌≡◌, ◌<◌, ◌⊎◌, ℕ, List, [], ◌++◌, Some, IfOk, OnOk, OnErr, IsErrOf};
-ghost use Rattle.descriptor_linker.specs.Devices.{Took, failure_limit};
+ghost use Rattle.script_devices.specs.Devices.{Took, failure_limit};
 ghost use Rattle.descriptor_linker.specs.Runs.{RunsTo, HasStopped};
 
-use crate::devices::{ReportOutput, ScriptInput};
 use crate::ending::Ending;
 use crate::report::report_of;
+use script_devices::{ReportOutput, ScriptInput};
 use std::alloc::Global;
 use std::io;
 

@@ -103,7 +103,7 @@ none-inside (d ∷ ds) all =
 
 -- the items of files are the linked files
 raw-items : (s : Setting) (base : Counts) (fs : List FileDescriptorProto)
-    → map (λ f. f.raw) (map (λ e. file_item s e.0 e.1) (of_kind as_file (declarations base fs))) ≡ changed_files (linking s) base.files fs
+    → map (λ f. f.raw) (map (λ e. file_item s e.0.index e.1) (of_kind as_file (declarations base fs))) ≡ changed_files (linking s) base.files fs
 raw-items s base [] = refl
 raw-items s base (f ∷ fs) =
     let inside = within_file base.files base f in
@@ -111,7 +111,7 @@ raw-items s base (f ∷ fs) =
     let rest = declarations next fs in
     let none = none-inside inside (within-all (λ d. IsInside d.proto) (λ _. Unit {0}) (λ here tag position index proto is _. is)
     (λ here tag position index proto _. tt) (λ here tag position index proto _. tt) base f tt) in
-    ap (λ xs. map (λ f. f.raw) (map (λ e. file_item s e.0 e.1) ((file_shown [] base.files f, f) ∷ xs)))
+    ap (λ xs. map (λ f. f.raw) (map (λ e. file_item s e.0.index e.1) ((file_shown [] base.files f, f) ∷ xs)))
     (filter_map-append (λ d. option_map (λ x. (d, x)) (as_file d.proto)) inside rest ∙ ap (λ xs. xs ++ of_kind as_file rest) none)
     ∙ ap (λ gs. linked s base.files f ∷ gs) (raw-items s next fs ∙ ap (λ n. changed_files (linking s) n fs) (one-file base f))
 
@@ -148,7 +148,7 @@ longer xs f ys = length-append xs (map f ys) ∙ ap (λ n. length xs + n) (lengt
 pub counts-with : (p : Contents) (s : Setting) (ds : List Shown) → counts_in (with_items p s ds) ≡ counted (counts_in p) ds
 counts-with p s ds =
     counts_are _ _
-    (longer p.files (λ e. file_item s e.0 e.1) (of_kind as_file ds))
+    (longer p.files (λ e. file_item s e.0.index e.1) (of_kind as_file ds))
     (longer p.messages (λ e. message_item s e.0 e.1) (of_kind as_message ds))
     (longer p.enums (λ e. enum_item e.0 e.1) (of_kind as_enum ds))
     (longer p.services (λ e. service_item e.0 e.1) (of_kind as_service ds))

@@ -1,11 +1,16 @@
 -- The files in which declarations lie, and the names that these enter.
-use Rattle.std.proofs.Common.{◌≡◌, ◌<◌, ◌≤◌, ◌+◌, ℕ, ℤ, true, false, IsOk, cond, Option, Some, List, [], ◌∷◌, length, map, subst, sym, arith}
+use Rattle.std.proofs.Common.{◌≡◌, ◌<◌, ◌≤◌, ◌+◌, ◌^◌, ℕ, ℤ, true, false, IsOk, cond, Option, None, Some, List, [], ◌∷◌, length, map, ap, subst, sym, ◌∙◌, arith}
 use Rattle.std.specs.List.{All, AllByRecursion}
-use Rattle.std.specs.Option.{IfSome}
+use Rattle.std.specs.Option.{IfSome, option_or}
 use Rattle.std.specs.Str.{bytes_eq}
 use Rattle.std.proofs.lemmas.List.Elements.{All-nil, All-append, recursion_from_All}
 use Rattle.proto_files.specs.declared.file.FileDescriptorProto.{FileDescriptorProto}
-use Rattle.name_tables.specs.Entries.{first_of, names}
+use Rattle.name_tables.specs.Entries.{first_of, names, names_with}
+use Rattle.name_tables.proofs.Entries.{get-with}
+use Rattle.pool_types.specs.Contents.{ByText}
+use Rattle.std.specs.FinMap as finite
+use Rattle.proto_records.proofs.Room.{room-fits}
+use Rattle.proto_records.proofs.Counted.{counted-append}
 use Rattle.name_tables.specs.NameTables.{AllBefore, FileNamesBefore}
 use Rattle.name_tables.proofs.Names.{get-lookup}
 use Rattle.proto_types.specs.Readers.{text_of}
@@ -122,3 +127,30 @@ names-before base fs name =
     let es = entries (declarations base fs) in
     subst (λ found. IfSome found (λ d. d.file < end)) (sym (get-lookup es name))
     (first-has (λ d. d.file < end) es name (entries-lie end (declarations base fs) (lie-between base fs).1))
+
+-- and so do known names of earlier files, and those that files enter
+pub names-behind-before : (base : Counts) (fs : List FileDescriptorProto) (known : ByText ℕ) → FileNamesBefore base.files known
+    → FileNamesBefore (base.files + length fs) (names_with known (file_entries (declarations base fs)))
+names-behind-before base fs known before name =
+    let end = base.files + length fs in
+    let es = file_entries (declarations base fs) in
+    subst (λ found. IfSome found (λ file. file < end)) (sym (get-with known es name))
+    (either (finite.get known name) (first_of es name) (before name) (first-has (λ file. file < end) es name (files-lie end (declarations base fs) (lie-between base fs).1)))
+  where
+    either : (first second : Option ℕ) → IfSome first (λ file. file < base.files) → IfSome second (λ file. file < base.files + length fs)
+        → IfSome (option_or first second) (λ file. file < base.files + length fs)
+    either None second earlier later = later
+    either (Some n) second earlier later = omega (arith, earlier)
+
+-- there are as many files as those before, and these
+counted-files : (base : Counts) (fs : List FileDescriptorProto) → (counted base (declarations base fs)).files ≡ base.files + length fs
+counted-files base [] = omega arith
+counted-files base (f ∷ fs) =
+    let walk = file_walk base f in
+    let next = counted base walk in
+    let rest = ap (λ (c : Counts). c.files) (counted-append base walk (declarations next fs)) ∙ counted-files next fs in
+    let one = one-file base f in
+    omega (arith, rest, one)
+
+pub room-files : (base : Counts) (fs : List FileDescriptorProto) → IsOk (counts_with base fs) → base.files + length fs < 2 ^ 32
+room-files base fs ok = let many = counted-files base fs in let room = (room-fits base fs ok).within.files in omega (arith, many, room)

@@ -16,7 +16,7 @@ use Rattle.descriptor_pool.specs.Passes.{ReferencesSeen, referred, references_pr
 use Rattle.descriptor_pool.specs.Behind.{with_items}
 
 abbrev files_in : Setting → List Shown → List FileDescriptorInner
-files_in s ds = map (λ e. file_item s e.0 e.1) (of_kind as_file ds)
+files_in s ds = map (λ e. file_item s e.0.index e.1) (of_kind as_file ds)
 
 -- the items of declarations behind those that there are
 abbrev with_more : Contents → Setting → List Shown → Contents
@@ -43,7 +43,10 @@ step : (r : ReferencesSeen) (file : ℕ) (parent : Option ℕ) (index : ℕ) (pa
     seen (referred r d) ds ≡ seen r (d ∷ ds)
 step r file parent index path full_name (of_file f) ds =
     let d : Shown = record { file = file; parent = parent; index = index; path = path; full_name = full_name; proto = of_file f } in
-    λ i. record (seen r (d ∷ ds)) { files = behind r.files (file_item r.setting d f) (files_in r.setting ds) i }
+    λ i. record (seen r (d ∷ ds)) {
+      files = behind r.files (file_item r.setting d.index f) (files_in r.setting ds) i;
+      faults = append_assoc r.faults (owner_faults r.setting d) (flat_map (owner_faults r.setting) ds) i;
+    }
 step r file parent index path full_name (of_message m) ds =
     let d : Shown = record { file = file; parent = parent; index = index; path = path; full_name = full_name; proto = of_message m } in
     λ i. record (seen r (d ∷ ds)) {

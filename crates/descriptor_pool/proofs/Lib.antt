@@ -12,3 +12,4 @@ pub mod Grown
 pub mod Kept
 pub mod Entering
 pub mod Stages
+pub mod Seeing

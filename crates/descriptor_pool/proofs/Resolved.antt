@@ -1,9 +1,8 @@
 -- Each reference of linked declarations is a dot and a name that the setting has, where the second pass finds no fault.
-use Rattle.std.proofs.Common.{◌≡◌, ℕ, ℤ, Bool, true, false, not, ◌==◌, if◌then◌else◌, Option, None, Some, is_some, IsSome, List, [], ◌∷◌, ◌++◌, map, codes, refl, subst, sym}
+use Rattle.std.proofs.Common.{◌≡◌, ℕ, ℤ, not, Option, Some, is_some, IsSome, List, [], ◌∷◌, ◌++◌, map, codes, refl, subst, sym}
 use Rattle.std.proofs.lemmas.Grind.{flat_map-append}
 use Rattle.std.specs.FinMap as finite
 use Rattle.std.specs.List.{AllByRecursion, flat_map}
-use Rattle.std.specs.Option.{option_map_or}
 use Rattle.proto_types.specs.declared.records.field.FieldDescriptorProto.{FieldDescriptorProto}
 use Rattle.proto_types.specs.declared.tag.field.TheConstants as field
 use Rattle.proto_types.specs.Lists.{listed, only_if}
@@ -15,50 +14,21 @@ use Rattle.pool_types.specs.Labels.{label_in}
 use Rattle.proto_records.specs.Changed.{changed}
 use Rattle.proto_records.specs.Protos.{Proto, of_file, of_message, of_field, of_oneof, of_service, of_method, of_enum, of_value, of_extension}
 use Rattle.proto_records.specs.Shown.{Shown}
-use Rattle.pool_parts.specs.declared.filter.ResolveNameFilter.{ResolveNameFilter}
 use Rattle.pool_parts.specs.declared.filter.ResolveNameFilter.TheVariants.{FieldType}
-use Rattle.pool_parts.specs.Kinds.{is_match, simple_kind}
+use Rattle.pool_parts.specs.Kinds.{simple_kind}
 use Rattle.pool_parts.specs.References.{reference_fault}
-use Rattle.pool_parts.specs.Resolution.{Resolution, found, invalid_type, not_imported, not_found, look, relative, resolution}
-use Rattle.proto_types.specs.Names.{is_dot}
+use Rattle.pool_parts.specs.Resolution.{Resolution, found, invalid_type, not_imported, shadowed, not_found}
+use Rattle.pool_parts.proofs.Named.{IsNamed, resolution-named}
 use Rattle.link_rules.specs.Broken.{Faults, number_faults, second_faults, second_pass}
 use Rattle.link_rules.specs.FieldTypes.{type_meaning, type_faults}
 use Rattle.link_rules.specs.Linked.{resolved, typed, linking}
-use Rattle.link_rules.specs.Setting.{Setting}
+use Rattle.link_rules.specs.Setting.{Setting, seen_by}
+use Rattle.std.specs.BTreeSet.{contains_by}
+use Rattle.std.specs.Ordering.{nat_cmp}
 use Rattle.descriptor_pool.specs.References.{Reference, reference_in, references_in}
 
--- what is found is a name that the names have
-abbrev IsNamed : ByText Definition → Resolution → Type 0
-IsNamed names (found name _) = IsSome (finite.get names name)
-IsNamed names _ = Unit {0}
-
-module _ (names : ByText Definition) (is_seen : ℕ → Bool) (filter : ResolveNameFilter) where
-  seen-named : (name : List ℕ) (def : Definition) (seen matches : Bool) → IsSome (finite.get names name)
-      → IsNamed names (if not seen then not_imported name def.file else (if not matches then invalid_type name def filter else found name def))
-  seen-named name def true true has = has
-  seen-named name def true false has = tt
-  seen-named name def false matches has = tt
-
-  got-named : (name : List ℕ) (got : Option Definition) → finite.get names name ≡ got
-      → IsNamed names (option_map_or (λ def.
-      if not (is_seen def.file) then not_imported name def.file
-      else (if not (is_match filter def.kind) then invalid_type name def filter
-      else found name def)) got not_found)
-  got-named name None is = tt
-  got-named name (Some def) is = seen-named name def (is_seen def.file) (is_match filter def.kind) (subst IsSome (sym is) refl)
-
-  look-named : (name : List ℕ) → IsNamed names (look names is_seen filter name)
-  look-named name = got-named name (finite.get names name) refl
-
-  relative-named : (scope name : List ℕ) → IsNamed names (relative names is_seen filter scope name)
-  relative-named [] name = look-named name
-  relative-named (c ∷ cs) name = tt
-
-  resolution-named : (scope written : List ℕ) → IsNamed names (resolution names is_seen filter scope written)
-  resolution-named scope [] = relative-named scope []
-  resolution-named scope (c ∷ cs) =
-      elim (is_dot c) as (λ b. IsNamed names (if b then look names is_seen filter cs else relative names is_seen filter scope (c ∷ cs)))
-      [ true ↦ look-named cs | false ↦ relative-named scope (c ∷ cs) ]
+has-name : (found : Option Definition) (def : Definition) → found ≡ Some def → IsSome found
+has-name got def is = subst IsSome (sym is) refl
 
 -- a reference is a dot and a name that these names have
 abbrev pub Names : ByText Definition → Reference → Type 0
@@ -79,9 +49,10 @@ named-append names ds es first second =
 -- a reference without a fault was found
 found-resolved : (s : Setting) (path : List ℤ) (file : ℕ) (written : List ℕ) (given : Option (List ℕ)) (e : Shown) (part : List ℕ) (r : Resolution)
     → IsNamed s.names r → listed (reference_fault s.files written file path r) ≡ [] → AllByRecursion (Names s.names) (reference_in e part (text_of (resolved r given)))
-found-resolved s path file written given e part (found name def) named none = ((name, refl, named), tt)
+found-resolved s path file written given e part (found name def) named none = ((name, refl, has-name (finite.get s.names name) def named), tt)
 found-resolved s path file written given e part (invalid_type name def filter) named none = absurd (cc)
 found-resolved s path file written given e part (not_imported name other) named none = absurd (cc)
+found-resolved s path file written given e part (shadowed name other) named none = absurd (cc)
 found-resolved s path file written given e part not_found named none = absurd (cc)
 
 -- a type name without a fault is linked as one that was found
@@ -94,7 +65,8 @@ type-resolved : (s : Setting) (d e : Shown) (f : FieldDescriptorProto) (part wri
     faults ≡ [] → AllByRecursion (Names s.names) (reference_in e part (text_of after.type_name))
 type-resolved s d e f part [] is none = subst (λ t. AllByRecursion (Names s.names) (reference_in e part t)) (sym is) tt
 type-resolved s d e f part (c ∷ cs) is none =
-    found-resolved s _ d.file (text_of f.type_name) f.type_name e part (type_meaning s d f) (resolution-named s.names (λ n. d.file == n) FieldType d.full_name (text_of f.type_name)) none
+    found-resolved s _ d.file (text_of f.type_name) f.type_name e part (type_meaning s d f)
+    (resolution-named s.names (λ n. contains_by (nat_cmp n) (seen_by s d.file)) FieldType d.full_name (text_of f.type_name)) none
 
 no_items : {X : Type 0} (xs ys : List X) → xs ++ ys ≡ [] → (xs ≡ []) × (ys ≡ [])
 no_items [] ys none = (refl, none)

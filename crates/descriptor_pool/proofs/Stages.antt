@@ -1,5 +1,5 @@
 -- New files that are linked stage by stage: their records are put behind a pool's, their names are entered, and their items made.
-use Rattle.std.proofs.Common.{◌≡◌, rules, true, false, List, [], ◌∷◌, ◌++◌, Result, Ok, Err, ap, ◌∙◌}
+use Rattle.std.proofs.Common.{◌≡◌, rules, true, false, List, [], ◌∷◌, ◌++◌, Result, Ok, Err, map, ap, ◌∙◌}
 use Rattle.std.specs.Result.{is_err}
 use Rattle.proto_files.specs.declared.file.FileDescriptorProto.{FileDescriptorProto}
 use Rattle.pool_types.specs.Contents.{Contents, files_of}
@@ -12,10 +12,11 @@ use Rattle.descriptor_pool.specs.declared.error.BuildError.{BuildError}
 use Rattle.descriptor_pool.specs.declared.error.BuildError.TheVariants.{TooMany, Descriptor, OutOfMemory}
 use Rattle.descriptor_pool.specs.Behind.{names_behind, references_behind, first_of_both, setting_behind, linked_behind, with_items, with_names}
 use Rattle.descriptor_pool.specs.FirstPass.{first_pass}
-use Rattle.descriptor_pool.specs.Growing.{before_items, kept_in}
+use Rattle.descriptor_pool.specs.Growing.{before_items, files_seeing, kept_in}
 use Rattle.descriptor_pool.specs.Invariant.{contents_in}
 use Rattle.descriptor_pool.specs.Passes.{TellsAll, TellsFaults}
 use Rattle.descriptor_pool.specs.Seen.{setting_with}
+use Rattle.descriptor_pool.proofs.Seeing.{raws-stay, seen-are}
 
 -- an error tells at least one fault
 told-first : (error : BuildError) (first second : Faults) → TellsFaults error first → TellsFaults error (first_of_both first second)
@@ -42,19 +43,30 @@ module _ (p q : Contents) (base : Counts) (new : List FileDescriptorProto) (base
   pub names_are : first_pass (files_of q) q (declarations base new) ≡ names_behind p new
   names_are = λ i. first_pass (files i) (rest i) (declarations (base_is i) new)
 
-  module _ (r : GrowingPool) (entered : contents_in r.inner ≡ with_names q (declarations base new)) where
+  -- once their names are entered, and once each of them has the files that it sees
+  module _ (r t : GrowingPool) (entered : contents_in r.inner ≡ with_names q (declarations base new)) (kept : kept_in r ≡ p)
+      (seen : contents_in t.inner ≡ record (contents_in r.inner) { files = files_seeing r }) (still : kept_in t ≡ kept_in r) where
     named_is : contents_in r.inner ≡ record (with_names p (declarations (counts_in p) new)) { files = q.files }
     named_is = entered ∙ (λ i. with_names (rest i) (declarations (base_is i) new))
 
-    setting_is : setting_with r.inner ≡ setting_behind p new
-    setting_is = λ i. record { files = (ap files_of entered ∙ files) i; names = ap (λ (x : Contents). x.names) named_is i }
+    files_are : files_of (contents_in r.inner) ≡ files_of p ++ new
+    files_are = ap files_of entered ∙ files
+
+    setting_is : setting_with t.inner ≡ setting_behind p new
+    setting_is = λ i. record {
+      files = (ap files_of seen ∙ raws-stay r ∙ files_are) i;
+      names = (ap (λ (x : Contents). x.names) seen ∙ ap (λ (x : Contents). x.names) named_is) i;
+      file_names = (ap (λ (x : Contents). x.file_names) seen ∙ ap (λ (x : Contents). x.file_names) named_is) i;
+      seen = (ap (λ (x : Contents). map (λ f. f.transitive_dependencies) x.files) seen
+          ∙ seen-are p new r (ap (λ (x : Contents). x.files) kept) files_are (ap (λ (x : Contents). x.file_names) named_is)) i;
+    }
 
     -- what the second pass tells, and what it makes
-    pub references_are : second_pass (setting_with r.inner) (declarations base new) ≡ references_behind p new
+    pub references_are : second_pass (setting_with t.inner) (declarations base new) ≡ references_behind p new
     references_are = λ i. second_pass (setting_is i) (declarations (base_is i) new)
 
-    items_before : kept_in r ≡ p → before_items r ≡ with_names p (declarations (counts_in p) new)
-    items_before kept = λ i. record (named_is i) { files = ap (λ (x : Contents). x.files) kept i }
+    items_before : before_items t ≡ with_names p (declarations (counts_in p) new)
+    items_before = λ i. record ((seen ∙ (λ j. record (named_is j) { files = files_seeing r })) i) { files = ap (λ (x : Contents). x.files) (still ∙ kept) i }
 
-    pub linked_is : kept_in r ≡ p → with_items (before_items r) (setting_with r.inner) (declarations base new) ≡ linked_behind p new
-    linked_is kept = λ i. with_items (items_before kept i) (setting_is i) (declarations (base_is i) new)
+    pub linked_is : with_items (before_items t) (setting_with t.inner) (declarations base new) ≡ linked_behind p new
+    linked_is = λ i. with_items (items_before i) (setting_is i) (declarations (base_is i) new)

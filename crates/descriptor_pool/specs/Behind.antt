@@ -1,13 +1,17 @@
 -- New files behind those of a pool: what they declare, what they are read against, what they break, and the pool with them.
-use Rattle.std.specs.Prelude.{List, [], ◌∷◌, ◌++◌, map}
+use Rattle.std.specs.Prelude.{ℕ, List, [], ◌∷◌, ◌++◌, length, map}
+use Rattle.std.specs.BTreeSet.{BTreeSet}
+use Rattle.std.specs.FinMap as finite
 use Rattle.proto_files.specs.declared.file.FileDescriptorProto.{FileDescriptorProto}
 use Rattle.pool_types.specs.Contents.{Contents, files_of}
 use Rattle.name_tables.specs.Entries.{names_with}
+use Rattle.file_visibility.specs.Visibility.{seen_from}
 use Rattle.proto_records.specs.Counts.{counts_in}
 use Rattle.proto_records.specs.Declarations.{declarations}
 use Rattle.proto_records.specs.Protos.{as_file, as_message, as_enum, as_service, as_extension}
 use Rattle.proto_records.specs.Shown.{Shown, of_kind}
 use Rattle.link_rules.specs.Broken.{Faults, second_pass}
+use Rattle.link_rules.specs.Each.{each}
 use Rattle.link_rules.specs.Items.{file_item, message_item, enum_item, service_item, extension_item}
 use Rattle.link_rules.specs.Setting.{Setting}
 use Rattle.descriptor_pool.specs.Entered.{entries, file_entries}
@@ -21,9 +25,18 @@ declared_behind p new = declarations (counts_in p) new
 abbrev pub with_names : Contents → List Shown → Contents
 with_names p ds = record p { names = names_with p.names (entries ds); file_names = names_with p.file_names (file_entries ds) }
 
--- the pool's files and these, and what their names mean
+-- which files each file sees: one of the pool those that it saw, and each new one by the imports of all
+abbrev pub seen_behind : Contents → List FileDescriptorProto → List (BTreeSet ℕ)
+seen_behind p new =
+    let names = (with_names p (declared_behind p new)).file_names in
+    map (λ f. f.transitive_dependencies) p.files
+    ++ each (λ n _. record { keys = seen_from (files_of p ++ new) (finite.get names) n }) (length p.files) new
+
+-- the pool's files and these, what their names mean, and which of them each sees
 abbrev pub setting_behind : Contents → List FileDescriptorProto → Setting
-setting_behind p new = record { files = files_of p ++ new; names = (with_names p (declared_behind p new)).names }
+setting_behind p new =
+    let named = with_names p (declared_behind p new) in
+    record { files = files_of p ++ new; names = named.names; file_names = named.file_names; seen = seen_behind p new }
 
 -- faults of the first pass
 abbrev pub names_behind : Contents → List FileDescriptorProto → Faults
@@ -44,7 +57,7 @@ faults_behind p new = first_of_both (names_behind p new) (references_behind p ne
 -- the pool with the items of declarations added
 abbrev pub with_items : Contents → Setting → List Shown → Contents
 with_items p s ds = record p {
-  files = p.files ++ map (λ e. file_item s e.0 e.1) (of_kind as_file ds);
+  files = p.files ++ map (λ e. file_item s e.0.index e.1) (of_kind as_file ds);
   messages = p.messages ++ map (λ e. message_item s e.0 e.1) (of_kind as_message ds);
   enums = p.enums ++ map (λ e. enum_item e.0 e.1) (of_kind as_enum ds);
   services = p.services ++ map (λ e. service_item e.0 e.1) (of_kind as_service ds);

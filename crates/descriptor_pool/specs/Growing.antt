@@ -1,6 +1,10 @@
 -- A pool while a batch is linked into it.
-use Rattle.std.specs.Prelude.{ℕ, length, take}
-use Rattle.pool_types.specs.Contents.{Contents}
+use Rattle.std.specs.Prelude.{ℕ, ◌==◌, nat_le, List, length, take, if◌then◌else◌}
+use Rattle.std.specs.FinMap as finite
+use Rattle.pool_types.specs.Contents.{Contents, files_of}
+use Rattle.pool_types.specs.declared.contents.file.FileDescriptorInner.{FileDescriptorInner}
+use Rattle.file_visibility.specs.Visibility.{seen_from}
+use Rattle.link_rules.specs.Each.{each}
 use Rattle.name_tables.specs.NameTables.{without_files_from, file_names_before}
 use Rattle.descriptor_pool.specs.declared.build.growing.GrowingPool.{GrowingPool}
 use Rattle.descriptor_pool.specs.Invariant.{contents_in}
@@ -20,6 +24,22 @@ kept_in p = record {
 -- the index of the first file that came
 abbrev pub first_new : GrowingPool → ℕ
 first_new p = length (kept_in p).files
+
+-- a file with the files that it sees
+abbrev pub seeing : List ℕ → FileDescriptorInner → FileDescriptorInner
+seeing seen f = record f { transitive_dependencies = record { keys = seen } }
+
+-- the files that the file with an index sees, of all that there are
+abbrev pub seen_in : GrowingPool → ℕ → List ℕ
+seen_in p n = seen_from (files_of (contents_in p.inner)) (finite.get p.inner.file_names) n
+
+-- all files, where the one with an index has those that it sees
+abbrev pub file_seeing : GrowingPool → ℕ → List FileDescriptorInner
+file_seeing p file = each (λ n f. if n == file then seeing (seen_in p file) f else f) 0 p.inner.files.items
+
+-- all files, where each that came has those that it sees
+abbrev pub files_seeing : GrowingPool → List FileDescriptorInner
+files_seeing p = each (λ n f. if nat_le (first_new p) n then seeing (seen_in p n) f else f) 0 p.inner.files.items
 
 -- all that there is by now, but of files only those that were there before
 abbrev pub before_items : GrowingPool → Contents

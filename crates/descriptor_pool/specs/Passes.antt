@@ -84,7 +84,10 @@ pub record ReferencesSeen : Type 0 where
 -- after one more declaration: a file, a message, an enum, a service and an extension is an item of the pool
 abbrev pub referred : ReferencesSeen → Shown → ReferencesSeen
 referred seen d = elim d.proto [
-  | of_file f ↦ record seen { files = seen.files ++ file_item seen.setting d f ∷ [] }
+  | of_file f ↦ record seen {
+    files = seen.files ++ file_item seen.setting d.index f ∷ [];
+    faults = seen.faults ++ owner_faults seen.setting d;
+  }
   | of_message m ↦ record seen {
     pool = record seen.pool { messages = seen.pool.messages ++ message_item seen.setting d m ∷ [] };
     faults = seen.faults ++ owner_faults seen.setting d;

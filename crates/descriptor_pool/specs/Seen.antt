@@ -8,9 +8,14 @@ use Rattle.descriptor_pool.specs.Growing.{kept_in}
 use Rattle.descriptor_pool.specs.Invariant.{contents_in}
 use Rattle.descriptor_pool.specs.Passes.{NamesSeen, ReferencesSeen}
 
--- what is read against the files and the names of a pool
+-- what is read against the files and the names of a pool, each file with those that it sees
 abbrev pub setting_with : DescriptorPoolInner → Setting
-setting_with p = record { files = map (λ f. f.raw) p.files.items; names = p.names }
+setting_with p = record {
+  files = map (λ f. f.raw) p.files.items;
+  names = p.names;
+  file_names = p.file_names;
+  seen = map (λ f. f.transitive_dependencies) p.files.items;
+}
 
 abbrev pub names_seen : NameVisitor → NamesSeen
 names_seen v = record {

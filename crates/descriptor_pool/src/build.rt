@@ -24,6 +24,7 @@ use crate::error::BuildError;
 use crate::inner::DescriptorPoolInner;
 use growing::GrowingPool;
 pub use names::NameVisitor;
+use plain_values::Items;
 use pool_faults::DescriptorErrorKind;
 use pool_parts::DescriptorError;
 use pool_types::FileDescriptorInner;
@@ -31,6 +32,7 @@ use proto_files::FileDescriptorProto;
 use proto_records::{Counts, visit};
 pub use resolve::ResolveVisitor;
 use std::alloc::{AllocError, Global};
+use std::collections::BTreeSet;
 use std::mem;
 use syntax_rules::syntax_of;
 
@@ -70,6 +72,7 @@ fn link_behind(
     requires base { pool.base ≡ counts_in (contents_in pool.inner) }
     requires counts { IsOk (counts_with pool.base new.now) }
     requires whole { kept_in pool ≡ contents_in pool.inner }
+    requires before { NamesLieIn (contents_in pool.inner) }
     requires names { NamesBegin pool.inner.messages.items }
     ensures ok { OnOk result.1 (contents_in result.0.inner
         ≡ linked_behind (contents_in pool.inner) new.now) }
@@ -81,9 +84,12 @@ fn link_behind(
     if let Err(error) = add_records(alloc, &mut pool, new) {
         return (pool, Err(error.into()));
     }
-    let (pool, entered) = enter_names(alloc, base, pool, new);
+    let (mut pool, entered) = enter_names(alloc, base, pool, new);
     if entered.is_err() {
         return (pool, entered);
+    }
+    if let Err(error) = pool.see_files(alloc) {
+        return (pool, Err(error.into()));
     }
     make_items(alloc, base, pool, new)
 }
@@ -106,7 +112,7 @@ fn add_records(
     Ok(())
 }
 
-/// The records of files as they are, as items.
+/// The records of files as they are, as items of which nothing else is known by now.
 fn unlinked_files(
     alloc: Global,
     new: &[FileDescriptorProto],
@@ -118,6 +124,8 @@ fn unlinked_files(
         files.push(FileDescriptorInner {
             syntax: syntax_of(file),
             raw: file.clone(alloc)?,
+            dependencies: Items::new(alloc),
+            transitive_dependencies: BTreeSet::new(alloc),
         })?;
     }
     Ok(files)
@@ -166,7 +174,7 @@ fn show_names(
 }
 
 /// The second pass: it puts the items of new files into the pool, which has their records and
-/// names, or tells all faults of numbers and references.
+/// names, or tells all faults of imports, numbers and references.
 fn make_items(
     alloc: Global,
     base: Counts,

@@ -48,6 +48,7 @@ impl DescriptorPoolInner {
         Setting {
             files: &self.files,
             names: &self.names,
+            file_names: &self.file_names,
         }
     }
 }

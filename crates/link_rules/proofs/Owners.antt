@@ -17,7 +17,7 @@ use Rattle.proto_records.specs.declared.counts.Counts.{Counts}
 use Rattle.proto_records.specs.Counts.{counted, counting}
 use Rattle.proto_records.specs.Declarations.{in_file, enum_walk, enums_walk, service_walk, services_walk, message_front, message_end, message_walk, nested_walk, messages_walk, file_walk, declarations}
 use Rattle.proto_records.specs.Protos.{Proto, of_message, of_field, of_oneof, of_service, of_method, of_enum, of_value, of_extension}
-use Rattle.proto_records.specs.Shown.{Shown, Surrounding, shown, row, parts, inside, beside}
+use Rattle.proto_records.specs.Shown.{Shown, Surrounding, shown, file_shown, row, parts, inside, beside}
 use Rattle.link_rules.specs.Broken.{Faults, field_faults, second_faults, second_pass, owner_faults}
 use Rattle.link_rules.specs.Each.{each}
 use Rattle.link_rules.specs.Setting.{Setting}
@@ -132,17 +132,18 @@ module _ (s : Setting) where
 
   file-same : (base : Counts) (f : FileDescriptorProto) → second_pass s (file_walk base f) ≡ owners (file_walk base f)
   file-same base f =
+      let d = file_shown [] base.files f in
       let here = in_file base.files f in
       let messages = messages_walk here file.MESSAGE_TYPE 0 base f.message_type in
       let after = counted base messages in
       let enums = enums_walk here file.ENUM_TYPE 0 after.enums f.enum_type in
       let services = services_walk here 0 after.services f.service in
       let extensions = row of_extension here file.EXTENSION 0 after.extensions f.extension in
-      same-append (messages ++ enums ++ services) extensions
+      ap (λ rest. second_faults s d ++ rest) (same-append (messages ++ enums ++ services) extensions
       (same-append (messages ++ enums) services
       (same-append messages enums (messages-same here file.MESSAGE_TYPE 0 base f.message_type) (enums-same here file.ENUM_TYPE 0 after.enums f.enum_type))
       (services-same here 0 after.services f.service))
-      (extensions-same here file.EXTENSION 0 after.extensions f.extension)
+      (extensions-same here file.EXTENSION 0 after.extensions f.extension))
 
   -- all declarations of files
   pub owners-tell : (base : Counts) (fs : List FileDescriptorProto) → second_pass s (declarations base fs) ≡ flat_map (owner_faults s) (declarations base fs)

@@ -1,4 +1,4 @@
--- What a declaration breaks in the second pass: rules of field numbers and of types.
+-- What a declaration breaks in the second pass: rules of imports, of field numbers and of types.
 use Rattle.std.specs.Prelude.{not, List, [], ◌∷◌, ◌++◌}
 use Rattle.std.specs.List.{flat_map}
 use Rattle.proto_types.specs.declared.tag.field.TheConstants as field
@@ -9,11 +9,12 @@ use Rattle.pool_faults.specs.declared.fault.DescriptorErrorKind.TheVariants.{Inv
 use Rattle.pool_types.specs.Labels.{label_in}
 use Rattle.proto_types.specs.Lists.{only_if}
 use Rattle.proto_types.specs.Readers.{number_of}
-use Rattle.proto_records.specs.Protos.{of_message, of_field}
+use Rattle.proto_records.specs.Protos.{of_file, of_message, of_field}
 use Rattle.proto_records.specs.Shown.{Shown, Surrounding, inside}
 use Rattle.pool_parts.specs.FieldNumbers.{is_valid_number}
 use Rattle.link_rules.specs.Each.{each}
 use Rattle.link_rules.specs.FieldTypes.{type_faults}
+use Rattle.link_rules.specs.Imports.{import_faults}
 use Rattle.link_rules.specs.Places.{field_at}
 use Rattle.link_rules.specs.Setting.{Setting}
 
@@ -31,7 +32,7 @@ field_faults s d f = number_faults s d f ++ type_faults s d f
 
 -- what a declaration breaks
 abbrev pub second_faults : Setting → Shown → Faults
-second_faults s d = elim d.proto [ of_field f ↦ field_faults s d f | _ ↦ [] ]
+second_faults s d = elim d.proto [ of_file f ↦ import_faults s d.index f | of_field f ↦ field_faults s d f | _ ↦ [] ]
 
 -- all faults of the second pass over declarations
 abbrev pub second_pass : Setting → List Shown → Faults
@@ -46,4 +47,4 @@ abbrev pub message_faults : Setting → Shown → DescriptorProto → Faults
 message_faults s d m = faults_of_fields s (inside d) (out-DescriptorProto m).field
 
 abbrev pub owner_faults : Setting → Shown → Faults
-owner_faults s d = elim d.proto [ of_message m ↦ message_faults s d m | _ ↦ [] ]
+owner_faults s d = elim d.proto [ of_file f ↦ import_faults s d.index f | of_message m ↦ message_faults s d m | _ ↦ [] ]

@@ -1,5 +1,7 @@
 -- The records that a pool holds of files, messages, enums, services and extensions.
 use Rattle.std.specs.Prelude.{ℕ, suc, ◌-◌, ◌^◌, ℤ, pos, negsuc, List, length, unwrap_or}
+use Rattle.std.specs.FinMap as finite
+use Rattle.std.specs.List.{filter_map}
 use Rattle.proto_types.specs.declared.tag.message.TheConstants as message
 use Rattle.proto_types.specs.declared.tag.enum_.TheConstants as enumeration
 use Rattle.proto_types.specs.declared.tag.service.TheConstants as service
@@ -31,7 +33,7 @@ use Rattle.link_rules.specs.Each.{each}
 use Rattle.link_rules.specs.FieldTypes.{field_kind}
 use Rattle.link_rules.specs.Linked.{linked}
 use Rattle.link_rules.specs.Places.{field_at, part_inside, part_beside}
-use Rattle.link_rules.specs.Setting.{Setting}
+use Rattle.link_rules.specs.Setting.{Setting, seen_by}
 
 -- where a declaration stands that has a name, which begins in the full name so many bytes before its end
 abbrev pub named_at : ℕ → List ℤ → List ℕ → List ℕ → Identity
@@ -40,9 +42,14 @@ named_at file path full_name name = record { file = file; path = path; full_name
 abbrev pub identity : Shown → Identity
 identity d = named_at d.file d.path d.full_name (name_of d.proto)
 
--- a file with its syntax, by its linked record
-abbrev pub file_item : Setting → Shown → FileDescriptorProto → FileDescriptorInner
-file_item s d f = record { syntax = syntax_of f; raw = linked s d.index f }
+-- the file with an index: its syntax, its linked record, the files that it imports, in order, and those that it sees
+abbrev pub file_item : Setting → ℕ → FileDescriptorProto → FileDescriptorInner
+file_item s index f = record {
+  syntax = syntax_of f;
+  raw = linked s index f;
+  dependencies = filter_map (finite.get s.file_names) f.dependency;
+  transitive_dependencies = seen_by s index;
+}
 
 -- a field's number as an item has it; a negative one, which is a fault, stands there as itself plus 2 ^ 32
 abbrev pub item_number : ℤ → ℕ

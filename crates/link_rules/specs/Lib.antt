@@ -4,6 +4,7 @@ pub mod SettingCode
 pub mod Places
 pub mod FieldTypes
 pub mod Linked
+pub mod Imports
 pub mod Items
 pub mod Broken
 pub mod NamesBegin

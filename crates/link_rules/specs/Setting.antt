@@ -1,5 +1,7 @@
--- What declarations are read against: files, and what names mean.
-use Rattle.std.specs.Prelude.{ℕ, ◌==◌, List}
+-- What declarations are read against: files, what names mean, and which files each file sees.
+use Rattle.std.specs.Prelude.{ℕ, List, [], slice_get, unwrap_or}
+use Rattle.std.specs.BTreeSet.{BTreeSet, contains_by}
+use Rattle.std.specs.Ordering.{nat_cmp}
 use Rattle.pool_types.specs.declared.contents.definition.Definition.{Definition}
 use Rattle.pool_types.specs.Contents.{ByText}
 use Rattle.proto_files.specs.declared.file.FileDescriptorProto.{FileDescriptorProto}
@@ -9,7 +11,13 @@ use Rattle.pool_parts.specs.Resolution.{Resolution, resolution}
 pub record Setting : Type 0 where
   pub files : List FileDescriptorProto
   pub names : ByText Definition
+  pub file_names : ByText ℕ
+  pub seen : List (BTreeSet ℕ)
 
--- what a reference means that is written in a scope of a file, which sees itself alone
+-- the files that the file with an index sees
+abbrev pub seen_by : Setting → ℕ → BTreeSet ℕ
+seen_by s file = unwrap_or (slice_get s.seen file) (record { keys = [] })
+
+-- what a reference means that is written in a scope of a file
 abbrev pub meaning : Setting → ℕ → List ℕ → ResolveNameFilter → List ℕ → Resolution
-meaning s file scope filter written = resolution s.names (λ n. file == n) filter scope written
+meaning s file scope filter written = resolution s.names (λ n. contains_by (nat_cmp n) (seen_by s file)) filter scope written

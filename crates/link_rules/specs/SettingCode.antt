@@ -4,4 +4,9 @@ use Rattle.link_rules.specs.declared.setting.Setting.{Setting as Borrowed}
 use Rattle.link_rules.specs.Setting.{Setting}
 
 abbrev pub setting_in : Borrowed → Setting
-setting_in s = record { files = map (λ f. f.raw) s.files.now; names = s.names.now }
+setting_in s = record {
+  files = map (λ f. f.raw) s.files.now;
+  names = s.names.now;
+  file_names = s.file_names.now;
+  seen = map (λ f. f.transitive_dependencies) s.files.now;
+}

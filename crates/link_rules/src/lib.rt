@@ -4,7 +4,9 @@
 mod enumeration;
 mod extension;
 mod field;
+mod file;
 mod identity;
+mod imports;
 mod linked;
 mod message;
 mod place;
@@ -13,7 +15,7 @@ mod setting;
 
 pub use enumeration::read_enum;
 pub use extension::read_extension;
-pub use linked::linked_file;
+pub use file::read_file;
 pub use message::read_message;
 pub use place::Place;
 pub use service::read_service;

@@ -1,7 +1,7 @@
 ghost use Rattle.std.specs.Prelude.{◌≡◌, IfOk, map};
 ghost use Rattle.proto_types.specs.Names.{join};
 ghost use Rattle.proto_types.specs.Readers.{text_of};
-ghost use Rattle.proto_files.specs.declared.message.DescriptorProto.{out-DescriptorProto, roll-DescriptorProto};
+ghost use Rattle.proto_files.specs.declared.message.DescriptorProto.{out-DescriptorProto};
 ghost use Rattle.proto_records.specs.Changed.{changed_message, changed_messages, changed_fields};
 ghost use Rattle.link_rules.specs.Linked.{linking, linked, linked_field, type_number, kind_number};
 ghost use Rattle.link_rules.specs.SettingCode.{setting_in};
@@ -15,10 +15,7 @@ use proto_types::{FieldDescriptorProto, FieldType, join};
 use std::alloc::{AllocError, Global};
 
 /// The record of the file with an index, with each type name that is found as a dot and a full name.
-///
-/// # Errors
-/// `AllocError` where memory was refused.
-pub fn linked_file(
+pub(crate) fn linked_file(
     alloc: Global,
     setting: Setting,
     index: u32,
@@ -63,31 +60,7 @@ fn linked_message(
     for nested in message.nested_type.as_slice() {
         nested_type.push(linked_message(alloc, setting, index, &within, nested)?)?;
     }
-    with_parts(alloc, message, field, nested_type)
-}
-
-/// An equal message, but for its fields and its nested messages, which are given.
-fn with_parts(
-    alloc: Global,
-    message: &DescriptorProto,
-    field: Items<FieldDescriptorProto>,
-    nested_type: Items<DescriptorProto>,
-) -> Result<DescriptorProto, AllocError>
-    ensures { IfOk result (λ m. m ≡ roll-DescriptorProto
-        (record (out-DescriptorProto message.now) { field = field; nested_type = nested_type })) }
-{
-    Ok(DescriptorProto {
-        name: duplicate_given(alloc, &message.name)?,
-        field,
-        nested_type,
-        enum_type: message.enum_type.clone(alloc)?,
-        extension_range: message.extension_range.clone(alloc)?,
-        extension: message.extension.clone(alloc)?,
-        options: duplicate_given(alloc, &message.options)?,
-        oneof_decl: message.oneof_decl.clone(alloc)?,
-        reserved_range: message.reserved_range.clone(alloc)?,
-        reserved_name: message.reserved_name.clone(alloc)?,
-    })
+    message.with_parts(alloc, field, nested_type)
 }
 
 fn linked_fields(

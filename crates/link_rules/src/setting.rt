@@ -1,17 +1,22 @@
-ghost use Rattle.std.specs.Prelude.{IfOk, ◌≡◌};
+ghost use Rattle.std.specs.Prelude.{IfOk, ◌≡◌, slice_get};
+ghost use Rattle.std.specs.Option.{option_copied};
+ghost use Rattle.link_rules.specs.Setting.{seen_by};
 ghost use Rattle.pool_parts.specs.Resolution.{resolution_in};
 ghost use Rattle.link_rules.specs.Setting.{meaning};
 
-use name_tables::HashedNames;
+use name_tables::{FileNames, HashedNames};
 use pool_parts::{ResolveNameFilter, ResolveNameResult, resolve_name};
 use pool_types::FileDescriptorInner;
 use std::alloc::{AllocError, Global};
+use std::collections::BTreeSet;
 
-/// What declarations are read against: the files of a pool, and the names that these enter.
+/// What declarations are read against: the files of a pool, each with the files that it sees, the
+/// names that these enter, and their own names.
 #[derive(Clone, Copy)]
 pub struct Setting<'a> {
     pub files: &'a [FileDescriptorInner],
     pub names: &'a HashedNames,
+    pub file_names: &'a FileNames,
 }
 
 impl<'a> Setting<'a> {
@@ -32,6 +37,24 @@ impl<'a> Setting<'a> {
         ensures { IfOk result (λ r. resolution_in r
             ≡ meaning (setting_in self.entry) file scope.now filter written.now) }
     {
-        resolve_name(alloc, file, self.names, scope, written, filter)
+        let nothing = BTreeSet::new(alloc);
+        let visible = self.visible(file).unwrap_or(&nothing);
+        resolve_name(alloc, visible, self.names, scope, written, filter)
+    }
+
+    /// The indexes of the files that the file with an index sees.
+    pub(crate) fn seen_by(self, alloc: Global, file: u32) -> Result<BTreeSet<u32>, AllocError>
+        ensures { IfOk result (λ seen. seen ≡ seen_by (setting_in self.entry) file) }
+    {
+        match self.visible(file) {
+            Some(visible) => visible.clone(),
+            None => Ok(BTreeSet::new(alloc)),
+        }
+    }
+
+    fn visible(self, file: u32) -> Option<&'a BTreeSet<u32>>
+        ensures { option_copied result ≡ slice_get (setting_in self.entry).seen file }
+    {
+        Some(&self.files.get(file as usize)?.transitive_dependencies)
     }
 }

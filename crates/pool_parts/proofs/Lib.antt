@@ -1,1 +1,5 @@
+pub mod Checks
 pub mod Dots
+pub mod Fronts
+pub mod Outward
+pub mod Named

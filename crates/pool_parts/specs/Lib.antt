@@ -1,4 +1,5 @@
 pub mod Kinds
 pub mod FieldNumbers
+pub mod Parents
 pub mod Resolution
 pub mod References

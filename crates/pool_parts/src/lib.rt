@@ -8,14 +8,17 @@ mod field_number;
 mod files;
 mod filter;
 mod kinds;
+mod parents;
 mod resolve;
 
 pub use error::DescriptorError;
 pub use field_number::is_valid_number;
+pub use file_visibility::visible_from;
 pub use files::label_at;
 pub use filter::ResolveNameFilter;
 pub use kinds::{cardinality_of, named_kind, simple_kind};
 pub use name_tables::{FileNames, HashedNames, NameTable};
+pub use parents::{CandidateParents, parents_count};
 pub use pool_faults::DescriptorErrorKind;
 pub use pool_types::{
     Cardinality, DefaultValue, Definition, DefinitionKind, EnumDescriptor, EnumDescriptorInner,

@@ -1,14 +1,24 @@
-ghost use Rattle.std.specs.Prelude.{◌≡◌, ◌==◌, IfOk, map};
-ghost use Rattle.pool_parts.specs.Resolution.{resolution, resolution_in, look, is_found};
+ghost use Rattle.std.specs.Prelude.{◌≡◌, IfOk, false, if◌then◌else◌, map, string_bytes};
+ghost use Rattle.std.specs.BTreeSet.{contains_by};
+ghost use Rattle.std.specs.FinMap as finite;
+ghost use Rattle.std.specs.Option.{option_map_or};
+ghost use Rattle.std.specs.Ordering.{nat_cmp};
+ghost use Rattle.proto_types.specs.Names.{first_part};
+ghost use Rattle.pool_types.specs.DefinitionKinds.{is_parent};
+ghost use Rattle.pool_parts.specs.Parents.{outer};
+ghost use Rattle.pool_parts.specs.Resolution.{resolution, resolution_in, look, simple, dotted, or_shadowed, is_found, is_not_found};
 ghost use Rattle.pool_parts.specs.References.{reference_fault};
 
 use crate::files::label_at;
 use crate::filter::ResolveNameFilter;
+use crate::parents::CandidateParents;
 use name_tables::NameTable;
 use plain_values::Text;
 use pool_faults::DescriptorErrorKind;
 use pool_types::{Definition, FileDescriptorInner};
+use proto_types::join;
 use std::alloc::{AllocError, Global};
+use std::collections::BTreeSet;
 
 /// What a reference means.
 #[derive(Drop)]
@@ -29,49 +39,133 @@ pub enum ResolveNameResult<'a> {
         name: Text,
         file: u32,
     },
+    /// The name as it is written, and the full name that it resolves to but that isn't defined.
+    Shadowed {
+        name: Text,
+        shadowed_name: Text,
+    },
     /// Nothing has the name.
     NotFound,
 }
 
-/// What a reference means that is written in a scope of a file, which sees itself alone: a name
-/// with a leading dot is a full name, and so is any name in the empty scope; any other means nothing.
+/// What a reference means that is written in a scope of a file, which sees the files with the
+/// indexes in `visible`, from 0 in the order of linking.
+///
+/// A name with a leading dot is a full name, and so is any name in the empty scope. Any other is
+/// looked for in the scope and in those around it, from the innermost out:
+///
+/// - A name without a dot means the first wanted and visible definition that is found, else the
+///   first definition.
+/// - A name with a dot is settled where its first part is first found as a package, a message, a
+///   service or an enum, visible or not. Where the whole name isn't defined there, it is shadowed.
 ///
 /// # Errors
 /// `AllocError` where memory was refused.
 pub fn resolve_name<'a, N: NameTable>(
     alloc: Global,
-    file: u32,
+    visible: &BTreeSet<u32>,
     names: &'a N,
     scope: &str,
     name: &str,
     filter: ResolveNameFilter,
 ) -> Result<ResolveNameResult<'a>, AllocError>
     ensures { IfOk result (λ r. resolution_in r
-        ≡ resolution (N.names names.now) (λ n. file == n) filter scope.now name.now) }
+        ≡ resolution (N.names names.now) (λ n. contains_by (nat_cmp n) visible.now) filter
+        scope.now name.now) }
 {
     match name.strip_prefix('.') {
-        Some(full_name) => look_up(alloc, file, names, full_name, filter),
-        None if scope.is_empty() => look_up(alloc, file, names, name, filter),
-        None => Ok(ResolveNameResult::NotFound),
+        Some(full_name) => look_up(alloc, visible, names, full_name, filter),
+        None if scope.is_empty() => look_up(alloc, visible, names, name, filter),
+        None if name.contains('.') => resolve_dotted(alloc, visible, names, scope, name, filter),
+        None => resolve_simple(alloc, visible, names, scope, name, filter),
     }
+}
+
+/// What a name without a dot means.
+fn resolve_simple<'a, N: NameTable>(
+    alloc: Global,
+    visible: &BTreeSet<u32>,
+    names: &'a N,
+    scope: &str,
+    name: &str,
+    filter: ResolveNameFilter,
+) -> Result<ResolveNameResult<'a>, AllocError>
+    ensures { IfOk result (λ r. resolution_in r
+        ≡ simple (N.names names.now) (λ n. contains_by (nat_cmp n) visible.now) filter
+        (outer scope.now) name.now) }
+{
+    let mut best = ResolveNameResult::NotFound;
+    for parent in CandidateParents::new(scope) {
+        let full_name = join(alloc, parent, name)?;
+        let answer = look_up(alloc, visible, names, full_name.as_str(), filter)?;
+        if answer.is_found() {
+            return Ok(answer);
+        }
+        best = best.or(answer);
+    }
+    Ok(best)
+}
+
+/// What a name with a dot means.
+fn resolve_dotted<'a, N: NameTable>(
+    alloc: Global,
+    visible: &BTreeSet<u32>,
+    names: &'a N,
+    scope: &str,
+    name: &str,
+    filter: ResolveNameFilter,
+) -> Result<ResolveNameResult<'a>, AllocError>
+    ensures { IfOk result (λ r. resolution_in r
+        ≡ dotted (N.names names.now) (λ n. contains_by (nat_cmp n) visible.now) filter
+        (outer scope.now) name.now) }
+{
+    let first = first_part(name);
+    for parent in CandidateParents::new(scope) {
+        let nearest = join(alloc, parent, first)?;
+        if is_parent(names, nearest.as_str()) {
+            let full_name = join(alloc, parent, name)?;
+            let answer = look_up(alloc, visible, names, full_name.as_str(), filter)?;
+            return answer.or_shadowed(alloc, name, full_name);
+        }
+    }
+    Ok(ResolveNameResult::NotFound)
+}
+
+/// The text before the first dot of a name, or the whole name.
+fn first_part(name: &str) -> &str
+    ensures { result.now ≡ first_part name.now }
+{
+    match name.split_once('.') {
+        Some((first, _)) => first,
+        None => name,
+    }
+}
+
+/// Whether a full name means something that other declarations may stand in.
+fn is_parent<N: NameTable>(names: &N, full_name: &str) -> bool
+    ensures { result ≡ option_map_or (λ def. is_parent def.kind)
+        (finite.get (N.names names.now) full_name.now) false }
+{
+    names.get(full_name).is_some_and(|def| def.kind.is_parent())
 }
 
 /// What a full name means.
 fn look_up<'a, N: NameTable>(
     alloc: Global,
-    file: u32,
+    visible: &BTreeSet<u32>,
     names: &'a N,
     full_name: &str,
     filter: ResolveNameFilter,
 ) -> Result<ResolveNameResult<'a>, AllocError>
     ensures { IfOk result (λ r. resolution_in r
-        ≡ look (N.names names.now) (λ n. file == n) filter full_name.now) }
+        ≡ look (N.names names.now) (λ n. contains_by (nat_cmp n) visible.now) filter
+        full_name.now) }
 {
     let Some(def) = names.get(full_name) else {
         return Ok(ResolveNameResult::NotFound);
     };
     let name = Text::from_str(alloc, full_name)?;
-    if file != def.file {
+    if !visible.contains(&def.file) {
         Ok(ResolveNameResult::NotImported {
             name,
             file: def.file,
@@ -83,7 +177,7 @@ fn look_up<'a, N: NameTable>(
     }
 }
 
-impl ResolveNameResult<'_> {
+impl<'a> ResolveNameResult<'a> {
     /// Whether the reference means a definition that is wanted.
     pub fn is_found(&self) -> bool
         ensures { result ≡ is_found (resolution_in self.now) }
@@ -105,22 +199,62 @@ impl ResolveNameResult<'_> {
             ≡ reference_fault (map (λ f. f.raw) files.now) orig_name.now found_file path.now
             (resolution_in self.now)) }
     {
-        let name = match self {
+        let fault = match self {
             ResolveNameResult::Found { .. } => return Ok(None),
             ResolveNameResult::InvalidType { name, def, filter } => {
-                return Ok(Some(DescriptorErrorKind::InvalidType {
+                DescriptorErrorKind::InvalidType {
                     name: name.clone(alloc)?,
                     expected: Text::from_string(format!(in alloc; "{filter}")?),
                     found: label_at(alloc, files, found_file, path)?,
                     defined: label_at(alloc, files, def.file, def.path.as_slice())?,
-                }));
+                }
             }
-            ResolveNameResult::NotImported { name, .. } => name.as_str(),
-            ResolveNameResult::NotFound => orig_name,
+            ResolveNameResult::NotImported { name, .. } => DescriptorErrorKind::NameNotFound {
+                name: name.clone(alloc)?,
+                found: label_at(alloc, files, found_file, path)?,
+            },
+            ResolveNameResult::Shadowed { shadowed_name, .. } => {
+                DescriptorErrorKind::NameShadowed {
+                    name: Text::from_str(alloc, orig_name)?,
+                    shadowed_name: shadowed_name.clone(alloc)?,
+                    found: label_at(alloc, files, found_file, path)?,
+                }
+            }
+            ResolveNameResult::NotFound => DescriptorErrorKind::NameNotFound {
+                name: Text::from_str(alloc, orig_name)?,
+                found: label_at(alloc, files, found_file, path)?,
+            },
         };
-        Ok(Some(DescriptorErrorKind::NameNotFound {
-            name: Text::from_str(alloc, name)?,
-            found: label_at(alloc, files, found_file, path)?,
-        }))
+        Ok(Some(fault))
+    }
+
+    /// The same, or the other where this is that nothing has the name.
+    fn or(self, other: ResolveNameResult<'a>) -> ResolveNameResult<'a>
+        ensures { resolution_in result ≡ (if is_not_found (resolution_in self.entry)
+            then resolution_in other.entry else resolution_in self.entry) }
+    {
+        match self {
+            ResolveNameResult::NotFound => other,
+            answer => answer,
+        }
+    }
+
+    /// The same, or where nothing has the full name, that this shadows the name as it is written.
+    fn or_shadowed(
+        self,
+        alloc: Global,
+        name: &str,
+        full_name: String,
+    ) -> Result<ResolveNameResult<'a>, AllocError>
+        ensures { IfOk result (λ r. resolution_in r
+            ≡ or_shadowed name.now (string_bytes full_name) (resolution_in self.entry)) }
+    {
+        match self {
+            ResolveNameResult::NotFound => Ok(ResolveNameResult::Shadowed {
+                name: Text::from_str(alloc, name)?,
+                shadowed_name: Text::from_string(full_name),
+            }),
+            other => Ok(other),
+        }
     }
 }

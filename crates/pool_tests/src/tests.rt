@@ -6,3 +6,4 @@ mod items;
 mod kinds;
 mod meanings;
 mod names;
+mod values;

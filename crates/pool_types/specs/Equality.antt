@@ -1,6 +1,9 @@
 -- `==` of what a pool holds, and of labels, tells whether two values are one.
 use Rattle.std.proofs.Common.{rules}
+use Rattle.std.specs.Prelude.{ℕ, nat_eq}
+use Rattle.std.specs.BTreeSet.{BTreeSet}
 use Rattle.std.specs.Cmp.{unsigned_Decides, signed_Decides}
+use Rattle.std.specs.Cmp.Lexicographic.{pointwise}
 use Rattle.plain_values.specs.Exact.{Exact, ◌and◌, by-parts, given, items-exact, text-exact, numbers-exact}
 use Rattle.proto_files.specs.Equality.{file-exact}
 use Rattle.pool_kinds.specs.Equality.{cardinality-exact, kind_index-exact, syntax-exact}
@@ -31,8 +34,12 @@ definition-exact = by-parts (λ d. (d.file, (d.path, d.kind))) (λ a b e. search
 pub field_inner-exact : Exact field_inner.ghosts.eq
 field_inner-exact = by-parts (λ f. (f.id, (f.number, (f.kind, f.cardinality)))) (λ a b e. search rules) (identity-exact and unsigned_Decides and kind_index-exact and cardinality-exact)
 
+-- sets of indexes, by their keys, which ascend
+indexes-exact : Exact (λ (s t : BTreeSet ℕ). pointwise nat_eq s.keys t.keys)
+indexes-exact = by-parts (λ s. s.keys) (λ a b e. search rules) (items-exact unsigned_Decides)
+
 pub file_inner-exact : Exact file_inner.ghosts.eq
-file_inner-exact = by-parts (λ f. (f.syntax, f.raw)) (λ a b e. search rules) (syntax-exact and file-exact)
+file_inner-exact = by-parts (λ f. (f.syntax, (f.raw, (f.dependencies, f.transitive_dependencies)))) (λ a b e. search rules) (syntax-exact and file-exact and items-exact unsigned_Decides and indexes-exact)
 
 pub oneof_inner-exact : Exact oneof_inner.ghosts.eq
 oneof_inner-exact = by-parts (λ o. o.id) (λ a b e. search rules) identity-exact

@@ -44,7 +44,7 @@ pub struct OneofDescriptorProto {
 }
 
 impl DescriptorProto {
-    ghost use Rattle.proto_files.specs.declared.message.DescriptorProto.{out-DescriptorProto};
+    ghost use Rattle.proto_files.specs.declared.message.DescriptorProto.{out-DescriptorProto, roll-DescriptorProto};
 
     /// A message with all parts absent or empty, which takes no memory.
     pub fn empty(alloc: Global) -> DescriptorProto
@@ -75,13 +75,30 @@ impl DescriptorProto {
     pub fn clone(&self, alloc: Global) -> Result<DescriptorProto, AllocError>
         ensures { IfOk result (λ copy. copy ≡ self.now) }
     {
+        let field = self.field.clone(alloc)?;
         let mut nested_type = Items::new(alloc);
         for message in self.nested_type.as_slice() {
             nested_type.push(message.clone(alloc)?)?;
         }
+        self.with_parts(alloc, field, nested_type)
+    }
+
+    /// An equal message, but for its fields and its nested messages, which are these.
+    ///
+    /// # Errors
+    /// `AllocError` where memory was refused.
+    pub fn with_parts(
+        &self,
+        alloc: Global,
+        field: Items<FieldDescriptorProto>,
+        nested_type: Items<DescriptorProto>,
+    ) -> Result<DescriptorProto, AllocError>
+        ensures { IfOk result (λ m. m ≡ roll-DescriptorProto
+            (record (out-DescriptorProto self.now) { field = field; nested_type = nested_type })) }
+    {
         Ok(DescriptorProto {
             name: duplicate_given(alloc, &self.name)?,
-            field: self.field.clone(alloc)?,
+            field,
             nested_type,
             enum_type: self.enum_type.clone(alloc)?,
             extension_range: self.extension_range.clone(alloc)?,

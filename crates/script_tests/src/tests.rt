@@ -2,6 +2,7 @@
 
 mod devices;
 mod faults;
+mod imports;
 mod linking;
 mod misplaced;
 mod refusals;

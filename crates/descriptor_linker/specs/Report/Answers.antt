@@ -1,8 +1,11 @@
 -- What the commands of a script answer, each line with its end.
 use Rattle.std.specs.Prelude.{ℕ, List, [], ◌∷◌, ◌++◌, length, map, codes}
-use Rattle.std.specs.List.{flat_map}
+use Rattle.std.specs.List.{flat_map, find}
 use Rattle.std.specs.Fmt.{decimal}
 use Rattle.std.specs.Option.{option_map_or}
+use Rattle.std.specs.Str.{bytes_eq}
+use Rattle.std.specs.declared.option.Option.{Option}
+use Rattle.proto_files.specs.declared.file.FileDescriptorProto.{FileDescriptorProto}
 use Rattle.proto_records.specs.declared.declaration.Declaration.{Declaration}
 use Rattle.proto_records.specs.declared.declaration.DeclarationKind.{DeclarationKind}
 use Rattle.proto_records.specs.declared.declaration.DeclarationKind.TheVariants as declared
@@ -22,6 +25,7 @@ use Rattle.link_script.specs.declared.script.statement.ScriptFault.{ScriptFault}
 use Rattle.link_script.specs.Script.Faults.{fault_words}
 use Rattle.link_rules.specs.Broken.{Faults}
 use Rattle.descriptor_pool.specs.LookUps.{definition_named}
+use Rattle.descriptor_pool.specs.References.{Reference, references}
 
 -- words with a space between each two, and the line's end
 abbrev pub line : List (List ℕ) → List ℕ
@@ -101,6 +105,22 @@ declaration_lines ds = line (codes "walk" ∷ decimal (length ds) ∷ []) ++ fla
 -- what the pool's files declare
 abbrev pub walk_answer : Contents → List ℕ
 walk_answer p = declaration_lines (map declaration_of (declarations no_counts (files_of p)))
+
+-- a reference: the full name of the declaration that refers, the part of its record, and the text there
+abbrev pub reference_line : Reference → List ℕ
+reference_line r = line (alone r.full_name ∷ r.part ∷ r.text ∷ [])
+
+-- how many references there are, and a line for each
+abbrev pub reference_lines : List Reference → List ℕ
+reference_lines rs = line (codes "refs" ∷ decimal (length rs) ∷ []) ++ flat_map reference_line rs
+
+-- the first file with a name
+abbrev pub file_named : List FileDescriptorProto → List ℕ → Option FileDescriptorProto
+file_named files name = find (λ f. bytes_eq (text_of f.name) name) files
+
+-- the references of the pool's file with a name
+abbrev pub refs_answer : Contents → List ℕ → List ℕ
+refs_answer p name = option_map_or (λ f. reference_lines (references (f ∷ []))) (file_named (files_of p) name) none_line
 
 -- the last line of a report, where the script has a fault
 abbrev pub fault_line : ℕ × ScriptFault → List ℕ

@@ -1,15 +1,19 @@
 //! What the commands of a script answer.
 
-ghost use Rattle.std.specs.Prelude.{◌≡◌, ◌++◌, OnOk, string_bytes};
+ghost use Rattle.std.specs.Prelude.{◌≡◌, ◌++◌, map, OnOk, string_bytes};
+ghost use Rattle.std.specs.Option.{option_copied};
 ghost use Rattle.pool_types.specs.Contents.{files_of};
 ghost use Rattle.pool_types.specs.Labels.{file_at};
 ghost use Rattle.proto_types.specs.Readers.{text_of};
 ghost use Rattle.descriptor_linker.specs.Report.Answers as spec;
+ghost use Rattle.descriptor_linker.specs.Report.Code.{reference_of};
 
+use super::references::{Reference, references};
 use descriptor_pool::DescriptorPool;
 use link_script::ScriptFault;
 use pool_faults::{DescriptorErrorKind, Labelled};
 use pool_types::{DefinitionKind, FileDescriptor};
+use proto_files::FileDescriptorProto;
 use proto_records::{CountKind, Counts, Declaration, DeclarationKind, list_declarations};
 use std::alloc::{AllocError, Global};
 use std::fmt;
@@ -192,6 +196,54 @@ pub(super) fn tell_walk(
         extensions: 0,
     };
     tell_declarations(told, &list_declarations(alloc, base, &files)?)
+}
+
+/// The first file with a name.
+fn file_named<'a>(files: &'a [FileDescriptorProto], name: &str) -> Option<&'a FileDescriptorProto>
+    ensures { option_copied result ≡ spec.file_named files.now name.now }
+{
+    files.iter().find(|file| file.name() == name)
+}
+
+/// Tells a reference: the declaration that refers, the part of its record, and the text there.
+fn tell_reference(told: &mut String, reference: &Reference) -> Result<(), AllocError>
+    ensures { OnOk result (string_bytes told.new ≡ string_bytes told.old
+        ++ spec.reference_line (reference_of reference.now)) }
+{
+    let name = alone(reference.full_name.as_str());
+    let part = reference.part;
+    let text = reference.text;
+    writeln!(told, "{name} {part} {text}")
+}
+
+/// Tells how many references there are, and each on a line of its own.
+fn tell_references(told: &mut String, list: &[Reference]) -> Result<(), AllocError>
+    ensures { OnOk result (string_bytes told.new ≡ string_bytes told.old
+        ++ spec.reference_lines (map reference_of list.now)) }
+{
+    let count = list.len();
+    writeln!(told, "refs {count}")?;
+    for reference in list {
+        tell_reference(told, reference)?;
+    }
+    Ok(())
+}
+
+/// Tells to what a pool's file with a name refers.
+pub(super) fn tell_refs(
+    alloc: Global,
+    told: &mut String,
+    pool: &DescriptorPool,
+    name: &str,
+) -> Result<(), AllocError>
+    ensures { OnOk result (string_bytes told.new ≡ string_bytes told.old
+        ++ spec.refs_answer pool.now name.now) }
+{
+    let files = pool.linked_files()?;
+    let Some(file) = file_named(&files, name) else {
+        return writeln!(told, "none");
+    };
+    tell_references(told, &references(alloc, file)?)
 }
 
 /// Tells the fault of a script, and its line.

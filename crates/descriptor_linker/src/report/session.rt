@@ -4,7 +4,7 @@ ghost use Rattle.std.specs.Prelude.{◌≡◌, OnOk};
 ghost use Rattle.link_script.specs.declared.script.statement.Statement.TheVariants as say;
 ghost use Rattle.descriptor_linker.specs.Report.Session.{new_session, opening, stating, extends_after, step};
 
-use super::answers::{tell_counts, tell_found, tell_refused, tell_too_many, tell_walk};
+use super::answers::{tell_counts, tell_found, tell_refs, tell_refused, tell_too_many, tell_walk};
 use descriptor_pool::{BuildError, DescriptorPool};
 use link_script::{Open, Statement};
 use proto_files::FileDescriptorProto;
@@ -55,6 +55,9 @@ impl Session {
             Statement::Link => self.link(),
             Statement::Find(name) => tell_found(&mut self.told, &self.pool, name.as_str()),
             Statement::Walk => tell_walk(self.alloc, &mut self.told, &self.pool),
+            Statement::Refs(name) => {
+                tell_refs(self.alloc, &mut self.told, &self.pool, name.as_str())
+            }
             said => self.state(said),
         }
     }

@@ -1,11 +1,12 @@
-ghost use Rattle.std.specs.Prelude.{◌≡◌, ◌≤◌, ◌++◌, ◌∷◌, [], OnOk, OnErr, None, length};
+ghost use Rattle.std.specs.Prelude.{◌≡◌, ◌≤◌, ◌<◌, ◌^◌, ◌++◌, ◌∷◌, [], OnOk, OnErr, None, length};
 ghost use Rattle.std.specs.FinMap as finite;
 
 use crate::inner::DescriptorPoolInner;
 use name_tables::NameTable;
+use pool_parts::visible_from;
 use pool_types::{Definition, FileDescriptorInner, MessageDescriptorInner};
 use proto_records::Counts;
-use std::alloc::AllocError;
+use std::alloc::{AllocError, Global};
 
 /// What a pool holds while a batch is linked into it, and how much it had before.
 #[derive(Drop)]
@@ -23,7 +24,8 @@ impl GrowingPool {
     ghost use Rattle.proto_records.specs.Counts.{counts_in};
     ghost use Rattle.descriptor_pool.specs.Invariant.{contents_in, NamesLieIn};
     ghost use Rattle.link_rules.specs.NamesBegin.{MessageNamesBegin, NamesBegin};
-    ghost use Rattle.descriptor_pool.specs.Growing.{first_new, kept_in};
+    ghost use Rattle.name_tables.specs.NameTables.{FileNamesBefore};
+    ghost use Rattle.descriptor_pool.specs.Growing.{file_seeing, files_seeing, first_new, kept_in};
 
     /// A pool before anything of a batch came, and how much it has. Its names mean something in its
     /// files.
@@ -63,6 +65,36 @@ impl GrowingPool {
         ensures kept { kept_in self.new ≡ kept_in self.old }
     {
         self.inner.file_names.insert(name, file)
+    }
+
+    /// Gives each file that came the files that it sees, of all that there are.
+    pub(crate) fn see_files(&mut self, alloc: Global) -> Result<(), AllocError>
+        requires few { length self.old.inner.files.items < 2 ^ 32 }
+        requires places { FileNamesBefore (length self.old.inner.files.items)
+            self.old.inner.file_names }
+        ensures ok { OnOk result (contents_in self.new.inner
+            ≡ record (contents_in self.old.inner) { files = files_seeing self.old }) }
+        ensures kept { kept_in self.new ≡ kept_in self.old }
+    {
+        for file in self.base.files..self.inner.files.len() as u32 {
+            self.see_file(alloc, file)?;
+        }
+        Ok(())
+    }
+
+    fn see_file(&mut self, alloc: Global, file: u32) -> Result<(), AllocError>
+        requires here { file < length self.old.inner.files.items }
+        requires came { first_new self.old ≤ file }
+        requires places { FileNamesBefore (length self.old.inner.files.items)
+            self.old.inner.file_names }
+        ensures ok { OnOk result (contents_in self.new.inner
+            ≡ record (contents_in self.old.inner) { files = file_seeing self.old file }) }
+        ensures kept { kept_in self.new ≡ kept_in self.old }
+    {
+        let inner = &self.inner;
+        let seen = visible_from(alloc, &inner.files, &inner.file_names, file)?;
+        self.inner.files[file as usize].transitive_dependencies = seen;
+        Ok(())
     }
 
     /// Puts the item of a message behind the others.

@@ -1,7 +1,7 @@
 ghost use Rattle.link_rules.specs.NamesBegin.{NamesBegin};
 
 use super::growing::GrowingPool;
-use link_rules::{Place, linked_file, read_enum, read_extension, read_message, read_service};
+use link_rules::{Place, read_enum, read_extension, read_file, read_message, read_service};
 use pool_faults::DescriptorErrorKind;
 use pool_types::FileDescriptorInner;
 use proto_files::{DescriptorProto, FileDescriptorProto, OneofDescriptorProto};
@@ -11,11 +11,10 @@ use proto_types::{
     ServiceDescriptorProto,
 };
 use std::alloc::{AllocError, Global};
-use syntax_rules::syntax_of;
 
 /// The second pass: it reads a batch against a pool whose files and names are those of the batch as
 /// well, puts the items of messages, enums, services and extensions into the pool and makes those of
-/// files, and gathers the faults of numbers and of references. A message is read with its oneofs and
+/// files, and gathers the faults of imports, of numbers and of references. A message is read with its oneofs and
 /// fields, an enum with its values, and a service with its methods. The full name of each declaration
 /// that it is shown ends with the declared name, and its lists are short enough for a pool.
 #[derive(Drop)]
@@ -48,9 +47,10 @@ impl Visitor for ResolveVisitor {
         index: u32,
         file: &FileDescriptorProto,
     ) -> Result<(), AllocError> {
-        let raw = linked_file(self.alloc, self.pool.inner.setting(), index, file)?;
-        let syntax = syntax_of(file);
-        self.files.push(FileDescriptorInner { syntax, raw })?;
+        let pool = &self.pool;
+        let setting = pool.inner.setting();
+        let item = read_file(self.alloc, setting, index, file, &mut self.faults)?;
+        self.files.push(item)?;
         Ok(())
     }
 

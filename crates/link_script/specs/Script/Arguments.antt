@@ -128,6 +128,7 @@ of_one word.Oneof name = Ok (say.Oneof (text_in name))
 of_one word.Json name = Ok (say.Json (text_in name))
 of_one word.Packed packed = and_then (truth_in packed) (λ packed. Ok (say.Packed packed))
 of_one word.Find name = Ok (say.Find (text_of (text_in name)))
+of_one word.Refs name = Ok (say.Refs (text_of (text_in name)))
 of_one _ _ = Err WrongCount
 
 abbrev pub of_two : Keyword → List ℕ → List ℕ → Result Statement ScriptFault

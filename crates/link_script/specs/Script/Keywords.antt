@@ -16,7 +16,7 @@ spellings =
     ∷ (codes "extend", word.Extend) ∷ (codes "field", word.Field) ∷ (codes "oneof", word.Oneof) ∷ (codes "reserved", word.Reserved)
     ∷ (codes "extensions", word.Extensions) ∷ (codes "value", word.Value) ∷ (codes "alias", word.Alias) ∷ (codes "method", word.Method)
     ∷ (codes "json", word.Json) ∷ (codes "packed", word.Packed) ∷ (codes "default", word.Default)
-    ∷ (codes "end", word.End) ∷ (codes "link", word.Link) ∷ (codes "find", word.Find) ∷ (codes "walk", word.Walk) ∷ []
+    ∷ (codes "end", word.End) ∷ (codes "link", word.Link) ∷ (codes "find", word.Find) ∷ (codes "walk", word.Walk) ∷ (codes "refs", word.Refs) ∷ []
 
 abbrev pub spelled : List (List ℕ × Keyword) → List ℕ → Option Keyword
 spelled [] text = None
@@ -38,6 +38,7 @@ outside word.File = true
 outside word.Link = true
 outside word.Find = true
 outside word.Walk = true
+outside word.Refs = true
 outside _ = false
 
 abbrev pub in_files : Keyword → Bool

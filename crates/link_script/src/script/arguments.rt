@@ -7,8 +7,9 @@ ghost use Rattle.link_script.specs.Script.Answers.{IsAnswer};
 use super::line_error::LineError;
 use super::rest::rest;
 use super::statement::{Keyword, ScriptFault, Statement};
-use super::values::{given_number, given_text, label_of, number_of, numbers, text, truth, type_of};
-use plain_values::Text;
+use super::values::{
+    given_number, given_text, label_of, name_of, number_of, numbers, text, truth, type_of,
+};
 use proto_types::{
     EnumValueDescriptorProto, FieldDescriptorProto, Location, MethodDescriptorProto,
 };
@@ -75,10 +76,8 @@ fn of_one(alloc: Global, keyword: Keyword, word: &str) -> Result<Statement, Line
         Keyword::Oneof => Ok(Statement::Oneof(text(alloc, word)?)),
         Keyword::Json => Ok(Statement::Json(text(alloc, word)?)),
         Keyword::Packed => Ok(Statement::Packed(truth(word)?)),
-        Keyword::Find => {
-            let name = text(alloc, word)?;
-            Ok(Statement::Find(name.unwrap_or(Text::new(alloc))))
-        }
+        Keyword::Find => Ok(Statement::Find(name_of(alloc, word)?)),
+        Keyword::Refs => Ok(Statement::Refs(name_of(alloc, word)?)),
         _ => Err(LineError::Fault(ScriptFault::WrongCount)),
     }
 }

@@ -7,7 +7,7 @@ use super::statement::{Block, Keyword};
 use std::alloc::AllocError;
 
 /// Each keyword as it is written.
-const SPELLINGS: [(&str, Keyword); 25] = [
+const SPELLINGS: [(&str, Keyword); 26] = [
     ("file", Keyword::File),
     ("package", Keyword::Package),
     ("syntax", Keyword::Syntax),
@@ -33,6 +33,7 @@ const SPELLINGS: [(&str, Keyword); 25] = [
     ("link", Keyword::Link),
     ("find", Keyword::Find),
     ("walk", Keyword::Walk),
+    ("refs", Keyword::Refs),
 ];
 
 /// The keyword that a word spells in a table.
@@ -61,7 +62,7 @@ pub(super) fn stands(blocks: &[Block], keyword: Keyword) -> bool
     match blocks.last() {
         None => matches!(
             keyword,
-            Keyword::File | Keyword::Link | Keyword::Find | Keyword::Walk
+            Keyword::File | Keyword::Link | Keyword::Find | Keyword::Walk | Keyword::Refs
         ),
         Some(Block::File) => stands_in_file(keyword),
         Some(Block::Message) => stands_in_message(keyword),

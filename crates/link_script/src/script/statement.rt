@@ -32,6 +32,7 @@ pub enum Keyword {
     Link,
     Find,
     Walk,
+    Refs,
 }
 
 /// What an open block declares.
@@ -71,6 +72,7 @@ pub enum Statement {
     Link,
     Find(Text),
     Walk,
+    Refs(Text),
 }
 
 /// What is wrong with a line, in the order in which a line is looked at.

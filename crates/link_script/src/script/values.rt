@@ -2,6 +2,7 @@
 
 ghost use Rattle.std.specs.Prelude.{◌≡◌, ◌<◌, ◌==◌, map, length, IfOk};
 ghost use Rattle.std.specs.List.{slice_split};
+ghost use Rattle.proto_types.specs.Readers.{text_of};
 ghost use Rattle.link_script.specs.Script.Arguments as spec;
 ghost use Rattle.link_script.specs.Script.Answers.{IsAnswer};
 
@@ -94,6 +95,13 @@ pub(super) fn type_of(word: &str) -> Result<Option<i32>, ScriptFault>
     ensures { result ≡ spec.named_or_bad spec.types word.now }
 {
     named_or_bad(&TYPES, word)
+}
+
+/// A name that is asked for: a missing one is the empty one.
+pub(super) fn name_of(alloc: Global, word: &str) -> Result<Text, AllocError>
+    ensures { IfOk result (λ name. name ≡ text_of (spec.text_in word.now)) }
+{
+    Ok(text(alloc, word)?.unwrap_or(Text::new(alloc)))
 }
 
 /// A text that may not be missing.

@@ -134,6 +134,59 @@ fn a_pool_has_items_and_linked_records(rt: HostRuntime) -> Result<(), Fail> {
     Ok(())
 }
 
+/// A batch, another behind it, and of each file those that it imports and those that it sees.
+const SEEN: &[(&str, &str, &str)] = &[
+    (
+        "file a.proto\nimport b.proto\nend\nfile b.proto\nimport c.proto\npublic 0\nend\n\
+        file c.proto\nimport d.proto\npublic 0\nend\nfile d.proto\nend\n\
+        file s.proto\nimport s.proto\npublic 0\nend\n",
+        "",
+        "[1] 0 1 2 3\n[2] 1 2 3\n[3] 2 3\n[] 3\n[4] 4\n",
+    ),
+    (
+        "file a.proto\nimport b.proto\nend\nfile b.proto\nimport c.proto\nend\n\
+        file c.proto\nimport d.proto\npublic 0\nend\nfile d.proto\nend\n",
+        "",
+        "[1] 0 1\n[2] 1 2 3\n[3] 2 3\n[] 3\n",
+    ),
+    (
+        "file a.proto\nimport b.proto\npublic 0\nend\nfile b.proto\nimport c.proto\npublic 0\nend\n\
+        file c.proto\nimport a.proto\nimport a.proto\nweak 0\npublic 0\nend\n",
+        "file d.proto\nimport b.proto\nend\n",
+        "[1] 0 1 2\n[2] 0 1 2\n[0, 0] 0 1 2\n[1] 0 1 2 3\n",
+    ),
+];
+
+fn tell_seen(told: &mut String, file: &FileDescriptorInner) -> Result<(), AllocError> {
+    let imports = file.dependencies.as_slice();
+    write!(told, "{imports:?}")?;
+    for seen in &file.transitive_dependencies {
+        write!(told, " {seen}")?;
+    }
+    writeln!(told)
+}
+
+fn told_seen(alloc: Global, pool: &DescriptorPool) -> Result<String, AllocError> {
+    let mut told = String::new(alloc);
+    for index in 0..pool.counts().files {
+        if let Some(file) = pool.file(FileDescriptor::new(index)) {
+            tell_seen(&mut told, file)?;
+        }
+    }
+    Ok(told)
+}
+
+#[test]
+fn files_see_what_is_imported(rt: HostRuntime) -> Result<(), Fail> {
+    for (first, second, wanted) in SEEN {
+        let mut pool = pool_of(rt.alloc(), first)?;
+        pool.build_files(files_of(rt.alloc(), second)?)?;
+        let told = told_seen(rt.alloc(), &pool)?;
+        assert!(rt; told.as_str() == *wanted, "{told}");
+    }
+    Ok(())
+}
+
 /// A file with a message inside another, and so on, 64 of them.
 fn nested(alloc: Global) -> Result<String, AllocError> {
     let mut script = String::from_str(alloc, "file a.proto\n")?;

@@ -3,10 +3,12 @@
 use name_tables::{HashedNames, NameTable};
 use plain_values::Items;
 use pool_faults::Labelled;
-use pool_parts::{ResolveNameFilter, ResolveNameResult, label_at, resolve_name};
+use pool_parts::{CandidateParents, ResolveNameFilter, ResolveNameResult, label_at, resolve_name};
 use pool_types::{Definition, DefinitionKind, FileDescriptorInner, Label, Syntax};
 use script_files::files_of;
 use std::alloc::{AllocError, Global};
+use std::collections::BTreeSet;
+use std::fmt::Write;
 use std::process::Abort;
 use std::test::Fail;
 
@@ -47,8 +49,12 @@ fn linked(alloc: Global) -> Result<Vec<FileDescriptorInner>, AllocError> {
         alloc,
         "file a.proto\nend\nfile b.proto\nmessage M\nend\nend\n",
     )? {
-        let syntax = Syntax::Proto2;
-        linked.push(FileDescriptorInner { syntax, raw })?;
+        linked.push(FileDescriptorInner {
+            syntax: Syntax::Proto2,
+            raw,
+            dependencies: Items::new(alloc),
+            transitive_dependencies: BTreeSet::new(alloc),
+        })?;
     }
     Ok(linked)
 }
@@ -99,30 +105,37 @@ fn labels_name_their_file(rt: HostRuntime) -> Result<(), Fail> {
     Ok(())
 }
 
-/// The index of a file, a scope of it and a reference that is written there to a message or an
-/// enum, what it means, and its fault in the second file.
-const REFERENCES: &[(u32, &str, &str, &str)] = &[
-    (0, "p", ".p.M", "found p.M: none"),
-    (0, "", "p.M", "found p.M: none"),
+/// The files that are seen, a scope and a reference that is written there to a message or an enum,
+/// what it means, and its fault in the second file.
+const REFERENCES: &[(&[u32], &str, &str, &str)] = &[
+    (&[0], "p", ".p.M", "found p.M: none"),
+    (&[1, 0], "", "p.M", "found p.M: none"),
+    (&[0], "q", "p.M", "found p.M: none"),
+    (&[0], "p.x.y", "M", "found p.M: none"),
     (
-        0,
+        &[0],
         "",
         "p",
         "invalid p: b.proto: 'p' is not a message or enum type",
     ),
     (
-        1,
+        &[1],
         "p",
         ".p.M",
         "not imported p.M 0: b.proto: name 'p.M' is not defined",
     ),
     (
-        0,
-        "p",
+        &[0],
         "p.M",
-        "not found: b.proto: name 'p.M' is not defined",
+        "M.N",
+        "shadowed M.N p.M.N: b.proto: 'M.N' resolves to 'p.M.N', which is not defined",
     ),
-    (0, "p", ".q", "not found: b.proto: name '.q' is not defined"),
+    (
+        &[],
+        "p",
+        "q.M",
+        "not found: b.proto: name 'q.M' is not defined",
+    ),
 ];
 
 /// What a reference means.
@@ -139,6 +152,13 @@ fn meaning(alloc: Global, resolved: &ResolveNameResult) -> Result<String, AllocE
         ResolveNameResult::NotImported { name, file } => {
             let name = name.as_str();
             format!(in alloc; "not imported {name} {file}")
+        }
+        ResolveNameResult::Shadowed {
+            name,
+            shadowed_name,
+        } => {
+            let (name, shadowed_name) = (name.as_str(), shadowed_name.as_str());
+            format!(in alloc; "shadowed {name} {shadowed_name}")
         }
         ResolveNameResult::NotFound => String::from_str(alloc, "not found"),
     }
@@ -163,14 +183,18 @@ fn fault_words(
 fn check_reference(
     rt: &impl Abort,
     alloc: Global,
-    row: &(u32, &str, &str, &str),
+    row: &(&[u32], &str, &str, &str),
     names: &HashedNames,
     linked: &[FileDescriptorInner],
 ) -> Result<(), AllocError> {
-    let (file, scope, name, wanted) = *row;
+    let (seen, scope, name, wanted) = *row;
+    let mut visible = BTreeSet::new(alloc);
+    for file in seen {
+        visible.insert(*file)?;
+    }
     let resolved = resolve_name(
         alloc,
-        file,
+        &visible,
         names,
         scope,
         name,
@@ -192,5 +216,22 @@ fn references_mean_what_their_scope_says(rt: HostRuntime) -> Result<(), Fail> {
     for row in REFERENCES {
         check_reference(&rt, rt.alloc(), row, &names, &linked)?;
     }
+    Ok(())
+}
+
+/// The scopes in which a name of a scope is looked for, each behind a stroke.
+fn parents(alloc: Global, scope: &str) -> Result<String, AllocError> {
+    let mut told = String::new(alloc);
+    for parent in CandidateParents::new(scope) {
+        write!(&mut told, "|{parent}")?;
+    }
+    Ok(told)
+}
+
+#[test]
+fn scopes_go_outward(rt: HostRuntime) -> Result<(), Fail> {
+    assert!(rt; parents(rt.alloc(), "p.M.f")?.as_str() == "|p.M.f|p.M|p|");
+    assert!(rt; parents(rt.alloc(), "")?.as_str() == "||");
+    assert!(rt; parents(rt.alloc(), ".a")?.as_str() == "|.a||");
     Ok(())
 }

@@ -1,16 +1,22 @@
 ghost use Rattle.std.specs.Prelude.{◌≡◌, IfOk};
 
-use plain_values::Duplicate;
+use plain_values::{Duplicate, Items};
 use pool_kinds::Syntax;
 use proto_files::FileDescriptorProto;
 use std::alloc::{AllocError, Global};
+use std::collections::BTreeSet;
 
-/// A file: its syntax, and its linked record.
+/// A file: its syntax, its linked record, and the files that it knows. Files are told by their
+/// indexes, from 0 in the order of linking.
 #[derive(PartialEq, Drop)]
 pub struct FileDescriptorInner {
     /// The language's version in which it is written.
     pub syntax: Syntax,
     pub raw: FileDescriptorProto,
+    /// The files that it imports, in the order of its imports.
+    pub dependencies: Items<u32>,
+    /// The files whose names it sees, itself too.
+    pub transitive_dependencies: BTreeSet<u32>,
 }
 
 impl FileDescriptorInner {
@@ -21,6 +27,8 @@ impl FileDescriptorInner {
         Ok(FileDescriptorInner {
             syntax: self.syntax,
             raw: self.raw.clone(alloc)?,
+            dependencies: Items::from_slice(alloc, self.dependencies.as_slice())?,
+            transitive_dependencies: self.transitive_dependencies.clone()?,
         })
     }
 }

@@ -7,6 +7,7 @@ use proto_files::{DescriptorProto, FileDescriptorProto, FileDescriptorSet};
 use proto_types::{EnumOptions, FieldOptions, Options, SourceCodeInfo, Unread};
 use script_files::files_of;
 use std::alloc::{AllocError, Global};
+use std::collections::BTreeSet;
 use std::process::Abort;
 use std::test::Fail;
 
@@ -112,9 +113,14 @@ fn records_equal_their_copies(rt: HostRuntime) -> Result<(), Fail> {
 }
 
 fn linked(alloc: Global, file: &FileDescriptorProto) -> Result<FileDescriptorInner, AllocError> {
-    let raw = file.clone(alloc)?;
-    let syntax = Syntax::Proto3;
-    Ok(FileDescriptorInner { syntax, raw })
+    let mut transitive_dependencies = BTreeSet::new(alloc);
+    transitive_dependencies.insert(1)?;
+    Ok(FileDescriptorInner {
+        syntax: Syntax::Proto3,
+        raw: file.clone(alloc)?,
+        dependencies: Items::from_slice(alloc, &[0])?,
+        transitive_dependencies,
+    })
 }
 
 fn check_linked(

@@ -8,7 +8,7 @@ pub(super) const FAULTY: &[(&str, &str, &str)] = &[
         "File a",
         "line 1: unknown word\n",
     ),
-    ("`refs` is no keyword", "refs a\n", "line 1: unknown word\n"),
+    ("`ref` is no keyword", "ref a\n", "line 1: unknown word\n"),
     (
         "`relink` is no keyword",
         "relink\n",

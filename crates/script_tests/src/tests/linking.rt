@@ -73,9 +73,9 @@ pub(super) const LINKED: &[(&str, &str, &str, Ending)] = &[
         message N\nend\nenum E\nvalue V 0\nreserved 5 6\nalias\nend\nreserved 7 8\n\
         extensions 100 200\nextend e 100 optional int32 ~ M\ndefault 5\nend\n\
         enum F\nvalue W 0\nend\nservice S\nmethod m .p.M .p.M\nend\n\
-        extend x 101 optional int32 ~ .p.M\npacked false\nend\nlink\n\
+        extend x 101 optional int32 ~ .p.M\npacked false\nend\nfile b.proto\nend\nlink\n\
         find p.M.f\nfind p.M.N\nfind p.S\n",
-        "ok 1 2 2 1 2\nfield 0 a.proto [4, 0, 2, 0, 1]\nmessage 1 a.proto [4, 0, 3, 0, 1]\n\
+        "ok 2 2 2 1 2\nfield 0 a.proto [4, 0, 2, 0, 1]\nmessage 1 a.proto [4, 0, 3, 0, 1]\n\
         service 0 a.proto [6, 0, 1]\n",
         Ending::Whole,
     ),
@@ -92,9 +92,9 @@ pub(super) const LINKED: &[(&str, &str, &str, Ending)] = &[
         field id 1 optional int32 ~ ~\nextensions 100 200\nend\nenum E\nvalue ZERO 0\n\
         value ONE 1\nend\nservice S\nmethod get .p.M .p.M\nend\n\
         extend tags 100 repeated int32 ~ .p.M\njson allTags\npacked true\n\
-        extend note 101 optional string ~ .p.M\ndefault  two words\nend\nlink\n\
+        extend note 101 optional string ~ .p.M\ndefault  two words\nend\nfile b.proto\nend\nlink\n\
         find p.M.id\nfind p.E\nfind p.S\nfind p.tags\n",
-        "ok 1 1 1 1 2\nfield 0 a.proto [4, 0, 2, 0, 1]\nenum 0 a.proto [5, 0, 1]\n\
+        "ok 2 1 1 1 2\nfield 0 a.proto [4, 0, 2, 0, 1]\nenum 0 a.proto [5, 0, 1]\n\
         service 0 a.proto [6, 0, 1]\nextension 0 a.proto [7, 0, 1]\n",
         Ending::Whole,
     ),

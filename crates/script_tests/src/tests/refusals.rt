@@ -71,6 +71,13 @@ pub(super) const REFUSED: &[(&str, &str, &str, Ending)] = &[
         Ending::Whole,
     ),
     (
+        "a message may not have the name of one in a file that is linked",
+        "file a.proto\npackage p\nmessage M\nend\nend\nlink\n\
+        file b.proto\npackage p\nmessage M\nend\nend\nlink\n",
+        "ok 1 1 0 0 0\nrefused 1\nb.proto: name 'p.M' is already defined in file 'a.proto'\n",
+        Ending::Whole,
+    ),
+    (
         "an unknown syntax is told, and the file is read all the same",
         "file a.proto\nsyntax proto4\nmessage M\nend\nmessage M\nend\nend\nlink\n",
         "refused 2\na.proto: unknown syntax 'proto4'\na.proto: name 'M' is defined twice\n",

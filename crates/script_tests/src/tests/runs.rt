@@ -1,6 +1,7 @@
 //! Runs of scripts from memory to memory, and their reports.
 
 use super::faults::FAULTY;
+use super::imports::IMPORTED;
 use super::linking::LINKED;
 use super::misplaced::MISPLACED;
 use super::refusals::REFUSED;
@@ -108,6 +109,7 @@ fn check_faulty(
 fn scripts_are_reported(rt: HostRuntime) -> Result<(), Fail> {
     check_rows(&rt, rt.alloc(), LINKED)?;
     check_rows(&rt, rt.alloc(), REFUSED)?;
+    check_rows(&rt, rt.alloc(), IMPORTED)?;
     check_rows(&rt, rt.alloc(), WALKED)?;
     check_faulty(&rt, rt.alloc(), FAULTY)?;
     check_faulty(&rt, rt.alloc(), MISPLACED)?;

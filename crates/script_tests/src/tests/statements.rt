@@ -20,6 +20,11 @@ const SAID: &[(&str, &str, &str)] = &[
         field 'id' Some(1) Some(1) Some(5) none none None\nend\nend\nlink\nfind '.M'\n",
     ),
     (
+        "of a file's name no leading dot is dropped, and an absent one is empty",
+        "refs .a\nrefs ~\nrefs ''",
+        "refs '.a'\nrefs ''\nrefs ''\n",
+    ),
+    (
         "numbers have signs",
         "file a\nmessage b\nfield c +007 99 -0 ~ -2147483648\nend\nend",
         "file 'a'\nmessage 'b'\n\
@@ -105,6 +110,7 @@ fn tell(told: &mut String, statement: &Statement) -> Result<(), AllocError> {
         Statement::Link => writeln!(told, "link"),
         Statement::Find(name) => tell_text(told, "find", name),
         Statement::Walk => writeln!(told, "walk"),
+        Statement::Refs(name) => tell_text(told, "refs", name),
     }
 }
 

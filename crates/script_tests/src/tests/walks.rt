@@ -1,4 +1,4 @@
-//! Scripts that walk over the linked files.
+//! Scripts that walk over the linked files, and over their references.
 
 use descriptor_linker::Ending;
 
@@ -35,6 +35,21 @@ pub(super) const WALKED: &[(&str, &str, &str, Ending)] = &[
         "empty names are shown in quotes",
         "file ~\nmessage ~\nend\nend\nfile b\nmessage M\nend\nend\nlink\nwalk\n",
         "ok 2 2 0 0 0\nwalk 4\nfile 0 '' []\nmessage 0 '' [4, 0]\nfile 1 b []\nmessage 1 M [4, 0]\n",
+        Ending::Whole,
+    ),
+    (
+        "references are told by the file that has them",
+        "file a.proto\npackage p\nmessage M\nfield f 1 optional message M ~\nend\nend\nlink\n\
+        refs a.proto\nrefs .a.proto\nrefs ~\n",
+        "ok 1 1 0 0 0\nrefs 1\np.M.f type_name .p.M\nnone\nnone\n",
+        Ending::Whole,
+    ),
+    (
+        "references are told in the order of the walk, of the first file with an empty name too",
+        "file a\nend\nfile ''\nmessage M\nmessage N\nfield g 1 optional message .M ~\nend\n\
+        field f 1 optional int32 ~ ~\nfield h 2 repeated message .M.N ~\nend\nend\nlink\n\
+        refs ~\nrefs a\n",
+        "ok 2 2 0 0 0\nrefs 2\nM.h type_name .M.N\nM.N.g type_name .M\nrefs 0\n",
         Ending::Whole,
     ),
 ];

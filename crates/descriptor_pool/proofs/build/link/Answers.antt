@@ -1,9 +1,11 @@
-use Rattle.std.proofs.Common.{ap, subst, sym, ◌∙◌}
+use Rattle.std.proofs.Common.{◌≡◌, rules, true, Result, Ok, Err, OnOk, ap, subst, sym, ◌∙◌}
+use Rattle.std.specs.Result.{is_err}
+use Rattle.proto_records.proofs.Listings.{on-ok}
 use Rattle.pool_types.specs.Contents.{Contents}
 use Rattle.link_rules.specs.NamesBegin.{NamesBegin}
 use Rattle.descriptor_pool.specs.declared.build.growing.GrowingPool.{GrowingPool}
 use Rattle.descriptor_pool.specs.declared.inner.DescriptorPoolInner.{DescriptorPoolInner}
-use Rattle.descriptor_pool.specs.Behind.{faults_behind}
+use Rattle.descriptor_pool.specs.Behind.{faults_behind, linked_behind}
 use Rattle.descriptor_pool.specs.Invariant.{contents_in}
 use Rattle.descriptor_pool.specs.Passes.{TellsAll}
 use Rattle.descriptor_pool.proofs.Passed.{after-ok, after-err}
@@ -27,4 +29,19 @@ returns-clause-names c =
       | else-is_err w ↦
           let Begin : GrowingPool → Type 0 = λ g. NamesBegin g.inner.messages.items in
           subst Begin (sym w.growing-is) (after-ok linked.result.1 w.if-is_err.ensures.value linked.ensures.names)
+    ]
+
+no-ok : {U E : Type 0} (r : Result U E) (P : Type 0) → true ≡ is_err r → OnOk r P
+no-ok (Ok u) P failed = absurd (search rules)
+no-ok (Err e) P failed = tt
+
+pub returns-clause-ok : goal.returns-clause-ok
+returns-clause-ok c =
+    let linked = c.link_behind-growing in
+    let start = ap contents_in (c.new-2.ensures.inner ∙ c.replace-before.ensures.value) in
+    elim c.if-is_err.branch [
+      | then-is_err w ↦ no-ok linked.result.1 _ w.if-is_err.ensures.value
+      | else-is_err w ↦
+          let same = ap (λ (g : GrowingPool). contents_in g.inner) w.growing-is in
+          on-ok linked.result.1 (λ is. same ∙ is ∙ ap (λ p. linked_behind p c.args.new.now) start) linked.ensures.ok
     ]

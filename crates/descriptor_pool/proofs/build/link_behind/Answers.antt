@@ -1,10 +1,17 @@
-use Rattle.std.proofs.Common.{subst, sym, ◌∙◌}
-use Rattle.pool_types.specs.Contents.{Contents}
+use Rattle.std.proofs.Common.{◌≡◌, ◌+◌, length, ap, subst, sym, ◌∙◌, arith}
+use Rattle.std.proofs.lemmas.List.{length-append, length-map}
+use Rattle.pool_types.specs.Contents.{Contents, files_of}
+use Rattle.name_tables.specs.Entries.{names_with}
+use Rattle.name_tables.specs.NameTables.{FileNamesBefore}
+use Rattle.proto_records.specs.declared.counts.Counts.{Counts}
+use Rattle.proto_records.specs.Declarations.{declarations}
 use Rattle.proto_records.proofs.Listings.{on-ok}
 use Rattle.link_rules.specs.NamesBegin.{NamesBegin}
 use Rattle.descriptor_pool.specs.Behind.{names_behind, references_behind}
+use Rattle.descriptor_pool.specs.Entered.{file_entries}
 use Rattle.descriptor_pool.specs.Invariant.{contents_in}
 use Rattle.descriptor_pool.specs.Passes.{TellsAll}
+use Rattle.descriptor_pool.proofs.Files.{names-behind-before, room-files}
 use Rattle.descriptor_pool.proofs.Passed.{after-ok}
 use Rattle.descriptor_pool.proofs.Stages.{refused-first, told-second, names_are, references_are, linked_is}
 use Rattle.descriptor_pool.proofs.build.link_behind.Goals as goal
@@ -17,12 +24,43 @@ returns-then-is_err-clause-faults c =
     let told = subst (TellsAll names.result.1) (names_are p q c.args.pool.base c.args.new.now c.requires.base c.in_default.ensures.ok c.in_default.ensures.files) names.ensures.faults in
     refused-first names.result.1 (names_behind p c.args.new.now) (references_behind p c.args.new.now) c.if-is_err.ensures.value told
 
+-- there are no more files than fit
+pub see_files-requires-clause-few : goal.see_files-requires-clause-few
+see_files-requires-clause-few c =
+    let q = contents_in c.add_records.new.pool.inner in
+    let p = contents_in c.args.pool.inner in
+    let new = c.args.new.now in
+    let entered = after-ok c.enter_names-pool.result.1 c.if-is_err.ensures.value c.enter_names-pool.ensures.entered in
+    let many = ap (λ (x : Contents). length x.files) entered in
+    let raws = sym (length-map q.files (λ f. f.raw)) ∙ ap length c.in_default.ensures.files ∙ length-append (files_of p) new in
+    let before = length-map p.files (λ f. f.raw) in
+    let room = room-files c.args.pool.base new c.requires.counts in
+    let base = ap (λ (x : Counts). x.files) c.requires.base in
+    omega (arith, many, raws, before, room, base)
+
+-- the names of files mean some of these
+pub see_files-requires-clause-places : goal.see_files-requires-clause-places
+see_files-requires-clause-places c =
+    let q = contents_in c.add_records.new.pool.inner in
+    let p = contents_in c.args.pool.inner in
+    let base = c.args.pool.base in
+    let new = c.args.new.now in
+    let entered = after-ok c.enter_names-pool.result.1 c.if-is_err.ensures.value c.enter_names-pool.ensures.entered in
+    let raws = sym (length-map q.files (λ f. f.raw)) ∙ ap length c.in_default.ensures.files ∙ length-append (files_of p) new in
+    let before = length-map p.files (λ f. f.raw) in
+    let first = ap (λ (x : Counts). x.files) c.requires.base in
+    let many : base.files + length new ≡ length q.files = omega (arith, raws, before, first) in
+    let all = names-behind-before base new p.file_names (subst (λ n. FileNamesBefore n p.file_names) (sym first) c.requires.before.1) in
+    subst (λ (x : Contents). FileNamesBefore (length x.files) x.file_names) (sym entered)
+    (subst (λ n. FileNamesBefore n (names_with q.file_names (file_entries (declarations base new)))) many
+    (subst (λ (x : Contents). FileNamesBefore (base.files + length new) (names_with x.file_names (file_entries (declarations base new)))) (sym c.in_default.ensures.ok) all))
+
 pub make_items-requires-clause-names : goal.make_items-requires-clause-names
 make_items-requires-clause-names c =
     let names = c.enter_names-pool in
     let entered = after-ok names.result.1 c.if-is_err.ensures.value names.ensures.entered in
     let Begin : Contents → Type 0 = λ q. NamesBegin q.messages in
-    subst Begin (sym entered) (subst Begin (sym c.in_default.ensures.ok) c.requires.names)
+    subst Begin (sym c.in_default-see_files.ensures.ok) (subst Begin (sym entered) (subst Begin (sym c.in_default.ensures.ok) c.requires.names))
 
 pub returns-clause-ok : goal.returns-clause-ok
 returns-clause-ok c =
@@ -31,7 +69,10 @@ returns-clause-ok c =
     let names = c.enter_names-pool in
     let entered = after-ok names.result.1 c.if-is_err.ensures.value names.ensures.entered in
     let kept = names.ensures.kept ∙ c.add_records.ensures.kept ∙ c.requires.whole in
-    let linked = linked_is p q c.args.pool.base c.args.new.now c.requires.base c.in_default.ensures.ok c.in_default.ensures.files names.result.0 entered kept in
+    let seen = c.in_default-see_files.ensures.ok in
+    let still = c.see_files.ensures.kept in
+    let linked = linked_is p q c.args.pool.base c.args.new.now c.requires.base c.in_default.ensures.ok c.in_default.ensures.files
+    names.result.0 c.see_files.new.self entered kept seen still in
     on-ok c.make_items.result.1 (λ is. is ∙ linked) c.make_items.ensures.made
 
 pub returns-clause-faults : goal.returns-clause-faults
@@ -40,7 +81,11 @@ returns-clause-faults c =
     let q = contents_in c.add_records.new.pool.inner in
     let names = c.enter_names-pool in
     let entered = after-ok names.result.1 c.if-is_err.ensures.value names.ensures.entered in
+    let kept = names.ensures.kept ∙ c.add_records.ensures.kept ∙ c.requires.whole in
+    let seen = c.in_default-see_files.ensures.ok in
+    let still = c.see_files.ensures.kept in
     let first = subst (TellsAll names.result.1) (names_are p q c.args.pool.base c.args.new.now c.requires.base c.in_default.ensures.ok c.in_default.ensures.files) names.ensures.faults in
     let second = subst (TellsAll c.make_items.result.1)
-    (references_are p q c.args.pool.base c.args.new.now c.requires.base c.in_default.ensures.ok c.in_default.ensures.files names.result.0 entered) c.make_items.ensures.faults in
+    (references_are p q c.args.pool.base c.args.new.now c.requires.base c.in_default.ensures.ok c.in_default.ensures.files
+    names.result.0 c.see_files.new.self entered kept seen still) c.make_items.ensures.faults in
     told-second names.result.1 c.make_items.result.1 (names_behind p c.args.new.now) (references_behind p c.args.new.now) c.if-is_err.ensures.value first second

@@ -1,0 +1,11 @@
+-- `==` of faults tells whether two faults are one.
+use Rattle.std.proofs.Common.{rules}
+use Rattle.plain_values.specs.Exact.{Exact}
+use Rattle.default_values.specs.contracts.faults.EscapeFaultPartialEq.TheImpl as escape_fault
+use Rattle.default_values.specs.contracts.faults.ValueFaultPartialEq.TheImpl as value_fault
+
+pub escape_fault-exact : Exact escape_fault.ghosts.eq
+escape_fault-exact a b = search rules
+
+pub value_fault-exact : Exact value_fault.ghosts.eq
+value_fault-exact a b = search (rules, escape_fault-exact)

@@ -1,0 +1,5 @@
+pub mod Escapes
+pub mod EscapeCode
+pub mod WholeNumbers
+pub mod Defaults
+pub mod Equality

@@ -1,0 +1,12 @@
+ghost use Rattle.default_values.specs.Equality.{escape_fault-exact, value_fault-exact};
+
+use crate::{EscapeFault, ValueFault};
+use plain_values::ExactEq;
+
+impl ExactEq for EscapeFault {
+    ghost exact = { escape_fault-exact };
+}
+
+impl ExactEq for ValueFault {
+    ghost exact = { value_fault-exact };
+}

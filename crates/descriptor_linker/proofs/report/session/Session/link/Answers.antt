@@ -1,0 +1,14 @@
+use Rattle.std.proofs.Common.{ap, ◌∙◌, string_bytes}
+use Rattle.descriptor_linker.specs.Report.Code.{session_in}
+use Rattle.descriptor_linker.proofs.Batches.{on-linked, on-refused}
+use Rattle.descriptor_linker.proofs.report.session.Session.link.Goals as goal
+
+pub returns-in-Ok : goal.returns-in-Ok
+returns-in-Ok c =
+    on-linked c.tell_counts.result (session_in c.args.self.now) c.replace-batch.result.items c.replace-batch.new.dest.items c.build_files.new.self (string_bytes c.tell_counts.new.told)
+    (ap (λ b. b.items) c.replace-batch.ensures.value) (ap (λ b. b.items) c.replace-batch.ensures.after ∙ c.new.ensures.items) c.in-Ok.ensures.outcome c.tell_counts.ensures
+
+pub returns-in-Err-Descriptor : goal.returns-in-Err-Descriptor
+returns-in-Err-Descriptor c =
+    on-refused c.tell_refused.result (session_in c.args.self.now) c.replace-batch.result.items c.replace-batch.new.dest.items c.build_files.new.self _ _ c.errors.result.now (string_bytes c.tell_refused.new.told)
+    (ap (λ b. b.items) c.replace-batch.ensures.value) (ap (λ b. b.items) c.replace-batch.ensures.after ∙ c.new.ensures.items) c.in-Err-Descriptor.field-0-is c.in-Err-Descriptor.ensures.outcome c.errors.ensures c.tell_refused.ensures

@@ -1,0 +1,104 @@
+//! The references of a file.
+
+ghost use Rattle.std.specs.Prelude.{◌≡◌, [], ◌∷◌, ◌++◌, map, Some, IsOk, IfOk, OnOk};
+ghost use Rattle.proto_types.specs.declared.records.field.FieldDescriptorProto.{FieldDescriptorProto as Field};
+ghost use Rattle.proto_types.specs.Readers.{text_of};
+ghost use Rattle.proto_records.specs.Counts.{no_counts};
+ghost use Rattle.proto_records.specs.Fits.{counts_with};
+ghost use Rattle.proto_records.specs.Leads.{leads};
+ghost use Rattle.proto_records.specs.Listed.{declaration_of};
+ghost use Rattle.proto_records.specs.Protos.{of_field};
+ghost use Rattle.proto_records.specs.Shown.{Shown};
+ghost use Rattle.descriptor_pool.specs.References.{reference_in, references_in, references};
+ghost use Rattle.descriptor_linker.specs.Report.Code.{reference_of};
+
+use plain_values::Text;
+use proto_files::FileDescriptorProto;
+use proto_records::{Counts, Declaration, DeclarationKind, find_field_proto, list_declarations};
+use std::alloc::{AllocError, Global};
+use std::slice;
+
+/// A text by which a declaration refers to another.
+#[derive(Drop)]
+pub(super) struct Reference<'a> {
+    /// The full name of the declaration that refers.
+    pub(super) full_name: Text,
+    /// The part of its record, as descriptor.proto names it.
+    pub(super) part: &'static str,
+    pub(super) text: &'a str,
+}
+
+/// The references of a file's record, in the order of the walk. What the file declares must fit into
+/// a pool, as `Counts::of` tells.
+pub(super) fn references<'a>(
+    alloc: Global,
+    file: &'a FileDescriptorProto,
+) -> Result<Vec<Reference<'a>>, AllocError>
+    requires { IsOk (counts_with no_counts (file.now ∷ [])) }
+    ensures { IfOk result (λ found. map reference_of found.items ≡ references (file.now ∷ [])) }
+{
+    let base = Counts {
+        files: 0,
+        messages: 0,
+        enums: 0,
+        services: 0,
+        extensions: 0,
+    };
+    let mut found = Vec::new(alloc);
+    for declaration in list_declarations(alloc, base, slice::from_ref(file))? {
+        add_references(&mut found, file, declaration)?;
+    }
+    Ok(found)
+}
+
+/// Puts the references of a file's declaration behind others.
+fn add_references<'a>(
+    found: &mut Vec<Reference<'a>>,
+    file: &'a FileDescriptorProto,
+    declaration: Declaration,
+) -> Result<(), AllocError>
+    ensures { (d : Shown) → declaration ≡ declaration_of d → leads file.now d.path ≡ Some d.proto
+        → OnOk result (map reference_of found.new.items
+        ≡ map reference_of found.old.items ++ references_in d) }
+{
+    match declaration.kind {
+        DeclarationKind::Field => {
+            let text = type_name(file, declaration.path.as_slice());
+            add_reference(found, declaration.full_name, "type_name", text)
+        }
+        _ => Ok(()),
+    }
+}
+
+/// The type name of the field at a path.
+fn type_name<'a>(file: &'a FileDescriptorProto, path: &[i32]) -> &'a str
+    ensures { (field : Field) → leads file.now path.now ≡ Some (of_field field)
+        → result.now ≡ text_of field.type_name }
+{
+    match find_field_proto(file, path) {
+        Some(field) => field.type_name(),
+        None => "",
+    }
+}
+
+/// Puts a reference behind others, unless its text is empty.
+fn add_reference<'a>(
+    found: &mut Vec<Reference<'a>>,
+    full_name: Text,
+    part: &'static str,
+    text: &'a str,
+) -> Result<(), AllocError>
+    ensures { (d : Shown) → full_name ≡ d.full_name
+        → OnOk result (map reference_of found.new.items
+        ≡ map reference_of found.old.items ++ reference_in d part.now text.now) }
+{
+    if text.is_empty() {
+        return Ok(());
+    }
+    found.push(Reference {
+        full_name,
+        part,
+        text,
+    })?;
+    Ok(())
+}

@@ -1,0 +1,211 @@
+-- Files that are given the files that they see.
+use Rattle.std.proofs.Common.{◌≡◌, ◌≢◌, ◌≤◌, ◌<◌, ◌+◌, ◌==◌, ℕ, zero, suc, true, false, ◌&&◌, nat_le, nat_lt, List, [], ◌∷◌, ◌++◌, length, map, drop, set, get_or, if◌then◌else◌, refl, ap, sym, ◌∙◌, arith}
+use Rattle.std.proofs.lemmas.Bool.Decides.{nat_tests}
+use Rattle.std.proofs.lemmas.List.{append_cancel_left, map-append, take-append-drop}
+use Rattle.std.specs.BTreeSet.{BTreeSet}
+use Rattle.std.specs.FinMap as finite
+use Rattle.file_visibility.specs.Visibility.{seen_from}
+use Rattle.pool_types.specs.Contents.{Contents, files_of}
+use Rattle.pool_types.specs.declared.contents.file.FileDescriptorInner.{FileDescriptorInner}
+use Rattle.proto_files.specs.declared.file.FileDescriptorProto.{FileDescriptorProto}
+use Rattle.link_rules.specs.Each.{each}
+use Rattle.descriptor_pool.specs.declared.build.growing.GrowingPool.{GrowingPool}
+use Rattle.descriptor_pool.specs.Behind.{declared_behind, seen_behind, with_names}
+use Rattle.descriptor_pool.specs.Growing.{file_seeing, files_seeing, first_new, kept_in, seeing, seen_in}
+use Rattle.descriptor_pool.specs.Invariant.{contents_in}
+
+-- two changes one after the other
+pub each-twice : {X Y Z : Type 0} (g : ℕ → Y → Z) (f : ℕ → X → Y) (i : ℕ) (xs : List X) → each g i (each f i xs) ≡ each (λ n x. g n (f n x)) i xs
+each-twice g f i [] = refl
+each-twice g f i (x ∷ xs) = ap (λ rest. g i (f i x) ∷ rest) (each-twice g f (suc i) xs)
+
+-- changes that are equal from a position on
+pub each-same : {X Y : Type 0} (f g : ℕ → X → Y) (i : ℕ) (xs : List X) → ((n : ℕ) (x : X) → i ≤ n → n < i + length xs → f n x ≡ g n x) → each f i xs ≡ each g i xs
+each-same f g i [] same = refl
+each-same f g i (x ∷ xs) same =
+    λ j. same i x (omega arith) (omega arith) j ∷ each-same f g (suc i) xs (λ n y from to. same n y (omega (arith, from)) (omega (arith, to))) j
+
+each-none : {X : Type 0} (i : ℕ) (xs : List X) → each (λ _ x. x) i xs ≡ xs
+each-none i [] = refl
+each-none i (x ∷ xs) = ap (λ rest. x ∷ rest) (each-none (suc i) xs)
+
+-- where nothing is changed
+pub each-still : {X : Type 0} (f : ℕ → X → X) (i : ℕ) (xs : List X) → ((n : ℕ) (x : X) → i ≤ n → n < i + length xs → f n x ≡ x) → each f i xs ≡ xs
+each-still f i xs still = each-same f (λ _ x. x) i xs still ∙ each-none i xs
+
+pub each-append : {X Y : Type 0} (f : ℕ → X → Y) (i : ℕ) (xs ys : List X) → each f i (xs ++ ys) ≡ each f i xs ++ each f (i + length xs) ys
+each-append f i [] ys = let here : i ≡ i + 0 = omega arith in ap (λ n. each f n ys) here
+each-append f i (x ∷ xs) ys =
+    let there : suc i + length xs ≡ i + suc (length xs) = omega arith in
+    ap (λ rest. f i x ∷ rest) (each-append f (suc i) xs ys ∙ ap (λ n. each f (suc i) xs ++ each f n ys) there)
+
+pub each-map : {X Y Z : Type 0} (g : Y → Z) (f : ℕ → X → Y) (i : ℕ) (xs : List X) → map g (each f i xs) ≡ each (λ n x. g (f n x)) i xs
+each-map g f i [] = refl
+each-map g f i (x ∷ xs) = ap (λ rest. g (f i x) ∷ rest) (each-map g f (suc i) xs)
+
+abbrev pub one : {X : Type 0} → (X → X) → ℕ → ℕ → X → X
+one f i n x = if n == i then f x else x
+
+changed-here : {X : Type 0} (f : X → X) (i n : ℕ) (x : X) → n ≡ i → one f i n x ≡ f x
+changed-here f i n x is = let same : (n == i) ≡ true = grind (arith, nat_tests) in rw same refl
+
+pub changed-elsewhere : {X : Type 0} (f : X → X) (i n : ℕ) (x : X) → n ≢ i → one f i n x ≡ x
+changed-elsewhere f i n x isn't = let other : (n == i) ≡ false = grind (arith, nat_tests) in rw other refl
+
+-- one entry is changed
+pub set-each : {X : Type 0} (f : X → X) (first i : ℕ) (xs : List X) (d : X) → i < length xs
+    → set xs i (f (get_or xs i d)) ≡ each (one f (first + i)) first xs
+set-each f first i [] d below = absurd (omega (arith, below))
+set-each f first zero (x ∷ xs) d below =
+    let here : f x ≡ one f (first + 0) first x = sym (changed-here f (first + 0) first x (omega arith)) in
+    let others = each-still (one f (first + 0)) (suc first) xs (λ n y from to. changed-elsewhere f (first + 0) n y (λ e. omega (arith, from, e))) in
+    λ j. here j ∷ sym others j
+set-each f first (suc i) (x ∷ xs) d below =
+    let there : suc first + i ≡ first + suc i = omega arith in
+    let here : x ≡ one f (first + suc i) first x = sym (changed-elsewhere f (first + suc i) first x (λ e. omega (arith, e))) in
+    let rest = set-each f (suc first) i xs d (omega (arith, below)) ∙ ap (λ m. each (one f m) (suc first) xs) there in
+    λ j. here j ∷ rest j
+
+pub length-each : {X Y : Type 0} (f : ℕ → X → Y) (i : ℕ) (xs : List X) → length (each f i xs) ≡ length xs
+length-each f i [] = refl
+length-each f i (x ∷ xs) = ap suc (length-each f (suc i) xs)
+
+-- a file of those that came, up to one, with the files that it sees
+abbrev up_to : GrowingPool → ℕ → ℕ → FileDescriptorInner → FileDescriptorInner
+up_to p end n f = if nat_le (first_new p) n && nat_lt n end then seeing (seen_in p n) f else f
+
+-- all files, of which those up to one that came have the files that they see
+abbrev pub seeing_up_to : GrowingPool → ℕ → List FileDescriptorInner
+seeing_up_to p end = each (up_to p end) 0 p.inner.files.items
+
+module _ (p : GrowingPool) where
+  not-yet : (end n : ℕ) (f : FileDescriptorInner) → end ≤ n → up_to p end n f ≡ f
+  not-yet end n f later =
+      let below : nat_lt n end ≡ false = grind (arith, nat_tests) in
+      elim (nat_le (first_new p) n) as (λ b. (if b && nat_lt n end then seeing (seen_in p n) f else f) ≡ f) [ true ↦ rw below refl | false ↦ refl ]
+
+  by-now : (end n : ℕ) (f : FileDescriptorInner) → first_new p ≤ n → n < end → up_to p end n f ≡ seeing (seen_in p n) f
+  by-now end n f came before =
+      let from : nat_le (first_new p) n ≡ true = grind (arith, nat_tests) in
+      let below : nat_lt n end ≡ true = grind (arith, nat_tests) in
+      rw from (rw below refl)
+
+  earlier : (end n : ℕ) (f : FileDescriptorInner) → n < first_new p → up_to p end n f ≡ f
+  earlier end n f before = let from : nat_le (first_new p) n ≡ false = grind (arith, nat_tests) in rw from refl
+
+  -- none by now, and all at the end
+  pub seeing-none : seeing_up_to p (first_new p) ≡ p.inner.files.items
+  seeing-none = each-still (up_to p (first_new p)) 0 p.inner.files.items none
+    where
+      none : (n : ℕ) (f : FileDescriptorInner) → 0 ≤ n → n < 0 + length p.inner.files.items → up_to p (first_new p) n f ≡ f
+      none n f from to =
+          elim (nat_lt n (first_new p)) as (λ b. nat_lt n (first_new p) ≡ b → up_to p (first_new p) n f ≡ f) [
+            | true ↦ λ e. earlier (first_new p) n f (grind (arith, nat_tests))
+            | false ↦ λ e. not-yet (first_new p) n f (grind (arith, nat_tests))
+          ] refl
+
+  pub seeing-all : (end : ℕ) → length p.inner.files.items ≤ end → seeing_up_to p end ≡ files_seeing p
+  seeing-all end whole = each-same (up_to p end) (λ n f. if nat_le (first_new p) n then seeing (seen_in p n) f else f) 0 p.inner.files.items all
+    where
+      all : (n : ℕ) (f : FileDescriptorInner) → 0 ≤ n → n < 0 + length p.inner.files.items → up_to p end n f ≡ (if nat_le (first_new p) n then seeing (seen_in p n) f else f)
+      all n f from to =
+          let below : nat_lt n end ≡ true = grind (arith, nat_tests) in
+          elim (nat_le (first_new p) n) as (λ b. (if b && nat_lt n end then seeing (seen_in p n) f else f) ≡ (if b then seeing (seen_in p n) f else f))
+          [ true ↦ rw below refl | false ↦ refl ]
+
+  -- the files are the same records, and as many
+  pub length-seeing : (end : ℕ) → length (seeing_up_to p end) ≡ length p.inner.files.items
+  length-seeing end = length-each (up_to p end) 0 p.inner.files.items
+
+  raw-stays : (end n : ℕ) (f : FileDescriptorInner) → (up_to p end n f).raw ≡ f.raw
+  raw-stays end n f = elim (nat_le (first_new p) n && nat_lt n end) as (λ b. (if b then seeing (seen_in p n) f else f).raw ≡ f.raw) [ true ↦ refl | false ↦ refl ]
+
+  pub raws-seeing : (end : ℕ) → map (λ f. f.raw) (seeing_up_to p end) ≡ map (λ f. f.raw) p.inner.files.items
+  raws-seeing end =
+      each-map (λ f. f.raw) (up_to p end) 0 p.inner.files.items
+      ∙ each-same (λ n f. (up_to p end n f).raw) (λ _ f. f.raw) 0 p.inner.files.items (λ n f _ _. raw-stays end n f)
+      ∙ sym (each-map (λ f. f.raw) (λ _ f. f) 0 p.inner.files.items) ∙ ap (map (λ f. f.raw)) (each-none 0 p.inner.files.items)
+
+  -- one more file sees
+  pub seeing-next : (q : GrowingPool) (k : ℕ) → first_new p ≤ k → contents_in q.inner ≡ record (contents_in p.inner) { files = seeing_up_to p k }
+      → file_seeing q k ≡ seeing_up_to p (k + 1)
+  seeing-next q k came is =
+      let raws : files_of (contents_in q.inner) ≡ files_of (contents_in p.inner) = ap files_of is ∙ raws-seeing k in
+      let sees : seen_in q k ≡ seen_in p k = λ i. seen_from (raws i) (finite.get (is i).file_names) k in
+      let fs = p.inner.files.items in
+      let change : ℕ → FileDescriptorInner → FileDescriptorInner = one (seeing (seen_in q k)) k in
+      ap (each change 0) (ap (λ (c : Contents). c.files) is)
+      ∙ each-twice change (up_to p k) 0 fs
+      ∙ each-same (λ n f. change n (up_to p k n f)) (up_to p (k + 1)) 0 fs (λ n f from to. next n f sees)
+    where
+      next : (n : ℕ) (f : FileDescriptorInner) → seen_in q k ≡ seen_in p k → one (seeing (seen_in q k)) k n (up_to p k n f) ≡ up_to p (k + 1) n f
+      next n f sees =
+          elim (n == k) as (λ b. (n == k) ≡ b → one (seeing (seen_in q k)) k n (up_to p k n f) ≡ up_to p (k + 1) n f) [
+            | true ↦ λ e. let here : n ≡ k = grind (arith, nat_tests) in
+                changed-here (seeing (seen_in q k)) k n (up_to p k n f) here
+                ∙ (λ i. seeing (sees i) (not-yet k n f (omega (arith, here)) i))
+                ∙ ap (λ m. seeing (seen_in p m) f) (sym here)
+                ∙ sym (by-now (k + 1) n f (omega (arith, here, came)) (omega (arith, here)))
+            | false ↦ λ e.
+                let other : nat_lt n k ≡ nat_lt n (k + 1) = grind (arith, nat_tests) in
+                changed-elsewhere (seeing (seen_in q k)) k n (up_to p k n f) (λ same. grind (arith, nat_tests))
+                ∙ ap (λ b. if nat_le (first_new p) n && b then seeing (seen_in p n) f else f) other
+          ] refl
+
+  pub raws-stay : map (λ f. f.raw) (files_seeing p) ≡ map (λ f. f.raw) p.inner.files.items
+  raws-stay =
+      let all = seeing-all (length p.inner.files.items) (omega arith) in
+      ap (map (λ f. f.raw)) (sym all) ∙ raws-seeing (length p.inner.files.items)
+
+-- a list of which no entry is read
+each-length : {X Y Z : Type 0} (g : X → Y) (h : ℕ → Z) (i : ℕ) (xs : List X) → each (λ n _. h n) i xs ≡ each (λ n _. h n) i (map g xs)
+each-length g h i [] = refl
+each-length g h i (x ∷ xs) = ap (λ rest. h i ∷ rest) (each-length g h (suc i) xs)
+
+-- which files each file sees, of a pool and of new files behind it, once those that came have theirs
+module _ (p : Contents) (new : List FileDescriptorProto) (r : GrowingPool) (kept : (kept_in r).files ≡ p.files) (files : files_of (contents_in r.inner) ≡ files_of p ++ new)
+    (names : r.inner.file_names ≡ (with_names p (declared_behind p new)).file_names) where
+  abbrev sees : ℕ → BTreeSet ℕ
+  sees n = record { keys = seen_from (files_of p ++ new) (finite.get (with_names p (declared_behind p new)).file_names) n }
+
+  abbrev seen_of : ℕ → FileDescriptorInner → BTreeSet ℕ
+  seen_of n f = (if nat_le (first_new r) n then seeing (seen_in r n) f else f).transitive_dependencies
+
+  many : first_new r ≡ length p.files
+  many = ap length kept
+
+  seen-before : each seen_of 0 p.files ≡ map (λ f. f.transitive_dependencies) p.files
+  seen-before =
+      each-same seen_of (λ _ f. f.transitive_dependencies) 0 p.files as_it_was
+      ∙ sym (each-map (λ f. f.transitive_dependencies) (λ _ f. f) 0 p.files) ∙ ap (map (λ f. f.transitive_dependencies)) (each-none 0 p.files)
+    where
+      as_it_was : (n : ℕ) (f : FileDescriptorInner) → 0 ≤ n → n < 0 + length p.files → seen_of n f ≡ f.transitive_dependencies
+      as_it_was n f from to = let before : nat_le (first_new r) n ≡ false = grind (arith, nat_tests, many) in
+          ap (λ b. (if b then seeing (seen_in r n) f else f).transitive_dependencies) before
+
+  seen-later : (came : List FileDescriptorInner) → map (λ f. f.raw) came ≡ new → each seen_of (0 + length p.files) came ≡ each (λ n _. sees n) (length p.files) new
+  seen-later came is =
+      each-same seen_of (λ n _. sees n) (0 + length p.files) came anew
+      ∙ each-length (λ f. f.raw) sees (0 + length p.files) came ∙ (λ i. each (λ n _. sees n) (start i) (is i))
+    where
+      start : 0 + length p.files ≡ length p.files
+      start = omega arith
+
+      anew : (n : ℕ) (f : FileDescriptorInner) → 0 + length p.files ≤ n → n < 0 + length p.files + length came → seen_of n f ≡ sees n
+      anew n f from to =
+          let behind : nat_le (first_new r) n ≡ true = grind (arith, nat_tests, many) in
+          ap (λ b. (if b then seeing (seen_in r n) f else f).transitive_dependencies) behind
+          ∙ (λ i. record { keys = seen_from (files i) (finite.get (names i)) n })
+
+  pub seen-are : map (λ f. f.transitive_dependencies) (files_seeing r) ≡ seen_behind p new
+  seen-are =
+      let fs = r.inner.files.items in
+      let came = drop r.base.files fs in
+      let change : ℕ → FileDescriptorInner → FileDescriptorInner = λ n f. if nat_le (first_new r) n then seeing (seen_in r n) f else f in
+      let whole : fs ≡ p.files ++ came = sym (take-append-drop r.base.files fs) ∙ ap (λ xs. xs ++ came) kept in
+      let raws : map (λ f. f.raw) came ≡ new =
+      append_cancel_left (files_of p) (map (λ f. f.raw) came) new (sym (map-append (λ f. f.raw) p.files came) ∙ ap (map (λ f. f.raw)) (sym whole) ∙ files) in
+      ap (λ xs. map (λ f. f.transitive_dependencies) (each change 0 xs)) whole
+      ∙ each-map (λ f. f.transitive_dependencies) change 0 (p.files ++ came)
+      ∙ each-append seen_of 0 p.files came
+      ∙ (λ i. seen-before i ++ seen-later came raws i)
