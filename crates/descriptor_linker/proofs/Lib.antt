@@ -1,6 +1,7 @@
 pub mod Pieces
 pub mod Innermost
 pub mod ReferencesFound
+pub mod MethodReferences
 pub mod OneFits
 pub mod Batches
 mod Computed

@@ -151,7 +151,7 @@ counts-with p s ds =
     (longer p.files (λ e. file_item s e.0.index e.1) (of_kind as_file ds))
     (longer p.messages (λ e. message_item s e.0 e.1) (of_kind as_message ds))
     (longer p.enums (λ e. enum_item e.0 e.1) (of_kind as_enum ds))
-    (longer p.services (λ e. service_item e.0 e.1) (of_kind as_service ds))
+    (longer p.services (λ e. service_item s e.0 e.1) (of_kind as_service ds))
     (longer p.extensions (λ e. extension_item e.0) (of_kind as_extension ds))
     ∙ sym (counted-many (counts_in p) ds)
 

@@ -23,7 +23,7 @@ abbrev with_more : Contents → Setting → List Shown → Contents
 with_more p s ds = record p {
   messages = p.messages ++ map (λ e. message_item s e.0 e.1) (of_kind as_message ds);
   enums = p.enums ++ map (λ e. enum_item e.0 e.1) (of_kind as_enum ds);
-  services = p.services ++ map (λ e. service_item e.0 e.1) (of_kind as_service ds);
+  services = p.services ++ map (λ e. service_item s e.0 e.1) (of_kind as_service ds);
   extensions = p.extensions ++ map (λ e. extension_item e.0) (of_kind as_extension ds);
 }
 
@@ -61,8 +61,9 @@ step r file parent index path full_name (of_service v) ds =
     let d : Shown = record { file = file; parent = parent; index = index; path = path; full_name = full_name; proto = of_service v } in
     λ i. record (seen r (d ∷ ds)) {
       pool = record (with_more r.pool r.setting (d ∷ ds)) {
-        services = behind r.pool.services (service_item d v) (map (λ e. service_item e.0 e.1) (of_kind as_service ds)) i;
+        services = behind r.pool.services (service_item r.setting d v) (map (λ e. service_item r.setting e.0 e.1) (of_kind as_service ds)) i;
       };
+      faults = append_assoc r.faults (owner_faults r.setting d) (flat_map (owner_faults r.setting) ds) i;
     }
 step r file parent index path full_name (of_method m) ds = refl
 step r file parent index path full_name (of_enum e) ds =

@@ -102,6 +102,11 @@ put-well shown (Ok u) (Ok v) A B P put passed p = (put.1, once_shown shown P pas
 put-well shown (Err t) (Ok v) A B P put passed p = absurd (search rules)
 put-well shown passed (Err e) A B P put well p = tt
 
+-- what is made where no error came is another, where that is equal
+pub ok-is : {X U E : Type 0} (r : Result U E) (x a b : X) → a ≡ b → OnOk r (x ≡ a) → OnOk r (x ≡ b)
+ok-is (Ok u) x a b same is = is ∙ same
+ok-is (Err e) x a b same is = tt
+
 -- what holds where no error came, and where one did
 pub after-ok : {U E P : Type 0} (r : Result U E) → false ≡ is_err r → OnOk r P → P
 after-ok (Ok u) well p = p

@@ -5,6 +5,7 @@ use Rattle.std.specs.FinMap as finite
 use Rattle.std.specs.List.{AllByRecursion, flat_map}
 use Rattle.proto_types.specs.declared.records.field.FieldDescriptorProto.{FieldDescriptorProto}
 use Rattle.proto_types.specs.declared.tag.field.TheConstants as field
+use Rattle.proto_types.specs.declared.tag.method.TheConstants as method
 use Rattle.proto_types.specs.Lists.{listed, only_if}
 use Rattle.proto_types.specs.Readers.{text_of, type_of}
 use Rattle.pool_types.specs.declared.contents.definition.Definition.{Definition}
@@ -14,7 +15,7 @@ use Rattle.pool_types.specs.Labels.{label_in}
 use Rattle.proto_records.specs.Changed.{changed}
 use Rattle.proto_records.specs.Protos.{Proto, of_file, of_message, of_field, of_oneof, of_service, of_method, of_enum, of_value, of_extension}
 use Rattle.proto_records.specs.Shown.{Shown}
-use Rattle.pool_parts.specs.declared.filter.ResolveNameFilter.TheVariants.{FieldType}
+use Rattle.pool_parts.specs.declared.filter.ResolveNameFilter.TheVariants.{Message, FieldType}
 use Rattle.pool_parts.specs.Kinds.{simple_kind}
 use Rattle.pool_parts.specs.References.{reference_fault}
 use Rattle.pool_parts.specs.Resolution.{Resolution, found, invalid_type, not_imported, shadowed, not_found}
@@ -22,6 +23,7 @@ use Rattle.pool_parts.proofs.Named.{IsNamed, resolution-named}
 use Rattle.link_rules.specs.Broken.{Faults, number_faults, second_faults, second_pass}
 use Rattle.link_rules.specs.FieldTypes.{type_meaning, type_faults}
 use Rattle.link_rules.specs.Linked.{resolved, typed, linking}
+use Rattle.link_rules.specs.Methods.{method_meaning}
 use Rattle.link_rules.specs.Setting.{Setting, seen_by}
 use Rattle.std.specs.BTreeSet.{contains_by}
 use Rattle.std.specs.Ordering.{nat_cmp}
@@ -30,9 +32,13 @@ use Rattle.descriptor_pool.specs.References.{Reference, reference_in, references
 has-name : (found : Option Definition) (def : Definition) → found ≡ Some def → IsSome found
 has-name got def is = subst IsSome (sym is) refl
 
--- a reference is a dot and a name that these names have
+-- a text is a dot and a name that these names have
+abbrev IsFull : ByText Definition → List ℕ → Type 0
+IsFull names text = (name : List ℕ) × (text ≡ 46 ∷ name) × IsSome (finite.get names name)
+
+-- a reference is such a text
 abbrev pub Names : ByText Definition → Reference → Type 0
-Names names r = (name : List ℕ) × (r.text ≡ 46 ∷ name) × IsSome (finite.get names name)
+Names names r = IsFull names r.text
 
 abbrev pub AllNamed : ByText Definition → List Shown → Type 0
 AllNamed names ds = AllByRecursion (Names names) (flat_map references_in ds)
@@ -47,13 +53,18 @@ named-append names ds es first second =
     (all-append (Names names) (flat_map references_in ds) (flat_map references_in es) first second)
 
 -- a reference without a fault was found
-found-resolved : (s : Setting) (path : List ℤ) (file : ℕ) (written : List ℕ) (given : Option (List ℕ)) (e : Shown) (part : List ℕ) (r : Resolution)
-    → IsNamed s.names r → listed (reference_fault s.files written file path r) ≡ [] → AllByRecursion (Names s.names) (reference_in e part (text_of (resolved r given)))
-found-resolved s path file written given e part (found name def) named none = ((name, refl, has-name (finite.get s.names name) def named), tt)
-found-resolved s path file written given e part (invalid_type name def filter) named none = absurd (cc)
-found-resolved s path file written given e part (not_imported name other) named none = absurd (cc)
-found-resolved s path file written given e part (shadowed name other) named none = absurd (cc)
-found-resolved s path file written given e part not_found named none = absurd (cc)
+found-full : (s : Setting) (path : List ℤ) (file : ℕ) (written : List ℕ) (given : Option (List ℕ)) (r : Resolution)
+    → IsNamed s.names r → listed (reference_fault s.files written file path r) ≡ [] → IsFull s.names (text_of (resolved r given))
+found-full s path file written given (found name def) named none = (name, refl, has-name (finite.get s.names name) def named)
+found-full s path file written given (invalid_type name def filter) named none = absurd (cc)
+found-full s path file written given (not_imported name other) named none = absurd (cc)
+found-full s path file written given (shadowed name other) named none = absurd (cc)
+found-full s path file written given not_found named none = absurd (cc)
+
+-- such a text is the only one of a part
+full-alone : (names : ByText Definition) (e : Shown) (part text : List ℕ) → IsFull names text → AllByRecursion (Names names) (reference_in e part text)
+full-alone names e part [] full = tt
+full-alone names e part (c ∷ cs) full = (full, tt)
 
 -- a type name without a fault is linked as one that was found
 type-resolved : (s : Setting) (d e : Shown) (f : FieldDescriptorProto) (part written : List ℕ) → text_of f.type_name ≡ written
@@ -65,8 +76,15 @@ type-resolved : (s : Setting) (d e : Shown) (f : FieldDescriptorProto) (part wri
     faults ≡ [] → AllByRecursion (Names s.names) (reference_in e part (text_of after.type_name))
 type-resolved s d e f part [] is none = subst (λ t. AllByRecursion (Names s.names) (reference_in e part t)) (sym is) tt
 type-resolved s d e f part (c ∷ cs) is none =
-    found-resolved s _ d.file (text_of f.type_name) f.type_name e part (type_meaning s d f)
-    (resolution-named s.names (λ n. contains_by (nat_cmp n) (seen_by s d.file)) FieldType d.full_name (text_of f.type_name)) none
+    full-alone s.names e part _ (found-full s _ d.file (text_of f.type_name) f.type_name (type_meaning s d f)
+    (resolution-named s.names (λ n. contains_by (nat_cmp n) (seen_by s d.file)) FieldType d.full_name (text_of f.type_name)) none)
+
+-- a message that a method takes or gives is linked as one that was found, where there is no fault
+message-resolved : (s : Setting) (d : Shown) (path : List ℤ) (given : Option (List ℕ))
+    → listed (reference_fault s.files (text_of given) d.file path (method_meaning s d given)) ≡ [] → IsFull s.names (text_of (resolved (method_meaning s d given) given))
+message-resolved s d path given none =
+    found-full s path d.file (text_of given) given (method_meaning s d given)
+    (resolution-named s.names (λ n. contains_by (nat_cmp n) (seen_by s d.file)) Message d.full_name (text_of given)) none
 
 no_items : {X : Type 0} (xs ys : List X) → xs ++ ys ≡ [] → (xs ≡ []) × (ys ≡ [])
 no_items [] ys none = (refl, none)
@@ -84,7 +102,13 @@ one-resolved s file parent index path full_name (of_file f) none = tt
 one-resolved s file parent index path full_name (of_message m) none = tt
 one-resolved s file parent index path full_name (of_oneof o) none = tt
 one-resolved s file parent index path full_name (of_service v) none = tt
-one-resolved s file parent index path full_name (of_method m) none = tt
+one-resolved s file parent index path full_name (of_method m) none =
+    let d : Shown = record { file = file; parent = parent; index = index; path = path; full_name = full_name; proto = of_method m } in
+    let input = path ++ method.INPUT_TYPE ∷ [] in
+    let output = path ++ method.OUTPUT_TYPE ∷ [] in
+    let both = no_items (listed (reference_fault s.files (text_of m.input_type) file input (method_meaning s d m.input_type)))
+    (listed (reference_fault s.files (text_of m.output_type) file output (method_meaning s d m.output_type))) none in
+    (message-resolved s d input m.input_type both.0, (message-resolved s d output m.output_type both.1, tt))
 one-resolved s file parent index path full_name (of_enum e) none = tt
 one-resolved s file parent index path full_name (of_value v) none = tt
 one-resolved s file parent index path full_name (of_extension x) none = tt

@@ -8,7 +8,7 @@ use Rattle.file_visibility.specs.Visibility.{seen_from}
 use Rattle.pool_types.specs.Contents.{Contents, files_of}
 use Rattle.pool_types.specs.declared.contents.file.FileDescriptorInner.{FileDescriptorInner}
 use Rattle.proto_files.specs.declared.file.FileDescriptorProto.{FileDescriptorProto}
-use Rattle.link_rules.specs.Each.{each}
+use Rattle.places.specs.Each.{each}
 use Rattle.descriptor_pool.specs.declared.build.growing.GrowingPool.{GrowingPool}
 use Rattle.descriptor_pool.specs.Behind.{declared_behind, seen_behind, with_names}
 use Rattle.descriptor_pool.specs.Growing.{file_seeing, files_seeing, first_new, kept_in, seeing, seen_in}

@@ -11,7 +11,7 @@ use Rattle.proto_records.specs.Declarations.{declarations}
 use Rattle.proto_records.specs.Protos.{as_file, as_message, as_enum, as_service, as_extension}
 use Rattle.proto_records.specs.Shown.{Shown, of_kind}
 use Rattle.link_rules.specs.Broken.{Faults, second_pass}
-use Rattle.link_rules.specs.Each.{each}
+use Rattle.places.specs.Each.{each}
 use Rattle.link_rules.specs.Items.{file_item, message_item, enum_item, service_item, extension_item}
 use Rattle.link_rules.specs.Setting.{Setting}
 use Rattle.descriptor_pool.specs.Entered.{entries, file_entries}
@@ -60,7 +60,7 @@ with_items p s ds = record p {
   files = p.files ++ map (λ e. file_item s e.0.index e.1) (of_kind as_file ds);
   messages = p.messages ++ map (λ e. message_item s e.0 e.1) (of_kind as_message ds);
   enums = p.enums ++ map (λ e. enum_item e.0 e.1) (of_kind as_enum ds);
-  services = p.services ++ map (λ e. service_item e.0 e.1) (of_kind as_service ds);
+  services = p.services ++ map (λ e. service_item s e.0 e.1) (of_kind as_service ds);
   extensions = p.extensions ++ map (λ e. extension_item e.0) (of_kind as_extension ds);
 }
 

@@ -4,7 +4,7 @@ use Rattle.std.specs.FinMap as finite
 use Rattle.pool_types.specs.Contents.{Contents, files_of}
 use Rattle.pool_types.specs.declared.contents.file.FileDescriptorInner.{FileDescriptorInner}
 use Rattle.file_visibility.specs.Visibility.{seen_from}
-use Rattle.link_rules.specs.Each.{each}
+use Rattle.places.specs.Each.{each}
 use Rattle.name_tables.specs.NameTables.{without_files_from, file_names_before}
 use Rattle.descriptor_pool.specs.declared.build.growing.GrowingPool.{GrowingPool}
 use Rattle.descriptor_pool.specs.Invariant.{contents_in}

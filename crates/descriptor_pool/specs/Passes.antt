@@ -93,7 +93,10 @@ referred seen d = elim d.proto [
     faults = seen.faults ++ owner_faults seen.setting d;
   }
   | of_enum e ↦ record seen { pool = record seen.pool { enums = seen.pool.enums ++ enum_item d e ∷ [] } }
-  | of_service s ↦ record seen { pool = record seen.pool { services = seen.pool.services ++ service_item d s ∷ [] } }
+  | of_service s ↦ record seen {
+    pool = record seen.pool { services = seen.pool.services ++ service_item seen.setting d s ∷ [] };
+    faults = seen.faults ++ owner_faults seen.setting d;
+  }
   | of_extension _ ↦ record seen { pool = record seen.pool { extensions = seen.pool.extensions ++ extension_item d ∷ [] } }
   | _ ↦ seen
 ]

@@ -1,4 +1,2 @@
-pub mod NamesBegin
-pub mod Each
 pub mod Unchanged
 pub mod Owners

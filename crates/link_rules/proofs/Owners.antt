@@ -1,5 +1,5 @@
 -- What declarations break, told of each by itself, is what their owners break.
-use Rattle.std.proofs.Common.{◌≡◌, ℕ, ℤ, suc, List, [], ◌∷◌, ◌++◌, refl, ap, sym, ◌∙◌, append_assoc}
+use Rattle.std.proofs.Common.{◌≡◌, ℕ, ℤ, suc, List, [], ◌∷◌, ◌++◌, refl, ap, sym, ◌∙◌, append-nil, append_assoc}
 use Rattle.std.proofs.lemmas.Grind.{flat_map-append}
 use Rattle.std.specs.List.{flat_map}
 use Rattle.proto_types.specs.declared.tag.file.TheConstants as file
@@ -8,6 +8,7 @@ use Rattle.proto_types.specs.declared.tag.enum_.TheConstants as enumeration
 use Rattle.proto_types.specs.declared.tag.service.TheConstants as service
 use Rattle.proto_types.specs.declared.records.enumeration.EnumDescriptorProto.{EnumDescriptorProto}
 use Rattle.proto_types.specs.declared.records.field.FieldDescriptorProto.{FieldDescriptorProto}
+use Rattle.proto_types.specs.declared.records.service.MethodDescriptorProto.{MethodDescriptorProto}
 use Rattle.proto_types.specs.declared.records.service.ServiceDescriptorProto.{ServiceDescriptorProto}
 use Rattle.proto_files.specs.Computed.{literals}
 use Rattle.proto_files.specs.declared.file.FileDescriptorProto.{FileDescriptorProto}
@@ -18,8 +19,8 @@ use Rattle.proto_records.specs.Counts.{counted, counting}
 use Rattle.proto_records.specs.Declarations.{in_file, enum_walk, enums_walk, service_walk, services_walk, message_front, message_end, message_walk, nested_walk, messages_walk, file_walk, declarations}
 use Rattle.proto_records.specs.Protos.{Proto, of_message, of_field, of_oneof, of_service, of_method, of_enum, of_value, of_extension}
 use Rattle.proto_records.specs.Shown.{Shown, Surrounding, shown, file_shown, row, parts, inside, beside}
-use Rattle.link_rules.specs.Broken.{Faults, field_faults, second_faults, second_pass, owner_faults}
-use Rattle.link_rules.specs.Each.{each}
+use Rattle.link_rules.specs.Broken.{Faults, field_faults, method_faults, faults_of_methods, second_faults, second_pass, owner_faults}
+use Rattle.places.specs.Each.{each}
 use Rattle.link_rules.specs.Setting.{Setting}
 
 module _ (s : Setting) where
@@ -47,11 +48,28 @@ module _ (s : Setting) where
       (row-none of_value (λ _ _. refl) (λ _ _. refl) (beside here.scope (shown here tag i n (of_enum e))) enumeration.VALUE 0 0 e.value)
       (enums-same here tag (suc i) (suc n) es)
 
+  -- the methods of a service, which the service tells
+  methods-told : (here : Surrounding) (tag : ℤ) (i : ℕ) (ms : List MethodDescriptorProto)
+      → second_pass s (row of_method here tag i i ms) ≡ flat_map (λ faults. faults) (each (λ n m. method_faults s (shown here tag n n (of_method m)) m) i ms)
+  methods-told here tag i [] = refl
+  methods-told here tag i (m ∷ ms) = ap (λ rest. method_faults s (shown here tag i i (of_method m)) m ++ rest) (methods-told here tag (suc i) ms)
+
+  methods-silent : (here : Surrounding) (tag : ℤ) (i n : ℕ) (ms : List MethodDescriptorProto) → owners (row of_method here tag i n ms) ≡ []
+  methods-silent here tag i n [] = refl
+  methods-silent here tag i n (m ∷ ms) = methods-silent here tag (suc i) (suc n) ms
+
+  service-same : (here : Surrounding) (i n : ℕ) (v : ServiceDescriptorProto) → second_pass s (service_walk here i n v) ≡ owners (service_walk here i n v)
+  service-same here i n v =
+      let within = inside (shown here file.SERVICE i n (of_service v)) in
+      let told = faults_of_methods s within v.method in
+      methods-told within service.METHOD 0 v.method
+      ∙ sym (ap (λ fs. told ++ fs) (methods-silent within service.METHOD 0 0 v.method) ∙ append-nil told)
+
   services-same : (here : Surrounding) (i n : ℕ) (ss : List ServiceDescriptorProto) → second_pass s (services_walk here i n ss) ≡ owners (services_walk here i n ss)
   services-same here i n [] = refl
   services-same here i n (v ∷ vs) =
       same-append (service_walk here i n v) (services_walk here (suc i) (suc n) vs)
-      (row-none of_method (λ _ _. refl) (λ _ _. refl) (inside (shown here file.SERVICE i n (of_service v))) service.METHOD 0 0 v.method)
+      (service-same here i n v)
       (services-same here (suc i) (suc n) vs)
 
   extensions-same : (here : Surrounding) (tag : ℤ) (i n : ℕ) (xs : List FieldDescriptorProto)

@@ -2,20 +2,25 @@
 use Rattle.std.specs.Prelude.{not, List, [], ◌∷◌, ◌++◌}
 use Rattle.std.specs.List.{flat_map}
 use Rattle.proto_types.specs.declared.tag.field.TheConstants as field
+use Rattle.proto_types.specs.declared.tag.method.TheConstants as method
 use Rattle.proto_types.specs.declared.records.field.FieldDescriptorProto.{FieldDescriptorProto}
+use Rattle.proto_types.specs.declared.records.service.MethodDescriptorProto.{MethodDescriptorProto}
+use Rattle.proto_types.specs.declared.records.service.ServiceDescriptorProto.{ServiceDescriptorProto}
 use Rattle.proto_files.specs.declared.message.DescriptorProto.{DescriptorProto, out-DescriptorProto}
 use Rattle.pool_faults.specs.declared.fault.DescriptorErrorKind.{DescriptorErrorKind}
 use Rattle.pool_faults.specs.declared.fault.DescriptorErrorKind.TheVariants.{InvalidFieldNumber}
 use Rattle.pool_types.specs.Labels.{label_in}
-use Rattle.proto_types.specs.Lists.{only_if}
-use Rattle.proto_types.specs.Readers.{number_of}
-use Rattle.proto_records.specs.Protos.{of_file, of_message, of_field}
+use Rattle.proto_types.specs.Lists.{listed, only_if}
+use Rattle.proto_types.specs.Readers.{number_of, text_of}
+use Rattle.proto_records.specs.Protos.{of_file, of_message, of_field, of_service, of_method}
 use Rattle.proto_records.specs.Shown.{Shown, Surrounding, inside}
 use Rattle.pool_parts.specs.FieldNumbers.{is_valid_number}
-use Rattle.link_rules.specs.Each.{each}
+use Rattle.pool_parts.specs.References.{reference_fault}
+use Rattle.places.specs.Each.{each}
 use Rattle.link_rules.specs.FieldTypes.{type_faults}
 use Rattle.link_rules.specs.Imports.{import_faults}
-use Rattle.link_rules.specs.Places.{field_at}
+use Rattle.link_rules.specs.Methods.{method_at, method_meaning}
+use Rattle.places.specs.Places.{field_at}
 use Rattle.link_rules.specs.Setting.{Setting}
 
 abbrev pub Faults : Type 0
@@ -30,9 +35,15 @@ number_faults s d f =
 abbrev pub field_faults : Setting → Shown → FieldDescriptorProto → Faults
 field_faults s d f = number_faults s d f ++ type_faults s d f
 
+-- of an input, then of an output, that isn't found
+abbrev pub method_faults : Setting → Shown → MethodDescriptorProto → Faults
+method_faults s d m =
+    listed (reference_fault s.files (text_of m.input_type) d.file (d.path ++ method.INPUT_TYPE ∷ []) (method_meaning s d m.input_type))
+    ++ listed (reference_fault s.files (text_of m.output_type) d.file (d.path ++ method.OUTPUT_TYPE ∷ []) (method_meaning s d m.output_type))
+
 -- what a declaration breaks
 abbrev pub second_faults : Setting → Shown → Faults
-second_faults s d = elim d.proto [ of_file f ↦ import_faults s d.index f | of_field f ↦ field_faults s d f | _ ↦ [] ]
+second_faults s d = elim d.proto [ of_file f ↦ import_faults s d.index f | of_field f ↦ field_faults s d f | of_method m ↦ method_faults s d m | _ ↦ [] ]
 
 -- all faults of the second pass over declarations
 abbrev pub second_pass : Setting → List Shown → Faults
@@ -46,5 +57,13 @@ faults_of_fields s here fs = flat_map (λ faults. faults) (each (λ i f. field_f
 abbrev pub message_faults : Setting → Shown → DescriptorProto → Faults
 message_faults s d m = faults_of_fields s (inside d) (out-DescriptorProto m).field
 
+-- what methods break that stand in surroundings, one method after another
+abbrev pub faults_of_methods : Setting → Surrounding → List MethodDescriptorProto → Faults
+faults_of_methods s here ms = flat_map (λ faults. faults) (each (λ i m. method_faults s (method_at here i m) m) 0 ms)
+
+-- what the methods of a service break
+abbrev pub service_faults : Setting → Shown → ServiceDescriptorProto → Faults
+service_faults s d v = faults_of_methods s (inside d) v.method
+
 abbrev pub owner_faults : Setting → Shown → Faults
-owner_faults s d = elim d.proto [ of_file f ↦ import_faults s d.index f | of_message m ↦ message_faults s d m | _ ↦ [] ]
+owner_faults s d = elim d.proto [ of_file f ↦ import_faults s d.index f | of_message m ↦ message_faults s d m | of_service v ↦ service_faults s d v | _ ↦ [] ]

@@ -9,7 +9,7 @@ use Rattle.proto_records.specs.Shown.{step}
 use Rattle.pool_types.specs.Labels.{label_in}
 use Rattle.pool_faults.specs.declared.fault.DescriptorErrorKind.{DescriptorErrorKind}
 use Rattle.pool_faults.specs.declared.fault.DescriptorErrorKind.TheVariants.{FileNotFound, InvalidImportIndex}
-use Rattle.link_rules.specs.Each.{each}
+use Rattle.places.specs.Each.{each}
 use Rattle.link_rules.specs.Setting.{Setting}
 
 -- of an import of the file with an index, by its place, that names no file

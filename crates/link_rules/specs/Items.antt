@@ -4,7 +4,6 @@ use Rattle.std.specs.FinMap as finite
 use Rattle.std.specs.List.{filter_map}
 use Rattle.proto_types.specs.declared.tag.message.TheConstants as message
 use Rattle.proto_types.specs.declared.tag.enum_.TheConstants as enumeration
-use Rattle.proto_types.specs.declared.tag.service.TheConstants as service
 use Rattle.pool_types.specs.declared.contents.definition.Identity.{Identity}
 use Rattle.pool_types.specs.declared.contents.enumeration.EnumDescriptorInner.{EnumDescriptorInner}
 use Rattle.pool_types.specs.declared.contents.enumeration.EnumValueDescriptorInner.{EnumValueDescriptorInner}
@@ -25,22 +24,17 @@ use Rattle.proto_files.specs.declared.file.FileDescriptorProto.{FileDescriptorPr
 use Rattle.proto_files.specs.declared.message.DescriptorProto.{DescriptorProto, out-DescriptorProto}
 use Rattle.proto_files.specs.declared.message.OneofDescriptorProto.{OneofDescriptorProto}
 use Rattle.proto_types.specs.Readers.{number_of, label_of}
-use Rattle.proto_records.specs.Protos.{name_of, of_oneof, of_value, of_method}
+use Rattle.proto_records.specs.Protos.{name_of, of_oneof, of_value}
 use Rattle.proto_records.specs.Shown.{Shown, Surrounding, inside}
 use Rattle.pool_parts.specs.Kinds.{cardinality_of}
 use Rattle.syntax_rules.specs.Syntaxes.{syntax_of}
-use Rattle.link_rules.specs.Each.{each}
+use Rattle.places.specs.Each.{each}
+use Rattle.places.specs.Identities.{identity}
 use Rattle.link_rules.specs.FieldTypes.{field_kind}
 use Rattle.link_rules.specs.Linked.{linked}
-use Rattle.link_rules.specs.Places.{field_at, part_inside, part_beside}
+use Rattle.link_rules.specs.Methods.{message_found, or_missing, method_at, method_meaning}
+use Rattle.places.specs.Places.{field_at, part_inside, part_beside}
 use Rattle.link_rules.specs.Setting.{Setting, seen_by}
-
--- where a declaration stands that has a name, which begins in the full name so many bytes before its end
-abbrev pub named_at : ℕ → List ℤ → List ℕ → List ℕ → Identity
-named_at file path full_name name = record { file = file; path = path; full_name = full_name; name_index = length full_name - length name }
-
-abbrev pub identity : Shown → Identity
-identity d = named_at d.file d.path d.full_name (name_of d.proto)
 
 -- the file with an index: its syntax, its linked record, the files that it imports, in order, and those that it sees
 abbrev pub file_item : Setting → ℕ → FileDescriptorProto → FileDescriptorInner
@@ -98,18 +92,23 @@ enum_item d e = record {
   values = value_items d e.value;
 }
 
-abbrev pub method_item : Shown → MethodDescriptorInner
-method_item d = record { id = identity d }
+-- a method, with the messages that it takes and gives
+abbrev pub method_item : Setting → Shown → MethodDescriptorProto → MethodDescriptorInner
+method_item s d m = record {
+  id = identity d;
+  input = or_missing (message_found (method_meaning s d m.input_type));
+  output = or_missing (message_found (method_meaning s d m.output_type));
+}
 
 -- those of the methods that stand in surroundings
-abbrev pub method_items : Surrounding → List MethodDescriptorProto → List MethodDescriptorInner
-method_items here ms = each (λ i m. method_item (part_inside here service.METHOD i (of_method m))) 0 ms
+abbrev pub method_items : Setting → Surrounding → List MethodDescriptorProto → List MethodDescriptorInner
+method_items s here ms = each (λ i m. method_item s (method_at here i m) m) 0 ms
 
 -- a service with its methods
-abbrev pub service_item : Shown → ServiceDescriptorProto → ServiceDescriptorInner
-service_item d s = record {
+abbrev pub service_item : Setting → Shown → ServiceDescriptorProto → ServiceDescriptorInner
+service_item s d v = record {
   id = identity d;
-  methods = method_items (inside d) s.method;
+  methods = method_items s (inside d) v.method;
 }
 
 abbrev pub extension_item : Shown → ExtensionDescriptorInner

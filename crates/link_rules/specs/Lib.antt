@@ -1,8 +1,7 @@
-pub mod Each
 pub mod Setting
 pub mod SettingCode
-pub mod Places
 pub mod FieldTypes
+pub mod Methods
 pub mod Linked
 pub mod Imports
 pub mod Items

@@ -7,11 +7,12 @@ use Rattle.proto_files.specs.declared.file.FileDescriptorProto.{FileDescriptorPr
 use Rattle.proto_types.specs.declared.records.field.FieldDescriptorProto.{FieldDescriptorProto}
 use Rattle.proto_types.specs.declared.records.field.FieldType.{FieldType}
 use Rattle.proto_types.specs.declared.records.field.FieldType.TheVariants as written
+use Rattle.proto_types.specs.declared.records.service.MethodDescriptorProto.{MethodDescriptorProto}
 use Rattle.pool_types.specs.declared.contents.definition.DefinitionKind.{DefinitionKind}
 use Rattle.pool_types.specs.declared.contents.definition.DefinitionKind.TheVariants as definition
 use Rattle.proto_types.specs.Readers.{text_of, type_of}
 use Rattle.proto_records.specs.Changed.{Changes, changed_file}
-use Rattle.pool_parts.specs.declared.filter.ResolveNameFilter.TheVariants.{FieldType as AnyType}
+use Rattle.pool_parts.specs.declared.filter.ResolveNameFilter.TheVariants.{Message, FieldType as AnyType}
 use Rattle.pool_parts.specs.Resolution.{Resolution, name_found, kind_found}
 use Rattle.link_rules.specs.Setting.{Setting, meaning}
 
@@ -44,9 +45,16 @@ linked_field s index full_name f = elim (text_of f.type_name) [
   | _ ∷ _ ↦ typed (meaning s index full_name AnyType (text_of f.type_name)) f
 ]
 
--- what linking changes in a file: its fields
+-- a method of the file with an index, with its full name: the messages that it takes and gives
+abbrev pub linked_method : Setting → ℕ → List ℕ → MethodDescriptorProto → MethodDescriptorProto
+linked_method s index full_name m = record m {
+  input_type = resolved (meaning s index full_name Message (text_of m.input_type)) m.input_type;
+  output_type = resolved (meaning s index full_name Message (text_of m.output_type)) m.output_type;
+}
+
+-- what linking changes in a file: its fields and its methods
 abbrev pub linking : Setting → Changes
-linking s = record { field = linked_field s; extension = λ _ _ x. x; method = λ _ _ m. m }
+linking s = record { field = linked_field s; extension = λ _ _ x. x; method = linked_method s }
 
 -- the file with an index
 abbrev pub linked : Setting → ℕ → FileDescriptorProto → FileDescriptorProto

@@ -1,13 +1,8 @@
--- That a declared name begins in its full name where a character begins.
+-- That the names of messages, fields and oneofs begin in their full names where a character begins.
 use Rattle.std.specs.Prelude.{List}
-use Rattle.std.specs.Str.{IsCharBoundary}
 use Rattle.std.specs.List.{All}
-use Rattle.pool_types.specs.declared.contents.definition.Identity.{Identity}
 use Rattle.pool_types.specs.declared.contents.message.MessageDescriptorInner.{MessageDescriptorInner}
-
--- the name of an identity does
-abbrev pub BeginsAtBoundary : Identity → Type 0
-BeginsAtBoundary id = IsCharBoundary id.full_name id.name_index
+use Rattle.places.specs.NamesBegin.{BeginsAtBoundary}
 
 -- the name of a message does, and those of its fields and oneofs
 pub record MessageNamesBegin (m : MessageDescriptorInner) : Type 0 where

@@ -3,10 +3,9 @@ ghost use Rattle.proto_records.specs.Counts.{lists_fit};
 ghost use Rattle.proto_records.specs.FullNames.{EndsWithName};
 ghost use Rattle.proto_records.specs.Protos.{of_enum};
 ghost use Rattle.link_rules.specs.Items.{enum_item, value_items};
-ghost use Rattle.link_rules.specs.Places.{enum_at};
+ghost use Rattle.places.specs.Places.{enum_at};
 
-use crate::identity::{identity, identity_beside};
-use crate::place::Place;
+use places::{Place, identity, identity_beside};
 use plain_values::Items;
 use pool_types::{EnumDescriptorInner, EnumValueDescriptorInner};
 use proto_types::{EnumDescriptorProto, tag};

@@ -1,10 +1,9 @@
 ghost use Rattle.std.specs.Prelude.{◌≡◌, IfOk};
 ghost use Rattle.proto_records.specs.Protos.{of_extension};
 ghost use Rattle.link_rules.specs.Items.{extension_item};
-ghost use Rattle.link_rules.specs.Places.{shown_at};
+ghost use Rattle.places.specs.Places.{shown_at};
 
-use crate::identity::identity;
-use crate::place::Place;
+use places::{Place, identity};
 use pool_types::ExtensionDescriptorInner;
 use proto_types::FieldDescriptorProto;
 use std::alloc::{AllocError, Global};

@@ -6,13 +6,12 @@ ghost use Rattle.proto_records.specs.Protos.{of_field};
 ghost use Rattle.link_rules.specs.Broken.{number_faults, field_faults};
 ghost use Rattle.link_rules.specs.FieldTypes.{field_kind, type_faults};
 ghost use Rattle.link_rules.specs.Items.{item_number, field_item};
-ghost use Rattle.link_rules.specs.NamesBegin.{BeginsAtBoundary};
-ghost use Rattle.link_rules.specs.Places.{shown_at};
+ghost use Rattle.places.specs.NamesBegin.{BeginsAtBoundary};
+ghost use Rattle.places.specs.Places.{shown_at};
 ghost use Rattle.link_rules.specs.SettingCode.{setting_in};
 
-use crate::identity::identity;
-use crate::place::Place;
 use crate::setting::Setting;
+use places::{Place, identity};
 use pool_faults::DescriptorErrorKind;
 use pool_kinds::KindIndex;
 use pool_parts::{

@@ -2,8 +2,10 @@ ghost use Rattle.std.specs.Prelude.{◌≡◌, IfOk, map};
 ghost use Rattle.proto_types.specs.Names.{join};
 ghost use Rattle.proto_types.specs.Readers.{text_of};
 ghost use Rattle.proto_files.specs.declared.message.DescriptorProto.{out-DescriptorProto};
-ghost use Rattle.proto_records.specs.Changed.{changed_message, changed_messages, changed_fields};
-ghost use Rattle.link_rules.specs.Linked.{linking, linked, linked_field, type_number, kind_number};
+ghost use Rattle.pool_parts.specs.Resolution.{resolution_in};
+ghost use Rattle.proto_records.specs.Changed.{changed_message, changed_messages, changed_fields, changed_methods, changed_service, changed_services};
+ghost use Rattle.link_rules.specs.Linked.{linking, linked, linked_field, linked_method, resolved, type_number, kind_number};
+ghost use Rattle.link_rules.specs.Setting.{meaning};
 ghost use Rattle.link_rules.specs.SettingCode.{setting_in};
 
 use crate::setting::Setting;
@@ -11,10 +13,13 @@ use plain_values::{Items, Text, duplicate_given};
 use pool_parts::{ResolveNameFilter, ResolveNameResult};
 use pool_types::DefinitionKind;
 use proto_files::{DescriptorProto, FileDescriptorProto};
-use proto_types::{FieldDescriptorProto, FieldType, join};
+use proto_types::{
+    FieldDescriptorProto, FieldType, MethodDescriptorProto, ServiceDescriptorProto, join, or_empty,
+};
 use std::alloc::{AllocError, Global};
 
-/// The record of the file with an index, with each type name that is found as a dot and a full name.
+/// The record of the file with an index, with each type name, and each input and output of a
+/// method, that is found as a dot and a full name.
 pub(crate) fn linked_file(
     alloc: Global,
     setting: Setting,
@@ -23,9 +28,10 @@ pub(crate) fn linked_file(
 ) -> Result<FileDescriptorProto, AllocError>
     ensures { IfOk result (λ f. f ≡ linked (setting_in setting.entry) index file.now) }
 {
+    let scope = file.package();
     let mut message_type = Items::new(alloc);
     for message in file.message_type.as_slice() {
-        message_type.push(linked_message(alloc, setting, index, file.package(), message)?)?;
+        message_type.push(linked_message(alloc, setting, index, scope, message)?)?;
     }
     Ok(FileDescriptorProto {
         name: duplicate_given(alloc, &file.name)?,
@@ -33,7 +39,7 @@ pub(crate) fn linked_file(
         dependency: file.dependency.clone(alloc)?,
         message_type,
         enum_type: file.enum_type.clone(alloc)?,
-        service: file.service.clone(alloc)?,
+        service: linked_services(alloc, setting, index, scope, file.service.as_slice())?,
         extension: file.extension.clone(alloc)?,
         options: duplicate_given(alloc, &file.options)?,
         source_code_info: duplicate_given(alloc, &file.source_code_info)?,
@@ -124,5 +130,100 @@ fn kind_number(kind: DefinitionKind, given: Option<i32>) -> Option<i32>
         DefinitionKind::Message(_) => Some(11),
         DefinitionKind::Enum(_) => Some(14),
         _ => given,
+    }
+}
+
+fn linked_services(
+    alloc: Global,
+    setting: Setting,
+    index: u32,
+    scope: &str,
+    services: &[ServiceDescriptorProto],
+) -> Result<Items<ServiceDescriptorProto>, AllocError>
+    ensures { IfOk result (λ linked. linked
+        ≡ changed_services (linking (setting_in setting.entry)) index scope.now services.now) }
+{
+    let mut linked = Items::new(alloc);
+    for service in services {
+        linked.push(linked_service(alloc, setting, index, scope, service)?)?;
+    }
+    Ok(linked)
+}
+
+/// A service in a scope, with its methods.
+fn linked_service(
+    alloc: Global,
+    setting: Setting,
+    index: u32,
+    scope: &str,
+    service: &ServiceDescriptorProto,
+) -> Result<ServiceDescriptorProto, AllocError>
+    ensures { IfOk result (λ s. s
+        ≡ changed_service (linking (setting_in setting.entry)) index
+        (join scope.now (text_of service.now.name)) service.now) }
+{
+    let within = join(alloc, scope, service.name())?;
+    Ok(ServiceDescriptorProto {
+        name: duplicate_given(alloc, &service.name)?,
+        method: linked_methods(alloc, setting, index, &within, service.method.as_slice())?,
+        options: duplicate_given(alloc, &service.options)?,
+    })
+}
+
+fn linked_methods(
+    alloc: Global,
+    setting: Setting,
+    index: u32,
+    scope: &str,
+    methods: &[MethodDescriptorProto],
+) -> Result<Items<MethodDescriptorProto>, AllocError>
+    ensures { IfOk result (λ linked. linked
+        ≡ changed_methods (linked_method (setting_in setting.entry)) index scope.now methods.now) }
+{
+    let mut linked = Items::new(alloc);
+    for method in methods {
+        linked.push(linked_method(alloc, setting, index, scope, method)?)?;
+    }
+    Ok(linked)
+}
+
+fn linked_method(
+    alloc: Global,
+    setting: Setting,
+    index: u32,
+    scope: &str,
+    method: &MethodDescriptorProto,
+) -> Result<MethodDescriptorProto, AllocError>
+    ensures { IfOk result (λ m. m
+        ≡ linked_method (setting_in setting.entry) index
+        (join scope.now (text_of method.now.name)) method.now) }
+{
+    let full_name = join(alloc, scope, method.name())?;
+    let mut linked = method.clone(alloc)?;
+    linked.input_type = message_name(alloc, setting, index, &full_name, &method.input_type)?;
+    linked.output_type = message_name(alloc, setting, index, &full_name, &method.output_type)?;
+    Ok(linked)
+}
+
+/// The reference of a method with its full name to a message: a dot and the full name that is
+/// found, or as it was.
+fn message_name(
+    alloc: Global,
+    setting: Setting,
+    index: u32,
+    full_name: &str,
+    given: &Option<Text>,
+) -> Result<Option<Text>, AllocError>
+    ensures { IfOk result (λ name. name
+        ≡ resolved (meaning (setting_in setting.entry) index full_name.now
+        ResolveNameFilter.Message (text_of given.now)) given.now) }
+{
+    let filter = ResolveNameFilter::Message;
+    match setting.meaning(alloc, index, full_name, filter, or_empty(given))? {
+        ResolveNameResult::Found { name, .. } => {
+            let name = name.as_str();
+            Ok(Some(Text::from_string(format!(in alloc; ".{name}")?)))
+        }
+        _ => duplicate_given(alloc, given),
     }
 }

@@ -5,14 +5,14 @@ ghost use Rattle.proto_records.specs.FullNames.{EndsWithName};
 ghost use Rattle.proto_records.specs.Protos.{of_message};
 ghost use Rattle.link_rules.specs.Broken.{faults_of_fields, message_faults};
 ghost use Rattle.link_rules.specs.Items.{field_items, oneof_items, message_item};
-ghost use Rattle.link_rules.specs.NamesBegin.{BeginsAtBoundary, MessageNamesBegin};
-ghost use Rattle.link_rules.specs.Places.{inside_of, message_at};
+ghost use Rattle.places.specs.NamesBegin.{BeginsAtBoundary};
+ghost use Rattle.link_rules.specs.NamesBegin.{MessageNamesBegin};
+ghost use Rattle.places.specs.Places.{inside_of, message_at};
 ghost use Rattle.link_rules.specs.SettingCode.{setting_in};
 
 use crate::field::read_field;
-use crate::identity::{identity, identity_inside};
-use crate::place::Place;
 use crate::setting::Setting;
+use places::{Place, identity, identity_inside};
 use plain_values::Items;
 use pool_faults::DescriptorErrorKind;
 use pool_types::{FieldDescriptorInner, MessageDescriptorInner, OneofDescriptorInner};

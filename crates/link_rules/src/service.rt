@@ -1,30 +1,47 @@
-ghost use Rattle.std.specs.Prelude.{◌≡◌, true, IfOk};
+ghost use Rattle.std.specs.Prelude.{◌≡◌, ◌++◌, [], ◌∷◌, true, IfOk, OnOk};
+ghost use Rattle.proto_types.specs.Lists.{listed};
 ghost use Rattle.proto_records.specs.Counts.{fits_list, lists_fit};
-ghost use Rattle.proto_records.specs.Protos.{of_service};
-ghost use Rattle.link_rules.specs.Items.{service_item, method_items};
-ghost use Rattle.link_rules.specs.Places.{inside_of, service_at};
+ghost use Rattle.proto_records.specs.Protos.{of_method, of_service};
+ghost use Rattle.pool_parts.specs.References.{reference_fault};
+ghost use Rattle.pool_parts.specs.Resolution.{resolution_in};
+ghost use Rattle.link_rules.specs.Broken.{faults_of_methods, method_faults, service_faults};
+ghost use Rattle.link_rules.specs.Items.{service_item, method_item, method_items};
+ghost use Rattle.link_rules.specs.Methods.{message_found, message_index, or_missing};
+ghost use Rattle.places.specs.Places.{inside_of, service_at, shown_at};
+ghost use Rattle.link_rules.specs.Setting.{meaning};
+ghost use Rattle.link_rules.specs.SettingCode.{setting_in};
 
-use crate::identity::{identity, identity_inside};
-use crate::place::Place;
+use crate::setting::Setting;
+use places::{Place, identity};
 use plain_values::Items;
-use pool_types::{MethodDescriptorInner, ServiceDescriptorInner};
-use proto_types::{MethodDescriptorProto, ServiceDescriptorProto, tag};
+use pool_faults::DescriptorErrorKind;
+use pool_parts::{ResolveNameFilter, ResolveNameResult};
+use pool_types::{DefinitionKind, MethodDescriptorInner, ServiceDescriptorInner};
+use proto_records::entry_path;
+use proto_types::{MethodDescriptorProto, ServiceDescriptorProto, join, tag};
 use std::alloc::{AllocError, Global};
 
-/// The item of a service, with its methods.
+/// The item of a service, with its methods. What these break is put behind the faults, one method
+/// after another, its input before its output.
 ///
 /// # Errors
 /// `AllocError` where memory was refused.
 pub fn read_service(
     alloc: Global,
+    setting: Setting,
     place: Place,
     service: &ServiceDescriptorProto,
+    faults: &mut Vec<DescriptorErrorKind>,
 ) -> Result<ServiceDescriptorInner, AllocError>
     requires { lists_fit (of_service service.now) ≡ true }
-    ensures { IfOk result (λ item. item
-        ≡ service_item (service_at place.entry service.now) service.now) }
+    ensures item { IfOk result (λ item. item
+        ≡ service_item (setting_in setting.entry)
+        (service_at place.entry service.now) service.now) }
+    ensures faults { OnOk result (faults.new.items ≡ faults.old.items
+        ++ service_faults (setting_in setting.entry)
+        (service_at place.entry service.now) service.now) }
 {
-    let methods = read_methods(alloc, place, service.method.as_slice())?;
+    let methods = read_methods(alloc, setting, place, service.method.as_slice(), faults)?;
     Ok(ServiceDescriptorInner {
         id: identity(alloc, place, service.name())?,
         methods: Items::from_vec(methods),
@@ -33,23 +50,101 @@ pub fn read_service(
 
 fn read_methods(
     alloc: Global,
+    setting: Setting,
     service: Place,
     methods: &[MethodDescriptorProto],
+    faults: &mut Vec<DescriptorErrorKind>,
 ) -> Result<Vec<MethodDescriptorInner>, AllocError>
     requires { fits_list methods.now ≡ true }
-    ensures { IfOk result (λ items. items.items
-        ≡ method_items (inside_of service.entry) methods.now) }
+    ensures items { IfOk result (λ items. items.items
+        ≡ method_items (setting_in setting.entry) (inside_of service.entry) methods.now) }
+    ensures faults { OnOk result (faults.new.items ≡ faults.old.items
+        ++ faults_of_methods (setting_in setting.entry) (inside_of service.entry) methods.now) }
 {
     let mut items = Vec::new(alloc);
     for (position, method) in methods.iter().enumerate() {
-        let id = identity_inside(
-            alloc,
-            service,
-            tag::service::METHOD,
-            position,
-            method.name(),
-        )?;
-        items.push(MethodDescriptorInner { id })?;
+        let path = entry_path(alloc, service.path, tag::service::METHOD, position)?;
+        let full_name = join(alloc, service.full_name, method.name())?;
+        let place = Place {
+            file: service.file,
+            parent: Some(service.index),
+            index: position as u32,
+            path: &path,
+            full_name: &full_name,
+        };
+        items.push(read_method(alloc, setting, place, method, faults)?)?;
     }
     Ok(items)
+}
+
+/// The item of a method. What the method breaks is put behind the faults.
+fn read_method(
+    alloc: Global,
+    setting: Setting,
+    place: Place,
+    method: &MethodDescriptorProto,
+    faults: &mut Vec<DescriptorErrorKind>,
+) -> Result<MethodDescriptorInner, AllocError>
+    ensures item { IfOk result (λ item. item
+        ≡ method_item (setting_in setting.entry)
+        (shown_at place.entry (of_method method.now)) method.now) }
+    ensures faults { OnOk result (faults.new.items ≡ faults.old.items
+        ++ method_faults (setting_in setting.entry)
+        (shown_at place.entry (of_method method.now)) method.now) }
+{
+    let input = tag::method::INPUT_TYPE;
+    let output = tag::method::OUTPUT_TYPE;
+    Ok(MethodDescriptorInner {
+        id: identity(alloc, place, method.name())?,
+        input: named_message(alloc, setting, place, input, method.input_type(), faults)?,
+        output: named_message(alloc, setting, place, output, method.output_type(), faults)?,
+    })
+}
+
+/// The index of the message that the part of a method with a tag names; where it names none, that
+/// is put behind the faults.
+fn named_message(
+    alloc: Global,
+    setting: Setting,
+    place: Place,
+    tag: i32,
+    written: &str,
+    faults: &mut Vec<DescriptorErrorKind>,
+) -> Result<u32, AllocError>
+    ensures index { IfOk result (λ index. index
+        ≡ or_missing (message_found (meaning (setting_in setting.entry)
+        place.entry.file place.entry.full_name.now ResolveNameFilter.Message written.now))) }
+    ensures faults { OnOk result (faults.new.items ≡ faults.old.items
+        ++ listed (reference_fault (setting_in setting.entry).files written.now place.entry.file
+        (place.entry.path.now ++ tag ∷ []) (meaning (setting_in setting.entry)
+        place.entry.file place.entry.full_name.now ResolveNameFilter.Message written.now))) }
+{
+    let filter = ResolveNameFilter::Message;
+    let meaning = setting.meaning(alloc, place.file, place.full_name, filter, written)?;
+    let mut type_path = Vec::from_slice(alloc, place.path)?;
+    type_path.push(tag)?;
+    if let Some(fault) = meaning.fault(alloc, written, setting.files, place.file, &type_path)? {
+        faults.push(fault)?;
+    }
+    Ok(message_found(&meaning))
+}
+
+/// The index of the message that was found, or the largest number where none was.
+fn message_found(meaning: &ResolveNameResult) -> u32
+    ensures { result ≡ or_missing (message_found (resolution_in meaning.now)) }
+{
+    match meaning {
+        ResolveNameResult::Found { def, .. } => message_index(def.kind).unwrap_or(u32::MAX),
+        _ => u32::MAX,
+    }
+}
+
+/// The index of a message.
+fn message_index(kind: DefinitionKind) -> Option<u32>
+    ensures { result ≡ message_index kind }
+{
+    match kind {
+        DefinitionKind::Message(index) => Some(index),
+        _ => None,
+    }
 }

@@ -7,6 +7,7 @@ use Rattle.std.specs.Cmp.Lexicographic.{pointwise, slice_cmp, lists_per}
 use Rattle.std.specs.FinMap as map
 use Rattle.std.specs.FinMap.{FinMap}
 use Rattle.std.specs.HashMap.{HashMap}
+use Rattle.std.specs.List.{fold}
 use Rattle.std.specs.declared.cmp.Ordering.{Ordering}
 use Rattle.std.specs.declared.string.String.{String}
 
@@ -29,6 +30,10 @@ by_text table = map.from_entries (texts table.entries)
 -- the entries of a map in the order of its keys, as a finite map
 abbrev pub by_number : {X : Type 0} → BTreeMap ℕ X → ByNumber X
 by_number table = map.from_entries table.entries
+
+-- each entry put in, one after another: of two with one key the later one stands
+abbrev pub inserted : {K X : Type 0} {R : K → K → Ordering} → List (K × X) → FinMap R X
+inserted entries = fold (λ m e. map.insert m e.0 e.1) map.empty entries
 
 module _ {K X : Type 0} {R : K → K → Ordering} where
   -- whether two finite maps have the same entries, by a test of keys and one of what they have

@@ -57,7 +57,7 @@ pub extension_inner-exact : Exact extension_inner.ghosts.eq
 extension_inner-exact = by-parts (λ x. (x.id, x.parent)) (λ a b e. search rules) (identity-exact and given unsigned_Decides)
 
 pub method_inner-exact : Exact method_inner.ghosts.eq
-method_inner-exact = by-parts (λ m. m.id) (λ a b e. search rules) identity-exact
+method_inner-exact = by-parts (λ m. (m.id, (m.input, m.output))) (λ a b e. search rules) (identity-exact and unsigned_Decides and unsigned_Decides)
 
 pub service_inner-exact : Exact service_inner.ghosts.eq
 service_inner-exact = by-parts (λ s. (s.id, s.methods)) (λ a b e. search rules) (identity-exact and items-exact method_inner-exact)

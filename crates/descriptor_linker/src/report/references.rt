@@ -2,19 +2,22 @@
 
 ghost use Rattle.std.specs.Prelude.{◌≡◌, [], ◌∷◌, ◌++◌, map, Some, IsOk, IfOk, OnOk};
 ghost use Rattle.proto_types.specs.declared.records.field.FieldDescriptorProto.{FieldDescriptorProto as Field};
+ghost use Rattle.proto_types.specs.declared.records.service.MethodDescriptorProto.{MethodDescriptorProto as Method};
 ghost use Rattle.proto_types.specs.Readers.{text_of};
 ghost use Rattle.proto_records.specs.Counts.{no_counts};
 ghost use Rattle.proto_records.specs.Fits.{counts_with};
 ghost use Rattle.proto_records.specs.Leads.{leads};
 ghost use Rattle.proto_records.specs.Listed.{declaration_of};
-ghost use Rattle.proto_records.specs.Protos.{of_field};
+ghost use Rattle.proto_records.specs.Protos.{of_field, of_method};
 ghost use Rattle.proto_records.specs.Shown.{Shown};
-ghost use Rattle.descriptor_pool.specs.References.{reference_in, references_in, references};
+ghost use Rattle.descriptor_pool.specs.References.{reference, reference_in, references_in, references};
 ghost use Rattle.descriptor_linker.specs.Report.Code.{reference_of};
 
 use plain_values::Text;
 use proto_files::FileDescriptorProto;
-use proto_records::{Counts, Declaration, DeclarationKind, find_field_proto, list_declarations};
+use proto_records::{
+    Counts, Declaration, DeclarationKind, find_field_proto, find_method_proto, list_declarations,
+};
 use std::alloc::{AllocError, Global};
 use std::slice;
 
@@ -46,13 +49,14 @@ pub(super) fn references<'a>(
     };
     let mut found = Vec::new(alloc);
     for declaration in list_declarations(alloc, base, slice::from_ref(file))? {
-        add_references(&mut found, file, declaration)?;
+        add_references(alloc, &mut found, file, declaration)?;
     }
     Ok(found)
 }
 
 /// Puts the references of a file's declaration behind others.
 fn add_references<'a>(
+    alloc: Global,
     found: &mut Vec<Reference<'a>>,
     file: &'a FileDescriptorProto,
     declaration: Declaration,
@@ -64,7 +68,13 @@ fn add_references<'a>(
     match declaration.kind {
         DeclarationKind::Field => {
             let text = type_name(file, declaration.path.as_slice());
-            add_reference(found, declaration.full_name, "type_name", text)
+            add_given(found, declaration.full_name, "type_name", text)
+        }
+        DeclarationKind::Method => {
+            let (input, output) = method_types(file, declaration.path.as_slice());
+            let full_name = declaration.full_name.clone(alloc)?;
+            add_reference(found, full_name, "input_type", input)?;
+            add_reference(found, declaration.full_name, "output_type", output)
         }
         _ => Ok(()),
     }
@@ -81,8 +91,21 @@ fn type_name<'a>(file: &'a FileDescriptorProto, path: &[i32]) -> &'a str
     }
 }
 
+/// By what the method at a path names the message that it takes, and the one that it gives.
+fn method_types<'a>(file: &'a FileDescriptorProto, path: &[i32]) -> (&'a str, &'a str)
+    ensures input { (method : Method) → leads file.now path.now ≡ Some (of_method method)
+        → result.0.now ≡ text_of method.input_type }
+    ensures output { (method : Method) → leads file.now path.now ≡ Some (of_method method)
+        → result.1.now ≡ text_of method.output_type }
+{
+    match find_method_proto(file, path) {
+        Some(method) => (method.input_type(), method.output_type()),
+        None => ("", ""),
+    }
+}
+
 /// Puts a reference behind others, unless its text is empty.
-fn add_reference<'a>(
+fn add_given<'a>(
     found: &mut Vec<Reference<'a>>,
     full_name: Text,
     part: &'static str,
@@ -95,6 +118,25 @@ fn add_reference<'a>(
     if text.is_empty() {
         return Ok(());
     }
+    found.push(Reference {
+        full_name,
+        part,
+        text,
+    })?;
+    Ok(())
+}
+
+/// Puts a reference behind others.
+fn add_reference<'a>(
+    found: &mut Vec<Reference<'a>>,
+    full_name: Text,
+    part: &'static str,
+    text: &'a str,
+) -> Result<(), AllocError>
+    ensures { (d : Shown) → full_name ≡ d.full_name
+        → OnOk result (map reference_of found.new.items
+        ≡ map reference_of found.old.items ++ reference d part.now text.now ∷ []) }
+{
     found.push(Reference {
         full_name,
         part,

@@ -115,7 +115,9 @@ impl Visitor for ResolveVisitor {
             path,
             full_name,
         };
-        let item = read_service(self.alloc, place, service)?;
+        let pool = &self.pool;
+        let setting = pool.inner.setting();
+        let item = read_service(self.alloc, setting, place, service, &mut self.faults)?;
         self.pool.inner.services.push(item)?;
         Ok(())
     }

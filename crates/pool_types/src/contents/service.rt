@@ -15,6 +15,10 @@ pub struct ServiceDescriptorInner {
 #[derive(PartialEq, Drop)]
 pub struct MethodDescriptorInner {
     pub id: Identity,
+    /// The index of the message that it takes.
+    pub input: u32,
+    /// The index of the message that it gives.
+    pub output: u32,
 }
 
 impl ServiceDescriptorInner {
@@ -42,6 +46,8 @@ impl MethodDescriptorInner {
     {
         Ok(MethodDescriptorInner {
             id: self.id.clone(alloc)?,
+            input: self.input,
+            output: self.output,
         })
     }
 }

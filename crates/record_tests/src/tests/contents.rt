@@ -75,6 +75,8 @@ fn service(alloc: Global, count: u32) -> Result<ServiceDescriptorInner, AllocErr
     for _ in 0..count {
         methods.push(MethodDescriptorInner {
             id: identity(alloc)?,
+            input: 0,
+            output: 1,
         })?;
     }
     Ok(ServiceDescriptorInner {

@@ -178,6 +178,14 @@ pub(super) const REFUSED: &[(&str, &str, &str, Ending)] = &[
         Ending::Whole,
     ),
     (
+        "a method takes a message and gives one",
+        "file a.proto\nmessage M\nfield f 1 optional int32 ~ ~\nend\nenum E\nvalue V 0\nend\n\
+        service S\nmethod m E ~\nmethod n N .M.f\nend\nend\nlink\n",
+        "refused 4\na.proto: 'E' is not a message type\na.proto: name '' is not defined\n\
+        a.proto: name 'N' is not defined\na.proto: 'M.f' is not a message type\n",
+        Ending::Whole,
+    ),
+    (
         "the fault of a script stands behind those of a batch",
         "file a.proto\nmessage M\nfield f 1 optional message N ~\nend\nend\nlink\nend\n",
         "refused 1\na.proto: name 'N' is not defined\nline 7: misplaced\n",

@@ -52,4 +52,12 @@ pub(super) const WALKED: &[(&str, &str, &str, Ending)] = &[
         "ok 2 2 0 0 0\nrefs 2\nM.h type_name .M.N\nM.N.g type_name .M\nrefs 0\n",
         Ending::Whole,
     ),
+    (
+        "a method refers to what it takes and to what it gives, each as seen from its own name",
+        "file a.proto\npackage p\nmessage M\nend\nmessage N\nmessage M\nend\nend\nservice S\n\
+        method m M N.M\nmethod n p.N .p.M\nend\nend\nlink\nrefs a.proto\n",
+        "ok 1 3 0 1 0\nrefs 4\np.S.m input_type .p.M\np.S.m output_type .p.N.M\n\
+        p.S.n input_type .p.N\np.S.n output_type .p.M\n",
+        Ending::Whole,
+    ),
 ];

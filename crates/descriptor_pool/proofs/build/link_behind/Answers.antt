@@ -5,14 +5,13 @@ use Rattle.name_tables.specs.Entries.{names_with}
 use Rattle.name_tables.specs.NameTables.{FileNamesBefore}
 use Rattle.proto_records.specs.declared.counts.Counts.{Counts}
 use Rattle.proto_records.specs.Declarations.{declarations}
-use Rattle.proto_records.proofs.Listings.{on-ok}
 use Rattle.link_rules.specs.NamesBegin.{NamesBegin}
 use Rattle.descriptor_pool.specs.Behind.{names_behind, references_behind}
 use Rattle.descriptor_pool.specs.Entered.{file_entries}
 use Rattle.descriptor_pool.specs.Invariant.{contents_in}
 use Rattle.descriptor_pool.specs.Passes.{TellsAll}
 use Rattle.descriptor_pool.proofs.Files.{names-behind-before, room-files}
-use Rattle.descriptor_pool.proofs.Passed.{after-ok}
+use Rattle.descriptor_pool.proofs.Passed.{after-ok, ok-is}
 use Rattle.descriptor_pool.proofs.Stages.{refused-first, told-second, names_are, references_are, linked_is}
 use Rattle.descriptor_pool.proofs.build.link_behind.Goals as goal
 
@@ -73,7 +72,7 @@ returns-clause-ok c =
     let still = c.see_files.ensures.kept in
     let linked = linked_is p q c.args.pool.base c.args.new.now c.requires.base c.in_default.ensures.ok c.in_default.ensures.files
     names.result.0 c.see_files.new.self entered kept seen still in
-    on-ok c.make_items.result.1 (λ is. is ∙ linked) c.make_items.ensures.made
+    ok-is c.make_items.result.1 _ _ _ linked c.make_items.ensures.made
 
 pub returns-clause-faults : goal.returns-clause-faults
 returns-clause-faults c =

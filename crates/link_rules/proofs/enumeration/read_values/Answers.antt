@@ -6,9 +6,10 @@ use Rattle.proto_types.specs.declared.records.enumeration.EnumValueDescriptorPro
 use Rattle.pool_types.specs.declared.contents.definition.Identity.{Identity}
 use Rattle.proto_records.specs.Protos.{of_enum, of_value}
 use Rattle.proto_records.specs.Shown.{step}
-use Rattle.link_rules.specs.Items.{named_at, value_item}
-use Rattle.link_rules.specs.Places.{shown_at, part_beside}
-use Rattle.link_rules.proofs.Each.{each-next}
+use Rattle.places.specs.Identities.{named_at}
+use Rattle.link_rules.specs.Items.{value_item}
+use Rattle.places.specs.Places.{shown_at, part_beside}
+use Rattle.places.proofs.Each.{each-next}
 use Rattle.link_rules.proofs.enumeration.read_values.Goals as goal
 
 -- one more value is read

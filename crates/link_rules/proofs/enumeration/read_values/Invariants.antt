@@ -2,9 +2,9 @@ use Rattle.std.proofs.Common.{◌≡◌, take}
 use Rattle.proto_types.specs.declared.tag.enum_.TheConstants.{VALUE}
 use Rattle.proto_types.specs.Readers.{number_of}
 use Rattle.proto_records.specs.Protos.{of_enum, of_value}
-use Rattle.link_rules.specs.Each.{each}
+use Rattle.places.specs.Each.{each}
 use Rattle.link_rules.specs.Items.{value_item}
-use Rattle.link_rules.specs.Places.{shown_at, part_beside}
+use Rattle.places.specs.Places.{shown_at, part_beside}
 use Rattle.link_rules.proofs.enumeration.read_values.Given as goal
 
 -- the values so far are read

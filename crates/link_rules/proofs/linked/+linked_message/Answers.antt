@@ -7,7 +7,7 @@ use Rattle.proto_records.specs.Changed.{changed_fields, changed_message, changed
 use Rattle.proto_records.proofs.Changed.{changed-message-is}
 use Rattle.link_rules.specs.Linked.{linking, linked_field}
 use Rattle.link_rules.specs.SettingCode.{setting_in}
-use Rattle.link_rules.proofs.Each.{map-next}
+use Rattle.places.proofs.Each.{map-next}
 use Rattle.link_rules.proofs.Unchanged.{extensions-stay, if-ok}
 use Rattle.link_rules.proofs.linked.+linked_message.Goals as goal
 

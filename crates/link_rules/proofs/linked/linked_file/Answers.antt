@@ -3,11 +3,11 @@ use Rattle.std.proofs.lemmas.List.{take_all}
 use Rattle.proto_types.specs.Names.{join}
 use Rattle.proto_types.specs.Readers.{text_of}
 use Rattle.proto_files.specs.declared.message.DescriptorProto.{out-DescriptorProto}
-use Rattle.proto_records.specs.Changed.{changed_message, changed_messages}
+use Rattle.proto_records.specs.Changed.{changed_message, changed_messages, changed_services}
 use Rattle.link_rules.specs.Linked.{linking}
 use Rattle.link_rules.specs.SettingCode.{setting_in}
-use Rattle.link_rules.proofs.Each.{map-next}
-use Rattle.link_rules.proofs.Unchanged.{extensions-stay, services-stay}
+use Rattle.places.proofs.Each.{map-next}
+use Rattle.link_rules.proofs.Unchanged.{extensions-stay}
 use Rattle.link_rules.proofs.linked.linked_file.Goals as goal
 
 -- one more message is linked
@@ -17,7 +17,7 @@ loop-message-preserved c =
     let m = c.message-item.result in
     let scope = text_of c.args.file.now.«package» in
     let item = c.in_ok-linked_message.ensures
-    ∙ ap (λ around. changed_message change c.args.index (join around (text_of (out-DescriptorProto m).name)) m) c.package.ensures in
+    ∙ ap (λ around. changed_message change c.args.index (join around (text_of (out-DescriptorProto m).name)) m) c.package-scope.ensures in
     c.in_ok-push.ensures.ok ∙ (λ j. c.loop-message.invariant j ++ item j ∷ [])
     ∙ sym (map-next (λ n. changed_message change c.args.index (join scope (text_of (out-DescriptorProto n).name)) n)
     c.as_slice-message-items.result.now c.loop-message.message-index m c.loop-message-test.true c.message-item.is)
@@ -31,17 +31,19 @@ returns c =
     let messages : c.message_type-2.inside.inner.items ≡ changed_messages (linking s) c.args.index scope f.message_type =
     c.message_type-2.view_is ∙ c.loop-message.invariant
     ∙ ap (changed_messages (linking s) c.args.index scope) (take_all c.loop-message.message-index c.as_slice-message-items.result.now c.loop-message-test.false ∙ c.as_slice-message-items.ensures) in
+    let services : c.in_ok-linked_services.field-0 ≡ changed_services (linking s) c.args.index scope f.service =
+    c.in_ok-linked_services.ensures ∙ (λ i. changed_services (linking s) c.args.index (c.package-scope.ensures i) (c.as_slice.ensures i)) in
     λ i. record {
       name = c.in_ok-duplicate_given.ensures i;
       «package» = c.in_ok-duplicate_given-2.ensures i;
       dependency = c.in_ok-clone.ensures i;
       message_type = messages i;
       enum_type = c.in_ok-clone-2.ensures i;
-      service = (c.in_ok-clone-3.ensures ∙ sym (services-stay s c.args.index scope f.service)) i;
-      extension = (c.in_ok-clone-4.ensures ∙ sym (extensions-stay c.args.index scope f.extension)) i;
+      service = services i;
+      extension = (c.in_ok-clone-3.ensures ∙ sym (extensions-stay c.args.index scope f.extension)) i;
       options = c.in_ok-duplicate_given-3.ensures i;
       source_code_info = c.in_ok-duplicate_given-4.ensures i;
-      public_dependency = (c.in_ok-from_slice.ensures ∙ c.as_slice.ensures) i;
-      weak_dependency = (c.in_ok-from_slice-2.ensures ∙ c.as_slice-2.ensures) i;
+      public_dependency = (c.in_ok-from_slice.ensures ∙ c.as_slice-2.ensures) i;
+      weak_dependency = (c.in_ok-from_slice-2.ensures ∙ c.as_slice-3.ensures) i;
       syntax = c.in_ok-duplicate_given-5.ensures i;
     }

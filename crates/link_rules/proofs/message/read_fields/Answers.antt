@@ -11,12 +11,12 @@ use Rattle.proto_records.specs.Protos.{of_field}
 use Rattle.proto_records.specs.Shown.{Shown}
 use Rattle.proto_records.proofs.FullNames.{join-ends}
 use Rattle.link_rules.specs.Broken.{Faults, field_faults}
-use Rattle.link_rules.specs.Each.{each}
+use Rattle.places.specs.Each.{each}
 use Rattle.link_rules.specs.Items.{field_item}
-use Rattle.link_rules.specs.NamesBegin.{BeginsAtBoundary}
-use Rattle.link_rules.specs.Places.{inside_of, part_inside}
+use Rattle.places.specs.NamesBegin.{BeginsAtBoundary}
+use Rattle.places.specs.Places.{inside_of, part_inside}
 use Rattle.link_rules.specs.SettingCode.{setting_in}
-use Rattle.link_rules.proofs.Each.{each-next, all-next, short-list}
+use Rattle.places.proofs.Each.{each-next, all-next, short-list}
 use Rattle.link_rules.proofs.message.read_fields.Goals as goal
 
 pub entry_path-requires : goal.entry_path-requires

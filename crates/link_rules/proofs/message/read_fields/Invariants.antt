@@ -3,10 +3,10 @@ use Rattle.std.specs.List.{All, flat_map}
 use Rattle.proto_types.specs.declared.tag.message.TheConstants.{FIELD}
 use Rattle.proto_records.specs.Protos.{of_field}
 use Rattle.link_rules.specs.Broken.{field_faults}
-use Rattle.link_rules.specs.Each.{each}
+use Rattle.places.specs.Each.{each}
 use Rattle.link_rules.specs.Items.{field_item}
-use Rattle.link_rules.specs.NamesBegin.{BeginsAtBoundary}
-use Rattle.link_rules.specs.Places.{inside_of, part_inside}
+use Rattle.places.specs.NamesBegin.{BeginsAtBoundary}
+use Rattle.places.specs.Places.{inside_of, part_inside}
 use Rattle.link_rules.specs.SettingCode.{setting_in}
 use Rattle.link_rules.proofs.message.read_fields.Given as goal
 

@@ -6,10 +6,11 @@ use Rattle.proto_types.specs.declared.tag.message.TheConstants.{ONEOF_DECL}
 use Rattle.proto_types.specs.Names.{join}
 use Rattle.proto_records.specs.Protos.{of_oneof}
 use Rattle.proto_records.specs.Shown.{step}
-use Rattle.link_rules.specs.Items.{named_at, oneof_item}
-use Rattle.link_rules.specs.NamesBegin.{BeginsAtBoundary}
-use Rattle.link_rules.specs.Places.{inside_of, part_inside}
-use Rattle.link_rules.proofs.Each.{each-next, short-list}
+use Rattle.places.specs.Identities.{named_at}
+use Rattle.link_rules.specs.Items.{oneof_item}
+use Rattle.places.specs.NamesBegin.{BeginsAtBoundary}
+use Rattle.places.specs.Places.{inside_of, part_inside}
+use Rattle.places.proofs.Each.{each-next, short-list}
 use Rattle.link_rules.proofs.message.read_oneofs.Goals as goal
 
 pub identity_inside-requires : goal.identity_inside-requires

@@ -2,10 +2,10 @@ use Rattle.std.proofs.Common.{◌≡◌, take}
 use Rattle.std.specs.List.{All}
 use Rattle.proto_types.specs.declared.tag.message.TheConstants.{ONEOF_DECL}
 use Rattle.proto_records.specs.Protos.{of_oneof}
-use Rattle.link_rules.specs.Each.{each}
+use Rattle.places.specs.Each.{each}
 use Rattle.link_rules.specs.Items.{oneof_item}
-use Rattle.link_rules.specs.NamesBegin.{BeginsAtBoundary}
-use Rattle.link_rules.specs.Places.{inside_of, part_inside}
+use Rattle.places.specs.NamesBegin.{BeginsAtBoundary}
+use Rattle.places.specs.Places.{inside_of, part_inside}
 use Rattle.link_rules.proofs.message.read_oneofs.Given as goal
 
 -- the oneofs so far are read

@@ -1,11 +1,19 @@
-use Rattle.std.proofs.Common.{◌≡◌, take}
-use Rattle.proto_types.specs.declared.tag.service.TheConstants.{METHOD}
-use Rattle.proto_records.specs.Protos.{of_method}
-use Rattle.link_rules.specs.Each.{each}
+use Rattle.std.proofs.Common.{◌≡◌, ◌++◌, take}
+use Rattle.std.specs.List.{flat_map}
+use Rattle.link_rules.specs.Broken.{method_faults}
+use Rattle.places.specs.Each.{each}
 use Rattle.link_rules.specs.Items.{method_item}
-use Rattle.link_rules.specs.Places.{inside_of, part_inside}
+use Rattle.link_rules.specs.Methods.{method_at}
+use Rattle.places.specs.Places.{inside_of}
+use Rattle.link_rules.specs.SettingCode.{setting_in}
 use Rattle.link_rules.proofs.service.read_methods.Given as goal
 
 -- the methods so far are read
 abbrev pub invariant-loop-position : goal.invariant-loop-position
-invariant-loop-position l = l.items.items ≡ each (λ i m. method_item (part_inside (inside_of l.service) METHOD i (of_method m))) 0 (take l.position l.methods)
+invariant-loop-position l =
+    let s = setting_in l.setting in
+    let here = inside_of l.service in
+    record {
+      items : l.items.items ≡ each (λ i m. method_item s (method_at here i m) m) 0 (take l.position l.methods);
+      faults : l.faults.items ≡ l.initial.faults.items ++ flat_map (λ faults. faults) (each (λ i m. method_faults s (method_at here i m) m) 0 (take l.position l.methods));
+    }

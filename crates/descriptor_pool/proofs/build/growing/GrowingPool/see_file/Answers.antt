@@ -1,7 +1,7 @@
 use Rattle.std.proofs.Common.{◌≡◌, ◌+◌, ap, ◌∙◌, arith, map, set, get_or}
 use Rattle.std.specs.FinMap as finite
 use Rattle.file_visibility.specs.Visibility.{seen_from}
-use Rattle.link_rules.specs.Each.{each}
+use Rattle.places.specs.Each.{each}
 use Rattle.descriptor_pool.specs.Growing.{file_seeing, seeing, seen_in}
 use Rattle.descriptor_pool.specs.Invariant.{contents_in}
 use Rattle.descriptor_pool.proofs.Seeing.{one, set-each}

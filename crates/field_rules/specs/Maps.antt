@@ -1,0 +1,24 @@
+-- The maps of a message: from number, name and given JSON name of each field to its position.
+use Rattle.std.specs.Prelude.{ℕ, List}
+use Rattle.std.specs.List.{filter_map, enumerate_from}
+use Rattle.std.specs.Option.{option_map}
+use Rattle.std.specs.declared.option.Option.{Option}
+use Rattle.std.specs.declared.option.Option.TheVariants.{Some}
+use Rattle.plain_maps.specs.Maps.{ByNumber, ByText, inserted}
+use Rattle.proto_types.specs.declared.records.field.FieldDescriptorProto.{FieldDescriptorProto}
+use Rattle.proto_types.specs.Readers.{number_of, text_of}
+use Rattle.field_rules.specs.Numbers.{item_number}
+
+-- each field's key, where it has one, with its position
+abbrev pub keyed : {K : Type 0} → (FieldDescriptorProto → Option K) → List FieldDescriptorProto → List (K × ℕ)
+keyed key fields = filter_map (λ e. option_map (λ k. (k, e.0)) (key e.1)) (enumerate_from 0 fields)
+
+-- of two fields with one key the later one stands
+abbrev pub by_number : List FieldDescriptorProto → ByNumber ℕ
+by_number fields = inserted (keyed (λ f. Some (item_number (number_of f.number))) fields)
+
+abbrev pub by_name : List FieldDescriptorProto → ByText ℕ
+by_name fields = inserted (keyed (λ f. Some (text_of f.name)) fields)
+
+abbrev pub by_json_name : List FieldDescriptorProto → ByText ℕ
+by_json_name fields = inserted (keyed (λ f. f.json_name) fields)

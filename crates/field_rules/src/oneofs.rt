@@ -1,0 +1,70 @@
+ghost use Rattle.std.specs.Prelude.{◌≡◌, ◌++◌, true, [], OnOk, IfOk, map};
+ghost use Rattle.proto_records.specs.Counts.{fits_list};
+ghost use Rattle.places.specs.Each.{each};
+ghost use Rattle.field_rules.specs.Oneofs.{oneof_faults, oneof_of, members};
+
+use plain_values::Items;
+use pool_faults::DescriptorErrorKind;
+use proto_files::OneofDescriptorProto;
+use proto_types::FieldDescriptorProto;
+use std::alloc::{AllocError, Global};
+
+/// Puts behind the faults that of a field whose oneof index is no position of its message's oneofs,
+/// which count from 0 (descriptor.proto on `oneof_index`).
+///
+/// # Errors
+/// `AllocError` where memory was refused.
+pub fn check_oneof_index(
+    oneofs: &[OneofDescriptorProto],
+    field: &FieldDescriptorProto,
+    faults: &mut Vec<DescriptorErrorKind>,
+) -> Result<(), AllocError>
+    ensures { OnOk result (faults.new.items ≡ faults.old.items
+        ++ oneof_faults oneofs.now field.now) }
+{
+    if field.oneof_index.is_some() && oneof_of(oneofs, field).is_none() {
+        faults.push(DescriptorErrorKind::InvalidOneofIndex)?;
+    }
+    Ok(())
+}
+
+/// The position of a field's oneof among those of its message, from 0, where it names one.
+pub fn oneof_of(oneofs: &[OneofDescriptorProto], field: &FieldDescriptorProto) -> Option<u32>
+    ensures { result ≡ oneof_of oneofs.now field.now }
+{
+    let index = u32::try_from(field.oneof_index?).ok()?;
+    ((index as usize) < oneofs.len()).then_some(index)
+}
+
+/// For each oneof of a message the positions of the fields that name it, in rising order. Positions
+/// count from 0.
+///
+/// # Errors
+/// `AllocError` where memory was refused.
+pub fn members(
+    alloc: Global,
+    oneofs: &[OneofDescriptorProto],
+    fields: &[FieldDescriptorProto],
+) -> Result<Vec<Items<u32>>, AllocError>
+    requires { fits_list fields.now ≡ true }
+    ensures { IfOk result (λ lists. lists.items
+        ≡ each (λ oneof _. members fields.now oneof) 0 oneofs.now) }
+{
+    let mut lists = empty_lists(alloc, oneofs)?;
+    for (position, field) in fields.iter().enumerate() {
+        if let Some(oneof) = oneof_of(oneofs, field) {
+            lists[oneof as usize].push(position as u32)?;
+        }
+    }
+    Ok(lists)
+}
+
+/// A list without positions for each oneof.
+fn empty_lists(
+    alloc: Global,
+    oneofs: &[OneofDescriptorProto],
+) -> Result<Vec<Items<u32>>, AllocError>
+    ensures { IfOk result (λ lists. lists.items ≡ map (λ _. []) oneofs.now) }
+{
+    oneofs.iter().map(|_| Items::new(alloc)).collect(alloc)
+}

@@ -1,0 +1,9 @@
+use Rattle.std.proofs.Common.{◌≡◌, take}
+use Rattle.proto_records.specs.Changed.{changed_methods}
+use Rattle.link_rules.specs.Linked.{linked_method}
+use Rattle.link_rules.specs.SettingCode.{setting_in}
+use Rattle.link_rules.proofs.linked.linked_methods.Given as goal
+
+-- the methods so far are linked
+abbrev pub invariant-loop-method : goal.invariant-loop-method
+invariant-loop-method l = l.linked ≡ changed_methods (linked_method (setting_in l.setting)) l.index l.scope (take l.method-index l.methods)

@@ -1,0 +1,9 @@
+use Rattle.std.proofs.Common.{◌≡◌, take}
+use Rattle.proto_records.specs.Changed.{changed_services}
+use Rattle.link_rules.specs.Linked.{linking}
+use Rattle.link_rules.specs.SettingCode.{setting_in}
+use Rattle.link_rules.proofs.linked.linked_services.Given as goal
+
+-- the services so far are linked
+abbrev pub invariant-loop-service : goal.invariant-loop-service
+invariant-loop-service l = l.linked ≡ changed_services (linking (setting_in l.setting)) l.index l.scope (take l.service-index l.services)

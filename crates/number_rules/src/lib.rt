@@ -1,0 +1,8 @@
+//! Which numbers a field of a message may have, and an extension.
+#![tactic(auto)]
+
+mod extension_ranges;
+mod numbers;
+mod reserved;
+
+pub use numbers::{check_extension_number, check_field_number};

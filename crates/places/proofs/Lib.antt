@@ -1,0 +1,2 @@
+pub mod NamesBegin
+pub mod Each

@@ -1,0 +1,12 @@
+-- Where a declaration stands that has a name, as a pool keeps it.
+use Rattle.std.specs.Prelude.{ℕ, ◌-◌, ℤ, List, length}
+use Rattle.pool_types.specs.declared.contents.definition.Identity.{Identity}
+use Rattle.proto_records.specs.Protos.{name_of}
+use Rattle.proto_records.specs.Shown.{Shown}
+
+-- the name begins in the full name so many bytes before its end
+abbrev pub named_at : ℕ → List ℤ → List ℕ → List ℕ → Identity
+named_at file path full_name name = record { file = file; path = path; full_name = full_name; name_index = length full_name - length name }
+
+abbrev pub identity : Shown → Identity
+identity d = named_at d.file d.path d.full_name (name_of d.proto)

@@ -1,0 +1,18 @@
+-- Labels of the parts of a declaration.
+use Rattle.std.specs.Prelude.{ℕ, ℤ, List, [], ◌∷◌, ◌++◌}
+use Rattle.proto_files.specs.declared.file.FileDescriptorProto.{FileDescriptorProto}
+use Rattle.pool_types.specs.declared.label.Label.{Label}
+use Rattle.pool_types.specs.Labels.{label_in}
+use Rattle.proto_records.specs.Shown.{step}
+
+-- of the part with a field number, of what stands at a path of a file
+abbrev pub part_label : List FileDescriptorProto → ℕ → List ℤ → ℤ → Label
+part_label files file path tag = label_in files file (path ++ tag ∷ [])
+
+-- of an entry of its list with a field number, by the entry's position
+abbrev pub entry_label : List FileDescriptorProto → ℕ → List ℤ → ℤ → ℕ → Label
+entry_label files file path tag position = label_in files file (step path tag position)
+
+-- of a part of such an entry
+abbrev pub entry_part_label : List FileDescriptorProto → ℕ → List ℤ → ℤ → ℕ → ℤ → Label
+entry_part_label files file path tag position part = label_in files file (step path tag position ++ part ∷ [])

@@ -1,0 +1,5 @@
+pub mod Each
+pub mod Places
+pub mod Identities
+pub mod Labels
+pub mod NamesBegin
