@@ -23,7 +23,8 @@ use Rattle.proto_records.proofs.Changed.{counted-changed, declare-changed}
 use Rattle.proto_records.proofs.Counted.{counted-append, counts_are}
 use Rattle.proto_records.proofs.Paths.{one-file}
 use Rattle.proto_records.proofs.Walks.{IsInside, within-all}
-use Rattle.link_rules.specs.Items.{file_item, message_item, enum_item, service_item, extension_item}
+use Rattle.enum_rules.specs.Items.{enum_item}
+use Rattle.link_rules.specs.Items.{file_item, message_item, service_item, extension_item}
 use Rattle.link_rules.specs.Linked.{linking, linked, linked_field, typed}
 use Rattle.link_rules.specs.Setting.{Setting, meaning}
 use Rattle.descriptor_pool.specs.Entered.{entries_of, entries, file_entries_of, file_entries}

@@ -9,7 +9,8 @@ use Rattle.proto_records.specs.Declarations.{declarations}
 use Rattle.proto_records.specs.Protos.{Proto, of_file, of_message, of_field, of_oneof, of_service, of_method, of_enum, of_value, of_extension, as_file, as_message, as_enum, as_service, as_extension}
 use Rattle.proto_records.specs.Shown.{Shown, of_kind}
 use Rattle.link_rules.specs.Broken.{owner_faults, second_pass}
-use Rattle.link_rules.specs.Items.{file_item, message_item, enum_item, service_item, extension_item}
+use Rattle.enum_rules.specs.Items.{enum_item}
+use Rattle.link_rules.specs.Items.{file_item, message_item, service_item, extension_item}
 use Rattle.link_rules.specs.Setting.{Setting}
 use Rattle.link_rules.proofs.Owners.{owners-tell}
 use Rattle.descriptor_pool.specs.Passes.{ReferencesSeen, referred, references_progress}
@@ -72,6 +73,7 @@ step r file parent index path full_name (of_enum e) ds =
       pool = record (with_more r.pool r.setting (d ∷ ds)) {
         enums = behind r.pool.enums (enum_item d e) (map (λ e. enum_item e.0 e.1) (of_kind as_enum ds)) i;
       };
+      faults = append_assoc r.faults (owner_faults r.setting d) (flat_map (owner_faults r.setting) ds) i;
     }
 step r file parent index path full_name (of_value v) ds = refl
 step r file parent index path full_name (of_extension x) ds =

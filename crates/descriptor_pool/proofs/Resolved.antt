@@ -1,12 +1,16 @@
 -- Each reference of linked declarations is a dot and a name that the setting has, where the second pass finds no fault.
-use Rattle.std.proofs.Common.{◌≡◌, ℕ, ℤ, not, Option, Some, is_some, IsSome, List, [], ◌∷◌, ◌++◌, map, codes, refl, subst, sym}
+use Rattle.std.proofs.Common.{◌≡◌, ℕ, ℤ, not, Option, Some, is_some, IsSome, List, [], ◌∷◌, ◌++◌, map, take, codes, refl, subst, sym}
 use Rattle.std.proofs.lemmas.Grind.{flat_map-append}
 use Rattle.std.specs.FinMap as finite
 use Rattle.std.specs.List.{AllByRecursion, flat_map}
 use Rattle.proto_types.specs.declared.records.field.FieldDescriptorProto.{FieldDescriptorProto}
 use Rattle.proto_types.specs.declared.tag.field.TheConstants as field
 use Rattle.proto_types.specs.declared.tag.method.TheConstants as method
-use Rattle.proto_types.specs.Lists.{listed, only_if}
+use Rattle.proto_files.specs.declared.message.DescriptorProto.{out-DescriptorProto}
+use Rattle.proto_types.specs.Lists.{after_each, listed, only_if}
+use Rattle.number_rules.specs.Numbers.{field_number_faults}
+use Rattle.field_rules.specs.Again.{again_faults}
+use Rattle.field_rules.specs.Oneofs.{oneof_faults}
 use Rattle.proto_types.specs.Readers.{text_of, type_of}
 use Rattle.pool_types.specs.declared.contents.definition.Definition.{Definition}
 use Rattle.pool_faults.specs.declared.fault.DescriptorErrorKind.TheVariants.{MissingRequiredField}
@@ -20,7 +24,7 @@ use Rattle.pool_parts.specs.Kinds.{simple_kind}
 use Rattle.pool_parts.specs.References.{reference_fault}
 use Rattle.pool_parts.specs.Resolution.{Resolution, found, invalid_type, not_imported, shadowed, not_found}
 use Rattle.pool_parts.proofs.Named.{IsNamed, resolution-named}
-use Rattle.link_rules.specs.Broken.{Faults, number_faults, second_faults, second_pass}
+use Rattle.link_rules.specs.Broken.{Faults, Owner, field_faults, own_faults, message_of, second_faults, second_pass}
 use Rattle.link_rules.specs.FieldTypes.{type_meaning, type_faults}
 use Rattle.link_rules.specs.Linked.{resolved, typed, linking}
 use Rattle.link_rules.specs.Methods.{method_meaning}
@@ -90,33 +94,45 @@ no_items : {X : Type 0} (xs ys : List X) → xs ++ ys ≡ [] → (xs ≡ []) × 
 no_items [] ys none = (refl, none)
 no_items (x ∷ xs) ys none = absurd (cc)
 
+-- the type of a field is among what it breaks
+type-told : (s : Setting) (owner : Owner) (d : Shown) (f : FieldDescriptorProto) → field_faults s owner d f ≡ [] → type_faults s d f ≡ []
+type-told s owner d f none =
+    let m = out-DescriptorProto owner.1 in
+    let again = again_faults s.files owner.0.file owner.0.path (take d.index m.field) d.index f in
+    let own = no_items (own_faults s owner d f) again none in
+    let numbers = field_number_faults s.files owner.0 owner.1 d f in
+    let first = no_items (numbers ++ type_faults s d f) (oneof_faults m.oneof_decl f) own.0 in
+    (no_items numbers (type_faults s d f) first.0).1
+
 -- a declaration without a fault has only references that are resolved, once it is linked
-one-resolved : (s : Setting) (file : ℕ) (parent : Option ℕ) (index : ℕ) (path : List ℤ) (full_name : List ℕ) (p : Proto)
+one-resolved : (s : Setting) (before : List Shown) (file : ℕ) (parent : Option ℕ) (index : ℕ) (path : List ℤ) (full_name : List ℕ) (p : Proto)
     → let d : Shown = record { file = file; parent = parent; index = index; path = path; full_name = full_name; proto = p } in
-    second_faults s d ≡ [] → AllByRecursion (Names s.names) (references_in (changed (linking s) d))
-one-resolved s file parent index path full_name (of_field f) none =
+    second_faults s before d ≡ [] → AllByRecursion (Names s.names) (references_in (changed (linking s) d))
+one-resolved s before file parent index path full_name (of_field f) none =
     let d : Shown = record { file = file; parent = parent; index = index; path = path; full_name = full_name; proto = of_field f } in
-    let own = no_items (number_faults s d f) (type_faults s d f) none in
-    type-resolved s d (changed (linking s) d) f (codes "type_name") (text_of f.type_name) refl own.1
-one-resolved s file parent index path full_name (of_file f) none = tt
-one-resolved s file parent index path full_name (of_message m) none = tt
-one-resolved s file parent index path full_name (of_oneof o) none = tt
-one-resolved s file parent index path full_name (of_service v) none = tt
-one-resolved s file parent index path full_name (of_method m) none =
+    type-resolved s d (changed (linking s) d) f (codes "type_name") (text_of f.type_name) refl (type-told s (message_of before d) d f none)
+one-resolved s before file parent index path full_name (of_file f) none = tt
+one-resolved s before file parent index path full_name (of_message m) none = tt
+one-resolved s before file parent index path full_name (of_oneof o) none = tt
+one-resolved s before file parent index path full_name (of_service v) none = tt
+one-resolved s before file parent index path full_name (of_method m) none =
     let d : Shown = record { file = file; parent = parent; index = index; path = path; full_name = full_name; proto = of_method m } in
     let input = path ++ method.INPUT_TYPE ∷ [] in
     let output = path ++ method.OUTPUT_TYPE ∷ [] in
     let both = no_items (listed (reference_fault s.files (text_of m.input_type) file input (method_meaning s d m.input_type)))
     (listed (reference_fault s.files (text_of m.output_type) file output (method_meaning s d m.output_type))) none in
     (message-resolved s d input m.input_type both.0, (message-resolved s d output m.output_type both.1, tt))
-one-resolved s file parent index path full_name (of_enum e) none = tt
-one-resolved s file parent index path full_name (of_value v) none = tt
-one-resolved s file parent index path full_name (of_extension x) none = tt
+one-resolved s before file parent index path full_name (of_enum e) none = tt
+one-resolved s before file parent index path full_name (of_value v) none = tt
+one-resolved s before file parent index path full_name (of_extension x) none = tt
 
 -- and so have declarations
-pub linked-resolved : (s : Setting) (ds : List Shown) → second_pass s ds ≡ [] → AllNamed s.names (map (changed (linking s)) ds)
-linked-resolved s [] none = tt
-linked-resolved s (d ∷ ds) none =
-    let both = no_items (second_faults s d) (second_pass s ds) none in
+all-resolved : (s : Setting) (before ds : List Shown) → after_each (second_faults s) before ds ≡ [] → AllNamed s.names (map (changed (linking s)) ds)
+all-resolved s before [] none = tt
+all-resolved s before (d ∷ ds) none =
+    let both = no_items (second_faults s before d) (after_each (second_faults s) (before ++ d ∷ []) ds) none in
     all-append (Names s.names) (references_in (changed (linking s) d)) (flat_map references_in (map (changed (linking s)) ds))
-    (one-resolved s d.file d.parent d.index d.path d.full_name d.proto both.0) (linked-resolved s ds both.1)
+    (one-resolved s before d.file d.parent d.index d.path d.full_name d.proto both.0) (all-resolved s (before ++ d ∷ []) ds both.1)
+
+pub linked-resolved : (s : Setting) (ds : List Shown) → second_pass s ds ≡ [] → AllNamed s.names (map (changed (linking s)) ds)
+linked-resolved s ds none = all-resolved s [] ds none

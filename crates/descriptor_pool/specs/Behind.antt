@@ -12,7 +12,8 @@ use Rattle.proto_records.specs.Protos.{as_file, as_message, as_enum, as_service,
 use Rattle.proto_records.specs.Shown.{Shown, of_kind}
 use Rattle.link_rules.specs.Broken.{Faults, second_pass}
 use Rattle.places.specs.Each.{each}
-use Rattle.link_rules.specs.Items.{file_item, message_item, enum_item, service_item, extension_item}
+use Rattle.enum_rules.specs.Items.{enum_item}
+use Rattle.link_rules.specs.Items.{file_item, message_item, service_item, extension_item}
 use Rattle.link_rules.specs.Setting.{Setting}
 use Rattle.descriptor_pool.specs.Entered.{entries, file_entries}
 use Rattle.descriptor_pool.specs.FirstPass.{first_pass}

@@ -15,7 +15,8 @@ use Rattle.syntax_rules.specs.Syntaxes.{syntax_faults}
 use Rattle.syntax_rules.specs.CamelCase.{message_own_faults}
 use Rattle.syntax_rules.specs.Enumeration.{enum_faults}
 use Rattle.link_rules.specs.Broken.{Faults, owner_faults}
-use Rattle.link_rules.specs.Items.{file_item, message_item, enum_item, service_item, extension_item}
+use Rattle.enum_rules.specs.Items.{enum_item}
+use Rattle.link_rules.specs.Items.{file_item, message_item, service_item, extension_item}
 use Rattle.link_rules.specs.Setting.{Setting}
 use Rattle.descriptor_pool.specs.declared.error.BuildError.{BuildError}
 use Rattle.descriptor_pool.specs.declared.error.BuildError.TheVariants.{TooMany, Descriptor, OutOfMemory}
@@ -92,7 +93,10 @@ referred seen d = elim d.proto [
     pool = record seen.pool { messages = seen.pool.messages ++ message_item seen.setting d m ∷ [] };
     faults = seen.faults ++ owner_faults seen.setting d;
   }
-  | of_enum e ↦ record seen { pool = record seen.pool { enums = seen.pool.enums ++ enum_item d e ∷ [] } }
+  | of_enum e ↦ record seen {
+    pool = record seen.pool { enums = seen.pool.enums ++ enum_item d e ∷ [] };
+    faults = seen.faults ++ owner_faults seen.setting d;
+  }
   | of_service s ↦ record seen {
     pool = record seen.pool { services = seen.pool.services ++ service_item seen.setting d s ∷ [] };
     faults = seen.faults ++ owner_faults seen.setting d;

@@ -9,8 +9,11 @@ use crate::build::link;
 use crate::error::BuildError;
 use crate::inner::DescriptorPoolInner;
 use name_tables::{FileNames, NameTable};
-use pool_kinds::{FileDescriptor, MessageDescriptor};
-use pool_types::{Definition, FileDescriptorInner, MessageDescriptorInner};
+use pool_kinds::{EnumDescriptor, FileDescriptor, MessageDescriptor, ServiceDescriptor};
+use pool_types::{
+    Definition, EnumDescriptorInner, FileDescriptorInner, MessageDescriptorInner,
+    ServiceDescriptorInner,
+};
 use proto_files::FileDescriptorProto;
 use proto_records::Counts;
 use std::alloc::{AllocError, Global};
@@ -79,6 +82,20 @@ impl DescriptorPool {
         ensures names { IfSome result (λ m. MessageNamesBegin m.now) }
     {
         self.inner.messages.get(message.index() as usize)
+    }
+
+    /// The enum with an index, or none past the end.
+    pub fn enum_(&self, enumeration: EnumDescriptor) -> Option<&EnumDescriptorInner>
+        ensures { option_copied result ≡ slice_get self.now.enums enumeration.index }
+    {
+        self.inner.enums.get(enumeration.index() as usize)
+    }
+
+    /// The service with an index, or none past the end.
+    pub fn service(&self, service: ServiceDescriptor) -> Option<&ServiceDescriptorInner>
+        ensures { option_copied result ≡ slice_get self.now.services service.index }
+    {
+        self.inner.services.get(service.index() as usize)
     }
 
     /// How many the pool has of each kind that has an index.

@@ -1,2 +1,3 @@
+pub mod Entries
 pub mod Unchanged
 pub mod Owners

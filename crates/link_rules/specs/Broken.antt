@@ -1,21 +1,26 @@
--- What a declaration breaks in the second pass: rules of imports, of field numbers and of types.
-use Rattle.std.specs.Prelude.{not, List, [], ◌∷◌, ◌++◌}
+-- What a declaration breaks in the second pass: rules of imports, of fields, of values and of methods.
+use Rattle.std.specs.Prelude.{List, [], ◌∷◌, ◌++◌, take, unwrap_or}
 use Rattle.std.specs.List.{flat_map}
-use Rattle.proto_types.specs.declared.tag.field.TheConstants as field
+use Rattle.std.specs.declared.option.Option.{Option}
+use Rattle.std.specs.declared.option.Option.TheVariants.{None, Some}
 use Rattle.proto_types.specs.declared.tag.method.TheConstants as method
+use Rattle.proto_types.specs.declared.records.enumeration.EnumDescriptorProto.{EnumDescriptorProto}
 use Rattle.proto_types.specs.declared.records.field.FieldDescriptorProto.{FieldDescriptorProto}
 use Rattle.proto_types.specs.declared.records.service.MethodDescriptorProto.{MethodDescriptorProto}
 use Rattle.proto_types.specs.declared.records.service.ServiceDescriptorProto.{ServiceDescriptorProto}
 use Rattle.proto_files.specs.declared.message.DescriptorProto.{DescriptorProto, out-DescriptorProto}
+use Rattle.proto_files.specs.Empty.{no_message}
 use Rattle.pool_faults.specs.declared.fault.DescriptorErrorKind.{DescriptorErrorKind}
-use Rattle.pool_faults.specs.declared.fault.DescriptorErrorKind.TheVariants.{InvalidFieldNumber}
-use Rattle.pool_types.specs.Labels.{label_in}
-use Rattle.proto_types.specs.Lists.{listed, only_if}
-use Rattle.proto_types.specs.Readers.{number_of, text_of}
-use Rattle.proto_records.specs.Protos.{of_file, of_message, of_field, of_service, of_method}
-use Rattle.proto_records.specs.Shown.{Shown, Surrounding, inside}
-use Rattle.pool_parts.specs.FieldNumbers.{is_valid_number}
+use Rattle.proto_types.specs.Empty.{no_enum}
+use Rattle.proto_types.specs.Lists.{flat_map_after, listed}
+use Rattle.proto_types.specs.Readers.{text_of}
+use Rattle.proto_records.specs.Protos.{of_file, of_message, of_field, of_service, of_method, of_enum, of_value, as_message, as_enum}
+use Rattle.proto_records.specs.Shown.{Shown, Surrounding, inside, of_kind}
 use Rattle.pool_parts.specs.References.{reference_fault}
+use Rattle.number_rules.specs.Numbers.{field_number_faults}
+use Rattle.field_rules.specs.Again.{again_faults}
+use Rattle.field_rules.specs.Oneofs.{oneof_faults}
+use Rattle.enum_rules.specs.Values.{value_faults, values_faults}
 use Rattle.places.specs.Each.{each}
 use Rattle.link_rules.specs.FieldTypes.{type_faults}
 use Rattle.link_rules.specs.Imports.{import_faults}
@@ -26,14 +31,20 @@ use Rattle.link_rules.specs.Setting.{Setting}
 abbrev pub Faults : Type 0
 Faults = List DescriptorErrorKind
 
--- of a number that no field may have
-abbrev pub number_faults : Setting → Shown → FieldDescriptorProto → Faults
-number_faults s d f =
-    let found = label_in s.files d.file (d.path ++ field.NUMBER ∷ []) in
-    only_if (not (is_valid_number (number_of f.number))) (InvalidFieldNumber (number_of f.number) found)
+-- a message as it is declared, and its record
+abbrev pub Owner : Type 0
+Owner = Shown × DescriptorProto
 
-abbrev pub field_faults : Setting → Shown → FieldDescriptorProto → Faults
-field_faults s d f = number_faults s d f ++ type_faults s d f
+-- of a field of a message by itself: its number, its type, its oneof
+abbrev pub own_faults : Setting → Owner → Shown → FieldDescriptorProto → Faults
+own_faults s owner d f =
+    field_number_faults s.files owner.0 owner.1 d f ++ type_faults s d f ++ oneof_faults (out-DescriptorProto owner.1).oneof_decl f
+
+-- and that a field before it has its number, or its JSON name
+abbrev pub field_faults : Setting → Owner → Shown → FieldDescriptorProto → Faults
+field_faults s owner d f =
+    own_faults s owner d f
+    ++ again_faults s.files owner.0.file owner.0.path (take d.index (out-DescriptorProto owner.1).field) d.index f
 
 -- of an input, then of an output, that isn't found
 abbrev pub method_faults : Setting → Shown → MethodDescriptorProto → Faults
@@ -41,21 +52,40 @@ method_faults s d m =
     listed (reference_fault s.files (text_of m.input_type) d.file (d.path ++ method.INPUT_TYPE ∷ []) (method_meaning s d m.input_type))
     ++ listed (reference_fault s.files (text_of m.output_type) d.file (d.path ++ method.OUTPUT_TYPE ∷ []) (method_meaning s d m.output_type))
 
--- what a declaration breaks
-abbrev pub second_faults : Setting → Shown → Faults
-second_faults s d = elim d.proto [ of_file f ↦ import_faults s d.index f | of_field f ↦ field_faults s d f | of_method m ↦ method_faults s d m | _ ↦ [] ]
+-- the last of a list
+abbrev pub last : {X : Type 0} → List X → Option X
+last [] = None
+last (x ∷ []) = Some x
+last (x ∷ y ∷ ys) = last (y ∷ ys)
+
+-- the message of a field, and the enum of a value: the last that was declared before it
+abbrev pub message_of : List Shown → Shown → Owner
+message_of earlier d = unwrap_or (last (of_kind as_message earlier)) (d, no_message)
+
+abbrev pub enum_of : List Shown → Shown → Shown × EnumDescriptorProto
+enum_of earlier d = unwrap_or (last (of_kind as_enum earlier)) (d, no_enum)
+
+-- what a declaration breaks behind earlier ones
+abbrev pub second_faults : Setting → List Shown → Shown → Faults
+second_faults s earlier d = elim d.proto [
+  | of_file f ↦ import_faults s d.index f
+  | of_field f ↦ field_faults s (message_of earlier d) d f
+  | of_value v ↦ let owner = enum_of earlier d in value_faults s.files owner.0 owner.1 d.index v
+  | of_method m ↦ method_faults s d m
+  | _ ↦ []
+]
 
 -- all faults of the second pass over declarations
 abbrev pub second_pass : Setting → List Shown → Faults
-second_pass s ds = flat_map (second_faults s) ds
+second_pass s ds = flat_map_after (second_faults s) ds
 
--- what fields break that stand in surroundings, one field after another
-abbrev pub faults_of_fields : Setting → Surrounding → List FieldDescriptorProto → Faults
-faults_of_fields s here fs = flat_map (λ faults. faults) (each (λ i f. field_faults s (field_at here i f) f) 0 fs)
+-- what the fields of a message break, one field after another
+abbrev pub faults_of_fields : Setting → Owner → List FieldDescriptorProto → Faults
+faults_of_fields s owner fs = flat_map (λ faults. faults) (each (λ i f. field_faults s owner (field_at (inside owner.0) i f) f) 0 fs)
 
 -- the same told of owners: what the fields of a message break
 abbrev pub message_faults : Setting → Shown → DescriptorProto → Faults
-message_faults s d m = faults_of_fields s (inside d) (out-DescriptorProto m).field
+message_faults s d m = faults_of_fields s (d, m) (out-DescriptorProto m).field
 
 -- what methods break that stand in surroundings, one method after another
 abbrev pub faults_of_methods : Setting → Surrounding → List MethodDescriptorProto → Faults
@@ -66,4 +96,10 @@ abbrev pub service_faults : Setting → Shown → ServiceDescriptorProto → Fau
 service_faults s d v = faults_of_methods s (inside d) v.method
 
 abbrev pub owner_faults : Setting → Shown → Faults
-owner_faults s d = elim d.proto [ of_file f ↦ import_faults s d.index f | of_message m ↦ message_faults s d m | of_service v ↦ service_faults s d v | _ ↦ [] ]
+owner_faults s d = elim d.proto [
+  | of_file f ↦ import_faults s d.index f
+  | of_message m ↦ message_faults s d m
+  | of_service v ↦ service_faults s d v
+  | of_enum e ↦ values_faults s.files d e
+  | _ ↦ []
+]

@@ -1,7 +1,6 @@
 //! The rules of one declaration: what it breaks, the item that it makes, and its linked record.
 #![tactic(auto)]
 
-mod enumeration;
 mod extension;
 mod field;
 mod file;
@@ -11,7 +10,7 @@ mod message;
 mod service;
 mod setting;
 
-pub use enumeration::read_enum;
+pub use enum_rules::read_enum;
 pub use extension::read_extension;
 pub use file::read_file;
 pub use message::read_message;

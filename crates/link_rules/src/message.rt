@@ -1,28 +1,33 @@
-ghost use Rattle.std.specs.Prelude.{◌≡◌, ◌++◌, true, IfOk, OnOk};
+ghost use Rattle.std.specs.Prelude.{◌≡◌, ◌++◌, ◌<◌, true, [], IfOk, OnOk, length, get_or};
 ghost use Rattle.std.specs.List.{All};
-ghost use Rattle.proto_records.specs.Counts.{fits_list, lists_fit};
+ghost use Rattle.proto_types.specs.Empty.{no_field};
+ghost use Rattle.proto_files.specs.declared.message.DescriptorProto.{out-DescriptorProto};
+ghost use Rattle.proto_records.specs.Counts.{lists_fit};
 ghost use Rattle.proto_records.specs.FullNames.{EndsWithName};
 ghost use Rattle.proto_records.specs.Protos.{of_message};
-ghost use Rattle.link_rules.specs.Broken.{faults_of_fields, message_faults};
-ghost use Rattle.link_rules.specs.Items.{field_items, oneof_items, message_item};
+ghost use Rattle.field_rules.specs.MapsOf.{AreMapsOf};
+ghost use Rattle.link_rules.specs.Broken.{faults_of_fields, message_faults, own_faults};
+ghost use Rattle.link_rules.specs.Items.{field_item, field_items, message_item, oneof_items};
 ghost use Rattle.places.specs.NamesBegin.{BeginsAtBoundary};
 ghost use Rattle.link_rules.specs.NamesBegin.{MessageNamesBegin};
-ghost use Rattle.places.specs.Places.{inside_of, message_at};
+ghost use Rattle.places.specs.Places.{field_at, inside_of, message_at};
 ghost use Rattle.link_rules.specs.SettingCode.{setting_in};
 
 use crate::field::read_field;
 use crate::setting::Setting;
+use field_rules::{FieldMaps, members};
 use places::{Place, identity, identity_inside};
 use plain_values::Items;
 use pool_faults::DescriptorErrorKind;
 use pool_types::{FieldDescriptorInner, MessageDescriptorInner, OneofDescriptorInner};
-use proto_files::{DescriptorProto, OneofDescriptorProto};
+use proto_files::DescriptorProto;
 use proto_records::entry_path;
-use proto_types::{FieldDescriptorProto, join, tag};
+use proto_types::{join, tag};
 use std::alloc::{AllocError, Global};
 
-/// The item of a message, with its fields and its oneofs. What its fields break is put behind the
-/// faults, one field after another.
+/// The item of a message, with its fields, its oneofs and its maps. What its fields break is put
+/// behind the faults, one field after another: its number, its type, its oneof, and that an earlier
+/// field has its number or its JSON name.
 ///
 /// # Errors
 /// `AllocError` where memory was refused.
@@ -43,66 +48,108 @@ pub fn read_message(
         ++ message_faults (setting_in setting.entry)
         (message_at place.entry message.now) message.now) }
 {
-    let fields = read_fields(alloc, setting, place, message.field.as_slice(), faults)?;
-    let oneofs = read_oneofs(alloc, place, message.oneof_decl.as_slice())?;
+    let mut maps = FieldMaps::new(alloc);
+    let fields = read_fields(alloc, setting, place, message, &mut maps, faults)?;
+    let oneofs = read_oneofs(alloc, place, message)?;
     Ok(MessageDescriptorInner {
         id: identity(alloc, place, message.name())?,
         parent: place.parent,
         fields: Items::from_vec(fields),
+        field_numbers: maps.numbers,
+        field_names: maps.names,
+        field_json_names: maps.json_names,
         oneofs: Items::from_vec(oneofs),
     })
 }
 
+/// The items of the fields of a message, which are entered into its maps.
 fn read_fields(
     alloc: Global,
     setting: Setting,
-    message: Place,
-    fields: &[FieldDescriptorProto],
+    place: Place,
+    message: &DescriptorProto,
+    maps: &mut FieldMaps,
     faults: &mut Vec<DescriptorErrorKind>,
 ) -> Result<Vec<FieldDescriptorInner>, AllocError>
-    requires { fits_list fields.now ≡ true }
+    requires short { lists_fit (of_message message.now) ≡ true }
+    requires maps { AreMapsOf maps.old [] }
     ensures items { IfOk result (λ items. items.items
-        ≡ field_items (setting_in setting.entry) (inside_of message.entry) fields.now) }
+        ≡ field_items (setting_in setting.entry) (out-DescriptorProto message.now).oneof_decl
+        (inside_of place.entry) (out-DescriptorProto message.now).field) }
     ensures begin { IfOk result (λ items. All (λ f. BeginsAtBoundary f.id) items.items) }
+    ensures maps { OnOk result (AreMapsOf maps.new (out-DescriptorProto message.now).field) }
     ensures faults { OnOk result (faults.new.items ≡ faults.old.items
-        ++ faults_of_fields (setting_in setting.entry) (inside_of message.entry) fields.now) }
+        ++ faults_of_fields (setting_in setting.entry)
+        (message_at place.entry message.now, message.now)
+        (out-DescriptorProto message.now).field) }
 {
+    let fields = message.field.as_slice();
     let mut items = Vec::new(alloc);
-    for (position, field) in fields.iter().enumerate() {
-        let path = entry_path(alloc, message.path, tag::message::FIELD, position)?;
-        let full_name = join(alloc, message.full_name, field.name())?;
-        let place = Place {
-            file: message.file,
-            parent: Some(message.index),
-            index: position as u32,
-            path: &path,
-            full_name: &full_name,
-        };
-        items.push(read_field(alloc, setting, place, field, faults)?)?;
+    for position in 0..fields.len() {
+        items.push(read_field_at(alloc, setting, place, message, position, faults)?)?;
+        maps.insert(alloc, setting.files, place, fields, position, faults)?;
     }
     Ok(items)
 }
 
+/// The item of the field of a message with a position. What the field breaks by itself is put
+/// behind the faults.
+fn read_field_at(
+    alloc: Global,
+    setting: Setting,
+    owner: Place,
+    message: &DescriptorProto,
+    position: usize,
+    faults: &mut Vec<DescriptorErrorKind>,
+) -> Result<FieldDescriptorInner, AllocError>
+    requires short { lists_fit (of_message message.now) ≡ true }
+    requires there { position < length (out-DescriptorProto message.now).field }
+    ensures item { IfOk result (λ item. item
+        ≡ field_item (setting_in setting.entry) (out-DescriptorProto message.now).oneof_decl
+        (field_at (inside_of owner.entry) position
+        (get_or (out-DescriptorProto message.now).field position no_field))
+        (get_or (out-DescriptorProto message.now).field position no_field)) }
+    ensures begins { IfOk result (λ item. BeginsAtBoundary item.id) }
+    ensures faults { OnOk result (faults.new.items ≡ faults.old.items
+        ++ own_faults (setting_in setting.entry)
+        (message_at owner.entry message.now, message.now)
+        (field_at (inside_of owner.entry) position
+        (get_or (out-DescriptorProto message.now).field position no_field))
+        (get_or (out-DescriptorProto message.now).field position no_field)) }
+{
+    let field = &message.field.as_slice()[position];
+    let path = entry_path(alloc, owner.path, tag::message::FIELD, position)?;
+    let full_name = join(alloc, owner.full_name, field.name())?;
+    let place = Place {
+        file: owner.file,
+        parent: Some(owner.index),
+        index: position as u32,
+        path: &path,
+        full_name: &full_name,
+    };
+    read_field(alloc, setting, owner, message, place, field, faults)
+}
+
+/// The items of the oneofs of a message, each with the positions of its fields.
 fn read_oneofs(
     alloc: Global,
-    message: Place,
-    oneofs: &[OneofDescriptorProto],
+    place: Place,
+    message: &DescriptorProto,
 ) -> Result<Vec<OneofDescriptorInner>, AllocError>
-    requires { fits_list oneofs.now ≡ true }
+    requires { lists_fit (of_message message.now) ≡ true }
     ensures items { IfOk result (λ items. items.items
-        ≡ oneof_items (inside_of message.entry) oneofs.now) }
+        ≡ oneof_items (out-DescriptorProto message.now).field (inside_of place.entry)
+        (out-DescriptorProto message.now).oneof_decl) }
     ensures begin { IfOk result (λ items. All (λ o. BeginsAtBoundary o.id) items.items) }
 {
+    let oneofs = message.oneof_decl.as_slice();
+    let lists = members(alloc, oneofs, message.field.as_slice())?;
     let mut items = Vec::new(alloc);
     for (position, oneof) in oneofs.iter().enumerate() {
-        let id = identity_inside(
-            alloc,
-            message,
-            tag::message::ONEOF_DECL,
-            position,
-            oneof.name(),
-        )?;
-        items.push(OneofDescriptorInner { id })?;
+        let tag = tag::message::ONEOF_DECL;
+        let id = identity_inside(alloc, place, tag, position, oneof.name())?;
+        let fields = Items::from_slice(alloc, lists[position].as_slice())?;
+        items.push(OneofDescriptorInner { id, fields })?;
     }
     Ok(items)
 }

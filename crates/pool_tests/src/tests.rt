@@ -6,4 +6,6 @@ mod items;
 mod kinds;
 mod meanings;
 mod names;
+mod parts;
+mod rules;
 mod values;

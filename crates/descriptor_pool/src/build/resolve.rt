@@ -14,7 +14,7 @@ use std::alloc::{AllocError, Global};
 
 /// The second pass: it reads a batch against a pool whose files and names are those of the batch as
 /// well, puts the items of messages, enums, services and extensions into the pool and makes those of
-/// files, and gathers the faults of imports, of numbers and of references. A message is read with its oneofs and
+/// files, and gathers the faults of imports, of fields, of values and of references. A message is read with its oneofs and
 /// fields, an enum with its values, and a service with its methods. The full name of each declaration
 /// that it is shown ends with the declared name, and its lists are short enough for a pool.
 #[derive(Drop)]
@@ -150,7 +150,9 @@ impl Visitor for ResolveVisitor {
             path,
             full_name,
         };
-        let item = read_enum(self.alloc, place, enumeration)?;
+        let pool = &self.pool;
+        let files = pool.inner.setting().files;
+        let item = read_enum(self.alloc, files, place, enumeration, &mut self.faults)?;
         self.pool.inner.enums.push(item)?;
         Ok(())
     }

@@ -46,6 +46,22 @@ const LINKED: &[(&str, &str, &[(KindIndex, Cardinality)])] = &[
             (KindIndex::Group(0), Cardinality::Optional),
         ],
     ),
+    (
+        "file a.proto\nenum E\nvalue V 0\nend\nmessage M\nfield f 1 required message E ~\n\
+        field g 2 optional group .E ~\nend\nend\n",
+        "message M M [4, 0] None\n\
+        field M.f f [4, 0, 2, 0] 0 1\n\
+        field M.g g [4, 0, 2, 1] 0 2\n\
+        none\n\
+        file a.proto\n\
+        record f '.E' Some(14)\n\
+        record g '.E' Some(10)\n\
+        none\n",
+        &[
+            (KindIndex::Enum(0), Cardinality::Required),
+            (KindIndex::Enum(0), Cardinality::Optional),
+        ],
+    ),
 ];
 
 /// What a pool has, up to the second message and the second file.
@@ -95,7 +111,7 @@ fn tell_file(told: &mut String, file: &FileDescriptorInner) -> Result<(), AllocE
 }
 
 /// A pool with one batch.
-fn pool_of(alloc: Global, script: &str) -> Result<DescriptorPool, BuildError> {
+pub(super) fn pool_of(alloc: Global, script: &str) -> Result<DescriptorPool, BuildError> {
     let mut pool = DescriptorPool::new(alloc);
     pool.build_files(files_of(alloc, script)?)?;
     Ok(pool)

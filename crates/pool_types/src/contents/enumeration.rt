@@ -1,6 +1,7 @@
 ghost use Rattle.std.specs.Prelude.{◌≡◌, IfOk};
 
 use super::definition::Identity;
+use plain_maps::TextMap;
 use plain_values::{Duplicate, Items};
 use std::alloc::{AllocError, Global};
 
@@ -11,6 +12,13 @@ pub struct EnumDescriptorInner {
     /// The index of the message around it, where it is nested.
     pub parent: Option<u32>,
     pub values: Items<EnumValueDescriptorInner>,
+    /// The number of each value with its position, from 0: by number, and then by position.
+    pub value_numbers: Items<(i32, u32)>,
+    /// From the name of a value to its position, from 0; of two with one name, to that of the later
+    /// one.
+    pub value_names: TextMap,
+    /// Whether two values may have one number.
+    pub allow_alias: bool,
 }
 
 /// A value of an enum.
@@ -29,6 +37,9 @@ impl EnumDescriptorInner {
             id: self.id.clone(alloc)?,
             parent: self.parent,
             values: self.values.clone(alloc)?,
+            value_numbers: Items::from_slice(alloc, self.value_numbers.as_slice())?,
+            value_names: self.value_names.clone(alloc)?,
+            allow_alias: self.allow_alias,
         })
     }
 }

@@ -1,7 +1,7 @@
 ghost use Rattle.std.specs.Prelude.{◌≡◌, IfOk};
 
 use super::definition::Identity;
-use plain_values::Duplicate;
+use plain_values::{Duplicate, Text, duplicate_given};
 use pool_kinds::{Cardinality, KindIndex};
 use std::alloc::{AllocError, Global};
 
@@ -10,7 +10,15 @@ use std::alloc::{AllocError, Global};
 pub struct FieldDescriptorInner {
     pub id: Identity,
     pub number: u32,
+    /// The JSON name, where one was given.
+    pub json_name: Option<Text>,
     pub kind: KindIndex,
+    /// The position of its oneof among those of the message, from 0.
+    pub oneof: Option<u32>,
+    /// Whether its values are encoded as one run of bytes.
+    pub is_packed: bool,
+    /// Whether a message tells that it is set.
+    pub supports_presence: bool,
     pub cardinality: Cardinality,
 }
 
@@ -22,7 +30,11 @@ impl FieldDescriptorInner {
         Ok(FieldDescriptorInner {
             id: self.id.clone(alloc)?,
             number: self.number,
+            json_name: duplicate_given(alloc, &self.json_name)?,
             kind: self.kind,
+            oneof: self.oneof,
+            is_packed: self.is_packed,
+            supports_presence: self.supports_presence,
             cardinality: self.cardinality,
         })
     }

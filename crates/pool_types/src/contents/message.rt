@@ -3,6 +3,7 @@ ghost use Rattle.std.specs.Prelude.{◌≡◌, IfOk};
 use super::definition::Identity;
 use super::field::FieldDescriptorInner;
 use super::oneof::OneofDescriptorInner;
+use plain_maps::{NumberMap, TextMap};
 use plain_values::{Duplicate, Items};
 use std::alloc::{AllocError, Global};
 
@@ -13,6 +14,13 @@ pub struct MessageDescriptorInner {
     /// The index of the message around it, where it is nested.
     pub parent: Option<u32>,
     pub fields: Items<FieldDescriptorInner>,
+    /// From the number of a field to its position, from 0; of two with one number, to that of the
+    /// later one.
+    pub field_numbers: NumberMap,
+    /// The same from the name.
+    pub field_names: TextMap,
+    /// The same from the JSON name, of fields that were given one.
+    pub field_json_names: TextMap,
     pub oneofs: Items<OneofDescriptorInner>,
 }
 
@@ -25,6 +33,9 @@ impl MessageDescriptorInner {
             id: self.id.clone(alloc)?,
             parent: self.parent,
             fields: self.fields.clone(alloc)?,
+            field_numbers: self.field_numbers.clone(alloc)?,
+            field_names: self.field_names.clone(alloc)?,
+            field_json_names: self.field_json_names.clone(alloc)?,
             oneofs: self.oneofs.clone(alloc)?,
         })
     }

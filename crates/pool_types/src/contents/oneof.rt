@@ -1,13 +1,15 @@
 ghost use Rattle.std.specs.Prelude.{◌≡◌, IfOk};
 
 use super::definition::Identity;
-use plain_values::Duplicate;
+use plain_values::{Duplicate, Items};
 use std::alloc::{AllocError, Global};
 
 /// A oneof of a message.
 #[derive(PartialEq, Drop)]
 pub struct OneofDescriptorInner {
     pub id: Identity,
+    /// The positions of its fields among those of the message, from 0, in rising order.
+    pub fields: Items<u32>,
 }
 
 impl OneofDescriptorInner {
@@ -17,6 +19,7 @@ impl OneofDescriptorInner {
     {
         Ok(OneofDescriptorInner {
             id: self.id.clone(alloc)?,
+            fields: Items::from_slice(alloc, self.fields.as_slice())?,
         })
     }
 }

@@ -1,6 +1,7 @@
 //! The data of a pool's contents.
 
 use super::copies::check_made;
+use plain_maps::{NumberMap, TextMap};
 use plain_values::{Items, Text, same};
 use pool_types::{
     Cardinality, Definition, DefinitionKind, EnumDescriptorInner, EnumValueDescriptorInner,
@@ -35,9 +36,27 @@ fn field(alloc: Global, number: u32) -> Result<FieldDescriptorInner, AllocError>
     Ok(FieldDescriptorInner {
         id: identity(alloc)?,
         number,
+        json_name: Some(Text::from_str(alloc, "g")?),
         kind: KindIndex::Enum(3),
+        oneof: Some(0),
+        is_packed: true,
+        supports_presence: true,
         cardinality: Cardinality::Required,
     })
+}
+
+/// The map from a number to the first position.
+fn numbers(alloc: Global, number: u32) -> Result<NumberMap, AllocError> {
+    let mut numbers = NumberMap::new(alloc);
+    numbers.insert(number, 0)?;
+    Ok(numbers)
+}
+
+/// The map from a name to the first position.
+fn names(alloc: Global, name: &str) -> Result<TextMap, AllocError> {
+    let mut names = TextMap::new(alloc);
+    names.insert(name, 0)?;
+    Ok(names)
 }
 
 fn message(alloc: Global, parent: Option<u32>) -> Result<MessageDescriptorInner, AllocError> {
@@ -46,11 +65,15 @@ fn message(alloc: Global, parent: Option<u32>) -> Result<MessageDescriptorInner,
     let mut oneofs = Items::new(alloc);
     oneofs.push(OneofDescriptorInner {
         id: identity(alloc)?,
+        fields: Items::from_slice(alloc, &[0])?,
     })?;
     Ok(MessageDescriptorInner {
         id: identity(alloc)?,
         parent,
         fields,
+        field_numbers: numbers(alloc, 7)?,
+        field_names: names(alloc, "f")?,
+        field_json_names: names(alloc, "g")?,
         oneofs,
     })
 }
@@ -66,6 +89,9 @@ fn enumeration(alloc: Global, number: i32) -> Result<EnumDescriptorInner, AllocE
         id: identity(alloc)?,
         parent: None,
         values,
+        value_numbers: Items::from_slice(alloc, &[(number, 0)])?,
+        value_names: names(alloc, "V")?,
+        allow_alias: true,
     })
 }
 

@@ -149,9 +149,10 @@ pub(super) const REFUSED: &[(&str, &str, &str, Ending)] = &[
         "all faults of references are told in order",
         "file a.proto\nmessage M\nfield f 0 optional message N ~\nfield g 0 optional group ~ ~\n\
         field h 1 optional ~ .M.f ~\nend\nend\nlink\n",
-        "refused 5\na.proto: invalid field number '0'\na.proto: name 'N' is not defined\n\
+        "refused 6\na.proto: invalid field number '0'\na.proto: name 'N' is not defined\n\
         a.proto: invalid field number '0'\n\
         a.proto: missing required field at [4, 0, 2, 1, 6]\n\
+        a.proto: field number '0' is already used\n\
         a.proto: 'M.f' is not a message or enum type\n",
         Ending::Whole,
     ),
@@ -175,6 +176,49 @@ pub(super) const REFUSED: &[(&str, &str, &str, Ending)] = &[
         "refused 5\na.proto: invalid field number '-1'\na.proto: invalid field number '0'\n\
         a.proto: invalid field number '19000'\na.proto: invalid field number '19999'\n\
         a.proto: invalid field number '536870912'\n",
+        Ending::Whole,
+    ),
+    (
+        "numbers may be reserved, for fields up to an end, and for values with it",
+        "file a.proto\nmessage M\nreserved 5 8\nfield a 1 optional message ~ ~\n\
+        field b 19000 optional int32 ~ ~\nfield c 536870911 optional int32 ~ ~\n\
+        field d 7 optional int32 ~ ~\nfield e 8 optional int32 ~ ~\n\
+        field g 536870912 optional int32 ~ ~\nend\n\
+        enum E\nreserved 5 8\nvalue V 8\nvalue W 9\nend\nend\nlink\n",
+        "refused 5\na.proto: missing required field at [4, 0, 2, 0, 6]\n\
+        a.proto: invalid field number '19000'\n\
+        a.proto: field number '7' conflicts with reserved range '5 to 7'\n\
+        a.proto: invalid field number '536870912'\n\
+        a.proto: enum number '8' conflicts with reserved range '5 to 8'\n",
+        Ending::Whole,
+    ),
+    (
+        "two fields of a message have two numbers, and their oneofs are there",
+        "file a.proto\nmessage M\nfield f 1 optional int32 ~ 0\nfield g 1 optional int32 ~ ~\n\
+        end\nend\nlink\nfile a.proto\nmessage M\nfield f -1 optional int32 ~ ~\n\
+        field g -1 optional int32 ~ ~\nend\nend\nlink\n",
+        "refused 2\ninvalid oneof index\na.proto: field number '1' is already used\n\
+        refused 3\na.proto: invalid field number '-1'\na.proto: invalid field number '-1'\n\
+        a.proto: field number '-1' is already used\n",
+        Ending::Whole,
+    ),
+    (
+        "a field may not have a number that is left to extensions",
+        "file a.proto\nmessage M\nextensions 5 8\nfield f 5 optional int32 ~ ~\nend\nend\nlink\n",
+        "refused 1\na.proto: field number '5' conflicts with extension range '5 to 7'\n",
+        Ending::Whole,
+    ),
+    (
+        "values may have one number under `alias` alone",
+        "file a.proto\nenum E\nvalue A 1\nvalue B 0\nvalue C 1\nend\nend\nlink\n\
+        file a.proto\nenum E\nvalue A 1\nalias\nvalue B 0\nvalue C 1\nend\nend\nlink\n",
+        "refused 1\na.proto: enum number '1' has already been used\nok 1 0 1 0 0\n",
+        Ending::Whole,
+    ),
+    (
+        "a method gives a message that is there",
+        "file a.proto\npackage p\nmessage M\nend\nservice S\nmethod m M .p.Nope\nend\nend\nlink\n",
+        "refused 1\na.proto: name '.p.Nope' is not defined\n",
         Ending::Whole,
     ),
     (

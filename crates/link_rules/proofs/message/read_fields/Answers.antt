@@ -1,55 +1,47 @@
-use Rattle.std.proofs.Common.{ℕ, take, subst, Some, ◌≡◌, ◌++◌, ◌∷◌, [], ap, ◌∙◌, sym, append_assoc}
+use Rattle.std.proofs.Common.{ℕ, List, ◌<◌, ◌+◌, length, take, get_or, subst, ◌++◌, ◌∷◌, [], ap, ◌∙◌, sym}
 use Rattle.std.proofs.lemmas.List.Elements.{All-push}
 use Rattle.std.specs.List.{All, flat_map}
-use Rattle.pool_types.specs.declared.contents.field.FieldDescriptorInner.{FieldDescriptorInner}
+use Rattle.proto_types.specs.Empty.{no_field}
 use Rattle.proto_types.specs.declared.records.field.FieldDescriptorProto.{FieldDescriptorProto}
-use Rattle.proto_types.specs.Readers.{text_of}
-use Rattle.proto_types.specs.declared.tag.message.TheConstants.{FIELD}
-use Rattle.proto_types.specs.Names.{join}
-use Rattle.proto_records.specs.FullNames.{EndsWith}
-use Rattle.proto_records.specs.Protos.{of_field}
-use Rattle.proto_records.specs.Shown.{Shown}
-use Rattle.proto_records.proofs.FullNames.{join-ends}
-use Rattle.link_rules.specs.Broken.{Faults, field_faults}
-use Rattle.places.specs.Each.{each}
+use Rattle.proto_files.specs.declared.message.DescriptorProto.{out-DescriptorProto}
+use Rattle.pool_types.specs.declared.contents.field.FieldDescriptorInner.{FieldDescriptorInner}
+use Rattle.field_rules.specs.Again.{again_faults}
+use Rattle.field_rules.specs.MapsOf.{AreMapsOf}
+use Rattle.link_rules.specs.Broken.{Faults, Owner, own_faults, field_faults}
 use Rattle.link_rules.specs.Items.{field_item}
-use Rattle.places.specs.NamesBegin.{BeginsAtBoundary}
-use Rattle.places.specs.Places.{inside_of, part_inside}
 use Rattle.link_rules.specs.SettingCode.{setting_in}
-use Rattle.places.proofs.Each.{each-next, all-next, short-list}
+use Rattle.places.specs.Each.{each}
+use Rattle.places.specs.NamesBegin.{BeginsAtBoundary}
+use Rattle.places.specs.Places.{field_at, inside_of, message_at}
+use Rattle.places.proofs.Each.{each-next, all-next}
+use Rattle.link_rules.proofs.Entries.{found-again, regroup}
 use Rattle.link_rules.proofs.message.read_fields.Goals as goal
 
-pub entry_path-requires : goal.entry_path-requires
-entry_path-requires c = short-list c.args.fields.now c.loop-position.position c.requires c.loop-position-test.true
-
--- one more field is read
+-- one more field is read, and entered
 pub loop-position-preserved : goal.loop-position-preserved
 loop-position-preserved c =
     let s = setting_in c.args.setting in
-    let here = inside_of c.args.message in
+    let m = out-DescriptorProto c.args.message.now in
+    let owner : Owner = (message_at c.args.place c.args.message.now, c.args.message.now) in
+    let here = inside_of c.args.place in
     let i = c.loop-position.position in
-    let f = c.index-fields-position.result in
-    let there : Shown = record { file = c.args.message.file; parent = Some c.args.message.index; index = i; path = c.deref.result.now; full_name = c.deref-in-loop-position.result.now; proto = of_field f } in
-    let same : there ≡ part_inside here FIELD i (of_field f) = λ j. record {
-      file = c.args.message.file;
-      parent = Some c.args.message.index;
-      index = i;
-      path = (c.deref.ensures.value ∙ c.in_ok-path.ensures) j;
-      full_name = (c.deref-in-loop-position.ensures ∙ c.in_ok-full_name.ensures ∙ ap (join c.args.message.full_name.now) c.name.ensures) j;
-      proto = of_field f;
-    } in
+    let f = get_or m.field i no_field in
+    let slice = c.as_slice-fields.ensures in
+    let below = subst (λ (xs : List FieldDescriptorProto). i < length xs) slice c.loop-position-test.true in
+    let is = found-again m.field i no_field in
+    let breaks : ℕ → FieldDescriptorProto → Faults = λ n g. field_faults s owner (field_at here n g) g in
+    let so_far = flat_map (λ (fs : Faults). fs) (each breaks 0 (take i m.field)) in
+    let own = own_faults s owner (field_at here i f) f in
+    let again : List FieldDescriptorProto → Faults = λ fs. again_faults s.files owner.0.file owner.0.path (take i fs) i (get_or fs i no_field) in
     let Begins : FieldDescriptorInner → Type 0 = λ g. BeginsAtBoundary g.id in
-    let breaks : ℕ → FieldDescriptorProto → Faults = λ n g. field_faults s (part_inside here FIELD n (of_field g)) g in
-    let name = join-ends c.args.message.full_name.now (text_of f.name) in
-    let ends : EndsWith c.deref-in-loop-position.result.now (text_of f.name) = (name.0, c.deref-in-loop-position.ensures ∙ c.in_ok-full_name.ensures ∙ ap (join c.args.message.full_name.now) c.name.ensures ∙ name.1) in
-    let item = c.in_ok-read_field.ensures.item ∙ ap (λ d. field_item s d f) same in
-    let broken = c.in_ok-read_field.ensures.faults ∙ ap (λ d. c.loop-position.faults.items ++ field_faults s d f) same in
     record {
-      items = c.in_ok-push.ensures.items ∙ (λ j. c.loop-position.invariant.items j ++ item j ∷ [])
-          ∙ sym (each-next (λ n g. field_item s (part_inside here FIELD n (of_field g)) g) c.args.fields.now i f c.loop-position-test.true c.index-fields-position.is);
+      items = c.in_ok-push.ensures.items ∙ (λ j. c.loop-position.invariant.items j ++ c.in_ok-read_field_at.ensures.item j ∷ [])
+          ∙ sym (each-next (λ n g. field_item s m.oneof_decl (field_at here n g) g) m.field i f below is);
       begin = subst (All Begins) (sym c.in_ok-push.ensures.items)
-          (All-push Begins c.loop-position.items.items c.in_ok-read_field.field-0 c.loop-position.invariant.begin (c.in_ok-read_field.ensures.begins ends));
-      faults = broken ∙ ap (λ fs. fs ++ field_faults s (part_inside here FIELD i (of_field f)) f) c.loop-position.invariant.faults
-          ∙ append_assoc c.args.faults.now.items (flat_map (λ fs. fs) (each breaks 0 (take i c.args.fields.now))) (breaks i f)
-          ∙ ap (λ fs. c.args.faults.now.items ++ fs) (sym (all-next breaks c.args.fields.now i f c.loop-position-test.true c.index-fields-position.is));
+          (All-push Begins c.loop-position.items.items c.in_ok-read_field_at.field-0 c.loop-position.invariant.begin c.in_ok-read_field_at.ensures.begins);
+      maps = subst (λ (fs : List FieldDescriptorProto). AreMapsOf c.insert.new.self (take (i + 1) fs)) slice c.in_ok-insert.ensures.maps;
+      faults = c.in_ok-insert.ensures.faults ∙ (λ j. c.in_ok-read_field_at.ensures.faults j ++ again (slice j))
+          ∙ ap (λ fs. (fs ++ own) ++ again m.field) c.loop-position.invariant.faults
+          ∙ regroup c.args.faults.now.items so_far own (again m.field)
+          ∙ ap (λ fs. c.args.faults.now.items ++ fs) (sym (all-next breaks m.field i f below is));
     }

@@ -1,22 +1,22 @@
 use Rattle.std.proofs.Common.{◌≡◌, ◌++◌, take}
-use Rattle.std.specs.List.{All, flat_map}
-use Rattle.proto_types.specs.declared.tag.message.TheConstants.{FIELD}
-use Rattle.proto_records.specs.Protos.{of_field}
-use Rattle.link_rules.specs.Broken.{field_faults}
-use Rattle.places.specs.Each.{each}
-use Rattle.link_rules.specs.Items.{field_item}
+use Rattle.std.specs.List.{All}
+use Rattle.proto_files.specs.declared.message.DescriptorProto.{out-DescriptorProto}
+use Rattle.field_rules.specs.MapsOf.{AreMapsOf}
+use Rattle.link_rules.specs.Broken.{faults_of_fields}
+use Rattle.link_rules.specs.Items.{field_items}
 use Rattle.places.specs.NamesBegin.{BeginsAtBoundary}
-use Rattle.places.specs.Places.{inside_of, part_inside}
+use Rattle.places.specs.Places.{inside_of, message_at}
 use Rattle.link_rules.specs.SettingCode.{setting_in}
 use Rattle.link_rules.proofs.message.read_fields.Given as goal
 
--- the fields so far are read
+-- the fields so far are read, and entered
 abbrev pub invariant-loop-position : goal.invariant-loop-position
 invariant-loop-position l =
     let s = setting_in l.setting in
-    let here = inside_of l.message in
+    let so_far = take l.position (out-DescriptorProto l.message).field in
     record {
-      items : l.items.items ≡ each (λ i f. field_item s (part_inside here FIELD i (of_field f)) f) 0 (take l.position l.fields);
+      items : l.items.items ≡ field_items s (out-DescriptorProto l.message).oneof_decl (inside_of l.place) so_far;
       begin : All (λ f. BeginsAtBoundary f.id) l.items.items;
-      faults : l.faults.items ≡ l.initial.faults.items ++ flat_map (λ faults. faults) (each (λ i f. field_faults s (part_inside here FIELD i (of_field f)) f) 0 (take l.position l.fields));
+      maps : AreMapsOf l.maps so_far;
+      faults : l.faults.items ≡ l.initial.faults.items ++ faults_of_fields s (message_at l.place l.message, l.message) so_far;
     }

@@ -7,10 +7,10 @@ use Rattle.pool_types.specs.declared.contents.definition.Identity.{Identity}
 use Rattle.proto_records.specs.Protos.{of_enum, of_value}
 use Rattle.proto_records.specs.Shown.{step}
 use Rattle.places.specs.Identities.{named_at}
-use Rattle.link_rules.specs.Items.{value_item}
+use Rattle.enum_rules.specs.Items.{value_item}
 use Rattle.places.specs.Places.{shown_at, part_beside}
 use Rattle.places.proofs.Each.{each-next}
-use Rattle.link_rules.proofs.enumeration.read_values.Goals as goal
+use Rattle.enum_rules.proofs.items.read_values.Goals as goal
 
 -- one more value is read
 pub loop-position-preserved : goal.loop-position-preserved

@@ -1,21 +1,45 @@
-ghost use Rattle.std.specs.Prelude.{◌≡◌, true, IfOk};
+ghost use Rattle.std.specs.Prelude.{◌≡◌, ◌++◌, true, IfOk, OnOk, map};
 ghost use Rattle.proto_records.specs.Counts.{lists_fit};
 ghost use Rattle.proto_records.specs.FullNames.{EndsWithName};
 ghost use Rattle.proto_records.specs.Protos.{of_enum};
-ghost use Rattle.link_rules.specs.Items.{enum_item, value_items};
 ghost use Rattle.places.specs.Places.{enum_at};
+ghost use Rattle.enum_rules.specs.Items.{enum_item, value_items};
+ghost use Rattle.enum_rules.specs.Values.{values_faults};
 
+use crate::tables::{value_names, value_numbers};
+use crate::values::{allows_alias, check_values};
 use places::{Place, identity, identity_beside};
 use plain_values::Items;
-use pool_types::{EnumDescriptorInner, EnumValueDescriptorInner};
+use pool_faults::DescriptorErrorKind;
+use pool_types::{EnumDescriptorInner, EnumValueDescriptorInner, FileDescriptorInner};
 use proto_types::{EnumDescriptorProto, tag};
 use std::alloc::{AllocError, Global};
 
-/// The item of an enum, with its values, which are named beside it.
+/// The item of an enum, with its values, which are named beside it, and their tables. What the
+/// numbers of its values break is put behind the faults, one value after another.
 ///
 /// # Errors
 /// `AllocError` where memory was refused.
 pub fn read_enum(
+    alloc: Global,
+    files: &[FileDescriptorInner],
+    place: Place,
+    enumeration: &EnumDescriptorProto,
+    faults: &mut Vec<DescriptorErrorKind>,
+) -> Result<EnumDescriptorInner, AllocError>
+    requires short { lists_fit (of_enum enumeration.now) ≡ true }
+    requires ends { EndsWithName (enum_at place enumeration.now) }
+    ensures item { IfOk result (λ item. item
+        ≡ enum_item (enum_at place.entry enumeration.now) enumeration.now) }
+    ensures faults { OnOk result (faults.new.items ≡ faults.old.items
+        ++ values_faults (map (λ f. f.raw) files.now)
+        (enum_at place.entry enumeration.now) enumeration.now) }
+{
+    check_values(alloc, files, place, enumeration, faults)?;
+    enum_item(alloc, place, enumeration)
+}
+
+fn enum_item(
     alloc: Global,
     place: Place,
     enumeration: &EnumDescriptorProto,
@@ -25,10 +49,14 @@ pub fn read_enum(
     ensures { IfOk result (λ item. item
         ≡ enum_item (enum_at place.entry enumeration.now) enumeration.now) }
 {
+    let values = enumeration.value.as_slice();
     Ok(EnumDescriptorInner {
         id: identity(alloc, place, enumeration.name())?,
         parent: place.parent,
         values: Items::from_vec(read_values(alloc, place, enumeration)?),
+        value_numbers: Items::from_vec(value_numbers(alloc, values)?),
+        value_names: value_names(alloc, values)?,
+        allow_alias: allows_alias(enumeration),
     })
 }
 

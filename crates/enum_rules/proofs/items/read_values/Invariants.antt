@@ -3,9 +3,9 @@ use Rattle.proto_types.specs.declared.tag.enum_.TheConstants.{VALUE}
 use Rattle.proto_types.specs.Readers.{number_of}
 use Rattle.proto_records.specs.Protos.{of_enum, of_value}
 use Rattle.places.specs.Each.{each}
-use Rattle.link_rules.specs.Items.{value_item}
+use Rattle.enum_rules.specs.Items.{value_item}
 use Rattle.places.specs.Places.{shown_at, part_beside}
-use Rattle.link_rules.proofs.enumeration.read_values.Given as goal
+use Rattle.enum_rules.proofs.items.read_values.Given as goal
 
 -- the values so far are read
 abbrev pub invariant-loop-position : goal.invariant-loop-position

@@ -1,0 +1,340 @@
+//! What items hold that follows from their records: maps, oneofs, values, methods, encodings.
+
+use super::items::pool_of;
+use descriptor_pool::{BuildError, DescriptorPool};
+use pool_types::{
+    EnumDescriptor, EnumDescriptorInner, FieldDescriptorInner, MessageDescriptor,
+    MessageDescriptorInner, ServiceDescriptor, ServiceDescriptorInner,
+};
+use proto_files::FileDescriptorProto;
+use script_files::files_of;
+use std::alloc::{AllocError, Global};
+use std::fmt::Write;
+use std::test::Fail;
+
+/// A batch, and what the pool has of its messages up to the second: how many numbers, names and JSON
+/// names are mapped; of each field its name, its number and its oneof, the positions that its number
+/// and its name are mapped to, and its JSON name with its position; of each oneof its fields.
+const MESSAGES: &[(&str, &str)] = &[
+    (
+        "file a.proto\nmessage M\noneof o\noneof q\nfield a 7 optional int32 ~ 0\n\
+        field b 2 optional int32 ~ ~\nfield c 3 optional int32 ~ 0\nend\nend\n",
+        "M 3 3 0\na 7 Some(0) Some(0) Some(0) none\nb 2 None Some(1) Some(1) none\n\
+        c 3 Some(0) Some(2) Some(2) none\noneof o [0, 2]\noneof q []\nnone\n",
+    ),
+    (
+        "file a.proto\nmessage M\nfield f 1 optional int32 ~ ~\njson ''\n\
+        field g 2 optional int32 ~ ~\njson f\nfield h 3 optional int32 ~ ~\njson x\njson ~\n\
+        end\nend\n",
+        "M 3 3 2\nf 1 None Some(0) Some(0) '' Some(0)\ng 2 None Some(1) Some(1) 'f' Some(1)\n\
+        h 3 None Some(2) Some(2) none\nnone\n",
+    ),
+    (
+        "file a.proto\nmessage A\noneof o\nmessage B\noneof p\noneof o\n\
+        field f 536870911 optional int32 ~ 1\nend\nend\nend\n",
+        "A 0 0 0\noneof o []\nB 1 1 0\nf 536870911 Some(1) Some(0) Some(0) none\n\
+        oneof p []\noneof o [0]\n",
+    ),
+];
+
+/// A batch, and what the pool has of its enums up to the second: whether aliases are allowed, how
+/// many names are mapped, and the number of each value with its position; of each value its name, its
+/// number, and the position that its name is mapped to.
+const ENUMS: &[(&str, &str)] = &[
+    (
+        "file a.proto\nenum E\nalias\nvalue A 1\nvalue B 0\nvalue C 1\nend\nend\n",
+        "E true 3 [(0, 1), (1, 0), (1, 2)]\nA 1 Some(0)\nB 0 Some(1)\nC 1 Some(2)\nnone\n",
+    ),
+    (
+        "file a.proto\nenum E\nvalue A 1\nvalue B -1\nvalue C ~\nend\nmessage M\nenum F\nalias\n\
+        value V -7\nend\nend\nend\n",
+        "F true 1 [(-7, 0)]\nV -7 Some(0)\n\
+        E false 3 [(-1, 1), (0, 2), (1, 0)]\nA 1 Some(0)\nB -1 Some(1)\nC 0 Some(2)\n",
+    ),
+];
+
+/// A batch, and what the pool has of its services up to the second: of each method its name, and
+/// the indexes of the messages that it takes and gives.
+const SERVICES: &[(&str, &str)] = &[(
+    "file a.proto\npackage p\nimport b.proto\nmessage M\nmessage N\nend\nend\nservice S\n\
+    method m M M.N\nmethod n .q.O p.M\nend\nend\nfile b.proto\npackage q\nmessage O\nend\nend\n",
+    "S\nm 0 1\nn 2 0\nnone\n",
+)];
+
+fn told_messages(alloc: Global, pool: &DescriptorPool) -> Result<String, AllocError> {
+    let mut told = String::new(alloc);
+    for index in 0..2 {
+        match pool.message(MessageDescriptor::new(index)) {
+            Some(message) => tell_message(&mut told, message)?,
+            None => writeln!(&mut told, "none")?,
+        }
+    }
+    Ok(told)
+}
+
+fn tell_message(told: &mut String, message: &MessageDescriptorInner) -> Result<(), AllocError> {
+    let (name, numbers) = (message.id.name(), message.field_numbers.len());
+    let (names, json_names) = (message.field_names.len(), message.field_json_names.len());
+    writeln!(told, "{name} {numbers} {names} {json_names}")?;
+    for field in message.fields.as_slice() {
+        tell_field(told, message, field)?;
+    }
+    for oneof in message.oneofs.as_slice() {
+        let (name, fields) = (oneof.id.name(), oneof.fields.as_slice());
+        writeln!(told, "oneof {name} {fields:?}")?;
+    }
+    Ok(())
+}
+
+fn tell_field(
+    told: &mut String,
+    message: &MessageDescriptorInner,
+    field: &FieldDescriptorInner,
+) -> Result<(), AllocError> {
+    let (name, number, oneof) = (field.id.name(), field.number, field.oneof);
+    let (by_number, by_name) = (
+        message.field_numbers.get(number),
+        message.field_names.get(name),
+    );
+    write!(told, "{name} {number} {oneof:?} {by_number:?} {by_name:?}")?;
+    match &field.json_name {
+        Some(json_name) => {
+            let json_name = json_name.as_str();
+            let by_json_name = message.field_json_names.get(json_name);
+            writeln!(told, " '{json_name}' {by_json_name:?}")
+        }
+        None => writeln!(told, " none"),
+    }
+}
+
+fn told_enums(alloc: Global, pool: &DescriptorPool) -> Result<String, AllocError> {
+    let mut told = String::new(alloc);
+    for index in 0..2 {
+        match pool.enum_(EnumDescriptor::new(index)) {
+            Some(enumeration) => tell_enum(&mut told, enumeration)?,
+            None => writeln!(&mut told, "none")?,
+        }
+    }
+    Ok(told)
+}
+
+fn tell_enum(told: &mut String, enumeration: &EnumDescriptorInner) -> Result<(), AllocError> {
+    let (name, allow_alias) = (enumeration.id.name(), enumeration.allow_alias);
+    let names = enumeration.value_names.len();
+    let numbers = enumeration.value_numbers.as_slice();
+    writeln!(told, "{name} {allow_alias} {names} {numbers:?}")?;
+    for value in enumeration.values.as_slice() {
+        let (name, number) = (value.id.name(), value.number);
+        let by_name = enumeration.value_names.get(name);
+        writeln!(told, "{name} {number} {by_name:?}")?;
+    }
+    Ok(())
+}
+
+fn told_services(alloc: Global, pool: &DescriptorPool) -> Result<String, AllocError> {
+    let mut told = String::new(alloc);
+    for index in 0..2 {
+        match pool.service(ServiceDescriptor::new(index)) {
+            Some(service) => tell_service(&mut told, service)?,
+            None => writeln!(&mut told, "none")?,
+        }
+    }
+    Ok(told)
+}
+
+fn tell_service(told: &mut String, service: &ServiceDescriptorInner) -> Result<(), AllocError> {
+    let name = service.id.name();
+    writeln!(told, "{name}")?;
+    for method in service.methods.as_slice() {
+        let (name, input, output) = (method.id.name(), method.input, method.output);
+        writeln!(told, "{name} {input} {output}")?;
+    }
+    Ok(())
+}
+
+#[test]
+fn items_have_maps_and_oneofs_and_indexes(rt: HostRuntime) -> Result<(), Fail> {
+    for (script, wanted) in MESSAGES {
+        let told = told_messages(rt.alloc(), &pool_of(rt.alloc(), script)?)?;
+        assert!(rt; told.as_str() == *wanted, "{script}{told}");
+    }
+    for (script, wanted) in ENUMS {
+        let told = told_enums(rt.alloc(), &pool_of(rt.alloc(), script)?)?;
+        assert!(rt; told.as_str() == *wanted, "{script}{told}");
+    }
+    for (script, wanted) in SERVICES {
+        let told = told_services(rt.alloc(), &pool_of(rt.alloc(), script)?)?;
+        assert!(rt; told.as_str() == *wanted, "{script}{told}");
+    }
+    Ok(())
+}
+
+/// The syntax of a file and its first message with one field, whether that is optional in proto3
+/// where that is said, whether it is packed, and whether a message tells that it is set.
+const ENCODED: &[(&str, Option<bool>, bool, bool)] = &[
+    (
+        "syntax proto3\nmessage M\nfield f 1 repeated int32 ~ ~\n",
+        None,
+        true,
+        false,
+    ),
+    (
+        "syntax proto3\nmessage M\nfield f 1 repeated int32 ~ ~\npacked false\n",
+        None,
+        false,
+        false,
+    ),
+    (
+        "syntax proto2\nmessage M\nfield f 1 repeated int32 ~ ~\n",
+        None,
+        false,
+        false,
+    ),
+    (
+        "syntax proto2\nmessage M\nfield f 1 repeated int32 ~ ~\npacked true\n",
+        None,
+        true,
+        false,
+    ),
+    (
+        "syntax proto3\nmessage M\nfield f 1 repeated string ~ ~\npacked true\n",
+        None,
+        false,
+        false,
+    ),
+    (
+        "syntax proto3\nmessage M\nfield f 1 optional int32 ~ ~\n",
+        None,
+        false,
+        false,
+    ),
+    (
+        "syntax proto3\nmessage M\nfield f 1 optional int32 ~ ~\n",
+        Some(true),
+        false,
+        true,
+    ),
+    (
+        "syntax proto3\nmessage M\nfield f 1 optional message .M ~\n",
+        None,
+        false,
+        true,
+    ),
+    (
+        "syntax proto2\nmessage M\nfield f 1 required int32 ~ ~\n",
+        None,
+        false,
+        true,
+    ),
+    (
+        "syntax proto3\nmessage M\nfield f 1 optional int32 ~ ~\npacked true\n",
+        Some(false),
+        false,
+        false,
+    ),
+    (
+        "syntax proto3\nmessage M\nenum E\nvalue V 0\nend\nfield f 1 repeated message E ~\n",
+        None,
+        true,
+        false,
+    ),
+    (
+        "syntax proto3\nmessage M\nfield f 1 repeated bytes ~ ~\npacked true\n",
+        None,
+        false,
+        false,
+    ),
+    (
+        "syntax proto3\nmessage M\nfield f 1 repeated message .M ~\npacked true\n",
+        None,
+        false,
+        false,
+    ),
+    (
+        "syntax proto3\nmessage M\nfield f 1 repeated group .M ~\npacked true\n",
+        None,
+        false,
+        false,
+    ),
+    (
+        "syntax proto3\nmessage M\nfield f 1 optional group .M ~\n",
+        None,
+        false,
+        true,
+    ),
+    (
+        "syntax proto3\nmessage M\noneof o\nfield f 1 optional int32 ~ 0\n",
+        None,
+        false,
+        true,
+    ),
+    (
+        "syntax proto3\nmessage M\noneof o\nfield f 1 repeated ~ ~ 0\n",
+        None,
+        true,
+        true,
+    ),
+    (
+        "message M\nfield f 1 repeated int32 ~ ~\n",
+        Some(true),
+        false,
+        true,
+    ),
+    (
+        "message M\nfield f 1 ~ ~ ~ ~\npacked true\n",
+        None,
+        false,
+        true,
+    ),
+];
+
+/// Says of the last field of a file's last message whether it is optional in proto3, which no
+/// statement does.
+fn say_optional(
+    file: &mut FileDescriptorProto,
+    is_optional: Option<bool>,
+) -> Result<(), AllocError> {
+    let Some(mut message) = file.message_type.pop() else {
+        return Ok(());
+    };
+    if let Some(mut field) = message.field.pop() {
+        field.proto3_optional = is_optional;
+        message.field.push(field)?;
+    }
+    file.message_type.push(message)
+}
+
+/// A pool with a file of these parts, of whose field it is said.
+fn pool_with(
+    alloc: Global,
+    parts: &str,
+    is_optional: Option<bool>,
+) -> Result<DescriptorPool, BuildError> {
+    let script = format!(in alloc; "file a.proto\n{parts}end\nend\n")?;
+    let mut files = files_of(alloc, script.as_str())?;
+    if let Some(file) = files.last_mut() {
+        say_optional(file, is_optional)?;
+    }
+    let mut pool = DescriptorPool::new(alloc);
+    pool.build_files(files)?;
+    Ok(pool)
+}
+
+/// Whether the first field of a pool is packed, and whether a message tells that it is set.
+fn encoding(pool: &DescriptorPool) -> Option<(bool, bool)> {
+    let message = pool.message(MessageDescriptor::new(0))?;
+    let field = message.fields.as_slice().first()?;
+    Some((field.is_packed, field.supports_presence))
+}
+
+#[test]
+fn fields_are_packed_and_set_by_syntax_and_kind(rt: HostRuntime) -> Result<(), Fail> {
+    for (parts, is_optional, is_packed, supports_presence) in ENCODED {
+        let told = encoding(&pool_with(rt.alloc(), parts, *is_optional)?);
+        assert!(rt;
+            told == Some((*is_packed, *supports_presence)),
+            "{parts}{told:?}"
+        );
+    }
+    Ok(())
+}
