@@ -1,0 +1,49 @@
+ghost use Rattle.std.specs.Prelude.{◌≡◌, ◌++◌, IfOk, OnOk, map};
+ghost use Rattle.default_rules.specs.Defaults.{default_faults, default_value};
+ghost use Rattle.default_rules.specs.MeantCode.{meant_in};
+
+use crate::faults::default_fault;
+use crate::meant::MeantEnum;
+use crate::values::value_of;
+use places::Place;
+use plain_values::Text;
+use pool_faults::DescriptorErrorKind;
+use pool_kinds::{DefaultValue, KindIndex};
+use pool_types::FileDescriptorInner;
+use std::alloc::{AllocError, Global};
+
+/// The default value of a field or an extension, if one is given, by the kind of its type
+/// (descriptor.proto on `default_value`): of an enum the number of the first of its values that has
+/// this name; of a message or a group none; of any other kind the value that `parse_simple_value`
+/// reads. The meant enum is the one that the type names, and is read of no other kind.
+///
+/// Where a default is given, be it the empty text, and is no value of the type, there is none, and
+/// `InvalidFieldDefault` is put behind the faults, found at the path of the declaration and 7. It
+/// tells the text and the type: an enum by its full name, a message or a group as `message type`.
+///
+/// # Errors
+/// `AllocError` where memory was refused.
+pub fn read_default(
+    alloc: Global,
+    files: &[FileDescriptorInner],
+    place: Place,
+    kind: KindIndex,
+    meant: MeantEnum,
+    given: &Option<Text>,
+    faults: &mut Vec<DescriptorErrorKind>,
+) -> Result<Option<DefaultValue>, AllocError>
+    ensures value { IfOk result (λ value. value
+        ≡ default_value kind (meant_in meant.entry) given.now) }
+    ensures faults { OnOk result (faults.new.items ≡ faults.old.items
+        ++ default_faults (map (λ f. f.raw) files.now) place.entry.file place.entry.path.now kind
+        (meant_in meant.entry) given.now) }
+{
+    let Some(text) = given else {
+        return Ok(None);
+    };
+    let value = value_of(alloc, kind, meant.values, text.as_str())?;
+    if value.is_none() {
+        faults.push(default_fault(alloc, files, place, kind, meant, text.as_str())?)?;
+    }
+    Ok(value)
+}

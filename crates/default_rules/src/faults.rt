@@ -1,0 +1,45 @@
+//! The fault of a default value that is none of the type.
+
+ghost use Rattle.std.specs.Prelude.{◌≡◌, IfOk, map};
+ghost use Rattle.default_rules.specs.Defaults.{default_fault, kind_named};
+ghost use Rattle.default_rules.specs.MeantCode.{meant_in};
+
+use crate::meant::MeantEnum;
+use places::{Place, part_label};
+use plain_values::Text;
+use pool_faults::DescriptorErrorKind;
+use pool_kinds::KindIndex;
+use pool_types::FileDescriptorInner;
+use proto_types::tag;
+use std::alloc::{AllocError, Global};
+
+/// The fault of a text that writes no value of a kind.
+pub(crate) fn default_fault(
+    alloc: Global,
+    files: &[FileDescriptorInner],
+    place: Place,
+    kind: KindIndex,
+    meant: MeantEnum,
+    text: &str,
+) -> Result<DescriptorErrorKind, AllocError>
+    ensures { IfOk result (λ fault. fault
+        ≡ default_fault (map (λ f. f.raw) files.now) place.entry.file place.entry.path.now kind
+        (meant_in meant.entry) text.now) }
+{
+    Ok(DescriptorErrorKind::InvalidFieldDefault {
+        value: Text::from_str(alloc, text)?,
+        kind: kind_named(alloc, kind, meant.full_name)?,
+        found: part_label(alloc, files, place, tag::field::DEFAULT_VALUE)?,
+    })
+}
+
+/// The word for a kind: of an enum its full name.
+fn kind_named(alloc: Global, kind: KindIndex, full_name: &str) -> Result<Text, AllocError>
+    ensures { IfOk result (λ word. word ≡ kind_named kind full_name.now) }
+{
+    match kind {
+        KindIndex::Enum(_) => Text::from_str(alloc, full_name),
+        KindIndex::Message(_) | KindIndex::Group(_) => Text::from_str(alloc, "message type"),
+        _ => Ok(Text::from_string(format!(in alloc; "{kind:?}")?)),
+    }
+}
