@@ -5,7 +5,7 @@
     python3 descriptors_to_script.py schema.pb > schema.script
 
 Needed are protoc and protobuf's Python package: protobuf-compiler and python3-protobuf on Debian.
-That package serves the system's own python3, which is /usr/bin/python3.
+That package serves the system's own python3.
 
 Left out, since a script has no words for them: proto3_optional, reserved names, comments, whether
 a method streams, an edition, and all options but packed, and allow_alias where it is true. protoc
