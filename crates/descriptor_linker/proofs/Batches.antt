@@ -26,7 +26,7 @@ told-behind s batch emptied new text told same none is more =
     (λ i. record s { pool = new; batch = none i; told = more i })
     ∙ ap (behind s) (sym is ∙ ap (λ b. linking s.pool b (counts_after s.pool b)) same)
 
-no-faults : (first second : Faults) → first ≡ [] → second ≡ [] → first_of_both first second ≡ []
+pub no-faults : (first second : Faults) → first ≡ [] → second ≡ [] → first_of_both first second ≡ []
 no-faults first second none nor = ap (λ fs. first_of_both fs second) none ∙ nor
 
 where-it-fits : (p : Contents) (batch : Batch) (counts : Result Counts CountKind) → IsOk counts → linking p batch counts ≡ accepted_or p batch (faults p batch)

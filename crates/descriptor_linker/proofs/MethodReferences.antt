@@ -3,7 +3,6 @@ use Rattle.std.proofs.Common.{◌≡◌, ℕ, ℤ, List, [], ◌∷◌, ◌++◌
 use Rattle.proto_types.specs.Readers.{text_of}
 use Rattle.proto_types.specs.declared.records.service.MethodDescriptorProto.{MethodDescriptorProto}
 use Rattle.proto_records.specs.declared.declaration.Declaration.{Declaration}
-use Rattle.proto_records.specs.declared.declaration.DeclarationKind.{DeclarationKind}
 use Rattle.proto_records.specs.declared.declaration.DeclarationKind.TheVariants as declared
 use Rattle.proto_records.specs.Listed.{declaration_of}
 use Rattle.proto_records.specs.Protos.{Proto, of_file, of_message, of_field, of_oneof, of_service, of_method, of_enum, of_value, of_extension}

@@ -1,14 +1,18 @@
 -- Worked scripts, computed.
-use Rattle.std.specs.Prelude.{◌≡◌, ℕ, List, [], ◌∷◌, refl, codes}
+use Rattle.std.specs.Prelude.{◌≡◌, ℕ, List, [], ◌∷◌, ◌++◌, if◌then◌else◌, refl, codes}
 use Rattle.std.specs.List.{fold, flat_map}
+use Rattle.std.specs.FinMap as map
 use Rattle.std.specs.FinMap.{get-empty}
 use Rattle.std.specs.Cmp.Lexicographic.{slice_cmp}
 use Rattle.std.specs.Ordering.{nat_cmp}
+use Rattle.pool_types.specs.Contents.{no_contents}
 use Rattle.pool_types.specs.declared.contents.definition.Definition.{Definition}
-use Rattle.name_tables.proofs.Entries.{get-with}
+use Rattle.name_tables.proofs.Entries.{get-with, with-nothing}
 use Rattle.link_script.specs.Script.Reading.{script}
+use Rattle.descriptor_pool.specs.Equality.{contents-exact}
+use Rattle.descriptor_pool.specs.Pool.{link}
 use Rattle.descriptor_pool.specs.References.{references}
-use Rattle.descriptor_linker.specs.Report.Answers.{reference_lines}
+use Rattle.descriptor_linker.specs.Report.Answers.{line, reference_lines}
 use Rattle.descriptor_linker.specs.Report.Session.{report, new_session, step}
 use Rattle.descriptor_linker.proofs.Computed.{scripts}
 
@@ -87,8 +91,8 @@ pub numbers_at_the_edges : report (script (codes "file a.proto\nmessage M\nfield
 unfolding scripts
 numbers_at_the_edges = simp (get-with {X = Definition}, get-with {X = ℕ}, get-empty {X = Definition} (slice_cmp nat_cmp), get-empty {X = ℕ} (slice_cmp nat_cmp)) refl
 
-pub found : report (script (codes "file a.proto\npackage p.q\nmessage M\nfield f 1 optional int32 ~ ~\nfield g 2 optional message .p.q.M ~\nend\nend\nlink\nfind p\nfind p.q\nfind .p.q.M\nfind p.q.M.f\nfind q\n"))
-    ≡ codes "ok 1 1 0 0 0\npackage a.proto [2]\npackage a.proto [2]\nmessage 0 a.proto [4, 0, 1]\nfield 0 a.proto [4, 0, 2, 0, 1]\nnone\n"
+pub found : report (script (codes "file a.proto\npackage p.q\nmessage M\nfield f 1 optional message .p.q.M ~\nend\nend\nlink\nfind p\nfind .p.q.M\nfind q\n"))
+    ≡ codes "ok 1 1 0 0 0\npackage a.proto [2]\nmessage 0 a.proto [4, 0, 1]\nnone\n"
 unfolding scripts
 found = simp (get-with {X = Definition}, get-with {X = ℕ}, get-empty {X = Definition} (slice_cmp nat_cmp), get-empty {X = ℕ} (slice_cmp nat_cmp)) refl
 
@@ -129,3 +133,10 @@ refs_of_no_file = refl
 pub refs_of_what : report (script (codes "refs\n")) ≡ codes "line 1: wrong count of words\n"
 unfolding scripts
 refs_of_what = refl
+
+nothing_linked : link no_contents [] ≡ no_contents
+nothing_linked = λ i. record no_contents { names = with-nothing map.empty i; file_names = with-nothing map.empty i }
+
+pub nothing_relinks : report (script (codes "relink\n")) ≡ codes "same\n"
+unfolding scripts
+nothing_relinks = λ i. line ((if (contents-exact (link no_contents []) no_contents).1 nothing_linked i then codes "same" else codes "different") ∷ []) ++ []

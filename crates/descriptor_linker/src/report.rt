@@ -4,6 +4,7 @@ ghost use Rattle.descriptor_linker.specs.Report.Session.{report};
 
 mod answers;
 mod references;
+mod relink;
 mod session;
 
 use answers::tell_fault;

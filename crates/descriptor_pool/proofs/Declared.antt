@@ -48,7 +48,7 @@ field-name s n full_name f =
     [ [] ↦ refl | _ ∷ _ ↦ refl ]
 
 pub linking-keeps : (s : Setting) → KeepNames (linking s)
-linking-keeps s = record { fields = field-name s; extensions = λ _ _ _. refl; methods = λ _ _ _. refl }
+linking-keeps s = record { fields = field-name s; extensions = field-name s; methods = λ _ _ _. refl }
 
 -- a changed declaration enters the names that it entered
 entries-one : (c : Changes) (file : ℕ) (parent : Option ℕ) (index : ℕ) (path : List ℤ) (full_name : List ℕ) (p : Proto)
@@ -153,7 +153,7 @@ counts-with p s ds =
     (longer p.messages (λ e. message_item s e.0 e.1) (of_kind as_message ds))
     (longer p.enums (λ e. enum_item e.0 e.1) (of_kind as_enum ds))
     (longer p.services (λ e. service_item s e.0 e.1) (of_kind as_service ds))
-    (longer p.extensions (λ e. extension_item e.0) (of_kind as_extension ds))
+    (longer p.extensions (λ e. extension_item s e.0 e.1) (of_kind as_extension ds))
     ∙ sym (counted-many (counts_in p) ds)
 
 -- contents whose counts are those of what their files declare, and new files
@@ -164,7 +164,7 @@ module _ (p : Contents) (fs : List FileDescriptorProto) (counts : counts_in p �
   abbrev new : List Shown
   new = declarations (counts_in p) fs
 
-  declared-behind : (gs : List FileDescriptorProto) → declarations no_counts (files_of p ++ gs) ≡ earlier ++ declarations (counts_in p) gs
+  pub declared-behind : (gs : List FileDescriptorProto) → declarations no_counts (files_of p ++ gs) ≡ earlier ++ declarations (counts_in p) gs
   declared-behind gs = declarations-append no_counts (files_of p) gs ∙ ap (λ c. earlier ++ declarations c gs) (sym counts)
 
   module _ (s : Setting) where

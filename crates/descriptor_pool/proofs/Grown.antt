@@ -1,5 +1,5 @@
 -- A pool into which new files are linked.
-use Rattle.std.proofs.Common.{◌≡◌, ◌∷◌, refl, rules, IsOk, Result, Ok, Err, OnOk, OnErr, subst, List, [], ap, sym, ◌∙◌}
+use Rattle.std.proofs.Common.{◌≡◌, ◌∷◌, refl, rules, IsOk, Result, Ok, Err, OnOk, OnErr, subst, List, [], length, ap, sym, ◌∙◌}
 use Rattle.proto_files.specs.declared.file.FileDescriptorProto.{FileDescriptorProto}
 use Rattle.pool_types.specs.Contents.{Contents}
 use Rattle.proto_records.specs.declared.counts.Counts.{Counts}
@@ -11,12 +11,13 @@ use Rattle.link_rules.specs.Broken.{Faults}
 use Rattle.link_rules.specs.NamesBegin.{NamesBegin}
 use Rattle.descriptor_pool.specs.declared.error.BuildError.{BuildError}
 use Rattle.descriptor_pool.specs.declared.error.BuildError.TheVariants.{TooMany, Descriptor, OutOfMemory}
-use Rattle.descriptor_pool.specs.Behind.{declared_behind, setting_behind, faults_behind, first_of_both, linked_behind, with_names}
+use Rattle.descriptor_pool.specs.Behind.{declared_behind, setting_behind, faults_behind, first_of_both, linked_behind, with_items, with_names}
 use Rattle.descriptor_pool.specs.Invariant.{IsPool}
 use Rattle.descriptor_pool.specs.Outcome.{Outcome}
 use Rattle.descriptor_pool.specs.Passes.{TellsAll, TellsFaults}
 use Rattle.descriptor_pool.specs.Pool.{Batch, Accepts, Fits, linked_to, new_files, faults, faults_of_names, faults_of_references}
 use Rattle.descriptor_pool.proofs.Declared.{counts-with}
+use Rattle.descriptor_pool.proofs.Listed.{counts-extended}
 use Rattle.descriptor_pool.proofs.Sound.{made-sound}
 
 -- faults of two passes that are none
@@ -54,7 +55,9 @@ module _ (p : Contents) (batch : Batch) (fits : Fits p batch) where
   pool_behind pool (Ok u) q behind =
       let made = linked_to batch pool.made (accepted behind.told) fits behind.ok in
       let new = new_files p batch in
-      let counts = ap counts_in behind.ok ∙ counts-with (with_names p (declared_behind p new)) (setting_behind p new) (declared_behind p new) in
+      let ds = declared_behind p new in
+      let items = with_items (with_names p ds) (setting_behind p new) ds in
+      let counts = ap counts_in behind.ok ∙ counts-extended (length p.extensions) items ∙ counts-with (with_names p ds) (setting_behind p new) ds in
       record {
         made = made;
         counts_are = (made-sound q made).counts_are;

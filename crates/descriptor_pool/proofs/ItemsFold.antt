@@ -25,7 +25,7 @@ with_more p s ds = record p {
   messages = p.messages ++ map (λ e. message_item s e.0 e.1) (of_kind as_message ds);
   enums = p.enums ++ map (λ e. enum_item e.0 e.1) (of_kind as_enum ds);
   services = p.services ++ map (λ e. service_item s e.0 e.1) (of_kind as_service ds);
-  extensions = p.extensions ++ map (λ e. extension_item e.0) (of_kind as_extension ds);
+  extensions = p.extensions ++ map (λ e. extension_item s e.0 e.1) (of_kind as_extension ds);
 }
 
 abbrev seen : ReferencesSeen → List Shown → ReferencesSeen
@@ -80,8 +80,9 @@ step r file parent index path full_name (of_extension x) ds =
     let d : Shown = record { file = file; parent = parent; index = index; path = path; full_name = full_name; proto = of_extension x } in
     λ i. record (seen r (d ∷ ds)) {
       pool = record (with_more r.pool r.setting (d ∷ ds)) {
-        extensions = behind r.pool.extensions (extension_item d) (map (λ e. extension_item e.0) (of_kind as_extension ds)) i;
+        extensions = behind r.pool.extensions (extension_item r.setting d x) (map (λ e. extension_item r.setting e.0 e.1) (of_kind as_extension ds)) i;
       };
+      faults = append_assoc r.faults (owner_faults r.setting d) (flat_map (owner_faults r.setting) ds) i;
     }
 
 nothing-more : (r : ReferencesSeen) → r ≡ seen r []

@@ -12,4 +12,7 @@ pub mod Grown
 pub mod Kept
 pub mod Entering
 pub mod Stages
+pub mod Each
 pub mod Seeing
+pub mod Extending
+pub mod Listed

@@ -1,6 +1,8 @@
 -- A batch without new files.
-use Rattle.std.proofs.Common.{◌≡◌, IsOk, List, [], refl, ap, subst, sym, ◌∙◌, arith, append-nil}
+use Rattle.std.proofs.Common.{◌≡◌, ◌++◌, IsOk, List, [], length, drop, refl, ap, subst, sym, ◌∙◌, arith, append-nil}
 use Rattle.std.proofs.lemmas.Bool.Decides.{nat_tests}
+use Rattle.std.proofs.lemmas.List.{drop_all}
+use Rattle.places.specs.Each.{each}
 use Rattle.pool_types.specs.Contents.{Contents}
 use Rattle.name_tables.proofs.Entries.{with-nothing}
 use Rattle.proto_records.specs.Counts.{counts_in}
@@ -9,18 +11,27 @@ use Rattle.proto_records.specs.Walking.{WithinLimits}
 use Rattle.proto_records.specs.declared.counts.Counts.{Counts}
 use Rattle.proto_files.specs.declared.file.FileDescriptorProto.{FileDescriptorProto}
 use Rattle.descriptor_pool.specs.Behind.{names_behind, references_behind, linked_behind}
+use Rattle.descriptor_pool.specs.Extended.{extended_by}
 use Rattle.descriptor_pool.specs.Outcome.{IsLinked}
 use Rattle.descriptor_pool.specs.Pool.{Batch, new_files}
+use Rattle.descriptor_pool.proofs.Extending.{extended-by-none}
 
 -- counts within the limits stay so where nothing comes
 few_fit : (c : Counts) → WithinLimits c → IsOk (counts_with c [])
 few_fit c within = grind (arith, nat_tests, within.files, within.messages, within.enums, within.services, within.extensions)
 
+-- no new extensions leave the messages as they are
+listed : (p : Contents) → (linked_behind p []).messages ≡ p.messages
+listed p =
+    let first = length p.extensions in
+    let none : drop first (p.extensions ++ []) ≡ [] = ap (drop first) (append-nil p.extensions) ∙ drop_all first p.extensions (omega arith) in
+    ap (λ xs. each (extended_by first xs) 0 (p.messages ++ [])) none ∙ extended-by-none first (p.messages ++ []) ∙ append-nil p.messages
+
 -- no new files leave the pool as it is
 stays : (p : Contents) → p ≡ linked_behind p []
 stays p = λ i. record {
   files = sym (append-nil p.files) i;
-  messages = sym (append-nil p.messages) i;
+  messages = sym (listed p) i;
   enums = sym (append-nil p.enums) i;
   services = sym (append-nil p.services) i;
   extensions = sym (append-nil p.extensions) i;

@@ -25,9 +25,11 @@ use Rattle.pool_parts.specs.References.{reference_fault}
 use Rattle.pool_parts.specs.Resolution.{Resolution, found, invalid_type, not_imported, shadowed, not_found}
 use Rattle.pool_parts.proofs.Named.{IsNamed, resolution-named}
 use Rattle.link_rules.specs.Broken.{Faults, Owner, field_faults, own_faults, message_of, second_faults, second_pass}
+use Rattle.link_rules.specs.Defaults.{field_default_faults}
+use Rattle.link_rules.specs.Extensions.{extendee_faults, number_faults}
 use Rattle.link_rules.specs.FieldTypes.{type_meaning, type_faults}
 use Rattle.link_rules.specs.Linked.{resolved, typed, linking}
-use Rattle.link_rules.specs.Methods.{method_meaning}
+use Rattle.link_rules.specs.Messages.{message_meaning}
 use Rattle.link_rules.specs.Setting.{Setting, seen_by}
 use Rattle.std.specs.BTreeSet.{contains_by}
 use Rattle.std.specs.Ordering.{nat_cmp}
@@ -85,9 +87,9 @@ type-resolved s d e f part (c ∷ cs) is none =
 
 -- a message that a method takes or gives is linked as one that was found, where there is no fault
 message-resolved : (s : Setting) (d : Shown) (path : List ℤ) (given : Option (List ℕ))
-    → listed (reference_fault s.files (text_of given) d.file path (method_meaning s d given)) ≡ [] → IsFull s.names (text_of (resolved (method_meaning s d given) given))
+    → listed (reference_fault s.files (text_of given) d.file path (message_meaning s d given)) ≡ [] → IsFull s.names (text_of (resolved (message_meaning s d given) given))
 message-resolved s d path given none =
-    found-full s path d.file (text_of given) given (method_meaning s d given)
+    found-full s path d.file (text_of given) given (message_meaning s d given)
     (resolution-named s.names (λ n. contains_by (nat_cmp n) (seen_by s d.file)) Message d.full_name (text_of given)) none
 
 no_items : {X : Type 0} (xs ys : List X) → xs ++ ys ≡ [] → (xs ≡ []) × (ys ≡ [])
@@ -101,8 +103,9 @@ type-told s owner d f none =
     let again = again_faults s.files owner.0.file owner.0.path (take d.index m.field) d.index f in
     let own = no_items (own_faults s owner d f) again none in
     let numbers = field_number_faults s.files owner.0 owner.1 d f in
-    let first = no_items (numbers ++ type_faults s d f) (oneof_faults m.oneof_decl f) own.0 in
-    (no_items numbers (type_faults s d f) first.0).1
+    let first = no_items ((numbers ++ type_faults s d f) ++ field_default_faults s d f) (oneof_faults m.oneof_decl f) own.0 in
+    let types = no_items (numbers ++ type_faults s d f) (field_default_faults s d f) first.0 in
+    (no_items numbers (type_faults s d f) types.0).1
 
 -- a declaration without a fault has only references that are resolved, once it is linked
 one-resolved : (s : Setting) (before : List Shown) (file : ℕ) (parent : Option ℕ) (index : ℕ) (path : List ℤ) (full_name : List ℕ) (p : Proto)
@@ -119,12 +122,20 @@ one-resolved s before file parent index path full_name (of_method m) none =
     let d : Shown = record { file = file; parent = parent; index = index; path = path; full_name = full_name; proto = of_method m } in
     let input = path ++ method.INPUT_TYPE ∷ [] in
     let output = path ++ method.OUTPUT_TYPE ∷ [] in
-    let both = no_items (listed (reference_fault s.files (text_of m.input_type) file input (method_meaning s d m.input_type)))
-    (listed (reference_fault s.files (text_of m.output_type) file output (method_meaning s d m.output_type))) none in
+    let both = no_items (listed (reference_fault s.files (text_of m.input_type) file input (message_meaning s d m.input_type)))
+    (listed (reference_fault s.files (text_of m.output_type) file output (message_meaning s d m.output_type))) none in
     (message-resolved s d input m.input_type both.0, (message-resolved s d output m.output_type both.1, tt))
 one-resolved s before file parent index path full_name (of_enum e) none = tt
 one-resolved s before file parent index path full_name (of_value v) none = tt
-one-resolved s before file parent index path full_name (of_extension x) none = tt
+one-resolved s before file parent index path full_name (of_extension x) none =
+    let d : Shown = record { file = file; parent = parent; index = index; path = path; full_name = full_name; proto = of_extension x } in
+    let extendee = extendee_faults s d x in
+    let numbers = number_faults s d x (message_meaning s d x.extendee) in
+    let types = type_faults s d x in
+    let parts = no_items ((extendee ++ numbers) ++ types) (field_default_faults s d x) none in
+    let first = no_items (extendee ++ numbers) types parts.0 in
+    let found = (no_items extendee numbers first.0).0 in
+    (message-resolved s d (path ++ field.EXTENDEE ∷ []) x.extendee found, type-resolved s d (changed (linking s) d) x (codes "type_name") (text_of x.type_name) refl first.1)
 
 -- and so have declarations
 all-resolved : (s : Setting) (before ds : List Shown) → after_each (second_faults s) before ds ≡ [] → AllNamed s.names (map (changed (linking s)) ds)

@@ -1,5 +1,5 @@
 -- Files that are given the files that they see.
-use Rattle.std.proofs.Common.{◌≡◌, ◌≢◌, ◌≤◌, ◌<◌, ◌+◌, ◌==◌, ℕ, zero, suc, true, false, ◌&&◌, nat_le, nat_lt, List, [], ◌∷◌, ◌++◌, length, map, drop, set, get_or, if◌then◌else◌, refl, ap, sym, ◌∙◌, arith}
+use Rattle.std.proofs.Common.{◌≡◌, ◌≤◌, ◌<◌, ◌+◌, ◌==◌, ℕ, suc, true, false, ◌&&◌, nat_le, nat_lt, List, [], ◌∷◌, ◌++◌, length, map, drop, if◌then◌else◌, refl, ap, sym, ◌∙◌, arith}
 use Rattle.std.proofs.lemmas.Bool.Decides.{nat_tests}
 use Rattle.std.proofs.lemmas.List.{append_cancel_left, map-append, take-append-drop}
 use Rattle.std.specs.BTreeSet.{BTreeSet}
@@ -13,62 +13,7 @@ use Rattle.descriptor_pool.specs.declared.build.growing.GrowingPool.{GrowingPool
 use Rattle.descriptor_pool.specs.Behind.{declared_behind, seen_behind, with_names}
 use Rattle.descriptor_pool.specs.Growing.{file_seeing, files_seeing, first_new, kept_in, seeing, seen_in}
 use Rattle.descriptor_pool.specs.Invariant.{contents_in}
-
--- two changes one after the other
-pub each-twice : {X Y Z : Type 0} (g : ℕ → Y → Z) (f : ℕ → X → Y) (i : ℕ) (xs : List X) → each g i (each f i xs) ≡ each (λ n x. g n (f n x)) i xs
-each-twice g f i [] = refl
-each-twice g f i (x ∷ xs) = ap (λ rest. g i (f i x) ∷ rest) (each-twice g f (suc i) xs)
-
--- changes that are equal from a position on
-pub each-same : {X Y : Type 0} (f g : ℕ → X → Y) (i : ℕ) (xs : List X) → ((n : ℕ) (x : X) → i ≤ n → n < i + length xs → f n x ≡ g n x) → each f i xs ≡ each g i xs
-each-same f g i [] same = refl
-each-same f g i (x ∷ xs) same =
-    λ j. same i x (omega arith) (omega arith) j ∷ each-same f g (suc i) xs (λ n y from to. same n y (omega (arith, from)) (omega (arith, to))) j
-
-each-none : {X : Type 0} (i : ℕ) (xs : List X) → each (λ _ x. x) i xs ≡ xs
-each-none i [] = refl
-each-none i (x ∷ xs) = ap (λ rest. x ∷ rest) (each-none (suc i) xs)
-
--- where nothing is changed
-pub each-still : {X : Type 0} (f : ℕ → X → X) (i : ℕ) (xs : List X) → ((n : ℕ) (x : X) → i ≤ n → n < i + length xs → f n x ≡ x) → each f i xs ≡ xs
-each-still f i xs still = each-same f (λ _ x. x) i xs still ∙ each-none i xs
-
-pub each-append : {X Y : Type 0} (f : ℕ → X → Y) (i : ℕ) (xs ys : List X) → each f i (xs ++ ys) ≡ each f i xs ++ each f (i + length xs) ys
-each-append f i [] ys = let here : i ≡ i + 0 = omega arith in ap (λ n. each f n ys) here
-each-append f i (x ∷ xs) ys =
-    let there : suc i + length xs ≡ i + suc (length xs) = omega arith in
-    ap (λ rest. f i x ∷ rest) (each-append f (suc i) xs ys ∙ ap (λ n. each f (suc i) xs ++ each f n ys) there)
-
-pub each-map : {X Y Z : Type 0} (g : Y → Z) (f : ℕ → X → Y) (i : ℕ) (xs : List X) → map g (each f i xs) ≡ each (λ n x. g (f n x)) i xs
-each-map g f i [] = refl
-each-map g f i (x ∷ xs) = ap (λ rest. g (f i x) ∷ rest) (each-map g f (suc i) xs)
-
-abbrev pub one : {X : Type 0} → (X → X) → ℕ → ℕ → X → X
-one f i n x = if n == i then f x else x
-
-changed-here : {X : Type 0} (f : X → X) (i n : ℕ) (x : X) → n ≡ i → one f i n x ≡ f x
-changed-here f i n x is = let same : (n == i) ≡ true = grind (arith, nat_tests) in rw same refl
-
-pub changed-elsewhere : {X : Type 0} (f : X → X) (i n : ℕ) (x : X) → n ≢ i → one f i n x ≡ x
-changed-elsewhere f i n x isn't = let other : (n == i) ≡ false = grind (arith, nat_tests) in rw other refl
-
--- one entry is changed
-pub set-each : {X : Type 0} (f : X → X) (first i : ℕ) (xs : List X) (d : X) → i < length xs
-    → set xs i (f (get_or xs i d)) ≡ each (one f (first + i)) first xs
-set-each f first i [] d below = absurd (omega (arith, below))
-set-each f first zero (x ∷ xs) d below =
-    let here : f x ≡ one f (first + 0) first x = sym (changed-here f (first + 0) first x (omega arith)) in
-    let others = each-still (one f (first + 0)) (suc first) xs (λ n y from to. changed-elsewhere f (first + 0) n y (λ e. omega (arith, from, e))) in
-    λ j. here j ∷ sym others j
-set-each f first (suc i) (x ∷ xs) d below =
-    let there : suc first + i ≡ first + suc i = omega arith in
-    let here : x ≡ one f (first + suc i) first x = sym (changed-elsewhere f (first + suc i) first x (λ e. omega (arith, e))) in
-    let rest = set-each f (suc first) i xs d (omega (arith, below)) ∙ ap (λ m. each (one f m) (suc first) xs) there in
-    λ j. here j ∷ rest j
-
-pub length-each : {X Y : Type 0} (f : ℕ → X → Y) (i : ℕ) (xs : List X) → length (each f i xs) ≡ length xs
-length-each f i [] = refl
-length-each f i (x ∷ xs) = ap suc (length-each f (suc i) xs)
+use Rattle.descriptor_pool.proofs.Each.{changed-elsewhere, changed-here, each-all, each-append, each-map, each-same, each-still, each-twice, length-each, one}
 
 -- a file of those that came, up to one, with the files that it sees
 abbrev up_to : GrowingPool → ℕ → ℕ → FileDescriptorInner → FileDescriptorInner
@@ -124,7 +69,7 @@ module _ (p : GrowingPool) where
   raws-seeing end =
       each-map (λ f. f.raw) (up_to p end) 0 p.inner.files.items
       ∙ each-same (λ n f. (up_to p end n f).raw) (λ _ f. f.raw) 0 p.inner.files.items (λ n f _ _. raw-stays end n f)
-      ∙ sym (each-map (λ f. f.raw) (λ _ f. f) 0 p.inner.files.items) ∙ ap (map (λ f. f.raw)) (each-none 0 p.inner.files.items)
+      ∙ each-all (λ f. f.raw) 0 p.inner.files.items
 
   -- one more file sees
   pub seeing-next : (q : GrowingPool) (k : ℕ) → first_new p ≤ k → contents_in q.inner ≡ record (contents_in p.inner) { files = seeing_up_to p k }
@@ -177,7 +122,7 @@ module _ (p : Contents) (new : List FileDescriptorProto) (r : GrowingPool) (kept
   seen-before : each seen_of 0 p.files ≡ map (λ f. f.transitive_dependencies) p.files
   seen-before =
       each-same seen_of (λ _ f. f.transitive_dependencies) 0 p.files as_it_was
-      ∙ sym (each-map (λ f. f.transitive_dependencies) (λ _ f. f) 0 p.files) ∙ ap (map (λ f. f.transitive_dependencies)) (each-none 0 p.files)
+      ∙ each-all (λ f. f.transitive_dependencies) 0 p.files
     where
       as_it_was : (n : ℕ) (f : FileDescriptorInner) → 0 ≤ n → n < 0 + length p.files → seen_of n f ≡ f.transitive_dependencies
       as_it_was n f from to = let before : nat_le (first_new r) n ≡ false = grind (arith, nat_tests, many) in

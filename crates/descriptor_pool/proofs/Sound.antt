@@ -1,15 +1,18 @@
 -- What is true of all contents that are made: their names, their counts, and their references.
-use Rattle.std.proofs.Common.{Bool, true, false, ◌&&◌, cond, IsOk, arith, ◌≡◌, ℕ, Option, None, Some, IsSome, List, [], ◌∷◌, ◌++◌, ◌+◌, length, map, refl, ap, subst, sym, ◌∙◌}
-use Rattle.std.proofs.lemmas.List.{length-map}
+use Rattle.std.proofs.Common.{Bool, true, false, ◌&&◌, cond, IsOk, arith, ◌≡◌, ◌≤◌, ◌<◌, ℕ, Option, None, Some, IsSome, List, [], ◌∷◌, ◌++◌, ◌+◌, length, drop, map, refl, ap, subst, sym, ◌∙◌}
+use Rattle.std.proofs.lemmas.List.{length-append, length-drop, length-map}
+use Rattle.std.proofs.lemmas.List.Elements.{All-map, All-nil}
 use Rattle.std.specs.FinMap as finite
-use Rattle.std.specs.List.{AllByRecursion, flat_map, list_all}
+use Rattle.std.specs.List.{All, AllByRecursion, flat_map, list_all}
 use Rattle.std.proofs.lemmas.Bool.Decides.{nat_tests}
 use Rattle.std.specs.declared.result.Result.TheVariants.{Err}
 use Rattle.proto_records.specs.declared.counts.Counts.{Counts}
 use Rattle.proto_records.specs.declared.counts.CountKind.TheVariants.{ListTooLong}
+use Rattle.proto_files.specs.declared.file.FileDescriptorProto.{FileDescriptorProto}
 use Rattle.proto_records.specs.Fits.{counts_with}
 use Rattle.proto_records.specs.Walking.{WithinLimits}
-use Rattle.proto_records.specs.Shown.{Shown}
+use Rattle.proto_records.specs.Protos.{as_extension, as_message}
+use Rattle.proto_records.specs.Shown.{Shown, of_kind}
 use Rattle.proto_records.proofs.Changed.{all-fit-changed}
 use Rattle.proto_records.proofs.Listings.{first-true, second-true}
 use Rattle.proto_records.proofs.Room.{room-fits}
@@ -22,14 +25,17 @@ use Rattle.proto_records.specs.Declarations.{declarations}
 use Rattle.name_tables.specs.Entries.{Entry, first_of, names, names_with}
 use Rattle.name_tables.specs.NameTables.{AllBefore, FileNamesBefore}
 use Rattle.name_tables.proofs.Entries.{get-with, with-names}
+use Rattle.link_rules.specs.Items.{extension_item, message_item}
 use Rattle.link_rules.specs.Linked.{linking}
+use Rattle.link_rules.specs.Short.{ShortFiles}
 use Rattle.descriptor_pool.specs.Entered.{entries, file_entries}
-use Rattle.descriptor_pool.specs.Invariant.{IsPool, NamesLieIn}
+use Rattle.descriptor_pool.specs.Invariant.{IsPool, ListsLieIn, NamesLieIn}
 use Rattle.descriptor_pool.specs.Pool.{Batch, Made, empty, linked_to, Fits, new_files, faults_of_references, link}
-use Rattle.descriptor_pool.specs.Behind.{declared_behind, setting_behind, with_names}
+use Rattle.descriptor_pool.specs.Behind.{declared_behind, setting_behind, with_items, with_names}
 use Rattle.descriptor_pool.specs.References.{Reference, references_in, AllResolved}
-use Rattle.descriptor_pool.proofs.Declared.{known_names, known_file_names, declared-linked, names-linked, file-names-linked, counts-linked}
+use Rattle.descriptor_pool.proofs.Declared.{known_names, known_file_names, declared-behind, declared-linked, names-linked, file-names-linked, counts-linked}
 use Rattle.descriptor_pool.proofs.Files.{names-before, file-names-before}
+use Rattle.descriptor_pool.proofs.Listed.{counts-extended, lists-append, lists-extended}
 use Rattle.descriptor_pool.proofs.Resolved.{Names, AllNamed, named-append, linked-resolved}
 
 some-first : (a b : Option Definition) → IsSome a → IsSome (option_or a b)
@@ -50,17 +56,31 @@ both-fit (d ∷ ds) es first second =
     let rest = list_all (λ e. lists_fit e.proto) ds in
     λ i. first-true (lists_fit d.proto) rest first i && both-fit ds es (second-true (lists_fit d.proto) rest first) second i
 
--- the names are those that the files enter, the counts those of what they declare, no list of theirs is too long, and each
--- reference names its definition
+-- the names are those that the files enter, the counts those of what they declare, no list of theirs is too long, each
+-- reference names its definition, and what messages list are extensions
 pub record Sound (p : Contents) : Type 0 where
   pub names_are : p.names ≡ names (known_names p)
   pub file_names_are : p.file_names ≡ names (known_file_names p)
   pub counts_are : counts_in p ≡ counted no_counts (declarations no_counts (files_of p))
   pub short : list_all (λ d. lists_fit d.proto) (declarations no_counts (files_of p)) ≡ true
   pub resolved : AllResolved p
+  pub lists_lie : ListsLieIn p
 
 nothing-sound : Sound no_contents
-nothing-sound = record { names_are = refl; file_names_are = refl; counts_are = refl; short = refl; resolved = tt }
+nothing-sound = record { names_are = refl; file_names_are = refl; counts_are = refl; short = refl; resolved = tt; lists_lie = All-nil (λ m. All (λ extension. extension < 0) m.extensions) }
+
+-- new messages list nothing by themselves, and of the new extensions those that extend them
+link-lists : (q : Contents) (batch : Batch) → ListsLieIn q → ListsLieIn (link q batch)
+link-lists q batch lists =
+    let new = new_files q batch in
+    let ds = declared_behind q new in
+    let items = with_items (with_names q ds) (setting_behind q new) ds in
+    let first = length q.extensions in
+    let end = length items.extensions in
+    let more : first ≤ end = omega (arith, length-append q.extensions (map (λ e. extension_item (setting_behind q new) e.0 e.1) (of_kind as_extension ds))) in
+    lists-extended end first (drop first items.extensions) items.messages (omega (arith, more, length-drop first items.extensions))
+    (lists-append first end q.messages _ more lists (All-map (λ m. All (λ extension. extension < end) m.extensions)
+    (λ e. message_item (setting_behind q new) e.0 e.1) (of_kind as_message ds) (λ _ _ _. All-nil (λ extension. extension < end))))
 
 link-sound : (q : Contents) (batch : Batch) → Sound q → faults_of_references q batch ≡ [] → Fits q batch → Sound (link q batch)
 link-sound q batch sound none fits =
@@ -75,12 +95,13 @@ link-sound q batch sound none fits =
           ∙ ap names (sym (names-linked named new sound.counts_are s));
       file_names_are = ap (λ known. names_with known (file_entries ds)) sound.file_names_are ∙ with-names (known_file_names q) (file_entries ds)
           ∙ ap names (sym (file-names-linked named new sound.counts_are s));
-      counts_are = counts-linked named new sound.counts_are s;
+      counts_are = counts-extended (length q.extensions) (with_items named s ds) ∙ counts-linked named new sound.counts_are s;
       short = ap (list_all (λ d. lists_fit d.proto)) (declared-linked named new sound.counts_are s)
           ∙ both-fit (declarations no_counts (files_of q)) (map (changed (linking s)) ds) sound.short
           (all-fit-changed (linking s) ds ∙ (room-fits (counts_in q) new fits).short);
       resolved = subst (AllNamed s.names) (sym (declared-linked named new sound.counts_are s))
           (named-append s.names (declarations no_counts (files_of q)) (map (changed (linking s)) ds) earlier (linked-resolved s ds none));
+      lists_lie = link-lists q batch sound.lists_lie;
     }
 
 pub made-sound : (p : Contents) → Made p → Sound p
@@ -96,6 +117,17 @@ names_lie p pool =
       subst (λ n. AllBefore n p.names) many (subst (AllBefore (0 + length (files_of p))) (sym sound.names_are) (names-before no_counts (files_of p))),
       subst (λ n. FileNamesBefore n p.file_names) many (subst (FileNamesBefore (0 + length (files_of p))) (sym sound.file_names_are) (file-names-before no_counts (files_of p))),
     )
+
+-- and what its messages list are its extensions
+pub lists_lie : (p : Contents) → IsPool p → ListsLieIn p
+lists_lie p pool = (made-sound p pool.made).lists_lie
+
+-- no list of the files of a pool is too long, nor of files behind them that fit
+pub short-behind : (p : Contents) → IsPool p → (new : List FileDescriptorProto) → IsOk (counts_with (counts_in p) new) → ShortFiles (files_of p ++ new)
+short-behind p pool new fits =
+    let sound = made-sound p pool.made in
+    ap (list_all (λ d. lists_fit d.proto)) (declared-behind p new sound.counts_are new)
+    ∙ both-fit (declarations no_counts (files_of p)) (declarations (counts_in p) new) sound.short (room-fits (counts_in p) new fits).short
 
 pub all_resolved : (p : Contents) → IsPool p → AllResolved p
 all_resolved p pool = (made-sound p pool.made).resolved

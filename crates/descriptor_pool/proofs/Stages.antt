@@ -1,5 +1,6 @@
--- New files that are linked stage by stage: their records are put behind a pool's, their names are entered, and their items made.
-use Rattle.std.proofs.Common.{◌≡◌, rules, true, false, List, [], ◌∷◌, ◌++◌, Result, Ok, Err, map, ap, ◌∙◌}
+-- New files that are linked stage by stage: their records are put behind a pool's, their names are entered, their items made,
+-- and their extensions put into the lists of messages.
+use Rattle.std.proofs.Common.{◌≡◌, rules, true, false, List, [], ◌∷◌, ◌++◌, Result, Ok, Err, length, map, ap, sym, ◌∙◌}
 use Rattle.std.specs.Result.{is_err}
 use Rattle.proto_files.specs.declared.file.FileDescriptorProto.{FileDescriptorProto}
 use Rattle.pool_types.specs.Contents.{Contents, files_of}
@@ -11,8 +12,9 @@ use Rattle.descriptor_pool.specs.declared.build.growing.GrowingPool.{GrowingPool
 use Rattle.descriptor_pool.specs.declared.error.BuildError.{BuildError}
 use Rattle.descriptor_pool.specs.declared.error.BuildError.TheVariants.{TooMany, Descriptor, OutOfMemory}
 use Rattle.descriptor_pool.specs.Behind.{names_behind, references_behind, first_of_both, setting_behind, linked_behind, with_items, with_names}
+use Rattle.descriptor_pool.specs.Extended.{with_extended}
 use Rattle.descriptor_pool.specs.FirstPass.{first_pass}
-use Rattle.descriptor_pool.specs.Growing.{before_items, files_seeing, kept_in}
+use Rattle.descriptor_pool.specs.Growing.{before_items, files_seeing, first_extension, kept_in}
 use Rattle.descriptor_pool.specs.Invariant.{contents_in}
 use Rattle.descriptor_pool.specs.Passes.{TellsAll, TellsFaults}
 use Rattle.descriptor_pool.specs.Seen.{setting_with}
@@ -68,5 +70,10 @@ module _ (p q : Contents) (base : Counts) (new : List FileDescriptorProto) (base
     items_before : before_items t ≡ with_names p (declarations (counts_in p) new)
     items_before = λ i. record ((seen ∙ (λ j. record (named_is j) { files = files_seeing r })) i) { files = ap (λ (x : Contents). x.files) (still ∙ kept) i }
 
-    pub linked_is : with_items (before_items t) (setting_with t.inner) (declarations base new) ≡ linked_behind p new
-    linked_is = λ i. with_items (items_before i) (setting_is i) (declarations (base_is i) new)
+    pub base_before : base ≡ counts_in (before_items t)
+    base_before = base_is ∙ sym (ap counts_in items_before)
+
+    pub linked_is : with_extended (first_extension t) (with_items (before_items t) (setting_with t.inner) (declarations base new)) ≡ linked_behind p new
+    linked_is =
+        let first : first_extension t ≡ length p.extensions = ap (λ (x : Contents). length x.extensions) (still ∙ kept) in
+        λ i. with_extended (first i) (with_items (items_before i) (setting_is i) (declarations (base_is i) new))

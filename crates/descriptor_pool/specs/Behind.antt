@@ -16,6 +16,7 @@ use Rattle.enum_rules.specs.Items.{enum_item}
 use Rattle.link_rules.specs.Items.{file_item, message_item, service_item, extension_item}
 use Rattle.link_rules.specs.Setting.{Setting}
 use Rattle.descriptor_pool.specs.Entered.{entries, file_entries}
+use Rattle.descriptor_pool.specs.Extended.{with_extended}
 use Rattle.descriptor_pool.specs.FirstPass.{first_pass}
 
 -- numbered on from the pool's counts
@@ -62,9 +63,11 @@ with_items p s ds = record p {
   messages = p.messages ++ map (λ e. message_item s e.0 e.1) (of_kind as_message ds);
   enums = p.enums ++ map (λ e. enum_item e.0 e.1) (of_kind as_enum ds);
   services = p.services ++ map (λ e. service_item s e.0 e.1) (of_kind as_service ds);
-  extensions = p.extensions ++ map (λ e. extension_item e.0) (of_kind as_extension ds);
+  extensions = p.extensions ++ map (λ e. extension_item s e.0 e.1) (of_kind as_extension ds);
 }
 
--- the pool with the new files: their names, and their items
+-- the pool with the new files: their names, their items, and their extensions in the lists of messages
 abbrev pub linked_behind : Contents → List FileDescriptorProto → Contents
-linked_behind p new = with_items (with_names p (declared_behind p new)) (setting_behind p new) (declared_behind p new)
+linked_behind p new =
+    let ds = declared_behind p new in
+    with_extended (length p.extensions) (with_items (with_names p ds) (setting_behind p new) ds)

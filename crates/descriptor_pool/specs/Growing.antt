@@ -1,19 +1,21 @@
 -- A pool while a batch is linked into it.
-use Rattle.std.specs.Prelude.{ℕ, ◌==◌, nat_le, List, length, take, if◌then◌else◌}
+use Rattle.std.specs.Prelude.{ℕ, ◌==◌, nat_le, List, [], ◌∷◌, ◌++◌, length, map, take, if◌then◌else◌}
 use Rattle.std.specs.FinMap as finite
 use Rattle.pool_types.specs.Contents.{Contents, files_of}
 use Rattle.pool_types.specs.declared.contents.file.FileDescriptorInner.{FileDescriptorInner}
+use Rattle.pool_types.specs.declared.contents.message.MessageDescriptorInner.{MessageDescriptorInner}
 use Rattle.file_visibility.specs.Visibility.{seen_from}
 use Rattle.places.specs.Each.{each}
 use Rattle.name_tables.specs.NameTables.{without_files_from, file_names_before}
 use Rattle.descriptor_pool.specs.declared.build.growing.GrowingPool.{GrowingPool}
+use Rattle.descriptor_pool.specs.Extended.{cut}
 use Rattle.descriptor_pool.specs.Invariant.{contents_in}
 
--- what a roll-back leaves: all that was there before
+-- what a roll-back leaves: all that was there before, and no extension that came in the lists of messages
 abbrev pub kept_in : GrowingPool → Contents
 kept_in p = record {
   files = take p.base.files p.inner.files.items;
-  messages = take p.base.messages p.inner.messages.items;
+  messages = map (cut p.base.extensions) (take p.base.messages p.inner.messages.items);
   enums = take p.base.enums p.inner.enums.items;
   services = take p.base.services p.inner.services.items;
   extensions = take p.base.extensions p.inner.extensions.items;
@@ -24,6 +26,19 @@ kept_in p = record {
 -- the index of the first file that came
 abbrev pub first_new : GrowingPool → ℕ
 first_new p = length (kept_in p).files
+
+-- the index of the first extension that came
+abbrev pub first_extension : GrowingPool → ℕ
+first_extension p = length (kept_in p).extensions
+
+-- a message with one more extension behind the others
+abbrev pub with_extension : ℕ → MessageDescriptorInner → MessageDescriptorInner
+with_extension extension m = record m { extensions = m.extensions ++ extension ∷ [] }
+
+-- all messages, where the one with an index has one more extension
+abbrev pub message_extended : GrowingPool → ℕ → ℕ → List MessageDescriptorInner
+message_extended p message extension =
+    each (λ n m. if n == message then with_extension extension m else m) 0 p.inner.messages.items
 
 -- a file with the files that it sees
 abbrev pub seeing : List ℕ → FileDescriptorInner → FileDescriptorInner

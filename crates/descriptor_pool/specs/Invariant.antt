@@ -1,5 +1,6 @@
 -- What a pool holds, as its contents, and what is true of that.
-use Rattle.std.specs.Prelude.{◌≡◌, length}
+use Rattle.std.specs.Prelude.{◌≡◌, ◌<◌, length}
+use Rattle.std.specs.List.{All}
 use Rattle.proto_records.specs.Counts.{no_counts, counted, counts_in}
 use Rattle.proto_records.specs.Declarations.{declarations}
 use Rattle.proto_records.specs.Walking.{WithinLimits}
@@ -23,6 +24,10 @@ contents_in p = record {
 -- what names mean lies in the pool's files
 abbrev pub NamesLieIn : Contents → Type 0
 NamesLieIn p = AllBefore (length p.files) p.names × FileNamesBefore (length p.files) p.file_names
+
+-- what messages list are indexes of the pool's extensions
+abbrev pub ListsLieIn : Contents → Type 0
+ListsLieIn p = All (λ m. All (λ extension. extension < length p.extensions) m.extensions) p.messages
 
 -- the contents are made, their counts are those of what the files declare and are within the limits, and each name begins
 -- where a character begins

@@ -1,4 +1,5 @@
 pub mod Entered
+pub mod Extended
 pub mod FirstPass
 pub mod Pool
 pub mod Passes
@@ -9,3 +10,4 @@ pub mod Behind
 pub mod Outcome
 pub mod LookUps
 pub mod References
+pub mod Equality

@@ -101,7 +101,10 @@ referred seen d = elim d.proto [
     pool = record seen.pool { services = seen.pool.services ++ service_item seen.setting d s ∷ [] };
     faults = seen.faults ++ owner_faults seen.setting d;
   }
-  | of_extension _ ↦ record seen { pool = record seen.pool { extensions = seen.pool.extensions ++ extension_item d ∷ [] } }
+  | of_extension x ↦ record seen {
+    pool = record seen.pool { extensions = seen.pool.extensions ++ extension_item seen.setting d x ∷ [] };
+    faults = seen.faults ++ owner_faults seen.setting d;
+  }
   | _ ↦ seen
 ]
 

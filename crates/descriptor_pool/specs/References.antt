@@ -1,4 +1,5 @@
--- The references in the linked files of a pool: the type names of fields, and what methods take and give.
+-- The references in the linked files of a pool: the type names of fields and of extensions, the messages that extensions
+-- extend, and what methods take and give.
 use Rattle.std.specs.Prelude.{◌≡◌, ℕ, List, [], ◌∷◌, IsSome, codes}
 use Rattle.std.specs.FinMap as finite
 use Rattle.std.specs.List.{AllByRecursion, flat_map}
@@ -6,7 +7,7 @@ use Rattle.proto_files.specs.declared.file.FileDescriptorProto.{FileDescriptorPr
 use Rattle.proto_types.specs.Readers.{text_of}
 use Rattle.proto_records.specs.Counts.{no_counts}
 use Rattle.proto_records.specs.Declarations.{declarations}
-use Rattle.proto_records.specs.Protos.{of_field, of_method}
+use Rattle.proto_records.specs.Protos.{of_field, of_method, of_extension}
 use Rattle.proto_records.specs.Shown.{Shown}
 use Rattle.pool_types.specs.Contents.{Contents, files_of}
 
@@ -25,11 +26,12 @@ abbrev pub reference_in : Shown → List ℕ → List ℕ → List Reference
 reference_in d part [] = []
 reference_in d part (c ∷ cs) = reference d part (c ∷ cs) ∷ []
 
--- of a field its type name, and of a method its input before its output
+-- of a field its type name, of an extension its extendee before its type name, and of a method its input before its output
 abbrev pub references_in : Shown → List Reference
 references_in d = elim d.proto [
   | of_field f ↦ reference_in d (codes "type_name") (text_of f.type_name)
   | of_method m ↦ reference d (codes "input_type") (text_of m.input_type) ∷ reference d (codes "output_type") (text_of m.output_type) ∷ []
+  | of_extension x ↦ reference d (codes "extendee") (text_of x.extendee) ∷ reference_in d (codes "type_name") (text_of x.type_name)
   | _ ↦ []
 ]
 

@@ -1,6 +1,6 @@
 //! How a batch is linked: the two passes over its declarations, and the roll-back.
 
-ghost use Rattle.std.specs.Prelude.{◌≡◌, ◌++◌, [], IsOk, IfOk, IfErr, OnOk, OnErr, MatchResult, map};
+ghost use Rattle.std.specs.Prelude.{◌≡◌, ◌<◌, ◌^◌, ◌++◌, [], length, IsOk, IfOk, IfErr, OnOk, OnErr, MatchResult, map};
 ghost use Rattle.std.specs.List.{fold};
 ghost use Rattle.pool_types.specs.Contents.{files_of};
 ghost use Rattle.proto_records.specs.Counts.{counts_in};
@@ -8,11 +8,13 @@ ghost use Rattle.proto_records.specs.Fits.{counts_with};
 ghost use Rattle.proto_records.specs.Declarations.{declarations};
 ghost use Rattle.link_rules.specs.Broken.{second_pass};
 ghost use Rattle.link_rules.specs.NamesBegin.{NamesBegin};
+ghost use Rattle.link_rules.specs.Short.{ShortFiles};
 ghost use Rattle.descriptor_pool.specs.declared.error.BuildError.TheVariants.{OutOfMemory};
 ghost use Rattle.descriptor_pool.specs.Behind.{faults_behind, linked_behind, with_items, with_names};
+ghost use Rattle.descriptor_pool.specs.Extended.{with_extended};
 ghost use Rattle.descriptor_pool.specs.FirstPass.{first_pass};
-ghost use Rattle.descriptor_pool.specs.Growing.{first_new, kept_in, before_items};
-ghost use Rattle.descriptor_pool.specs.Invariant.{contents_in, NamesLieIn};
+ghost use Rattle.descriptor_pool.specs.Growing.{first_extension, first_new, kept_in, before_items};
+ghost use Rattle.descriptor_pool.specs.Invariant.{contents_in, ListsLieIn, NamesLieIn};
 ghost use Rattle.descriptor_pool.specs.Passes.{TellsAll, TellsFaults, named, names_progress, referred, references_progress};
 ghost use Rattle.descriptor_pool.specs.Seen.{names_seen, references_seen, setting_with};
 
@@ -46,7 +48,9 @@ pub(crate) fn link(
     requires base { base ≡ counts_in (contents_in pool.old) }
     requires counts { IsOk (counts_with base new.now) }
     requires before { NamesLieIn (contents_in pool.old) }
+    requires lists { ListsLieIn (contents_in pool.old) }
     requires names { NamesBegin pool.old.messages.items }
+    requires short { ShortFiles (files_of (contents_in pool.old) ++ new.now) }
     ensures ok { OnOk result (contents_in pool.new ≡ linked_behind (contents_in pool.old) new.now) }
     ensures faults { TellsAll result (faults_behind (contents_in pool.old) new.now) }
     ensures err { OnErr result (contents_in pool.new ≡ contents_in pool.old) }
@@ -55,7 +59,7 @@ pub(crate) fn link(
     let before = mem::replace(pool, DescriptorPoolInner::new(alloc));
     let (mut growing, linked) = link_behind(alloc, GrowingPool::new(base, before), new);
     if linked.is_err() {
-        growing.rollback();
+        growing.rollback(alloc);
     }
     let GrowingPool { inner, .. } = growing;
     *pool = inner;
@@ -74,6 +78,7 @@ fn link_behind(
     requires whole { kept_in pool ≡ contents_in pool.inner }
     requires before { NamesLieIn (contents_in pool.inner) }
     requires names { NamesBegin pool.inner.messages.items }
+    requires short { ShortFiles (files_of (contents_in pool.inner) ++ new.now) }
     ensures ok { OnOk result.1 (contents_in result.0.inner
         ≡ linked_behind (contents_in pool.inner) new.now) }
     ensures faults { TellsAll result.1 (faults_behind (contents_in pool.inner) new.now) }
@@ -174,7 +179,8 @@ fn show_names(
 }
 
 /// The second pass: it puts the items of new files into the pool, which has their records and
-/// names, or tells all faults of imports, numbers and references.
+/// names, and their extensions into the lists of messages, or tells all faults of imports, numbers
+/// and references.
 fn make_items(
     alloc: Global,
     base: Counts,
@@ -182,9 +188,12 @@ fn make_items(
     new: &[FileDescriptorProto],
 ) -> (GrowingPool, Result<(), BuildError>)
     requires counts { IsOk (counts_with base new.now) }
+    requires before { base ≡ counts_in (before_items pool) }
     requires names { NamesBegin pool.inner.messages.items }
+    requires short { ShortFiles (files_of (contents_in pool.inner)) }
     ensures made { OnOk result.1 (contents_in result.0.inner
-        ≡ with_items (before_items pool) (setting_with pool.inner) (declarations base new.now)) }
+        ≡ with_extended (first_extension pool)
+        (with_items (before_items pool) (setting_with pool.inner) (declarations base new.now))) }
     ensures faults { TellsAll result.1
         (second_pass (setting_with pool.inner) (declarations base new.now)) }
     ensures kept { OnErr result.1 (kept_in result.0 ≡ kept_in pool) }
@@ -207,20 +216,23 @@ fn make_items(
     (pool, linked)
 }
 
-/// Replaces the records of new files by the linked ones, unless the pass was refused.
+/// Puts the extensions that came into the lists of messages, and replaces the records of new files
+/// by the linked ones, unless the pass was refused.
 fn put_linked(
     pool: &mut GrowingPool,
     passed: Result<(), BuildError>,
     files: Vec<FileDescriptorInner>,
 ) -> Result<(), BuildError>
+    requires few { OnOk passed (length pool.old.inner.extensions.items < 2 ^ 32) }
     ensures ok { OnOk result (IsOk passed × (contents_in pool.new.inner
-        ≡ record (contents_in pool.old.inner)
+        ≡ record (with_extended (first_extension pool.old) (contents_in pool.old.inner))
         { files = (kept_in pool.old).files ++ files.items })) }
     ensures err { IfErr result (λ error.
         MatchResult passed (λ _. error ≡ OutOfMemory) (λ told. error ≡ told)) }
     ensures kept { OnErr result (kept_in pool.new ≡ kept_in pool.old) }
 {
     passed?;
+    pool.extend_messages()?;
     pool.put_files(files)?;
     Ok(())
 }

@@ -2,9 +2,12 @@
 #![tactic(auto)]
 
 mod build;
+mod copy;
 mod error;
+mod exact;
 mod inner;
 mod pool;
+mod same;
 
 pub use build::{NameVisitor, ResolveVisitor};
 pub use error::BuildError;

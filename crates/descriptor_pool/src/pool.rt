@@ -9,10 +9,12 @@ use crate::build::link;
 use crate::error::BuildError;
 use crate::inner::DescriptorPoolInner;
 use name_tables::{FileNames, NameTable};
-use pool_kinds::{EnumDescriptor, FileDescriptor, MessageDescriptor, ServiceDescriptor};
+use pool_kinds::{
+    EnumDescriptor, ExtensionDescriptor, FileDescriptor, MessageDescriptor, ServiceDescriptor,
+};
 use pool_types::{
-    Definition, EnumDescriptorInner, FileDescriptorInner, MessageDescriptorInner,
-    ServiceDescriptorInner,
+    Definition, EnumDescriptorInner, ExtensionDescriptorInner, FileDescriptorInner,
+    MessageDescriptorInner, ServiceDescriptorInner,
 };
 use proto_files::FileDescriptorProto;
 use proto_records::Counts;
@@ -61,6 +63,21 @@ impl DescriptorPool {
         }
     }
 
+    /// A pool with equal contents. The two share nothing, so a later change of the one leaves the
+    /// other as it was.
+    ///
+    /// # Errors
+    /// `AllocError` where memory was refused.
+    pub fn clone(&self) -> Result<DescriptorPool, AllocError>
+        ensures { IfOk result (λ copy. copy ≡ self.now) }
+    {
+        let inner = self.inner.clone(self.alloc)?;
+        Ok(DescriptorPool {
+            alloc: self.alloc,
+            inner,
+        })
+    }
+
     /// What the pool has under a full name, which may have one leading dot.
     pub fn get_by_name(&self, name: &str) -> Option<&Definition>
         ensures { option_copied result ≡ definition_named self.now name.now }
@@ -89,6 +106,13 @@ impl DescriptorPool {
         ensures { option_copied result ≡ slice_get self.now.enums enumeration.index }
     {
         self.inner.enums.get(enumeration.index() as usize)
+    }
+
+    /// The extension with an index, or none past the end.
+    pub fn extension(&self, extension: ExtensionDescriptor) -> Option<&ExtensionDescriptorInner>
+        ensures { option_copied result ≡ slice_get self.now.extensions extension.index }
+    {
+        self.inner.extensions.get(extension.index() as usize)
     }
 
     /// The service with an index, or none past the end.
@@ -148,6 +172,19 @@ impl DescriptorPool {
             return Err(BuildError::TooMany(kind));
         }
         link(self.alloc, base, &mut self.inner, &files)
+    }
+}
+
+/// Two pools are equal where their contents are.
+impl PartialEq for DescriptorPool {
+    ghost use Rattle.descriptor_pool.specs.Equality.{contents_eq, contents-per};
+
+    ghost eq = { contents_eq };
+
+    ghost laws = { contents-per };
+
+    fn eq(&self, other: &DescriptorPool) -> bool {
+        self.inner.same(&other.inner)
     }
 }
 

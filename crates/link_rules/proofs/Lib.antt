@@ -1,3 +1,4 @@
 pub mod Entries
-pub mod Unchanged
+pub mod Made
+pub mod Found
 pub mod Owners

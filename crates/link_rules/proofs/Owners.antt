@@ -69,14 +69,13 @@ module _ (s : Setting) where
   same-append ds es first second before =
       after-append (second_faults s) before ds es ∙ (λ i. first before i ++ second (before ++ ds) i) ∙ sym (flat_map-append (owner_faults s) ds es)
 
-  -- what breaks nothing in either
-  row-none : {X : Type 0} (of : X → Proto) → ((before : List Shown) (d : Shown) (x : X) → second_faults s before (record d { proto = of x }) ≡ [])
-      → ((d : Shown) (x : X) → owner_faults s (record d { proto = of x }) ≡ [])
+  -- what is told of each by itself
+  row-same : {X : Type 0} (of : X → Proto) → ((before : List Shown) (d : Shown) (x : X) → second_faults s before (record d { proto = of x }) ≡ owner_faults s (record d { proto = of x }))
       → (here : Surrounding) (tag : ℤ) (i n : ℕ) (xs : List X) → Same (row of here tag i n xs)
-  row-none of first second here tag i n [] = λ _. refl
-  row-none of first second here tag i n (x ∷ xs) = λ before.
+  row-same of same here tag i n [] = λ _. refl
+  row-same of same here tag i n (x ∷ xs) = λ before.
       let d = shown here tag i n (of x) in
-      λ j. (first before d x ∙ sym (second d x)) j ++ row-none of first second here tag (suc i) (suc n) xs (before ++ d ∷ []) j
+      λ j. same before d x j ++ row-same of same here tag (suc i) (suc n) xs (before ++ d ∷ []) j
 
   -- what the owner tells of its parts, and what is left for these
   silent : {X : Type 0} (of : X → Proto) → ((d : Shown) (x : X) → owner_faults s (record d { proto = of x }) ≡ [])
@@ -128,7 +127,7 @@ module _ (s : Setting) where
       same-append (service_walk here i n v) (services_walk here (suc i) (suc n) vs) (service-same here i n v) (services-same here (suc i) (suc n) vs)
 
   extensions-same : (here : Surrounding) (tag : ℤ) (i n : ℕ) (xs : List FieldDescriptorProto) → Same (row of_extension here tag i n xs)
-  extensions-same here tag i n xs = row-none of_extension (λ _ _ _. refl) (λ _ _. refl) here tag i n xs
+  extensions-same here tag i n xs = row-same of_extension (λ _ _ _. refl) here tag i n xs
 
   end-same : (here : Surrounding) (after : Counts) (enums : List EnumDescriptorProto) (extensions : List FieldDescriptorProto)
       → Same (message_end here after enums extensions)

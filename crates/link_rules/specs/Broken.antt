@@ -1,4 +1,4 @@
--- What a declaration breaks in the second pass: rules of imports, of fields, of values and of methods.
+-- What a declaration breaks in the second pass: rules of imports, of fields, of extensions, of values and of methods.
 use Rattle.std.specs.Prelude.{List, [], ◌∷◌, ◌++◌, take, unwrap_or}
 use Rattle.std.specs.List.{flat_map}
 use Rattle.std.specs.declared.option.Option.{Option}
@@ -14,7 +14,7 @@ use Rattle.pool_faults.specs.declared.fault.DescriptorErrorKind.{DescriptorError
 use Rattle.proto_types.specs.Empty.{no_enum}
 use Rattle.proto_types.specs.Lists.{flat_map_after, listed}
 use Rattle.proto_types.specs.Readers.{text_of}
-use Rattle.proto_records.specs.Protos.{of_file, of_message, of_field, of_service, of_method, of_enum, of_value, as_message, as_enum}
+use Rattle.proto_records.specs.Protos.{of_file, of_message, of_field, of_service, of_method, of_enum, of_value, of_extension, as_message, as_enum}
 use Rattle.proto_records.specs.Shown.{Shown, Surrounding, inside, of_kind}
 use Rattle.pool_parts.specs.References.{reference_fault}
 use Rattle.number_rules.specs.Numbers.{field_number_faults}
@@ -22,9 +22,11 @@ use Rattle.field_rules.specs.Again.{again_faults}
 use Rattle.field_rules.specs.Oneofs.{oneof_faults}
 use Rattle.enum_rules.specs.Values.{value_faults, values_faults}
 use Rattle.places.specs.Each.{each}
+use Rattle.link_rules.specs.Defaults.{field_default_faults}
+use Rattle.link_rules.specs.Extensions.{extendee_faults, number_faults}
 use Rattle.link_rules.specs.FieldTypes.{type_faults}
 use Rattle.link_rules.specs.Imports.{import_faults}
-use Rattle.link_rules.specs.Methods.{method_at, method_meaning}
+use Rattle.link_rules.specs.Messages.{method_at, message_meaning}
 use Rattle.places.specs.Places.{field_at}
 use Rattle.link_rules.specs.Setting.{Setting}
 
@@ -35,10 +37,11 @@ Faults = List DescriptorErrorKind
 abbrev pub Owner : Type 0
 Owner = Shown × DescriptorProto
 
--- of a field of a message by itself: its number, its type, its oneof
+-- of a field of a message by itself: its number, its type, its default value, its oneof
 abbrev pub own_faults : Setting → Owner → Shown → FieldDescriptorProto → Faults
 own_faults s owner d f =
-    field_number_faults s.files owner.0 owner.1 d f ++ type_faults s d f ++ oneof_faults (out-DescriptorProto owner.1).oneof_decl f
+    field_number_faults s.files owner.0 owner.1 d f ++ type_faults s d f ++ field_default_faults s d f
+    ++ oneof_faults (out-DescriptorProto owner.1).oneof_decl f
 
 -- and that a field before it has its number, or its JSON name
 abbrev pub field_faults : Setting → Owner → Shown → FieldDescriptorProto → Faults
@@ -46,11 +49,16 @@ field_faults s owner d f =
     own_faults s owner d f
     ++ again_faults s.files owner.0.file owner.0.path (take d.index (out-DescriptorProto owner.1).field) d.index f
 
+-- of an extension: its extendee, its number by that, its type, its default value
+abbrev pub extension_faults : Setting → Shown → FieldDescriptorProto → Faults
+extension_faults s d x =
+    extendee_faults s d x ++ number_faults s d x (message_meaning s d x.extendee) ++ type_faults s d x ++ field_default_faults s d x
+
 -- of an input, then of an output, that isn't found
 abbrev pub method_faults : Setting → Shown → MethodDescriptorProto → Faults
 method_faults s d m =
-    listed (reference_fault s.files (text_of m.input_type) d.file (d.path ++ method.INPUT_TYPE ∷ []) (method_meaning s d m.input_type))
-    ++ listed (reference_fault s.files (text_of m.output_type) d.file (d.path ++ method.OUTPUT_TYPE ∷ []) (method_meaning s d m.output_type))
+    listed (reference_fault s.files (text_of m.input_type) d.file (d.path ++ method.INPUT_TYPE ∷ []) (message_meaning s d m.input_type))
+    ++ listed (reference_fault s.files (text_of m.output_type) d.file (d.path ++ method.OUTPUT_TYPE ∷ []) (message_meaning s d m.output_type))
 
 -- the last of a list
 abbrev pub last : {X : Type 0} → List X → Option X
@@ -72,6 +80,7 @@ second_faults s earlier d = elim d.proto [
   | of_field f ↦ field_faults s (message_of earlier d) d f
   | of_value v ↦ let owner = enum_of earlier d in value_faults s.files owner.0 owner.1 d.index v
   | of_method m ↦ method_faults s d m
+  | of_extension x ↦ extension_faults s d x
   | _ ↦ []
 ]
 
@@ -101,5 +110,6 @@ owner_faults s d = elim d.proto [
   | of_message m ↦ message_faults s d m
   | of_service v ↦ service_faults s d v
   | of_enum e ↦ values_faults s.files d e
+  | of_extension x ↦ extension_faults s d x
   | _ ↦ []
 ]

@@ -1,5 +1,5 @@
 -- The records that a pool holds of files, messages, services and extensions.
-use Rattle.std.specs.Prelude.{ℕ, List, unwrap_or}
+use Rattle.std.specs.Prelude.{ℕ, List, [], ◌∷◌, ◌++◌, unwrap_or}
 use Rattle.std.specs.FinMap as finite
 use Rattle.std.specs.List.{filter_map}
 use Rattle.proto_types.specs.declared.tag.message.TheConstants as message
@@ -10,6 +10,8 @@ use Rattle.pool_types.specs.declared.contents.message.MessageDescriptorInner.{Me
 use Rattle.pool_types.specs.declared.contents.oneof.OneofDescriptorInner.{OneofDescriptorInner}
 use Rattle.pool_types.specs.declared.contents.service.ServiceDescriptorInner.{ServiceDescriptorInner}
 use Rattle.pool_types.specs.declared.contents.service.MethodDescriptorInner.{MethodDescriptorInner}
+use Rattle.std.specs.declared.option.Option.{Option}
+use Rattle.pool_kinds.specs.declared.default_value.DefaultValue.{DefaultValue}
 use Rattle.pool_kinds.specs.declared.kinds.KindIndex.{KindIndex}
 use Rattle.pool_kinds.specs.declared.kinds.KindIndex.TheVariants.{Double}
 use Rattle.proto_types.specs.declared.records.field.FieldDescriptorProto.{FieldDescriptorProto}
@@ -19,6 +21,7 @@ use Rattle.proto_files.specs.declared.file.FileDescriptorProto.{FileDescriptorPr
 use Rattle.proto_files.specs.declared.message.DescriptorProto.{DescriptorProto, out-DescriptorProto}
 use Rattle.proto_files.specs.declared.message.OneofDescriptorProto.{OneofDescriptorProto}
 use Rattle.proto_types.specs.Readers.{number_of, label_of}
+use Rattle.link_rules.specs.Defaults.{field_default}
 use Rattle.proto_records.specs.Protos.{of_oneof}
 use Rattle.proto_records.specs.Shown.{Shown, Surrounding, inside}
 use Rattle.pool_parts.specs.Kinds.{cardinality_of}
@@ -31,7 +34,7 @@ use Rattle.places.specs.Each.{each}
 use Rattle.places.specs.Identities.{identity}
 use Rattle.link_rules.specs.FieldTypes.{field_kind}
 use Rattle.link_rules.specs.Linked.{linked}
-use Rattle.link_rules.specs.Methods.{message_found, or_missing, method_at, method_meaning}
+use Rattle.link_rules.specs.Messages.{message_found, or_missing, method_at, message_meaning}
 use Rattle.places.specs.Places.{field_at, part_inside}
 use Rattle.link_rules.specs.Setting.{Setting, seen_by}
 
@@ -44,9 +47,9 @@ file_item s index f = record {
   transitive_dependencies = seen_by s index;
 }
 
--- a field whose type is of a kind, among the oneofs of its message
-abbrev pub item_of_kind : Setting → List OneofDescriptorProto → Shown → FieldDescriptorProto → KindIndex → FieldDescriptorInner
-item_of_kind s oneofs d f kind = record {
+-- a field whose type is of a kind, with a default value, among the oneofs of its message
+abbrev pub item_of_kind : Setting → List OneofDescriptorProto → Shown → FieldDescriptorProto → KindIndex → Option DefaultValue → FieldDescriptorInner
+item_of_kind s oneofs d f kind default = record {
   id = identity d;
   number = item_number (number_of f.number);
   json_name = f.json_name;
@@ -55,11 +58,12 @@ item_of_kind s oneofs d f kind = record {
   is_packed = is_packed (is_proto3 (syntax_at s.files d.file)) kind f;
   supports_presence = supports_presence (is_proto3 (syntax_at s.files d.file)) kind f;
   cardinality = cardinality_of (label_of f.label);
+  default = default;
 }
 
 -- a field; where its type has a fault, a number stands in for it
 abbrev pub field_item : Setting → List OneofDescriptorProto → Shown → FieldDescriptorProto → FieldDescriptorInner
-field_item s oneofs d f = item_of_kind s oneofs d f (unwrap_or (field_kind s d f) Double)
+field_item s oneofs d f = item_of_kind s oneofs d f (unwrap_or (field_kind s d f) Double) (field_default s d f)
 
 -- a oneof, by its position, with the positions of the fields that name it
 abbrev pub oneof_item : List FieldDescriptorProto → Shown → OneofDescriptorInner
@@ -72,7 +76,7 @@ field_items s oneofs here fs = each (λ i f. field_item s oneofs (field_at here 
 abbrev pub oneof_items : List FieldDescriptorProto → Surrounding → List OneofDescriptorProto → List OneofDescriptorInner
 oneof_items fields here os = each (λ i o. oneof_item fields (part_inside here message.ONEOF_DECL i (of_oneof o))) 0 os
 
--- a message with its fields and its oneofs
+-- a message with its fields and its oneofs, before what extends it is known
 abbrev pub message_item : Setting → Shown → DescriptorProto → MessageDescriptorInner
 message_item s d m =
     let fields = (out-DescriptorProto m).field in
@@ -80,6 +84,7 @@ message_item s d m =
     record {
       id = identity d;
       parent = d.parent;
+      extensions = [];
       fields = field_items s oneofs (inside d) fields;
       field_numbers = by_number fields;
       field_names = by_name fields;
@@ -91,8 +96,8 @@ message_item s d m =
 abbrev pub method_item : Setting → Shown → MethodDescriptorProto → MethodDescriptorInner
 method_item s d m = record {
   id = identity d;
-  input = or_missing (message_found (method_meaning s d m.input_type));
-  output = or_missing (message_found (method_meaning s d m.output_type));
+  input = or_missing (message_found (message_meaning s d m.input_type));
+  output = or_missing (message_found (message_meaning s d m.output_type));
 }
 
 -- those of the methods that stand in surroundings
@@ -106,5 +111,22 @@ service_item s d v = record {
   methods = method_items s (inside d) v.method;
 }
 
-abbrev pub extension_item : Shown → ExtensionDescriptorInner
-extension_item d = record { id = identity d; parent = d.parent }
+-- a text in square brackets
+abbrev pub bracketed : List ℕ → List ℕ
+bracketed text = 91 ∷ text ++ 93 ∷ []
+
+-- an extension; where its extendee or its type has a fault, a number stands in for it
+abbrev pub extension_item : Setting → Shown → FieldDescriptorProto → ExtensionDescriptorInner
+extension_item s d x =
+    let kind = unwrap_or (field_kind s d x) Double in
+    record {
+      id = identity d;
+      parent = d.parent;
+      number = item_number (number_of x.number);
+      json_name = bracketed d.full_name;
+      extendee = or_missing (message_found (message_meaning s d x.extendee));
+      kind = kind;
+      is_packed = is_packed (is_proto3 (syntax_at s.files d.file)) kind x;
+      cardinality = cardinality_of (label_of x.label);
+      default = field_default s d x;
+    }

@@ -45,6 +45,12 @@ linked_field s index full_name f = elim (text_of f.type_name) [
   | _ ∷ _ ↦ typed (meaning s index full_name AnyType (text_of f.type_name)) f
 ]
 
+-- an extension of the file with an index, with its full name: the message that it extends, and its type
+abbrev pub linked_extension : Setting → ℕ → List ℕ → FieldDescriptorProto → FieldDescriptorProto
+linked_extension s index full_name x = record (linked_field s index full_name x) {
+  extendee = resolved (meaning s index full_name Message (text_of x.extendee)) x.extendee;
+}
+
 -- a method of the file with an index, with its full name: the messages that it takes and gives
 abbrev pub linked_method : Setting → ℕ → List ℕ → MethodDescriptorProto → MethodDescriptorProto
 linked_method s index full_name m = record m {
@@ -52,9 +58,9 @@ linked_method s index full_name m = record m {
   output_type = resolved (meaning s index full_name Message (text_of m.output_type)) m.output_type;
 }
 
--- what linking changes in a file: its fields and its methods
+-- what linking changes in a file: its fields, its extensions and its methods
 abbrev pub linking : Setting → Changes
-linking s = record { field = linked_field s; extension = λ _ _ x. x; method = linked_method s }
+linking s = record { field = linked_field s; extension = linked_extension s; method = linked_method s }
 
 -- the file with an index
 abbrev pub linked : Setting → ℕ → FileDescriptorProto → FileDescriptorProto

@@ -1,12 +1,10 @@
 ghost use Rattle.std.specs.Prelude.{◌≡◌, ◌++◌, true, IfOk, OnOk};
-ghost use Rattle.proto_types.specs.Lists.{listed};
 ghost use Rattle.proto_types.specs.Readers.{text_of};
 ghost use Rattle.proto_files.specs.declared.message.DescriptorProto.{out-DescriptorProto};
 ghost use Rattle.proto_records.specs.Counts.{lists_fit};
 ghost use Rattle.proto_records.specs.FullNames.{EndsWith};
 ghost use Rattle.proto_records.specs.Protos.{of_field, of_message};
 ghost use Rattle.link_rules.specs.Broken.{own_faults};
-ghost use Rattle.link_rules.specs.FieldTypes.{field_kind, type_faults};
 ghost use Rattle.link_rules.specs.Items.{field_item, item_of_kind};
 ghost use Rattle.places.specs.NamesBegin.{BeginsAtBoundary};
 ghost use Rattle.places.specs.Places.{message_at, shown_at};
@@ -14,23 +12,22 @@ ghost use Rattle.link_rules.specs.SettingCode.{setting_in};
 ghost use Rattle.syntax_rules.specs.Syntaxes.{is_proto3, syntax_at};
 
 use crate::setting::Setting;
+use crate::types::type_and_default;
 use field_rules::{check_oneof_index, is_packed, item_number, oneof_of, supports_presence};
 use number_rules::check_field_number;
 use places::{Place, identity};
 use plain_values::duplicate_given;
 use pool_faults::DescriptorErrorKind;
-use pool_kinds::{KindIndex, Syntax};
-use pool_parts::{
-    ResolveNameFilter, ResolveNameResult, cardinality_of, label_at, named_kind, simple_kind,
-};
+use pool_kinds::{DefaultValue, KindIndex, Syntax};
+use pool_parts::cardinality_of;
 use pool_types::FieldDescriptorInner;
 use proto_files::{DescriptorProto, OneofDescriptorProto};
-use proto_types::{FieldDescriptorProto, tag};
+use proto_types::FieldDescriptorProto;
 use std::alloc::{AllocError, Global};
 use syntax_rules::syntax_at;
 
 /// The item of a field of a message. What the field breaks by itself is put behind the faults: its
-/// number, its type, its oneof.
+/// number, its type, its default value, its oneof.
 pub(crate) fn read_field(
     alloc: Global,
     setting: Setting,
@@ -53,13 +50,13 @@ pub(crate) fn read_field(
 {
     let oneofs = message.oneof_decl.as_slice();
     check_field_number(alloc, setting.files, owner, message, place, field, faults)?;
-    let kind = field_type(alloc, setting, place, field, faults)?;
+    let (kind, default) = type_and_default(alloc, setting, place, field, faults)?;
     check_oneof_index(oneofs, field, faults)?;
     let kind = kind.unwrap_or(KindIndex::Double);
-    item_of_kind(alloc, setting, oneofs, place, field, kind)
+    item_of_kind(alloc, setting, oneofs, place, field, kind, default)
 }
 
-/// The item of a field whose type is of a kind.
+/// The item of a field whose type is of a kind, with a default value.
 fn item_of_kind(
     alloc: Global,
     setting: Setting,
@@ -67,10 +64,11 @@ fn item_of_kind(
     place: Place,
     field: &FieldDescriptorProto,
     kind: KindIndex,
+    default: Option<DefaultValue>,
 ) -> Result<FieldDescriptorInner, AllocError>
     ensures item { IfOk result (λ item. item
         ≡ item_of_kind (setting_in setting.entry) oneofs.now
-        (shown_at place.entry (of_field field.now)) field.now kind) }
+        (shown_at place.entry (of_field field.now)) field.now kind default) }
     ensures begins { IfOk result (λ item.
         EndsWith place.entry.full_name.now (text_of field.now.name) → BeginsAtBoundary item.id) }
 {
@@ -84,88 +82,16 @@ fn item_of_kind(
         is_packed: is_packed(is_proto3, kind, field),
         supports_presence: supports_presence(is_proto3, kind, field),
         cardinality: cardinality_of(field.label()),
+        default,
     })
 }
 
 /// Whether the file with an index is written in proto3.
-fn is_proto3(setting: Setting, file: u32) -> bool
+pub(crate) fn is_proto3(setting: Setting, file: u32) -> bool
     ensures { result ≡ is_proto3 (syntax_at (setting_in setting.entry).files file) }
 {
     match syntax_at(setting.files, file) {
         Syntax::Proto2 => false,
         Syntax::Proto3 => true,
     }
-}
-
-/// The kind of a field's type. Where it has none, that is put behind the faults.
-fn field_type(
-    alloc: Global,
-    setting: Setting,
-    place: Place,
-    field: &FieldDescriptorProto,
-    faults: &mut Vec<DescriptorErrorKind>,
-) -> Result<Option<KindIndex>, AllocError>
-    ensures kind { IfOk result (λ kind. kind
-        ≡ field_kind (setting_in setting.entry)
-        (shown_at place.entry (of_field field.now)) field.now) }
-    ensures faults { OnOk result (faults.new.items ≡ faults.old.items
-        ++ type_faults (setting_in setting.entry)
-        (shown_at place.entry (of_field field.now)) field.now) }
-{
-    let (kind, fault) = kind_or_fault(alloc, setting, place, field)?;
-    if let Some(fault) = fault {
-        faults.push(fault)?;
-    }
-    Ok(kind)
-}
-
-/// The kind of a field's type, or the fault that it has none.
-fn kind_or_fault(
-    alloc: Global,
-    setting: Setting,
-    place: Place,
-    field: &FieldDescriptorProto,
-) -> Result<(Option<KindIndex>, Option<DescriptorErrorKind>), AllocError>
-    ensures kind { IfOk result (λ t. t.0
-        ≡ field_kind (setting_in setting.entry)
-        (shown_at place.entry (of_field field.now)) field.now) }
-    ensures fault { IfOk result (λ t. listed t.1
-        ≡ type_faults (setting_in setting.entry)
-        (shown_at place.entry (of_field field.now)) field.now) }
-{
-    let mut type_path = Vec::from_slice(alloc, place.path)?;
-    type_path.push(tag::field::TYPE_NAME)?;
-    let written = field.field_type();
-    if field.type_name().is_empty() {
-        return match simple_kind(written) {
-            Some(kind) => Ok((Some(kind), None)),
-            None => {
-                let label = label_at(alloc, setting.files, place.file, &type_path)?;
-                Ok((
-                    None,
-                    Some(DescriptorErrorKind::MissingRequiredField { label }),
-                ))
-            }
-        };
-    }
-    let filter = ResolveNameFilter::FieldType;
-    let meaning = setting.meaning(
-        alloc,
-        place.file,
-        place.full_name,
-        filter,
-        field.type_name(),
-    )?;
-    let fault = meaning.fault(
-        alloc,
-        field.type_name(),
-        setting.files,
-        place.file,
-        &type_path,
-    )?;
-    let kind = match &meaning {
-        ResolveNameResult::Found { def, .. } => named_kind(written, def.kind),
-        _ => None,
-    };
-    Ok((kind, fault))
 }

@@ -4,7 +4,8 @@ ghost use Rattle.proto_types.specs.Readers.{text_of};
 ghost use Rattle.proto_files.specs.declared.message.DescriptorProto.{out-DescriptorProto};
 ghost use Rattle.pool_parts.specs.Resolution.{resolution_in};
 ghost use Rattle.proto_records.specs.Changed.{changed_message, changed_messages, changed_fields, changed_methods, changed_service, changed_services};
-ghost use Rattle.link_rules.specs.Linked.{linking, linked, linked_field, linked_method, resolved, type_number, kind_number};
+ghost use Rattle.link_rules.specs.Linked.{linking, linked, linked_field, linked_extension};
+ghost use Rattle.link_rules.specs.Linked.{linked_method, resolved, type_number, kind_number};
 ghost use Rattle.link_rules.specs.Setting.{meaning};
 ghost use Rattle.link_rules.specs.SettingCode.{setting_in};
 
@@ -18,8 +19,8 @@ use proto_types::{
 };
 use std::alloc::{AllocError, Global};
 
-/// The record of the file with an index, with each type name, and each input and output of a
-/// method, that is found as a dot and a full name.
+/// The record of the file with an index, with each type name, each extendee, and each input and
+/// output of a method, that is found as a dot and a full name.
 pub(crate) fn linked_file(
     alloc: Global,
     setting: Setting,
@@ -40,7 +41,7 @@ pub(crate) fn linked_file(
         message_type,
         enum_type: file.enum_type.clone(alloc)?,
         service: linked_services(alloc, setting, index, scope, file.service.as_slice())?,
-        extension: file.extension.clone(alloc)?,
+        extension: linked_extensions(alloc, setting, index, scope, file.extension.as_slice())?,
         options: duplicate_given(alloc, &file.options)?,
         source_code_info: duplicate_given(alloc, &file.source_code_info)?,
         public_dependency: Items::from_slice(alloc, file.public_dependency.as_slice())?,
@@ -49,7 +50,7 @@ pub(crate) fn linked_file(
     })
 }
 
-/// A message in a scope, with its fields and its nested messages.
+/// A message in a scope, with its fields, its nested messages and its extensions.
 fn linked_message(
     alloc: Global,
     setting: Setting,
@@ -66,7 +67,9 @@ fn linked_message(
     for nested in message.nested_type.as_slice() {
         nested_type.push(linked_message(alloc, setting, index, &within, nested)?)?;
     }
-    message.with_parts(alloc, field, nested_type)
+    let extension = message.extension.as_slice();
+    let extension = linked_extensions(alloc, setting, index, &within, extension)?;
+    message.with_parts(alloc, field, nested_type, extension)
 }
 
 fn linked_fields(
@@ -109,6 +112,40 @@ fn linked_field(
         linked.type_name = Some(Text::from_string(format!(in alloc; ".{name}")?));
         linked.type_ = type_number(field.field_type(), def.kind, field.type_);
     }
+    Ok(linked)
+}
+
+fn linked_extensions(
+    alloc: Global,
+    setting: Setting,
+    index: u32,
+    scope: &str,
+    extensions: &[FieldDescriptorProto],
+) -> Result<Items<FieldDescriptorProto>, AllocError>
+    ensures { IfOk result (λ linked. linked ≡ changed_fields
+        (linked_extension (setting_in setting.entry)) index scope.now extensions.now) }
+{
+    let mut linked = Items::new(alloc);
+    for extension in extensions {
+        linked.push(linked_extension(alloc, setting, index, scope, extension)?)?;
+    }
+    Ok(linked)
+}
+
+fn linked_extension(
+    alloc: Global,
+    setting: Setting,
+    index: u32,
+    scope: &str,
+    extension: &FieldDescriptorProto,
+) -> Result<FieldDescriptorProto, AllocError>
+    ensures { IfOk result (λ x. x
+        ≡ linked_extension (setting_in setting.entry) index
+        (join scope.now (text_of extension.now.name)) extension.now) }
+{
+    let full_name = join(alloc, scope, extension.name())?;
+    let mut linked = linked_field(alloc, setting, index, scope, extension)?;
+    linked.extendee = message_name(alloc, setting, index, &full_name, &extension.extendee)?;
     Ok(linked)
 }
 
@@ -205,7 +242,7 @@ fn linked_method(
     Ok(linked)
 }
 
-/// The reference of a method with its full name to a message: a dot and the full name that is
+/// The reference of a declaration with its full name to a message: a dot and the full name that is
 /// found, or as it was.
 fn message_name(
     alloc: Global,

@@ -25,9 +25,9 @@ use proto_records::entry_path;
 use proto_types::{join, tag};
 use std::alloc::{AllocError, Global};
 
-/// The item of a message, with its fields, its oneofs and its maps. What its fields break is put
-/// behind the faults, one field after another: its number, its type, its oneof, and that an earlier
-/// field has its number or its JSON name.
+/// The item of a message, with its fields, its oneofs and its maps, before what extends it is known.
+/// What its fields break is put behind the faults, one field after another: its number, its type,
+/// its default value, its oneof, and that an earlier field has its number or its JSON name.
 ///
 /// # Errors
 /// `AllocError` where memory was refused.
@@ -54,6 +54,7 @@ pub fn read_message(
     Ok(MessageDescriptorInner {
         id: identity(alloc, place, message.name())?,
         parent: place.parent,
+        extensions: Items::new(alloc),
         fields: Items::from_vec(fields),
         field_numbers: maps.numbers,
         field_names: maps.names,

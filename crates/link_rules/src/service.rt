@@ -3,20 +3,20 @@ ghost use Rattle.proto_types.specs.Lists.{listed};
 ghost use Rattle.proto_records.specs.Counts.{fits_list, lists_fit};
 ghost use Rattle.proto_records.specs.Protos.{of_method, of_service};
 ghost use Rattle.pool_parts.specs.References.{reference_fault};
-ghost use Rattle.pool_parts.specs.Resolution.{resolution_in};
 ghost use Rattle.link_rules.specs.Broken.{faults_of_methods, method_faults, service_faults};
 ghost use Rattle.link_rules.specs.Items.{service_item, method_item, method_items};
-ghost use Rattle.link_rules.specs.Methods.{message_found, message_index, or_missing};
+ghost use Rattle.link_rules.specs.Messages.{message_found, message_index, or_missing};
 ghost use Rattle.places.specs.Places.{inside_of, service_at, shown_at};
 ghost use Rattle.link_rules.specs.Setting.{meaning};
 ghost use Rattle.link_rules.specs.SettingCode.{setting_in};
 
+use crate::references::{message_found, named_message};
 use crate::setting::Setting;
 use places::{Place, identity};
 use plain_values::Items;
 use pool_faults::DescriptorErrorKind;
-use pool_parts::{ResolveNameFilter, ResolveNameResult};
-use pool_types::{DefinitionKind, MethodDescriptorInner, ServiceDescriptorInner};
+use pool_parts::ResolveNameFilter;
+use pool_types::{MethodDescriptorInner, ServiceDescriptorInner};
 use proto_records::entry_path;
 use proto_types::{MethodDescriptorProto, ServiceDescriptorProto, join, tag};
 use std::alloc::{AllocError, Global};
@@ -96,14 +96,14 @@ fn read_method(
     let output = tag::method::OUTPUT_TYPE;
     Ok(MethodDescriptorInner {
         id: identity(alloc, place, method.name())?,
-        input: named_message(alloc, setting, place, input, method.input_type(), faults)?,
-        output: named_message(alloc, setting, place, output, method.output_type(), faults)?,
+        input: message_index(alloc, setting, place, input, method.input_type(), faults)?,
+        output: message_index(alloc, setting, place, output, method.output_type(), faults)?,
     })
 }
 
 /// The index of the message that the part of a method with a tag names; where it names none, that
 /// is put behind the faults.
-fn named_message(
+fn message_index(
     alloc: Global,
     setting: Setting,
     place: Place,
@@ -119,32 +119,6 @@ fn named_message(
         (place.entry.path.now ++ tag ∷ []) (meaning (setting_in setting.entry)
         place.entry.file place.entry.full_name.now ResolveNameFilter.Message written.now))) }
 {
-    let filter = ResolveNameFilter::Message;
-    let meaning = setting.meaning(alloc, place.file, place.full_name, filter, written)?;
-    let mut type_path = Vec::from_slice(alloc, place.path)?;
-    type_path.push(tag)?;
-    if let Some(fault) = meaning.fault(alloc, written, setting.files, place.file, &type_path)? {
-        faults.push(fault)?;
-    }
+    let meaning = named_message(alloc, setting, place, tag, written, faults)?;
     Ok(message_found(&meaning))
-}
-
-/// The index of the message that was found, or the largest number where none was.
-fn message_found(meaning: &ResolveNameResult) -> u32
-    ensures { result ≡ or_missing (message_found (resolution_in meaning.now)) }
-{
-    match meaning {
-        ResolveNameResult::Found { def, .. } => message_index(def.kind).unwrap_or(u32::MAX),
-        _ => u32::MAX,
-    }
-}
-
-/// The index of a message.
-fn message_index(kind: DefinitionKind) -> Option<u32>
-    ensures { result ≡ message_index kind }
-{
-    match kind {
-        DefinitionKind::Message(index) => Some(index),
-        _ => None,
-    }
 }

@@ -5,7 +5,7 @@ use Rattle.std.specs.FinMap as map
 use Rattle.std.specs.FinMap.{from_entries, from_entries_push, get-insert, get-from_entries, slice_cmp-IsAntisymmetric, nat_cmp-IsAntisymmetric}
 use Rattle.std.specs.HashMap as hash
 use Rattle.std.specs.HashMap.{HashMap, get_by_text}
-use Rattle.std.specs.List.{AllByRecursion, IsDistinct}
+use Rattle.std.specs.List.{AllByRecursion, AllZip, IsDistinct}
 use Rattle.std.specs.Iterator.{Yields}
 use Rattle.std.specs.Map.{lookup, keys_of}
 use Rattle.std.specs.Map.Iter.{TakesFirst}
@@ -64,6 +64,13 @@ by_text-retain {X} file_of file m n unique is = same_names (by_text n) _ (λ nam
     ∙ lookup-filter-values nat_list_eq_equiv before name (texts m.entries) (distinct-texts m.entries unique)
     ∙ ap (option_filter before) (sym (get-lookup (texts m.entries) name))
     ∙ sym (get-kept_before file_of file (by_text m) name))
+
+-- entries that are clones stand under the same bytes
+pub texts-clone : {A X : Type 0} (es fs : List (String A × X)) → AllZip (λ p q. (string_bytes q.0 ≡ string_bytes p.0) × (q.1 ≡ p.1)) es fs → texts fs ≡ texts es
+texts-clone [] [] clones = refl
+texts-clone [] (f ∷ fs) clones = absurd clones
+texts-clone (e ∷ es) [] clones = absurd clones
+texts-clone (e ∷ es) (f ∷ fs) clones = λ i. (clones.0.0 i, clones.0.1 i) ∷ texts-clone es fs clones.1 i
 
 -- a text has no value, or it is the bytes of a string
 key-found : {A X : Type 0} (es : List (String A × X)) (name : List ℕ) → (lookup (λ k. bytes_eq name (string_bytes k)) es ≡ None) ⊎ ((k : String A) × (string_bytes k ≡ name))

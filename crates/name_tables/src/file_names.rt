@@ -1,4 +1,4 @@
-ghost use Rattle.std.specs.Prelude.{◌≡◌, OnOk, OnErr, None};
+ghost use Rattle.std.specs.Prelude.{◌≡◌, ◌↔◌, IsTrue, IfOk, OnOk, OnErr, None};
 ghost use Rattle.std.specs.Option.{option_copied};
 ghost use Rattle.std.specs.FinMap as map;
 ghost use Rattle.name_tables.specs.NameTables.{file_names_before};
@@ -68,5 +68,26 @@ impl FileNames {
         ensures { self.new ≡ file_names_before file self.old }
     {
         self.table.retain(|_, other| *other < file);
+    }
+
+    /// Equal names.
+    ///
+    /// # Errors
+    /// `AllocError` where memory was refused.
+    pub fn clone(&self) -> Result<FileNames, AllocError>
+        ensures { IfOk result (λ copy. copy ≡ self.now) }
+    {
+        let table = self.table.clone()?;
+        Ok(FileNames {
+            alloc: self.alloc,
+            table,
+        })
+    }
+
+    /// Whether both have the same names, with the same files.
+    pub fn same(&self, other: &FileNames) -> bool
+        ensures { IsTrue result ↔ (self.now ≡ other.now) }
+    {
+        self.table == other.table
     }
 }

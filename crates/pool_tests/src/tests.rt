@@ -2,6 +2,8 @@
 
 mod batches;
 mod errors;
+mod extension_faults;
+mod extensions;
 mod items;
 mod kinds;
 mod meanings;

@@ -80,10 +80,11 @@ impl DescriptorProto {
         for message in self.nested_type.as_slice() {
             nested_type.push(message.clone(alloc)?)?;
         }
-        self.with_parts(alloc, field, nested_type)
+        let extension = self.extension.clone(alloc)?;
+        self.with_parts(alloc, field, nested_type, extension)
     }
 
-    /// An equal message, but for its fields and its nested messages, which are these.
+    /// An equal message, but for its fields, its nested messages and its extensions, which are these.
     ///
     /// # Errors
     /// `AllocError` where memory was refused.
@@ -92,9 +93,10 @@ impl DescriptorProto {
         alloc: Global,
         field: Items<FieldDescriptorProto>,
         nested_type: Items<DescriptorProto>,
+        extension: Items<FieldDescriptorProto>,
     ) -> Result<DescriptorProto, AllocError>
-        ensures { IfOk result (λ m. m ≡ roll-DescriptorProto
-            (record (out-DescriptorProto self.now) { field = field; nested_type = nested_type })) }
+        ensures { IfOk result (λ m. m ≡ roll-DescriptorProto (record (out-DescriptorProto self.now)
+            { field = field; nested_type = nested_type; extension = extension })) }
     {
         Ok(DescriptorProto {
             name: duplicate_given(alloc, &self.name)?,
@@ -102,7 +104,7 @@ impl DescriptorProto {
             nested_type,
             enum_type: self.enum_type.clone(alloc)?,
             extension_range: self.extension_range.clone(alloc)?,
-            extension: self.extension.clone(alloc)?,
+            extension,
             options: duplicate_given(alloc, &self.options)?,
             oneof_decl: self.oneof_decl.clone(alloc)?,
             reserved_range: self.reserved_range.clone(alloc)?,

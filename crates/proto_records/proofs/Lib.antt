@@ -15,3 +15,4 @@ pub mod InTurn
 pub mod Appended
 pub mod FullNames
 pub mod Changed
+pub mod Reached

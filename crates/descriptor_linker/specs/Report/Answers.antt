@@ -1,5 +1,5 @@
 -- What the commands of a script answer, each line with its end.
-use Rattle.std.specs.Prelude.{ℕ, List, [], ◌∷◌, ◌++◌, length, map, codes}
+use Rattle.std.specs.Prelude.{ℕ, Bool, true, false, ◌&&◌, is_ok, if◌then◌else◌, List, [], ◌∷◌, ◌++◌, length, map, codes}
 use Rattle.std.specs.List.{flat_map, find}
 use Rattle.std.specs.Fmt.{decimal}
 use Rattle.std.specs.Option.{option_map_or}
@@ -14,7 +14,7 @@ use Rattle.proto_records.specs.declared.counts.CountKind.TheVariants as too_many
 use Rattle.pool_types.specs.declared.contents.definition.Definition.{Definition}
 use Rattle.pool_types.specs.declared.contents.definition.DefinitionKind.{DefinitionKind}
 use Rattle.pool_types.specs.declared.contents.definition.DefinitionKind.TheVariants as definition
-use Rattle.pool_types.specs.Contents.{Contents, files_of}
+use Rattle.pool_types.specs.Contents.{Contents, no_contents, files_of}
 use Rattle.proto_records.specs.Counts.{no_counts, counts_in}
 use Rattle.proto_records.specs.Declarations.{declarations}
 use Rattle.pool_types.specs.Labels.{file_at}
@@ -24,7 +24,9 @@ use Rattle.pool_faults.specs.Texts.{path_text, labelled_text}
 use Rattle.link_script.specs.declared.script.statement.ScriptFault.{ScriptFault}
 use Rattle.link_script.specs.Script.Faults.{fault_words}
 use Rattle.link_rules.specs.Broken.{Faults}
+use Rattle.descriptor_pool.specs.Equality.{contents_eq}
 use Rattle.descriptor_pool.specs.LookUps.{definition_named}
+use Rattle.descriptor_pool.specs.Pool.{faults, counts_after, link}
 use Rattle.descriptor_pool.specs.References.{Reference, references}
 
 -- words with a space between each two, and the line's end
@@ -121,6 +123,20 @@ file_named files name = find (λ f. bytes_eq (text_of f.name) name) files
 -- the references of the pool's file with a name
 abbrev pub refs_answer : Contents → List ℕ → List ℕ
 refs_answer p name = option_map_or (λ f. reference_lines (references (f ∷ []))) (file_named (files_of p) name) none_line
+
+-- whether a batch breaks no rule
+abbrev pub breaks_none : Faults → Bool
+breaks_none [] = true
+breaks_none (f ∷ fs) = false
+
+-- whether the pool's linked files, linked at once from empty, fit, break no rule, and give equal contents
+abbrev pub relinks : Contents → Bool
+relinks p =
+    let files = files_of p in
+    is_ok (counts_after no_contents files) && (breaks_none (faults no_contents files) && contents_eq (link no_contents files) p)
+
+abbrev pub relink_answer : Contents → List ℕ
+relink_answer p = line ((if relinks p then codes "same" else codes "different") ∷ [])
 
 -- the last line of a report, where the script has a fault
 abbrev pub fault_line : ℕ × ScriptFault → List ℕ

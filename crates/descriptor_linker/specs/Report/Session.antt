@@ -17,7 +17,7 @@ use Rattle.link_script.specs.declared.building.Open.TheVariants as opened
 use Rattle.link_rules.specs.Broken.{Faults}
 use Rattle.descriptor_pool.specs.Pool.{Batch, faults, counts_after, link}
 use Rattle.link_script.specs.Building.{opened_by, stated_in, closed_in}
-use Rattle.descriptor_linker.specs.Report.Answers.{counts_line, refused_lines, too_many_line, find_answer, walk_answer, refs_answer, fault_line}
+use Rattle.descriptor_linker.specs.Report.Answers.{counts_line, refused_lines, too_many_line, find_answer, walk_answer, refs_answer, relink_answer, fault_line}
 
 -- the records that are open, from the innermost out; whether an extension was stated last; the batch, the pool, and what is told
 pub record Session : Type 0 where
@@ -86,6 +86,7 @@ step s say.Link = link_step s
 step s (say.Find name) = tell s (find_answer s.pool name)
 step s say.Walk = tell s (walk_answer s.pool)
 step s (say.Refs name) = tell s (refs_answer s.pool name)
+step s say.Relink = tell s (relink_answer s.pool)
 step s say.End = close_step s s.open_records
 step s said = open_or_state s said (opened_by said)
 

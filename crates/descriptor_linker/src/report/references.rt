@@ -8,7 +8,7 @@ ghost use Rattle.proto_records.specs.Counts.{no_counts};
 ghost use Rattle.proto_records.specs.Fits.{counts_with};
 ghost use Rattle.proto_records.specs.Leads.{leads};
 ghost use Rattle.proto_records.specs.Listed.{declaration_of};
-ghost use Rattle.proto_records.specs.Protos.{of_field, of_method};
+ghost use Rattle.proto_records.specs.Protos.{of_extension, of_field, of_method};
 ghost use Rattle.proto_records.specs.Shown.{Shown};
 ghost use Rattle.descriptor_pool.specs.References.{reference, reference_in, references_in, references};
 ghost use Rattle.descriptor_linker.specs.Report.Code.{reference_of};
@@ -76,6 +76,12 @@ fn add_references<'a>(
             add_reference(found, full_name, "input_type", input)?;
             add_reference(found, declaration.full_name, "output_type", output)
         }
+        DeclarationKind::Extension => {
+            let (extendee, text) = extension_types(file, declaration.path.as_slice());
+            let full_name = declaration.full_name.clone(alloc)?;
+            add_reference(found, full_name, "extendee", extendee)?;
+            add_given(found, declaration.full_name, "type_name", text)
+        }
         _ => Ok(()),
     }
 }
@@ -104,6 +110,19 @@ fn method_types<'a>(file: &'a FileDescriptorProto, path: &[i32]) -> (&'a str, &'
     }
 }
 
+/// By what the extension at a path names the message that it extends, and its type name.
+fn extension_types<'a>(file: &'a FileDescriptorProto, path: &[i32]) -> (&'a str, &'a str)
+    ensures extendee { (field : Field) → leads file.now path.now ≡ Some (of_extension field)
+        → result.0.now ≡ text_of field.extendee }
+    ensures type_name { (field : Field) → leads file.now path.now ≡ Some (of_extension field)
+        → result.1.now ≡ text_of field.type_name }
+{
+    match find_field_proto(file, path) {
+        Some(extension) => (extension.extendee(), extension.type_name()),
+        None => ("", ""),
+    }
+}
+
 /// Puts a reference behind others, unless its text is empty.
 fn add_given<'a>(
     found: &mut Vec<Reference<'a>>,
@@ -118,12 +137,7 @@ fn add_given<'a>(
     if text.is_empty() {
         return Ok(());
     }
-    found.push(Reference {
-        full_name,
-        part,
-        text,
-    })?;
-    Ok(())
+    add_reference(found, full_name, part, text)
 }
 
 /// Puts a reference behind others.

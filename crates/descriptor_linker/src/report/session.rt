@@ -5,6 +5,7 @@ ghost use Rattle.link_script.specs.declared.script.statement.Statement.TheVarian
 ghost use Rattle.descriptor_linker.specs.Report.Session.{new_session, opening, stating, extends_after, step};
 
 use super::answers::{tell_counts, tell_found, tell_refs, tell_refused, tell_too_many, tell_walk};
+use super::relink::tell_relink;
 use descriptor_pool::{BuildError, DescriptorPool};
 use link_script::{Open, Statement};
 use proto_files::FileDescriptorProto;
@@ -58,6 +59,7 @@ impl Session {
             Statement::Refs(name) => {
                 tell_refs(self.alloc, &mut self.told, &self.pool, name.as_str())
             }
+            Statement::Relink => tell_relink(self.alloc, &mut self.told, &self.pool),
             said => self.state(said),
         }
     }

@@ -1,12 +1,16 @@
-ghost use Rattle.std.specs.Prelude.{◌≡◌, ◌≤◌, ◌<◌, ◌^◌, ◌++◌, ◌∷◌, [], OnOk, OnErr, None, length};
+ghost use Rattle.std.specs.Prelude.{◌≡◌, ◌≤◌, ◌<◌, ◌^◌, ◌++◌, ◌∷◌, [], OnOk, OnErr, None, length, map, nat_lt};
 ghost use Rattle.std.specs.FinMap as finite;
+ghost use Rattle.std.specs.List.{filter};
+ghost use Rattle.descriptor_pool.specs.Extended.{cut};
 
 use crate::inner::DescriptorPoolInner;
 use name_tables::NameTable;
+use plain_values::Items;
 use pool_parts::visible_from;
 use pool_types::{Definition, FileDescriptorInner, MessageDescriptorInner};
 use proto_records::Counts;
 use std::alloc::{AllocError, Global};
+use std::mem;
 
 /// What a pool holds while a batch is linked into it, and how much it had before.
 #[derive(Drop)]
@@ -22,16 +26,18 @@ pub(crate) struct GrowingPool {
 
 impl GrowingPool {
     ghost use Rattle.proto_records.specs.Counts.{counts_in};
-    ghost use Rattle.descriptor_pool.specs.Invariant.{contents_in, NamesLieIn};
+    ghost use Rattle.descriptor_pool.specs.Extended.{with_extended};
+    ghost use Rattle.descriptor_pool.specs.Invariant.{contents_in, ListsLieIn, NamesLieIn};
     ghost use Rattle.link_rules.specs.NamesBegin.{MessageNamesBegin, NamesBegin};
     ghost use Rattle.name_tables.specs.NameTables.{FileNamesBefore};
-    ghost use Rattle.descriptor_pool.specs.Growing.{file_seeing, files_seeing, first_new, kept_in};
+    ghost use Rattle.descriptor_pool.specs.Growing.{file_seeing, files_seeing, first_extension, first_new, kept_in, message_extended};
 
     /// A pool before anything of a batch came, and how much it has. Its names mean something in its
-    /// files.
+    /// files, and the lists of its messages hold extensions of its own.
     pub(crate) fn new(base: Counts, inner: DescriptorPoolInner) -> GrowingPool
         requires counts { base ≡ counts_in (contents_in inner) }
         requires before { NamesLieIn (contents_in inner) }
+        requires lists { ListsLieIn (contents_in inner) }
         ensures base { result.base ≡ base }
         ensures inner { result.inner ≡ inner }
         ensures kept { kept_in result ≡ contents_in inner }
@@ -105,8 +111,38 @@ impl GrowingPool {
         ensures kept { kept_in self.new ≡ kept_in self.old }
         ensures names { NamesBegin self.old.inner.messages.items → MessageNamesBegin message
             → NamesBegin self.new.inner.messages.items }
+        ensures files { self.new.inner.files.items ≡ self.old.inner.files.items }
     {
         self.inner.messages.push(message)?;
+        Ok(())
+    }
+
+    /// Puts the index of each extension that came behind the list of the message that it extends.
+    pub(crate) fn extend_messages(&mut self) -> Result<(), AllocError>
+        requires few { length self.old.inner.extensions.items < 2 ^ 32 }
+        ensures ok { OnOk result (contents_in self.new.inner
+            ≡ with_extended (first_extension self.old) (contents_in self.old.inner)) }
+        ensures kept { kept_in self.new ≡ kept_in self.old }
+    {
+        for index in self.base.extensions..self.inner.extensions.len() as u32 {
+            let extendee = self.inner.extensions[index as usize].extendee;
+            self.extend_message(extendee, index)?;
+        }
+        Ok(())
+    }
+
+    /// Puts an extension that came behind the list of a message, if there is one with the index.
+    fn extend_message(&mut self, message: u32, extension: u32) -> Result<(), AllocError>
+        requires came { first_extension self.old ≤ extension }
+        ensures ok { OnOk result (contents_in self.new.inner
+            ≡ record (contents_in self.old.inner)
+            { messages = message_extended self.old message extension }) }
+        ensures kept { kept_in self.new ≡ kept_in self.old }
+    {
+        let index = message as usize;
+        if index < self.inner.messages.len() {
+            self.inner.messages[index].extensions.push(extension)?;
+        }
         Ok(())
     }
 
@@ -125,8 +161,9 @@ impl GrowingPool {
         Ok(())
     }
 
-    /// Takes away all that came, which takes no memory. A name goes with its file.
-    pub(crate) fn rollback(&mut self)
+    /// Takes away all that came, which takes no memory. A name goes with its file, and an extension
+    /// goes out of the list of its message.
+    pub(crate) fn rollback(&mut self, alloc: Global)
         ensures { contents_in self.new.inner ≡ kept_in self.old }
     {
         self.inner.files.truncate(self.base.files as usize);
@@ -136,7 +173,26 @@ impl GrowingPool {
         self.inner
             .extensions
             .truncate(self.base.extensions as usize);
+        cut_messages(alloc, &mut self.inner.messages, self.base.extensions);
         self.inner.names.remove_from(self.base.files);
         self.inner.file_names.remove_from(self.base.files);
     }
+}
+
+/// Takes the extensions from an index on out of the lists of messages.
+fn cut_messages(alloc: Global, messages: &mut Vec<MessageDescriptorInner>, end: u32)
+    ensures { messages.new.items ≡ map (cut end) messages.old.items }
+{
+    for index in 0..messages.len() {
+        cut_extensions(alloc, &mut messages[index].extensions, end);
+    }
+}
+
+/// Keeps the extensions before an index, and takes no memory.
+fn cut_extensions(alloc: Global, extensions: &mut Items<u32>, end: u32)
+    ensures { extensions.new ≡ filter (λ extension. nat_lt extension end) extensions.old }
+{
+    let mut kept = mem::replace(extensions, Items::new(alloc)).into_vec();
+    kept.retain(|extension| *extension < end);
+    *extensions = Items::from_vec(kept);
 }

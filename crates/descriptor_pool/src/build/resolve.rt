@@ -1,4 +1,6 @@
+ghost use Rattle.std.specs.Prelude.{map};
 ghost use Rattle.link_rules.specs.NamesBegin.{NamesBegin};
+ghost use Rattle.link_rules.specs.Short.{ShortFiles};
 
 use super::growing::GrowingPool;
 use link_rules::{Place, read_enum, read_extension, read_file, read_message, read_service};
@@ -14,9 +16,10 @@ use std::alloc::{AllocError, Global};
 
 /// The second pass: it reads a batch against a pool whose files and names are those of the batch as
 /// well, puts the items of messages, enums, services and extensions into the pool and makes those of
-/// files, and gathers the faults of imports, of fields, of values and of references. A message is read with its oneofs and
-/// fields, an enum with its values, and a service with its methods. The full name of each declaration
-/// that it is shown ends with the declared name, and its lists are short enough for a pool.
+/// files, and gathers the faults of imports, of fields, of extensions, of values and of references. A
+/// message is read with its oneofs and fields, an enum with its values, and a service with its
+/// methods. The full name of each declaration that it is shown ends with the declared name, and its
+/// lists are short enough for a pool, as are those of all files that it is read against.
 #[derive(Drop)]
 pub struct ResolveVisitor {
     pub(crate) alloc: Global,
@@ -24,6 +27,7 @@ pub struct ResolveVisitor {
     pub(crate) files: Vec<FileDescriptorInner>,
     pub(crate) faults: Vec<DescriptorErrorKind>,
     ghost names_begin: { NamesBegin pool.inner.messages.items },
+    ghost short: { ShortFiles (map (λ f. f.raw) pool.inner.files.items) },
 }
 
 impl Visitor for ResolveVisitor {
@@ -185,7 +189,9 @@ impl Visitor for ResolveVisitor {
             path,
             full_name,
         };
-        let item = read_extension(self.alloc, place, extension)?;
+        let pool = &self.pool;
+        let setting = pool.inner.setting();
+        let item = read_extension(self.alloc, setting, place, extension, &mut self.faults)?;
         self.pool.inner.extensions.push(item)?;
         Ok(())
     }

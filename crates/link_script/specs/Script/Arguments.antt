@@ -112,6 +112,7 @@ of_none word.Alias = Ok say.Alias
 of_none word.End = Ok say.End
 of_none word.Link = Ok say.Link
 of_none word.Walk = Ok say.Walk
+of_none word.Relink = Ok say.Relink
 of_none _ = Err WrongCount
 
 abbrev pub of_one : Keyword → List ℕ → Result Statement ScriptFault

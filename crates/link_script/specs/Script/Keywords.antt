@@ -16,7 +16,8 @@ spellings =
     ∷ (codes "extend", word.Extend) ∷ (codes "field", word.Field) ∷ (codes "oneof", word.Oneof) ∷ (codes "reserved", word.Reserved)
     ∷ (codes "extensions", word.Extensions) ∷ (codes "value", word.Value) ∷ (codes "alias", word.Alias) ∷ (codes "method", word.Method)
     ∷ (codes "json", word.Json) ∷ (codes "packed", word.Packed) ∷ (codes "default", word.Default)
-    ∷ (codes "end", word.End) ∷ (codes "link", word.Link) ∷ (codes "find", word.Find) ∷ (codes "walk", word.Walk) ∷ (codes "refs", word.Refs) ∷ []
+    ∷ (codes "end", word.End) ∷ (codes "link", word.Link) ∷ (codes "find", word.Find) ∷ (codes "walk", word.Walk) ∷ (codes "refs", word.Refs)
+    ∷ (codes "relink", word.Relink) ∷ []
 
 abbrev pub spelled : List (List ℕ × Keyword) → List ℕ → Option Keyword
 spelled [] text = None
@@ -39,6 +40,7 @@ outside word.Link = true
 outside word.Find = true
 outside word.Walk = true
 outside word.Refs = true
+outside word.Relink = true
 outside _ = false
 
 abbrev pub in_files : Keyword → Bool

@@ -56,6 +56,7 @@ fn of_none(keyword: Keyword) -> Result<Statement, LineError>
         Keyword::End => Ok(Statement::End),
         Keyword::Link => Ok(Statement::Link),
         Keyword::Walk => Ok(Statement::Walk),
+        Keyword::Relink => Ok(Statement::Relink),
         _ => Err(LineError::Fault(ScriptFault::WrongCount)),
     }
 }

@@ -7,7 +7,7 @@ use super::statement::{Block, Keyword};
 use std::alloc::AllocError;
 
 /// Each keyword as it is written.
-const SPELLINGS: [(&str, Keyword); 26] = [
+const SPELLINGS: [(&str, Keyword); 27] = [
     ("file", Keyword::File),
     ("package", Keyword::Package),
     ("syntax", Keyword::Syntax),
@@ -34,6 +34,7 @@ const SPELLINGS: [(&str, Keyword); 26] = [
     ("find", Keyword::Find),
     ("walk", Keyword::Walk),
     ("refs", Keyword::Refs),
+    ("relink", Keyword::Relink),
 ];
 
 /// The keyword that a word spells in a table.
@@ -62,7 +63,12 @@ pub(super) fn stands(blocks: &[Block], keyword: Keyword) -> bool
     match blocks.last() {
         None => matches!(
             keyword,
-            Keyword::File | Keyword::Link | Keyword::Find | Keyword::Walk | Keyword::Refs
+            Keyword::File
+                | Keyword::Link
+                | Keyword::Find
+                | Keyword::Walk
+                | Keyword::Refs
+                | Keyword::Relink
         ),
         Some(Block::File) => stands_in_file(keyword),
         Some(Block::Message) => stands_in_message(keyword),

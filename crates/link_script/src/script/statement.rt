@@ -33,6 +33,7 @@ pub enum Keyword {
     Find,
     Walk,
     Refs,
+    Relink,
 }
 
 /// What an open block declares.
@@ -73,6 +74,7 @@ pub enum Statement {
     Find(Text),
     Walk,
     Refs(Text),
+    Relink,
 }
 
 /// What is wrong with a line, in the order in which a line is looked at.

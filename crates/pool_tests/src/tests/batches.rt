@@ -1,7 +1,7 @@
 //! Batches that a pool takes and refuses, and what its names mean then.
 
 use descriptor_pool::{BuildError, DescriptorPool};
-use pool_types::{DefinitionKind, MessageDescriptor};
+use pool_types::{DefinitionKind, ExtensionDescriptor, MessageDescriptor};
 use script_files::files_of;
 use std::alloc::{AllocError, Global};
 use std::process::Abort;
@@ -11,7 +11,7 @@ use std::test::Fail;
 pub(super) const FIRST: &str = "file a.proto\npackage p.q\nmessage M\n\
     field f 1 optional int32 ~ ~\nfield g 2 optional message .p.q.M ~\nend\nend\n";
 
-const GOOD: &str = "file good.proto\nmessage Good\nend\nend\n";
+const GOOD: &str = "file good.proto\nmessage Good\nextensions 1 2\nend\nend\n";
 
 /// Batches that one pool is given in turn, what it answers, a name, and what that means then: a
 /// kind, an index, the index of the file, and a path.
@@ -38,15 +38,22 @@ const BATCHES: &[(&str, &str, &str, &str)] = &[
     ),
     (GOOD, "ok 2 2 0 0 0", ".Good", "message 1 1 [4, 0, 1]"),
     (
-        "file parts.proto\nenum E\nvalue V 0\nend\nservice S\nend\n\
-        extend x 1 optional int32 ~ ~\nmessage Good\nend\nend\n",
+        "file parts.proto\nimport good.proto\nenum E\nvalue V 0\nend\nservice S\nend\n\
+        extend x 1 optional int32 ~ Good\nmessage Good\nend\nend\n",
         "refused parts.proto: name 'Good' is already defined in file 'good.proto'",
         "V",
         "none",
     ),
     (
-        "file parts.proto\nenum E\nvalue V 0\nend\nservice S\nend\n\
-        extend x 1 optional int32 ~ ~\nend\n",
+        "file parts.proto\nimport good.proto\nenum E\nvalue V 0\nend\nservice S\nend\n\
+        extend x 1 optional int32 ~ Good\nextend g 1 optional message Nope Good\nend\n",
+        "refused parts.proto: name 'Nope' is not defined",
+        "x",
+        "none",
+    ),
+    (
+        "file parts.proto\nimport good.proto\nenum E\nvalue V 0\nend\nservice S\nend\n\
+        extend x 1 optional int32 ~ Good\nend\n",
         "ok 3 2 1 1 1",
         "V",
         "value 0 2 [5, 0, 2, 0, 1]",
@@ -119,11 +126,12 @@ fn a_pool_takes_and_refuses_batches(rt: HostRuntime) -> Result<(), Fail> {
 }
 
 /// A file whose field means a message that is not there, and that declares an item of each kind.
-const BAD: &str = "file bad.proto\nmessage Bad\nfield f 1 optional message .Missing ~\nend\n\
-    enum E\nvalue V 0\nend\nservice S\nend\nextend x 1 optional int32 ~ ~\nend\n";
+const BAD: &str = "file bad.proto\nmessage Bad\nfield f 1 optional message .Missing ~\n\
+    extensions 2 3\nend\nenum E\nvalue V 0\nend\nservice S\nend\n\
+    extend x 2 optional int32 ~ Bad\nend\n";
 
 /// A pool that was given batches in turn.
-fn pool_of(alloc: Global, scripts: &[&str]) -> Result<DescriptorPool, AllocError> {
+pub(super) fn pool_of(alloc: Global, scripts: &[&str]) -> Result<DescriptorPool, AllocError> {
     let mut pool = DescriptorPool::new(alloc);
     for script in scripts {
         answer(alloc, &mut pool, script)?;
@@ -151,5 +159,31 @@ fn a_refused_batch_leaves_no_trace(rt: HostRuntime) -> Result<(), Fail> {
     let pool = pool_of(rt.alloc(), &[BAD, GOOD])?;
     let fresh = pool_of(rt.alloc(), &[GOOD])?;
     check_equal(&rt, &pool, &fresh)?;
+    Ok(())
+}
+
+/// A file with an extension.
+const EXTENDING: &str = "file x.proto\nmessage X\nextensions 100 200\nend\n\
+    extend x 100 optional int32 ~ X\nend\n";
+
+/// Gives a pool one more file, of which its clone has nothing.
+fn check_clone(
+    rt: &impl Abort,
+    alloc: Global,
+    pool: &mut DescriptorPool,
+) -> Result<(), AllocError> {
+    let (copy, first) = (pool.clone()?, ExtensionDescriptor::new(0));
+    assert!(rt; *pool == copy);
+    answer(alloc, pool, EXTENDING)?;
+    assert!(rt; pool.counts().files == 2 && pool.extension(first).is_some());
+    assert!(rt; copy.counts().files == 1 && copy.extension(first).is_none());
+    assert!(rt; *pool != copy);
+    Ok(())
+}
+
+#[test]
+fn a_clone_stays_where_its_pool_grows(rt: HostRuntime) -> Result<(), Fail> {
+    let mut pool = pool_of(rt.alloc(), &[FIRST])?;
+    check_clone(&rt, rt.alloc(), &mut pool)?;
     Ok(())
 }

@@ -6,6 +6,7 @@ use pool_types::{
     Cardinality, FieldDescriptorInner, FileDescriptor, FileDescriptorInner, KindIndex,
     MessageDescriptor, MessageDescriptorInner,
 };
+use proto_types::FieldDescriptorProto;
 use script_files::files_of;
 use std::alloc::{AllocError, Global};
 use std::fmt::Write;
@@ -62,6 +63,20 @@ const LINKED: &[(&str, &str, &[(KindIndex, Cardinality)])] = &[
             (KindIndex::Enum(0), Cardinality::Optional),
         ],
     ),
+    (
+        "file a.proto\npackage p\nmessage M\nextensions 1 9\nextend a 1 optional ~ N M\nend\n\
+        enum E\nvalue V 0\nend\nmessage N\nend\nextend b 2 optional message E .p.M\n\
+        extend c 3 optional group N p.M\nextend d 4 optional int32 ~ M\nend\n",
+        "message p.M M [4, 0] None\n\
+        message p.N N [4, 1] None\n\
+        file a.proto\n\
+        record a '.p.N' Some(11) '.p.M'\n\
+        record b '.p.E' Some(14) '.p.M'\n\
+        record c '.p.N' Some(10) '.p.M'\n\
+        record d '' Some(5) '.p.M'\n\
+        none\n",
+        &[],
+    ),
 ];
 
 /// What a pool has, up to the second message and the second file.
@@ -102,10 +117,22 @@ fn tell_file(told: &mut String, file: &FileDescriptorInner) -> Result<(), AllocE
     let name = file.raw.name();
     writeln!(told, "file {name}")?;
     for message in file.raw.message_type.as_slice() {
-        for field in message.field.as_slice() {
-            let (name, type_name, type_) = (field.name(), field.type_name(), field.type_);
-            writeln!(told, "record {name} '{type_name}' {type_:?}")?;
+        tell_records(told, message.field.as_slice())?;
+        tell_records(told, message.extension.as_slice())?;
+    }
+    tell_records(told, file.raw.extension.as_slice())
+}
+
+/// Tells the records of fields or extensions: their types, and what they extend, where they do.
+fn tell_records(told: &mut String, fields: &[FieldDescriptorProto]) -> Result<(), AllocError> {
+    for field in fields {
+        let (name, type_name, type_) = (field.name(), field.type_name(), field.type_);
+        write!(told, "record {name} '{type_name}' {type_:?}")?;
+        if !field.extendee().is_empty() {
+            let extendee = field.extendee();
+            write!(told, " '{extendee}'")?;
         }
+        writeln!(told)?;
     }
     Ok(())
 }

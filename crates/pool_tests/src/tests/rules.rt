@@ -1,5 +1,6 @@
 //! The faults of numbers, of ranges, of oneofs, of JSON names, of values, and of methods.
 
+use super::extension_faults::{DEFAULT_FAULTS, EXTENSION_FAULTS};
 use descriptor_pool::{BuildError, DescriptorPool};
 use plain_values::Text;
 use pool_faults::{DescriptorErrorKind, Labelled};
@@ -9,6 +10,7 @@ use proto_files::FileDescriptorProto;
 use script_files::files_of;
 use std::alloc::{AllocError, Global};
 use std::fmt::Write;
+use std::process::Abort;
 use std::test::Fail;
 
 /// What it shows, a batch, and a line for each of its faults: its text, the path where it is found,
@@ -194,8 +196,9 @@ const FAULTS: &[(&str, &str, &str)] = &[
     ),
 ];
 
-/// What it shows, a batch, the extendee that the last field of its last message is given, and a line
-/// for each of its faults. No name is looked for: the field is one of its message.
+/// What it shows, a batch, the extendee that the last field of the last file's last message is given,
+/// and a line for each of its faults. No name is looked for: the field is one of its message. The
+/// last extension of that file is given a oneof, which counts for nothing.
 const EXTENDING: &[(&str, &str, &str, &str)] = &[
     (
         "no extension range holds the number",
@@ -219,14 +222,26 @@ const EXTENDING: &[(&str, &str, &str, &str)] = &[
         [4, 0, 2, 0, 3] a.proto [4, 0, 9, 0]\n\
         a.proto: message 'M' does not define '2' as an extension number [4, 0, 2, 0, 3]\n",
     ),
+    (
+        "a oneof of an extension need not be there",
+        "file a.proto\nmessage M\nextensions 1 3\nfield f 1 optional int32 ~ ~\nend\n\
+        extend e 2 optional int32 ~ M\nend\n",
+        "M",
+        "",
+    ),
 ];
 
-/// Gives the last field of a file's last message an extendee, which no statement does.
+/// Gives the last field of a file's last message an extendee, and the file's last extension a oneof,
+/// which no statement does.
 fn give_extendee(
     alloc: Global,
     file: &mut FileDescriptorProto,
     extendee: &str,
 ) -> Result<(), AllocError> {
+    if let Some(mut extension) = file.extension.pop() {
+        extension.oneof_index = Some(7);
+        file.extension.push(extension)?;
+    }
     let Some(mut message) = file.message_type.pop() else {
         return Ok(());
     };
@@ -297,12 +312,23 @@ fn cited(fault: &DescriptorErrorKind) -> Option<&Label> {
     }
 }
 
-#[test]
-fn faults_cite_what_they_conflict_with(rt: HostRuntime) -> Result<(), Fail> {
-    for (name, script, wanted) in FAULTS {
-        let told = told_faults(rt.alloc(), files_of(rt.alloc(), script)?)?;
+fn check_faults(
+    rt: &impl Abort,
+    alloc: Global,
+    rows: &[(&str, &str, &str)],
+) -> Result<(), AllocError> {
+    for (name, script, wanted) in rows {
+        let told = told_faults(alloc, files_of(alloc, script)?)?;
         assert!(rt; told.as_str() == *wanted, "{name}\n{told}");
     }
+    Ok(())
+}
+
+#[test]
+fn faults_cite_what_they_conflict_with(rt: HostRuntime) -> Result<(), Fail> {
+    check_faults(&rt, rt.alloc(), FAULTS)?;
+    check_faults(&rt, rt.alloc(), EXTENSION_FAULTS)?;
+    check_faults(&rt, rt.alloc(), DEFAULT_FAULTS)?;
     for (name, script, extendee, wanted) in EXTENDING {
         let told = told_faults(rt.alloc(), files_extending(rt.alloc(), script, extendee)?)?;
         assert!(rt; told.as_str() == *wanted, "{name}\n{told}");

@@ -1,15 +1,27 @@
 ghost use Rattle.std.specs.Prelude.{◌≡◌, IfOk};
 
 use super::definition::Identity;
-use plain_values::Duplicate;
+use plain_values::{Duplicate, Text, duplicate_given};
+use pool_kinds::{Cardinality, DefaultValue, KindIndex};
 use std::alloc::{AllocError, Global};
 
-/// An extension.
+/// An extension: a field of a message that isn't declared in it.
 #[derive(PartialEq, Drop)]
 pub struct ExtensionDescriptorInner {
     pub id: Identity,
     /// The index of the message around it, where it is nested.
     pub parent: Option<u32>,
+    pub number: u32,
+    /// Its full name in square brackets.
+    pub json_name: Text,
+    /// The index of the message whose field it is.
+    pub extendee: u32,
+    pub kind: KindIndex,
+    /// Whether its values are encoded as one run of bytes.
+    pub is_packed: bool,
+    pub cardinality: Cardinality,
+    /// Its default value, where one was given.
+    pub default: Option<DefaultValue>,
 }
 
 impl ExtensionDescriptorInner {
@@ -20,6 +32,13 @@ impl ExtensionDescriptorInner {
         Ok(ExtensionDescriptorInner {
             id: self.id.clone(alloc)?,
             parent: self.parent,
+            number: self.number,
+            json_name: self.json_name.clone(alloc)?,
+            extendee: self.extendee,
+            kind: self.kind,
+            is_packed: self.is_packed,
+            cardinality: self.cardinality,
+            default: duplicate_given(alloc, &self.default)?,
         })
     }
 }

@@ -2,7 +2,7 @@ ghost use Rattle.std.specs.Prelude.{◌≡◌, IfOk};
 
 use super::definition::Identity;
 use plain_values::{Duplicate, Text, duplicate_given};
-use pool_kinds::{Cardinality, KindIndex};
+use pool_kinds::{Cardinality, DefaultValue, KindIndex};
 use std::alloc::{AllocError, Global};
 
 /// A field of a message.
@@ -20,6 +20,8 @@ pub struct FieldDescriptorInner {
     /// Whether a message tells that it is set.
     pub supports_presence: bool,
     pub cardinality: Cardinality,
+    /// Its default value, where one was given.
+    pub default: Option<DefaultValue>,
 }
 
 impl FieldDescriptorInner {
@@ -36,6 +38,7 @@ impl FieldDescriptorInner {
             is_packed: self.is_packed,
             supports_presence: self.supports_presence,
             cardinality: self.cardinality,
+            default: duplicate_given(alloc, &self.default)?,
         })
     }
 }

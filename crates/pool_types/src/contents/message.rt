@@ -13,6 +13,8 @@ pub struct MessageDescriptorInner {
     pub id: Identity,
     /// The index of the message around it, where it is nested.
     pub parent: Option<u32>,
+    /// The indexes of all extensions that extend it, in rising order.
+    pub extensions: Items<u32>,
     pub fields: Items<FieldDescriptorInner>,
     /// From the number of a field to its position, from 0; of two with one number, to that of the
     /// later one.
@@ -32,6 +34,7 @@ impl MessageDescriptorInner {
         Ok(MessageDescriptorInner {
             id: self.id.clone(alloc)?,
             parent: self.parent,
+            extensions: Items::from_slice(alloc, self.extensions.as_slice())?,
             fields: self.fields.clone(alloc)?,
             field_numbers: self.field_numbers.clone(alloc)?,
             field_names: self.field_names.clone(alloc)?,

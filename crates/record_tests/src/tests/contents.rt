@@ -4,10 +4,10 @@ use super::copies::check_made;
 use plain_maps::{NumberMap, TextMap};
 use plain_values::{Items, Text, same};
 use pool_types::{
-    Cardinality, Definition, DefinitionKind, EnumDescriptorInner, EnumValueDescriptorInner,
-    ExtensionDescriptorInner, FieldDescriptorInner, FileDescriptor, Identity, KindIndex,
-    MessageDescriptor, MessageDescriptorInner, MethodDescriptorInner, OneofDescriptorInner,
-    ServiceDescriptorInner,
+    Cardinality, DefaultValue, Definition, DefinitionKind, EnumDescriptorInner,
+    EnumValueDescriptorInner, ExtensionDescriptorInner, FieldDescriptorInner, FileDescriptor,
+    Identity, KindIndex, MessageDescriptor, MessageDescriptorInner, MethodDescriptorInner,
+    OneofDescriptorInner, ServiceDescriptorInner,
 };
 use std::alloc::{AllocError, Global};
 use std::process::Abort;
@@ -32,16 +32,34 @@ fn definition(alloc: Global, kind: DefinitionKind) -> Result<Definition, AllocEr
     })
 }
 
-fn field(alloc: Global, number: u32) -> Result<FieldDescriptorInner, AllocError> {
+/// Default values of all kinds, those beside each other as alike as may be.
+fn defaults(alloc: Global) -> Result<Items<DefaultValue>, AllocError> {
+    let mut defaults = Items::new(alloc);
+    defaults.push(DefaultValue::I32(5))?;
+    defaults.push(DefaultValue::EnumNumber(5))?;
+    defaults.push(DefaultValue::I64(5))?;
+    defaults.push(DefaultValue::U32(5))?;
+    defaults.push(DefaultValue::U64(5))?;
+    defaults.push(DefaultValue::Bool(false))?;
+    defaults.push(DefaultValue::Bool(true))?;
+    defaults.push(DefaultValue::String(Text::from_str(alloc, "5")?))?;
+    defaults.push(DefaultValue::FloatText(Text::from_str(alloc, "5")?))?;
+    defaults.push(DefaultValue::Bytes(Items::from_slice(alloc, b"5")?))?;
+    defaults.push(DefaultValue::Bytes(Items::new(alloc)))?;
+    Ok(defaults)
+}
+
+fn field(alloc: Global, default: &DefaultValue) -> Result<FieldDescriptorInner, AllocError> {
     Ok(FieldDescriptorInner {
         id: identity(alloc)?,
-        number,
+        number: 7,
         json_name: Some(Text::from_str(alloc, "g")?),
         kind: KindIndex::Enum(3),
         oneof: Some(0),
         is_packed: true,
         supports_presence: true,
         cardinality: Cardinality::Required,
+        default: Some(default.clone(alloc)?),
     })
 }
 
@@ -59,9 +77,10 @@ fn names(alloc: Global, name: &str) -> Result<TextMap, AllocError> {
     Ok(names)
 }
 
-fn message(alloc: Global, parent: Option<u32>) -> Result<MessageDescriptorInner, AllocError> {
+/// A message that these extensions extend.
+fn message(alloc: Global, extensions: &[u32]) -> Result<MessageDescriptorInner, AllocError> {
     let mut fields = Items::new(alloc);
-    fields.push(field(alloc, 7)?)?;
+    fields.push(field(alloc, &DefaultValue::EnumNumber(5))?)?;
     let mut oneofs = Items::new(alloc);
     oneofs.push(OneofDescriptorInner {
         id: identity(alloc)?,
@@ -69,7 +88,8 @@ fn message(alloc: Global, parent: Option<u32>) -> Result<MessageDescriptorInner,
     })?;
     Ok(MessageDescriptorInner {
         id: identity(alloc)?,
-        parent,
+        parent: Some(2),
+        extensions: Items::from_slice(alloc, extensions)?,
         fields,
         field_numbers: numbers(alloc, 7)?,
         field_names: names(alloc, "f")?,
@@ -111,11 +131,37 @@ fn service(alloc: Global, count: u32) -> Result<ServiceDescriptorInner, AllocErr
     })
 }
 
-fn extension(alloc: Global, parent: Option<u32>) -> Result<ExtensionDescriptorInner, AllocError> {
+fn extension(alloc: Global) -> Result<ExtensionDescriptorInner, AllocError> {
     Ok(ExtensionDescriptorInner {
         id: identity(alloc)?,
-        parent,
+        parent: Some(2),
+        number: 100,
+        json_name: Text::from_str(alloc, "[p.M]")?,
+        extendee: 3,
+        kind: KindIndex::Enum(4),
+        is_packed: true,
+        cardinality: Cardinality::Repeated,
+        default: Some(DefaultValue::EnumNumber(5)),
     })
+}
+
+/// How many other extensions there are.
+const OTHERS: usize = 8;
+
+/// One of the other extensions, each of which has one part of its own.
+fn other_extension(alloc: Global, other: usize) -> Result<ExtensionDescriptorInner, AllocError> {
+    let mut extension = extension(alloc)?;
+    match other {
+        0 => extension.parent = None,
+        1 => extension.number = 101,
+        2 => extension.json_name = Text::from_str(alloc, "p.M")?,
+        3 => extension.extendee = 2,
+        4 => extension.kind = KindIndex::Message(4),
+        5 => extension.is_packed = false,
+        6 => extension.cardinality = Cardinality::Required,
+        _ => extension.default = None,
+    }
+    Ok(extension)
 }
 
 /// What an identity tells of itself.
@@ -156,15 +202,17 @@ fn identities_and_definitions_equal_their_copies(rt: HostRuntime) -> Result<(), 
 #[test]
 fn items_equal_their_copies(rt: HostRuntime) -> Result<(), Fail> {
     let alloc = rt.alloc();
-    check_made(&rt, alloc, field(alloc, 7), field(alloc, 8))?;
-    check_made(&rt, alloc, message(alloc, Some(2)), message(alloc, None))?;
+    for pair in defaults(alloc)?.as_slice().windows(2) {
+        if let [default, other] = pair {
+            check_made(&rt, alloc, field(alloc, default), field(alloc, other))?;
+        }
+    }
+    check_made(&rt, alloc, message(alloc, &[1, 4]), message(alloc, &[1]))?;
     check_made(&rt, alloc, enumeration(alloc, -1), enumeration(alloc, 1))?;
     check_made(&rt, alloc, service(alloc, 1), service(alloc, 2))?;
-    check_made(
-        &rt,
-        alloc,
-        extension(alloc, Some(2)),
-        extension(alloc, None),
-    )?;
+    for other in 0..OTHERS {
+        let other = other_extension(alloc, other);
+        check_made(&rt, alloc, extension(alloc), other)?;
+    }
     Ok(())
 }

@@ -10,9 +10,9 @@ pub(super) const FAULTY: &[(&str, &str, &str)] = &[
     ),
     ("`ref` is no keyword", "ref a\n", "line 1: unknown word\n"),
     (
-        "`relink` is no keyword",
-        "relink\n",
-        "line 1: unknown word\n",
+        "a relink with a word",
+        "relink a\n",
+        "line 1: wrong count of words\n",
     ),
     ("`ext` is no keyword", "ext M 1\n", "line 1: unknown word\n"),
     (

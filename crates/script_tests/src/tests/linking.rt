@@ -81,7 +81,7 @@ pub(super) const LINKED: &[(&str, &str, &str, Ending)] = &[
     ),
     (
         "comments and blank lines stand between a field and more of it",
-        "file a.proto\nmessage M\nfield f 1 optional int32 ~ ~\n\n# more of it\n  \n\
+        "file a.proto\nmessage M\nfield f 1 optional string ~ ~\n\n# more of it\n  \n\
         json x\n\n#\npacked true\ndefault  7\nend\nend\nlink\n",
         "ok 1 1 0 0 0\n",
         Ending::Whole,
@@ -101,7 +101,7 @@ pub(super) const LINKED: &[(&str, &str, &str, Ending)] = &[
     (
         "whatever a file declares is found",
         "file a.proto\npackage p\nmessage M\noneof o\nfield f 1 optional int32 ~ 0\n\
-        enum E\nvalue V 0\nend\nextend e 100 optional int32 ~ M\nend\nservice S\n\
+        enum E\nvalue V 0\nend\nextensions 100 200\nextend e 100 optional int32 ~ M\nend\nservice S\n\
         method m .p.M .p.M\nend\nend\nlink\n\
         find p.M.o\nfind p.M.E\nfind p.M.V\nfind p.M.e\nfind p.S\nfind p.S.m\n",
         "ok 1 1 1 1 1\noneof 0 a.proto [4, 0, 8, 0, 1]\nenum 0 a.proto [4, 0, 4, 0, 1]\n\
@@ -124,10 +124,11 @@ pub(super) const LINKED: &[(&str, &str, &str, Ending)] = &[
     ),
     (
         "items of all kinds are numbered on over batches",
-        "file a.proto\nenum E\nvalue A 0\nend\nservice S\nend\nextend x 1 optional int32 ~ ~\nend\nlink\n\
-        file b.proto\nenum F\nvalue B 0\nend\nservice T\nend\nextend y 1 optional int32 ~ ~\nend\nlink\n\
+        "file a.proto\nenum E\nvalue A 0\nend\nservice S\nend\nmessage M\nextensions 1 3\nend\n\
+        extend x 1 optional int32 ~ M\nend\nlink\nfile b.proto\nimport a.proto\n\
+        enum F\nvalue B 0\nend\nservice T\nend\nextend y 2 optional int32 ~ M\nend\nlink\n\
         find F\nfind T\nfind y\n",
-        "ok 1 0 1 1 1\nok 2 0 2 2 2\nenum 1 b.proto [5, 0, 1]\nservice 1 b.proto [6, 0, 1]\n\
+        "ok 1 1 1 1 1\nok 2 1 2 2 2\nenum 1 b.proto [5, 0, 1]\nservice 1 b.proto [6, 0, 1]\n\
         extension 1 b.proto [7, 0, 1]\n",
         Ending::Whole,
     ),
@@ -145,6 +146,14 @@ pub(super) const LINKED: &[(&str, &str, &str, Ending)] = &[
         "file a.proto\nmessage A\nmessage B\nfield f 1 optional message .A ~\nend\n\
         field g 1 optional message .A.B ~\nend\nend\nlink\nfind A.B.f\n",
         "ok 1 2 0 0 0\nfield 1 a.proto [4, 0, 3, 0, 2, 0, 1]\n",
+        Ending::Whole,
+    ),
+    (
+        "a later package changes no reference that is resolved, and the pool relinks",
+        "file x.proto\npackage foo\nmessage Bar\nend\nend\nfile y.proto\npackage p\nimport x.proto\n\
+        message M\nfield f 1 optional ~ foo.Bar ~\nend\nend\nlink\n\
+        file z.proto\npackage p.foo\nend\nlink\nrelink\n",
+        "ok 2 2 0 0 0\nok 3 2 0 0 0\nsame\n",
         Ending::Whole,
     ),
     (

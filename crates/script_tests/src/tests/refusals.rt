@@ -230,6 +230,48 @@ pub(super) const REFUSED: &[(&str, &str, &str, Ending)] = &[
         Ending::Whole,
     ),
     (
+        "an extension whose type is not there leaves no trace of its batch",
+        "file a.proto\nmessage M\nextensions 100 200\nend\nmessage A\nend\nmessage B\nend\nend\nlink\n\
+        file b.proto\nimport a.proto\nextend e 100 optional int32 ~ M\n\
+        extend g 101 optional message Nope M\nend\nlink\nfind e\nrefs b.proto\n",
+        "ok 1 3 0 0 0\nrefused 1\nb.proto: name 'Nope' is not defined\nnone\nnone\n",
+        Ending::Whole,
+    ),
+    (
+        "a message has a range for the number of an extension",
+        "file a.proto\npackage p\nmessage ~\nend\nextend e 5 optional int32 ~ ~\nend\nlink\n",
+        "refused 1\na.proto: message 'p.' does not define '5' as an extension number\n",
+        Ending::Whole,
+    ),
+    (
+        "an extension of a message of an earlier batch may have no number that is reserved there",
+        "file a.proto\nmessage M\nreserved 1 6\nextensions 5 9\nend\nend\nlink\n\
+        file b.proto\nimport a.proto\nextend e 5 optional int32 ~ M\n\
+        extend f 9 optional int32 ~ M\nend\nlink\nfind e\n",
+        "ok 1 1 0 0 0\nrefused 2\n\
+        b.proto: field number '5' conflicts with reserved range '1 to 5'\n\
+        b.proto: message 'M' does not define '9' as an extension number\nnone\n",
+        Ending::Whole,
+    ),
+    (
+        "an extension extends a message",
+        "file a.proto\npackage p\nextend e 1 optional int32 ~ p\nend\nlink\n",
+        "refused 1\na.proto: 'p' is not a message type\n",
+        Ending::Whole,
+    ),
+    (
+        "a default value is one of the type",
+        "file a.proto\nenum E\nvalue A 5\nend\nmessage M\nfield f 1 optional enum E ~\ndefault B\n\
+        field g 2 optional message M ~\ndefault x\nfield h 3 optional bytes ~ ~\ndefault \\w\n\
+        field i 4 optional float ~ ~\ndefault what?\nfield j 5 optional int32 ~ ~\ndefault  7\n\
+        end\nend\nlink\n",
+        "refused 4\na.proto: invalid default value 'B' for type 'E'\n\
+        a.proto: invalid default value 'x' for type 'message type'\n\
+        a.proto: invalid default value '\\w' for type 'bytes'\n\
+        a.proto: invalid default value ' 7' for type 'int32'\n",
+        Ending::Whole,
+    ),
+    (
         "the fault of a script stands behind those of a batch",
         "file a.proto\nmessage M\nfield f 1 optional message N ~\nend\nend\nlink\nend\n",
         "refused 1\na.proto: name 'N' is not defined\nline 7: misplaced\n",

@@ -53,9 +53,9 @@ const SAID: &[(&str, &str, &str)] = &[
         end\nend\n",
     ),
     (
-        "the pool is walked over",
-        "walk\n\nfind ~",
-        "walk\nfind ''\n",
+        "the pool is walked over, and linked again",
+        "walk\n\nrelink\nfind ~",
+        "walk\nrelink\nfind ''\n",
     ),
 ];
 
@@ -111,6 +111,7 @@ fn tell(told: &mut String, statement: &Statement) -> Result<(), AllocError> {
         Statement::Find(name) => tell_text(told, "find", name),
         Statement::Walk => writeln!(told, "walk"),
         Statement::Refs(name) => tell_text(told, "refs", name),
+        Statement::Relink => writeln!(told, "relink"),
     }
 }
 

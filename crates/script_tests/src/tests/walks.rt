@@ -60,4 +60,49 @@ pub(super) const WALKED: &[(&str, &str, &str, Ending)] = &[
         p.S.n input_type .p.N\np.S.n output_type .p.M\n",
         Ending::Whole,
     ),
+    (
+        "an extension refers to what it extends, and then to its type",
+        "file a.proto\npackage p\nenum E\nvalue V 0\nend\nmessage M\nextensions 1 9\nmessage N\nend\n\
+        field f 10 optional message N ~\nextend a 1 optional message M.N M\nend\n\
+        extend b 2 optional enum E p.M\nextend c 3 optional int32 ~ .p.M\n\
+        extend d 4 repeated group p.M.N M\nend\nlink\nrefs a.proto\n",
+        "ok 1 2 1 0 4\nrefs 8\np.M.f type_name .p.M.N\np.M.a extendee .p.M\n\
+        p.M.a type_name .p.M.N\np.b extendee .p.M\np.b type_name .p.E\np.c extendee .p.M\n\
+        p.d extendee .p.M\np.d type_name .p.M.N\n",
+        Ending::Whole,
+    ),
+    (
+        "an extension of a message without a name",
+        "file a.proto\npackage p\nmessage ~\nextensions 1 10\nend\nextend e 5 optional int32 ~ ~\n\
+        end\nlink\nrefs a.proto\nfile b.proto\nmessage M\nextensions 5 6\nend\n\
+        extend ~ 5 optional int32 ~ M\nend\nlink\nrefs b.proto\n",
+        "ok 1 1 0 0 1\nrefs 1\np.e extendee .p.\nok 2 2 0 0 2\nrefs 1\n'' extendee .M\n",
+        Ending::Whole,
+    ),
+    (
+        "an extension of a message that stands behind it, in a file that is imported publicly",
+        "file c.proto\nimport b.proto\nextend e 100 optional enum E M\ndefault A\nend\n\
+        file b.proto\nimport a.proto\npublic 0\nend\n\
+        file a.proto\nmessage M\nextensions 100 200\nend\nenum E\nvalue A 5\nend\nend\nlink\n\
+        refs c.proto\nfind e\n",
+        "ok 3 1 1 0 1\nrefs 2\ne extendee .M\ne type_name .E\nextension 0 c.proto [7, 0, 1]\n",
+        Ending::Whole,
+    ),
+    (
+        "extensions of a message of an earlier batch",
+        "file a.proto\npackage p\nmessage M\nextensions 100 200\nend\n\
+        extend e 100 optional int32 ~ M\nend\nlink\n\
+        file b.proto\npackage q\nimport a.proto\nextend g 199 optional group p.M p.M\nend\nlink\n\
+        refs b.proto\nfind q.g\n",
+        "ok 1 1 0 0 1\nok 2 1 0 0 2\nrefs 2\nq.g extendee .p.M\nq.g type_name .p.M\n\
+        extension 1 b.proto [7, 0, 1]\n",
+        Ending::Whole,
+    ),
+    (
+        "two extensions of one number of one message",
+        "file a.proto\nmessage M\nextensions 100 200\nend\nextend e 100 optional int32 ~ M\n\
+        extend g 100 optional int32 ~ M\nend\nlink\nrefs a.proto\n",
+        "ok 1 1 0 0 2\nrefs 2\ne extendee .M\ng extendee .M\n",
+        Ending::Whole,
+    ),
 ];

@@ -6,13 +6,15 @@ use Rattle.name_tables.specs.NameTables.{FileNamesBefore}
 use Rattle.proto_records.specs.declared.counts.Counts.{Counts}
 use Rattle.proto_records.specs.Declarations.{declarations}
 use Rattle.link_rules.specs.NamesBegin.{NamesBegin}
+use Rattle.link_rules.specs.Short.{ShortFiles}
 use Rattle.descriptor_pool.specs.Behind.{names_behind, references_behind}
 use Rattle.descriptor_pool.specs.Entered.{file_entries}
 use Rattle.descriptor_pool.specs.Invariant.{contents_in}
 use Rattle.descriptor_pool.specs.Passes.{TellsAll}
 use Rattle.descriptor_pool.proofs.Files.{names-behind-before, room-files}
 use Rattle.descriptor_pool.proofs.Passed.{after-ok, ok-is}
-use Rattle.descriptor_pool.proofs.Stages.{refused-first, told-second, names_are, references_are, linked_is}
+use Rattle.descriptor_pool.proofs.Seeing.{raws-stay}
+use Rattle.descriptor_pool.proofs.Stages.{base_before, linked_is, names_are, references_are, refused-first, told-second}
 use Rattle.descriptor_pool.proofs.build.link_behind.Goals as goal
 
 pub returns-then-is_err-clause-faults : goal.returns-then-is_err-clause-faults
@@ -53,6 +55,25 @@ see_files-requires-clause-places c =
     subst (λ (x : Contents). FileNamesBefore (length x.files) x.file_names) (sym entered)
     (subst (λ n. FileNamesBefore n (names_with q.file_names (file_entries (declarations base new)))) many
     (subst (λ (x : Contents). FileNamesBefore (base.files + length new) (names_with x.file_names (file_entries (declarations base new)))) (sym c.in_default.ensures.ok) all))
+
+-- no list of the files is too long
+pub make_items-requires-clause-short : goal.make_items-requires-clause-short
+make_items-requires-clause-short c =
+    let names = c.enter_names-pool in
+    let entered = after-ok names.result.1 c.if-is_err.ensures.value names.ensures.entered in
+    let same = ap files_of c.in_default-see_files.ensures.ok ∙ raws-stay names.result.0 ∙ ap files_of entered ∙ c.in_default.ensures.files in
+    subst ShortFiles (sym same) c.requires.short
+
+-- nothing but records of files and names came by now
+pub make_items-requires-clause-before : goal.make_items-requires-clause-before
+make_items-requires-clause-before c =
+    let p = contents_in c.args.pool.inner in
+    let q = contents_in c.add_records.new.pool.inner in
+    let names = c.enter_names-pool in
+    let entered = after-ok names.result.1 c.if-is_err.ensures.value names.ensures.entered in
+    let kept = names.ensures.kept ∙ c.add_records.ensures.kept ∙ c.requires.whole in
+    base_before p q c.args.pool.base c.args.new.now c.requires.base c.in_default.ensures.ok c.in_default.ensures.files
+    names.result.0 c.see_files.new.self entered kept c.in_default-see_files.ensures.ok c.see_files.ensures.kept
 
 pub make_items-requires-clause-names : goal.make_items-requires-clause-names
 make_items-requires-clause-names c =

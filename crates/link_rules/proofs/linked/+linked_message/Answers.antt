@@ -5,13 +5,13 @@ use Rattle.proto_types.specs.Names.{join}
 use Rattle.proto_types.specs.Readers.{text_of}
 use Rattle.proto_records.specs.Changed.{changed_fields, changed_message, changed_messages}
 use Rattle.proto_records.proofs.Changed.{changed-message-is}
-use Rattle.link_rules.specs.Linked.{linking, linked_field}
+use Rattle.link_rules.specs.Linked.{linking, linked_field, linked_extension}
 use Rattle.link_rules.specs.SettingCode.{setting_in}
 use Rattle.places.proofs.Each.{map-next}
-use Rattle.link_rules.proofs.Unchanged.{extensions-stay, if-ok}
+use Rattle.link_rules.proofs.Made.{if-ok}
 use Rattle.link_rules.proofs.linked.+linked_message.Goals as goal
 
--- its fields and its nested messages are linked, and the rest stays
+-- its fields, its nested messages and its extensions are linked, and the rest stays
 pub returns : goal.returns
 returns t c =
     let m = out-DescriptorProto c.args.message.now in
@@ -20,10 +20,13 @@ returns t c =
     let field : c.in_ok-field.field ≡ changed_fields (linked_field s) c.args.index within m.field =
     c.in_ok-field.ensures
     ∙ (λ i. changed_fields (linked_field s) c.args.index ((c.deref.ensures ∙ c.in_ok-within.ensures ∙ ap (join c.args.scope.now) c.name.ensures) i) (c.as_slice.ensures i)) in
+    let extension : c.in_ok-extension.extension ≡ changed_fields (linked_extension s) c.args.index within m.extension =
+    c.in_ok-extension.ensures
+    ∙ (λ i. changed_fields (linked_extension s) c.args.index ((c.deref-2.ensures ∙ c.in_ok-within.ensures ∙ ap (join c.args.scope.now) c.name.ensures) i) (c.as_slice-extension.ensures i)) in
     let nested =
     c.loop-nested.invariant
     ∙ ap (changed_messages (linking s) c.args.index within) (take_all c.loop-nested.nested-index c.as_slice-nested-items.result.now c.loop-nested-test.false ∙ c.as_slice-nested-items.ensures) in
-    let same = ap roll-DescriptorProto (λ i. record m { field = field i; nested_type = nested i; extension = sym (extensions-stay c.args.index within m.extension) i })
+    let same = ap roll-DescriptorProto (λ i. record m { field = field i; nested_type = nested i; extension = extension i })
     ∙ sym (changed-message-is (linking s) c.args.index within c.args.message.now) in
     if-ok c.with_parts.result same c.with_parts.ensures
 

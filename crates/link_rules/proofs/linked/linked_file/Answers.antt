@@ -3,11 +3,10 @@ use Rattle.std.proofs.lemmas.List.{take_all}
 use Rattle.proto_types.specs.Names.{join}
 use Rattle.proto_types.specs.Readers.{text_of}
 use Rattle.proto_files.specs.declared.message.DescriptorProto.{out-DescriptorProto}
-use Rattle.proto_records.specs.Changed.{changed_message, changed_messages, changed_services}
-use Rattle.link_rules.specs.Linked.{linking}
+use Rattle.proto_records.specs.Changed.{changed_fields, changed_message, changed_messages, changed_services}
+use Rattle.link_rules.specs.Linked.{linking, linked_extension}
 use Rattle.link_rules.specs.SettingCode.{setting_in}
 use Rattle.places.proofs.Each.{map-next}
-use Rattle.link_rules.proofs.Unchanged.{extensions-stay}
 use Rattle.link_rules.proofs.linked.linked_file.Goals as goal
 
 -- one more message is linked
@@ -33,6 +32,8 @@ returns c =
     ∙ ap (changed_messages (linking s) c.args.index scope) (take_all c.loop-message.message-index c.as_slice-message-items.result.now c.loop-message-test.false ∙ c.as_slice-message-items.ensures) in
     let services : c.in_ok-linked_services.field-0 ≡ changed_services (linking s) c.args.index scope f.service =
     c.in_ok-linked_services.ensures ∙ (λ i. changed_services (linking s) c.args.index (c.package-scope.ensures i) (c.as_slice.ensures i)) in
+    let extensions : c.in_ok-linked_extensions.field-0 ≡ changed_fields (linked_extension s) c.args.index scope f.extension =
+    c.in_ok-linked_extensions.ensures ∙ (λ i. changed_fields (linked_extension s) c.args.index (c.package-scope.ensures i) (c.as_slice-2.ensures i)) in
     λ i. record {
       name = c.in_ok-duplicate_given.ensures i;
       «package» = c.in_ok-duplicate_given-2.ensures i;
@@ -40,10 +41,10 @@ returns c =
       message_type = messages i;
       enum_type = c.in_ok-clone-2.ensures i;
       service = services i;
-      extension = (c.in_ok-clone-3.ensures ∙ sym (extensions-stay c.args.index scope f.extension)) i;
+      extension = extensions i;
       options = c.in_ok-duplicate_given-3.ensures i;
       source_code_info = c.in_ok-duplicate_given-4.ensures i;
-      public_dependency = (c.in_ok-from_slice.ensures ∙ c.as_slice-2.ensures) i;
-      weak_dependency = (c.in_ok-from_slice-2.ensures ∙ c.as_slice-3.ensures) i;
+      public_dependency = (c.in_ok-from_slice.ensures ∙ c.as_slice-3.ensures) i;
+      weak_dependency = (c.in_ok-from_slice-2.ensures ∙ c.as_slice-4.ensures) i;
       syntax = c.in_ok-duplicate_given-5.ensures i;
     }

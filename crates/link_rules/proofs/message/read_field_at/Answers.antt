@@ -5,7 +5,7 @@ use Rattle.proto_types.specs.Readers.{text_of}
 use Rattle.proto_records.specs.FullNames.{EndsWith}
 use Rattle.proto_records.proofs.FullNames.{join-ends}
 use Rattle.places.specs.NamesBegin.{BeginsAtBoundary}
-use Rattle.link_rules.proofs.Unchanged.{where-ok}
+use Rattle.link_rules.proofs.Made.{where-ok}
 use Rattle.link_rules.proofs.message.read_field_at.Goals as goal
 
 -- the name of a field ends its full name

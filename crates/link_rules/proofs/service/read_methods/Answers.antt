@@ -7,7 +7,7 @@ use Rattle.proto_records.specs.Shown.{Shown}
 use Rattle.link_rules.specs.Broken.{Faults, method_faults}
 use Rattle.places.specs.Each.{each}
 use Rattle.link_rules.specs.Items.{method_item}
-use Rattle.link_rules.specs.Methods.{method_at}
+use Rattle.link_rules.specs.Messages.{method_at}
 use Rattle.places.specs.Places.{inside_of}
 use Rattle.link_rules.specs.SettingCode.{setting_in}
 use Rattle.places.proofs.Each.{each-next, all-next, short-list}

@@ -3,7 +3,7 @@ use Rattle.std.specs.List.{flat_map}
 use Rattle.link_rules.specs.Broken.{method_faults}
 use Rattle.places.specs.Each.{each}
 use Rattle.link_rules.specs.Items.{method_item}
-use Rattle.link_rules.specs.Methods.{method_at}
+use Rattle.link_rules.specs.Messages.{method_at}
 use Rattle.places.specs.Places.{inside_of}
 use Rattle.link_rules.specs.SettingCode.{setting_in}
 use Rattle.link_rules.proofs.service.read_methods.Given as goal

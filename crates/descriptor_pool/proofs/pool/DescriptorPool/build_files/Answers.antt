@@ -8,7 +8,7 @@ use Rattle.descriptor_pool.specs.Invariant.{contents_in}
 use Rattle.descriptor_pool.specs.Outcome.{Outcome, IsLinked}
 use Rattle.descriptor_pool.specs.Pool.{new_files, counts_after}
 use Rattle.descriptor_pool.proofs.Grown.{IsBehind, fits_of, outcome_behind, pool_behind}
-use Rattle.descriptor_pool.proofs.Sound.{names_lie}
+use Rattle.descriptor_pool.proofs.Sound.{lists_lie, names_lie, short-behind}
 use Rattle.descriptor_pool.proofs.NewFiles.{nothing_linked}
 use Rattle.descriptor_pool.proofs.pool.DescriptorPool.build_files.Goals as goal
 
@@ -55,6 +55,18 @@ invariant_of-self c =
 
 pub link-requires-clause-before : goal.link-requires-clause-before
 link-requires-clause-before c = names_lie (contents_in c.self.inside.inner) c.self.invariant
+
+pub link-requires-clause-lists : goal.link-requires-clause-lists
+link-requires-clause-lists c = lists_lie (contents_in c.self.inside.inner) c.self.invariant
+
+-- no list of the pool's files and of the new ones is too long
+pub link-requires-clause-short : goal.link-requires-clause-short
+link-requires-clause-short c =
+    let p = contents_in c.self.inside.inner in
+    let base_is = c.counts-base.ensures ∙ ap counts_in (sym c.self.view_is) in
+    let ok : IsOk (counts_with c.counts-base.result c.deref.result.now) = rw (← c.with_files.ensures, c.in_default.is) refl in
+    let new = c.deref.ensures.value ∙ sym c.deref-2.ensures.value in
+    short-behind p c.self.invariant c.deref-2.result.now (subst IsOk (λ i. counts_with (base_is i) (new i)) ok)
 
 pub returns-clause-outcome : goal.returns-clause-outcome
 returns-clause-outcome c =

@@ -4,7 +4,7 @@ use Rattle.file_visibility.specs.Visibility.{seen_from}
 use Rattle.places.specs.Each.{each}
 use Rattle.descriptor_pool.specs.Growing.{file_seeing, seeing, seen_in}
 use Rattle.descriptor_pool.specs.Invariant.{contents_in}
-use Rattle.descriptor_pool.proofs.Seeing.{one, set-each}
+use Rattle.descriptor_pool.proofs.Each.{one, set-each}
 use Rattle.descriptor_pool.proofs.build.growing.GrowingPool.see_file.Goals as goal
 
 -- the file has those that it sees

@@ -1,4 +1,4 @@
--- The messages that a method takes and gives.
+-- References to messages: what a method takes and gives, and what an extension extends.
 use Rattle.std.specs.Prelude.{ℕ, ◌-◌, ◌^◌, List, unwrap_or}
 use Rattle.std.specs.Option.{option_and_then}
 use Rattle.std.specs.declared.option.Option.{Option}
@@ -28,9 +28,9 @@ message_found r = option_and_then message_index (kind_found r)
 abbrev pub or_missing : Option ℕ → ℕ
 or_missing n = unwrap_or n (2 ^ 32 - 1)
 
--- what the name of a message means that a method takes or gives; a missing name is the empty text
-abbrev pub method_meaning : Setting → Shown → Option (List ℕ) → Resolution
-method_meaning s d name = meaning s d.file d.full_name Message (text_of name)
+-- what the name of a message means that a declaration refers to; a missing name is the empty text
+abbrev pub message_meaning : Setting → Shown → Option (List ℕ) → Resolution
+message_meaning s d name = meaning s d.file d.full_name Message (text_of name)
 
 -- a method in surroundings, by its position
 abbrev pub method_at : Surrounding → ℕ → MethodDescriptorProto → Shown

@@ -1,0 +1,23 @@
+-- Extensions in the lists of the messages that they extend.
+use Rattle.std.specs.Prelude.{ℕ, ◌==◌, nat_lt, List, ◌++◌, map, drop}
+use Rattle.std.specs.List.{enumerate_from, filter}
+use Rattle.pool_types.specs.Contents.{Contents}
+use Rattle.pool_types.specs.declared.contents.extension.ExtensionDescriptorInner.{ExtensionDescriptorInner}
+use Rattle.pool_types.specs.declared.contents.message.MessageDescriptorInner.{MessageDescriptorInner}
+use Rattle.places.specs.Each.{each}
+
+-- of extensions that are numbered on from a first index, the indexes of those that extend the message with an index
+abbrev pub extending : ℕ → ℕ → List ExtensionDescriptorInner → List ℕ
+extending message first xs = map (λ e. e.0) (filter (λ e. e.1.extendee == message) (enumerate_from first xs))
+
+-- a message, by its index, with those of the extensions that extend it behind its list
+abbrev pub extended_by : ℕ → List ExtensionDescriptorInner → ℕ → MessageDescriptorInner → MessageDescriptorInner
+extended_by first xs message m = record m { extensions = m.extensions ++ extending message first xs }
+
+-- contents whose messages list the extensions from a first index on too
+abbrev pub with_extended : ℕ → Contents → Contents
+with_extended first p = record p { messages = each (extended_by first (drop first p.extensions)) 0 p.messages }
+
+-- a message that lists only those of its extensions that are before an index
+abbrev pub cut : ℕ → MessageDescriptorInner → MessageDescriptorInner
+cut end m = record m { extensions = filter (λ extension. nat_lt extension end) m.extensions }

@@ -1,0 +1,9 @@
+use Rattle.std.proofs.Common.{◌≡◌, take}
+use Rattle.proto_records.specs.Changed.{changed_fields}
+use Rattle.link_rules.specs.Linked.{linked_extension}
+use Rattle.link_rules.specs.SettingCode.{setting_in}
+use Rattle.link_rules.proofs.linked.linked_extensions.Given as goal
+
+-- the extensions so far are linked
+abbrev pub invariant-loop-extension : goal.invariant-loop-extension
+invariant-loop-extension l = l.linked ≡ changed_fields (linked_extension (setting_in l.setting)) l.index l.scope (take l.extension-index l.extensions)

@@ -1,0 +1,15 @@
+//! The run of the linker over protobuf's own well-known files: `stdin` is their script, which
+//! `tools/descriptors_to_script.py` made of what `protoc` says of them, and `stdout` the report.
+#![tactic(auto)]
+
+use descriptor_linker::{Ending, ReaderInput, WriterOutput, run};
+use std::process::ExitCode;
+
+fn main(rt: HostRuntime) -> ExitCode {
+    let mut input = ReaderInput::new(rt.stdin());
+    let mut output = WriterOutput::new(rt.stdout());
+    match run(rt.alloc(), &mut input, &mut output) {
+        Ending::Whole => ExitCode::SUCCESS,
+        _ => ExitCode::FAILURE,
+    }
+}
