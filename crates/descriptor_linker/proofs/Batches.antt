@@ -3,6 +3,7 @@ use Rattle.std.proofs.Common.{◌≡◌, ◌≢◌, ℕ, List, [], ◌∷◌, �
 use Rattle.std.specs.declared.result.Result.{Result}
 use Rattle.proto_records.specs.declared.counts.Counts.{Counts}
 use Rattle.proto_records.specs.declared.counts.CountKind.{CountKind}
+use Rattle.proto_records.specs.Counts.{counts_in}
 use Rattle.proto_records.proofs.Listings.{on-ok}
 use Rattle.pool_types.specs.Contents.{Contents}
 use Rattle.pool_parts.specs.declared.error.DescriptorError.{DescriptorError}
@@ -12,7 +13,7 @@ use Rattle.descriptor_pool.specs.Pool.{Batch, faults, faults_of_names, faults_of
 use Rattle.descriptor_pool.specs.Outcome.{IsLinked, IsRefused, Outcome}
 use Rattle.descriptor_pool.specs.declared.error.BuildError.{BuildError}
 use Rattle.descriptor_pool.specs.declared.error.BuildError.TheVariants.{Descriptor}
-use Rattle.descriptor_linker.specs.Report.Answers.{counts_line, refused_lines}
+use Rattle.script_answers.specs.Answers.{counts_line, refused_lines}
 use Rattle.descriptor_linker.specs.Report.Session.{Session, tell, accepted_or, linking, link_step}
 
 -- the session with a pool and an empty batch, where a text is told
@@ -39,16 +40,16 @@ refusing p batch (f ∷ fs) some = refl
 
 -- the batch was linked
 told-linked : (s : Session) (batch emptied : Batch) (new : Contents) (told : List ℕ)
-    → batch ≡ s.batch → emptied ≡ [] → IsLinked s.pool batch new → told ≡ s.told ++ counts_line new
+    → batch ≡ s.batch → emptied ≡ [] → IsLinked s.pool batch new → told ≡ s.told ++ counts_line (counts_in new)
     → record s { pool = new; batch = emptied; told = told } ≡ link_step s
 told-linked s batch emptied new told same none linked more =
-    told-behind s batch emptied new (counts_line new) told same none
+    told-behind s batch emptied new (counts_line (counts_in new)) told same none
     (where-it-fits s.pool batch (counts_after s.pool batch) linked.fits
     ∙ ap (accepted_or s.pool batch) (no-faults (faults_of_names s.pool batch) (faults_of_references s.pool batch) linked.accepted.0 linked.accepted.1)
-    ∙ ap (λ q. (q, counts_line q)) (sym linked.is)) more
+    ∙ ap (λ q. (q, counts_line (counts_in q))) (sym linked.is)) more
 
 pub on-linked : {U E : Type 0} (r : Result U E) (s : Session) (batch emptied : Batch) (new : Contents) (told : List ℕ)
-    → batch ≡ s.batch → emptied ≡ [] → IsLinked s.pool batch new → OnOk r (told ≡ s.told ++ counts_line new)
+    → batch ≡ s.batch → emptied ≡ [] → IsLinked s.pool batch new → OnOk r (told ≡ s.told ++ counts_line (counts_in new))
     → OnOk r (record s { pool = new; batch = emptied; told = told } ≡ link_step s)
 on-linked r s batch emptied new told same none linked more = on-ok r (told-linked s batch emptied new told same none linked) more
 

@@ -7,7 +7,7 @@ mod ending;
 mod report;
 mod runs;
 
-pub use descriptor_pool::{BuildError, DescriptorPool, NameVisitor, ResolveVisitor};
+pub use descriptor_pool::{BuildError, DescriptorPool};
 pub use ending::Ending;
 pub use link_script::{Block, Keyword, Open, Script, ScriptFault, Statement, read_script};
 pub use plain_values::{Items, Text};

@@ -3,12 +3,11 @@ ghost use Rattle.link_script.specs.Script.Reading.{script};
 ghost use Rattle.descriptor_linker.specs.Report.Session.{report};
 
 mod answers;
-mod references;
 mod relink;
 mod session;
 
-use answers::tell_fault;
 use link_script::{Script, read_script};
+use script_answers::tell_fault;
 use session::Session;
 use std::alloc::{AllocError, Global};
 

@@ -1,5 +1,5 @@
 -- What the files of a pool declare, and linked files behind them: the names that these enter, and how many of each kind there are.
-use Rattle.std.proofs.Common.{◌≡◌, ℕ, ℤ, ◌+◌, Option, List, [], ◌∷◌, ◌++◌, length, length-append, map, refl, ap, sym, ◌∙◌, arith}
+use Rattle.std.proofs.Common.{◌≡◌, ℕ, ℤ, suc, ◌+◌, Option, List, [], ◌∷◌, ◌++◌, length, length-append, map, refl, ap, sym, ◌∙◌, arith}
 use Rattle.std.proofs.lemmas.Grind.{flat_map-append}
 use Rattle.std.proofs.lemmas.List.{length-map, map-append}
 use Rattle.std.proofs.lemmas.List.Elements.{filter_map-append, All-head, All-tail}
@@ -12,7 +12,7 @@ use Rattle.proto_files.specs.declared.file.FileDescriptorProto.{FileDescriptorPr
 use Rattle.proto_types.specs.declared.records.field.FieldDescriptorProto.{FieldDescriptorProto}
 use Rattle.proto_types.specs.Readers.{text_of}
 use Rattle.proto_records.specs.declared.counts.Counts.{Counts}
-use Rattle.proto_records.specs.Changed.{Changes, KeepNames, changed, changed_files}
+use Rattle.proto_records.specs.Changed.{Changes, KeepNames, changed, changed_file, changed_files}
 use Rattle.proto_records.specs.Counts.{no_counts, counted, counting, counts_in}
 use Rattle.proto_records.specs.Declarations.{declarations, file_walk}
 use Rattle.proto_records.specs.Protos.{Proto, of_file, of_message, of_field, of_oneof, of_service, of_method, of_enum, of_value, of_extension, as_file, as_message, as_enum, as_service, as_extension}
@@ -23,11 +23,13 @@ use Rattle.proto_records.proofs.Changed.{counted-changed, declare-changed}
 use Rattle.proto_records.proofs.Counted.{counted-append, counts_are}
 use Rattle.proto_records.proofs.Paths.{one-file}
 use Rattle.proto_records.proofs.Walks.{IsInside, within-all}
+use Rattle.places.specs.Each.{each}
 use Rattle.enum_rules.specs.Items.{enum_item}
 use Rattle.link_rules.specs.Items.{file_item, message_item, service_item, extension_item}
-use Rattle.link_rules.specs.Linked.{linking, linked, linked_field, typed}
+use Rattle.link_rules.specs.Linked.{linking, linked_field, typed}
 use Rattle.link_rules.specs.Setting.{Setting, meaning}
-use Rattle.descriptor_pool.specs.Entered.{entries_of, entries, file_entries_of, file_entries}
+use Rattle.name_pass.specs.Entered.{entries_of, entries, file_entries_of, file_entries}
+use Rattle.growing_pool.proofs.Each.{each-map}
 use Rattle.descriptor_pool.specs.Behind.{with_items}
 
 -- the names that the files of a pool enter
@@ -63,7 +65,7 @@ entries-one c file parent index path full_name (of_enum e) = refl
 entries-one c file parent index path full_name (of_value v) = refl
 entries-one c file parent index path full_name (of_extension x) = refl
 
-entries-changed : (c : Changes) (ds : List Shown) → entries (map (changed c) ds) ≡ entries ds
+pub entries-changed : (c : Changes) (ds : List Shown) → entries (map (changed c) ds) ≡ entries ds
 entries-changed c [] = refl
 entries-changed c (d ∷ ds) = λ i. entries-one c d.file d.parent d.index d.path d.full_name d.proto i ++ entries-changed c ds i
 
@@ -79,7 +81,7 @@ file-entry-one c file parent index path full_name (of_enum e) = refl
 file-entry-one c file parent index path full_name (of_value v) = refl
 file-entry-one c file parent index path full_name (of_extension x) = refl
 
-file-entries-changed : (c : Changes) (ds : List Shown) → file_entries (map (changed c) ds) ≡ file_entries ds
+pub file-entries-changed : (c : Changes) (ds : List Shown) → file_entries (map (changed c) ds) ≡ file_entries ds
 file-entries-changed c [] = refl
 file-entries-changed c (d ∷ ds) = λ i. file-entry-one c d.file d.parent d.index d.path d.full_name d.proto i ++ file-entries-changed c ds i
 
@@ -102,19 +104,29 @@ none-inside (d ∷ ds) all =
     none-inside-one d.file d.parent d.index d.path d.full_name d.proto ds (All-head (λ e. IsInside e.proto) d ds all)
     ∙ none-inside ds (All-tail (λ e. IsInside e.proto) d ds all)
 
--- the items of files are the linked files
-raw-items : (s : Setting) (base : Counts) (fs : List FileDescriptorProto)
-    → map (λ f. f.raw) (map (λ e. file_item s e.0.index e.1) (of_kind as_file (declarations base fs))) ≡ changed_files (linking s) base.files fs
-raw-items s base [] = refl
-raw-items s base (f ∷ fs) =
+-- what is made of files, each by its index
+pub items-of-files : {Y : Type 0} (make : ℕ → FileDescriptorProto → Y) (base : Counts) (fs : List FileDescriptorProto)
+    → map (λ e. make e.0.index e.1) (of_kind as_file (declarations base fs)) ≡ each make base.files fs
+items-of-files make base [] = refl
+items-of-files make base (f ∷ fs) =
     let inside = within_file base.files base f in
     let next = counted base (file_walk base f) in
     let rest = declarations next fs in
     let none = none-inside inside (within-all (λ d. IsInside d.proto) (λ _. Unit {0}) (λ here tag position index proto is _. is)
     (λ here tag position index proto _. tt) (λ here tag position index proto _. tt) base f tt) in
-    ap (λ xs. map (λ f. f.raw) (map (λ e. file_item s e.0.index e.1) ((file_shown [] base.files f, f) ∷ xs)))
+    ap (λ xs. map (λ e. make e.0.index e.1) ((file_shown [] base.files f, f) ∷ xs))
     (filter_map-append (λ d. option_map (λ x. (d, x)) (as_file d.proto)) inside rest ∙ ap (λ xs. xs ++ of_kind as_file rest) none)
-    ∙ ap (λ gs. linked s base.files f ∷ gs) (raw-items s next fs ∙ ap (λ n. changed_files (linking s) n fs) (one-file base f))
+    ∙ ap (λ ys. make base.files f ∷ ys) (items-of-files make next fs ∙ ap (λ n. each make n fs) (one-file base f))
+
+pub each-changed : (c : Changes) (index : ℕ) (fs : List FileDescriptorProto) → each (changed_file c) index fs ≡ changed_files c index fs
+each-changed c index [] = refl
+each-changed c index (f ∷ fs) = ap (λ gs. changed_file c index f ∷ gs) (each-changed c (suc index) fs)
+
+-- the items of files are the linked files
+pub raw-items : (s : Setting) (base : Counts) (fs : List FileDescriptorProto)
+    → map (λ f. f.raw) (map (λ e. file_item s e.0.index e.1) (of_kind as_file (declarations base fs))) ≡ changed_files (linking s) base.files fs
+raw-items s base fs =
+    ap (map (λ f. f.raw)) (items-of-files (file_item s) base fs) ∙ each-map (λ f. f.raw) (file_item s) base.files fs ∙ each-changed (linking s) base.files fs
 
 -- how many of each kind a list of declarations has
 abbrev many : Counts → List Shown → Counts

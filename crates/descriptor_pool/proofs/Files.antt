@@ -24,7 +24,7 @@ use Rattle.proto_records.specs.Protos.{Proto, of_file, of_message, of_field, of_
 use Rattle.proto_records.specs.Shown.{Shown}
 use Rattle.proto_records.proofs.Paths.{one-file}
 use Rattle.proto_records.proofs.Walks.{file-all}
-use Rattle.descriptor_pool.specs.Entered.{entries, entries_of, file_entries, file_entries_of, package_entry, packages}
+use Rattle.name_pass.specs.Entered.{entries, entries_of, file_entries, file_entries_of, package_entry, packages}
 use Rattle.descriptor_pool.proofs.Resolved.{all-append}
 
 -- declarations of files lie in these
@@ -47,18 +47,18 @@ both-of : (from end : ℕ) (ds : List Shown) → AllByRecursion (λ d. LiesIn fr
 both-of from end [] all = (tt, tt)
 both-of from end (d ∷ ds) all = let rest = both-of from end ds all.1 in ((all.0.0, rest.0), (all.0.1, rest.1))
 
-lie-between : (base : Counts) (fs : List FileDescriptorProto)
+pub lie-between : (base : Counts) (fs : List FileDescriptorProto)
     → AllByRecursion (λ d. base.files ≤ d.file) (declarations base fs) × AllByRecursion (λ d. d.file < base.files + length fs) (declarations base fs)
 lie-between base fs =
     let end = base.files + length fs in
     let ds = declarations base fs in
     both-of base.files end ds (recursion_from_All (λ d. LiesIn base.files end d.file) ds (all-lie base.files end base fs (omega arith) (omega arith)))
 
-lie-from : (base : Counts) (fs : List FileDescriptorProto) → AllByRecursion (λ d. base.files ≤ d.file) (declarations base fs)
+pub lie-from : (base : Counts) (fs : List FileDescriptorProto) → AllByRecursion (λ d. base.files ≤ d.file) (declarations base fs)
 lie-from base fs = (lie-between base fs).0
 
 -- what a name means that entries have has what holds of each entry
-first-has : {X : Type 0} (P : X → Type 0) (es : List (List ℕ × X)) (name : List ℕ) → AllByRecursion (λ e. P e.1) es → IfSome (first_of es name) P
+pub first-has : {X : Type 0} (P : X → Type 0) (es : List (List ℕ × X)) (name : List ℕ) → AllByRecursion (λ e. P e.1) es → IfSome (first_of es name) P
 first-has P [] name all = tt
 first-has P (e ∷ es) name all =
     elim (bytes_eq name e.0) as (λ b. IfSome (cond b (Some e.1) (first_of es name)) P) [ true ↦ all.0 | false ↦ first-has P es name all.1 ]
@@ -143,7 +143,7 @@ names-behind-before base fs known before name =
     either (Some n) second earlier later = omega (arith, earlier)
 
 -- there are as many files as those before, and these
-counted-files : (base : Counts) (fs : List FileDescriptorProto) → (counted base (declarations base fs)).files ≡ base.files + length fs
+pub counted-files : (base : Counts) (fs : List FileDescriptorProto) → (counted base (declarations base fs)).files ≡ base.files + length fs
 counted-files base [] = omega arith
 counted-files base (f ∷ fs) =
     let walk = file_walk base f in

@@ -14,7 +14,7 @@ use Rattle.descriptor_pool.specs.declared.error.BuildError.TheVariants.{TooMany,
 use Rattle.descriptor_pool.specs.Behind.{declared_behind, setting_behind, faults_behind, first_of_both, linked_behind, with_items, with_names}
 use Rattle.descriptor_pool.specs.Invariant.{IsPool}
 use Rattle.descriptor_pool.specs.Outcome.{Outcome}
-use Rattle.descriptor_pool.specs.Passes.{TellsAll, TellsFaults}
+use Rattle.descriptor_pool.specs.Tells.{TellsAll, TellsFaults}
 use Rattle.descriptor_pool.specs.Pool.{Batch, Accepts, Fits, linked_to, new_files, faults, faults_of_names, faults_of_references}
 use Rattle.descriptor_pool.proofs.Declared.{counts-with}
 use Rattle.descriptor_pool.proofs.Listed.{counts-extended}

@@ -13,7 +13,7 @@ use Rattle.enum_rules.specs.Items.{enum_item}
 use Rattle.link_rules.specs.Items.{file_item, message_item, service_item, extension_item}
 use Rattle.link_rules.specs.Setting.{Setting}
 use Rattle.link_rules.proofs.Owners.{owners-tell}
-use Rattle.descriptor_pool.specs.Passes.{ReferencesSeen, referred, references_progress}
+use Rattle.reference_pass.specs.Steps.{ReferencesSeen, referred, references_progress}
 use Rattle.descriptor_pool.specs.Behind.{with_items}
 
 abbrev files_in : Setting → List Shown → List FileDescriptorInner

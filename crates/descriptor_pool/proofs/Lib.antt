@@ -1,5 +1,3 @@
-pub mod Fronts
-pub mod Packages
 pub mod NamesFold
 pub mod ItemsFold
 pub mod Passed
@@ -9,10 +7,9 @@ pub mod Files
 pub mod Sound
 pub mod NewFiles
 pub mod Grown
-pub mod Kept
-pub mod Entering
 pub mod Stages
-pub mod Each
 pub mod Seeing
-pub mod Extending
 pub mod Listed
+pub mod Wanted
+pub mod Indexed
+pub mod Extendees

@@ -13,9 +13,9 @@ use Rattle.pool_types.specs.Contents.{Contents, files_of}
 use Rattle.syntax_rules.specs.Syntaxes.{syntax_faults}
 use Rattle.link_rules.specs.Broken.{Faults}
 use Rattle.descriptor_pool.specs.Behind.{with_names}
-use Rattle.descriptor_pool.specs.Entered.{entries_of, entries, file_entries_of, file_entries}
-use Rattle.descriptor_pool.specs.FirstPass.{holder, holder_faults, clashes, file_name_faults, file_faults, own_faults, first_faults, first_pass}
-use Rattle.descriptor_pool.specs.Passes.{NamesSeen, entered, file_seen, own_seen, named, names_progress}
+use Rattle.name_pass.specs.Entered.{entries_of, entries, file_entries_of, file_entries}
+use Rattle.name_pass.specs.FirstPass.{holder, holder_faults, clashes, file_name_faults, file_faults, own_faults, first_faults, first_pass}
+use Rattle.name_pass.specs.Steps.{NamesSeen, entered, file_seen, own_seen, named, names_progress}
 
 push : {A B : Type 0} (f : A → List B) (xs : List A) (x : A) → flat_map f xs ++ f x ≡ flat_map f (xs ++ x ∷ [])
 push f xs x = sym (flat_map-append f xs (x ∷ []) ∙ ap (λ ys. flat_map f xs ++ ys) (append-nil (f x)))

@@ -11,19 +11,23 @@ use Rattle.proto_records.specs.Declarations.{declarations}
 use Rattle.proto_records.specs.Progress.{Progress}
 use Rattle.proto_records.specs.Shown.{Shown}
 use Rattle.proto_records.proofs.Listings.{on-ok}
-use Rattle.descriptor_pool.specs.declared.build.names.NameVisitor.{NameVisitor}
-use Rattle.descriptor_pool.specs.declared.build.resolve.ResolveVisitor.{ResolveVisitor}
-use Rattle.descriptor_pool.specs.declared.build.growing.GrowingPool.{GrowingPool}
-use Rattle.descriptor_pool.specs.FirstPass.{first_pass}
+use Rattle.name_pass.specs.declared.names.NameVisitor.{NameVisitor}
+use Rattle.reference_pass.specs.declared.resolve.ResolveVisitor.{ResolveVisitor}
+use Rattle.growing_pool.specs.declared.growing.GrowingPool.{GrowingPool}
+use Rattle.name_pass.specs.FirstPass.{first_pass}
 use Rattle.link_rules.specs.Broken.{Faults}
-use Rattle.descriptor_pool.specs.Invariant.{contents_in}
-use Rattle.descriptor_pool.specs.Growing.{before_items}
+use Rattle.pool_inner.specs.Held.{contents_in}
+use Rattle.growing_pool.specs.Growing.{before_items}
 use Rattle.descriptor_pool.specs.declared.error.BuildError.{BuildError}
 use Rattle.descriptor_pool.specs.declared.error.BuildError.TheVariants.{OutOfMemory}
-use Rattle.descriptor_pool.specs.Passes.{NamesSeen, ReferencesSeen, TellsAll, TellsFaults, named, names_progress, referred, references_progress}
+use Rattle.name_pass.specs.Steps.{NamesSeen, named, names_progress}
+use Rattle.reference_pass.specs.Steps.{ReferencesSeen, referred, references_progress}
+use Rattle.descriptor_pool.specs.Tells.{TellsAll, TellsFaults}
 use Rattle.descriptor_pool.specs.Behind.{with_items, with_names}
 use Rattle.link_rules.specs.Broken.{second_pass}
-use Rattle.descriptor_pool.specs.Seen.{names_seen, references_seen, setting_with}
+use Rattle.name_pass.specs.Seen.{names_seen}
+use Rattle.reference_pass.specs.Against.{setting_with}
+use Rattle.reference_pass.specs.Seen.{references_seen}
 use Rattle.descriptor_pool.proofs.NamesFold.{progress_named}
 use Rattle.descriptor_pool.proofs.ItemsFold.{progress_referred}
 

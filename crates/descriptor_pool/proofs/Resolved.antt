@@ -33,7 +33,7 @@ use Rattle.link_rules.specs.Messages.{message_meaning}
 use Rattle.link_rules.specs.Setting.{Setting, seen_by}
 use Rattle.std.specs.BTreeSet.{contains_by}
 use Rattle.std.specs.Ordering.{nat_cmp}
-use Rattle.descriptor_pool.specs.References.{Reference, reference_in, references_in}
+use Rattle.record_references.specs.References.{Reference, reference_in, references_in}
 
 has-name : (found : Option Definition) (def : Definition) → found ≡ Some def → IsSome found
 has-name got def is = subst IsSome (sym is) refl
@@ -92,7 +92,7 @@ message-resolved s d path given none =
     found-full s path d.file (text_of given) given (message_meaning s d given)
     (resolution-named s.names (λ n. contains_by (nat_cmp n) (seen_by s d.file)) Message d.full_name (text_of given)) none
 
-no_items : {X : Type 0} (xs ys : List X) → xs ++ ys ≡ [] → (xs ≡ []) × (ys ≡ [])
+pub no_items : {X : Type 0} (xs ys : List X) → xs ++ ys ≡ [] → (xs ≡ []) × (ys ≡ [])
 no_items [] ys none = (refl, none)
 no_items (x ∷ xs) ys none = absurd (cc)
 

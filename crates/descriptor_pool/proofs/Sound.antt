@@ -28,11 +28,13 @@ use Rattle.name_tables.proofs.Entries.{get-with, with-names}
 use Rattle.link_rules.specs.Items.{extension_item, message_item}
 use Rattle.link_rules.specs.Linked.{linking}
 use Rattle.link_rules.specs.Short.{ShortFiles}
-use Rattle.descriptor_pool.specs.Entered.{entries, file_entries}
-use Rattle.descriptor_pool.specs.Invariant.{IsPool, ListsLieIn, NamesLieIn}
+use Rattle.name_pass.specs.Entered.{entries, file_entries}
+use Rattle.record_references.specs.References.{Reference, references_in}
+use Rattle.descriptor_pool.specs.Invariant.{IsPool}
+use Rattle.pool_inner.specs.Held.{ListsLieIn, NamesLieIn}
 use Rattle.descriptor_pool.specs.Pool.{Batch, Made, empty, linked_to, Fits, new_files, faults_of_references, link}
 use Rattle.descriptor_pool.specs.Behind.{declared_behind, setting_behind, with_items, with_names}
-use Rattle.descriptor_pool.specs.References.{Reference, references_in, AllResolved}
+use Rattle.descriptor_pool.specs.References.{AllResolved}
 use Rattle.descriptor_pool.proofs.Declared.{known_names, known_file_names, declared-behind, declared-linked, names-linked, file-names-linked, counts-linked}
 use Rattle.descriptor_pool.proofs.Files.{names-before, file-names-before}
 use Rattle.descriptor_pool.proofs.Listed.{counts-extended, lists-append, lists-extended}
@@ -82,7 +84,7 @@ link-lists q batch lists =
     (lists-append first end q.messages _ more lists (All-map (λ m. All (λ extension. extension < end) m.extensions)
     (λ e. message_item (setting_behind q new) e.0 e.1) (of_kind as_message ds) (λ _ _ _. All-nil (λ extension. extension < end))))
 
-link-sound : (q : Contents) (batch : Batch) → Sound q → faults_of_references q batch ≡ [] → Fits q batch → Sound (link q batch)
+pub link-sound : (q : Contents) (batch : Batch) → Sound q → faults_of_references q batch ≡ [] → Fits q batch → Sound (link q batch)
 link-sound q batch sound none fits =
     let new = new_files q batch in
     let s = setting_behind q new in

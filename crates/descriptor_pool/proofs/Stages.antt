@@ -8,17 +8,18 @@ use Rattle.proto_records.specs.declared.counts.Counts.{Counts}
 use Rattle.proto_records.specs.Counts.{counts_in}
 use Rattle.proto_records.specs.Declarations.{declarations}
 use Rattle.link_rules.specs.Broken.{Faults, second_pass}
-use Rattle.descriptor_pool.specs.declared.build.growing.GrowingPool.{GrowingPool}
+use Rattle.growing_pool.specs.declared.growing.GrowingPool.{GrowingPool}
 use Rattle.descriptor_pool.specs.declared.error.BuildError.{BuildError}
 use Rattle.descriptor_pool.specs.declared.error.BuildError.TheVariants.{TooMany, Descriptor, OutOfMemory}
 use Rattle.descriptor_pool.specs.Behind.{names_behind, references_behind, first_of_both, setting_behind, linked_behind, with_items, with_names}
-use Rattle.descriptor_pool.specs.Extended.{with_extended}
-use Rattle.descriptor_pool.specs.FirstPass.{first_pass}
-use Rattle.descriptor_pool.specs.Growing.{before_items, files_seeing, first_extension, kept_in}
-use Rattle.descriptor_pool.specs.Invariant.{contents_in}
-use Rattle.descriptor_pool.specs.Passes.{TellsAll, TellsFaults}
-use Rattle.descriptor_pool.specs.Seen.{setting_with}
-use Rattle.descriptor_pool.proofs.Seeing.{raws-stay, seen-are}
+use Rattle.growing_pool.specs.Extended.{with_extended}
+use Rattle.name_pass.specs.FirstPass.{first_pass}
+use Rattle.growing_pool.specs.Growing.{before_items, files_seeing, first_extension, kept_in}
+use Rattle.pool_inner.specs.Held.{contents_in}
+use Rattle.descriptor_pool.specs.Tells.{TellsAll, TellsFaults}
+use Rattle.reference_pass.specs.Against.{setting_with}
+use Rattle.growing_pool.proofs.Seeing.{raws-stay}
+use Rattle.descriptor_pool.proofs.Seeing.{seen-are}
 
 -- an error tells at least one fault
 told-first : (error : BuildError) (first second : Faults) → TellsFaults error first → TellsFaults error (first_of_both first second)

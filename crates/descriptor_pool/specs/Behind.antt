@@ -15,9 +15,9 @@ use Rattle.places.specs.Each.{each}
 use Rattle.enum_rules.specs.Items.{enum_item}
 use Rattle.link_rules.specs.Items.{file_item, message_item, service_item, extension_item}
 use Rattle.link_rules.specs.Setting.{Setting}
-use Rattle.descriptor_pool.specs.Entered.{entries, file_entries}
-use Rattle.descriptor_pool.specs.Extended.{with_extended}
-use Rattle.descriptor_pool.specs.FirstPass.{first_pass}
+use Rattle.name_pass.specs.Entered.{entries, file_entries}
+use Rattle.growing_pool.specs.Extended.{with_extended}
+use Rattle.name_pass.specs.FirstPass.{first_pass}
 
 -- numbered on from the pool's counts
 abbrev pub declared_behind : Contents → List FileDescriptorProto → List Shown

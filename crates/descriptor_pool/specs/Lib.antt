@@ -1,13 +1,7 @@
-pub mod Entered
-pub mod Extended
-pub mod FirstPass
 pub mod Pool
-pub mod Passes
-pub mod Seen
+pub mod Tells
 pub mod Invariant
-pub mod Growing
 pub mod Behind
 pub mod Outcome
-pub mod LookUps
+pub mod Extensions
 pub mod References
-pub mod Equality

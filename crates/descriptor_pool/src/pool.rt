@@ -1,14 +1,9 @@
-ghost use Rattle.std.specs.Prelude.{◌≡◌, [], not, is_some, IsOk, IfOk, IfSome, slice_get};
+ghost use Rattle.std.specs.Prelude.{◌≡◌, [], IsOk, IfOk, IfSome, slice_get};
 ghost use Rattle.std.specs.Option.{option_copied};
-ghost use Rattle.std.specs.FinMap as finite;
-ghost use Rattle.std.specs.List.{filter};
-ghost use Rattle.proto_types.specs.Readers.{text_of};
-ghost use Rattle.descriptor_pool.specs.LookUps.{without_dot};
 
 use crate::build::link;
 use crate::error::BuildError;
-use crate::inner::DescriptorPoolInner;
-use name_tables::{FileNames, NameTable};
+use pool_inner::DescriptorPoolInner;
 use pool_kinds::{
     EnumDescriptor, ExtensionDescriptor, FileDescriptor, MessageDescriptor, ServiceDescriptor,
 };
@@ -36,7 +31,8 @@ impl Model for DescriptorPool {
 
     ghost coded = { contents_code };
 
-    ghost use Rattle.descriptor_pool.specs.Invariant.{contents_in, IsPool};
+    ghost use Rattle.pool_inner.specs.Held.{contents_in};
+    ghost use Rattle.descriptor_pool.specs.Invariant.{IsPool};
 
     ghost view = { λ p. contents_in p.inner };
 
@@ -47,7 +43,9 @@ impl DescriptorPool {
     ghost use Rattle.pool_types.specs.Contents.{no_contents, files_of};
     ghost use Rattle.proto_records.specs.Counts.{counts_in, no_counts};
     ghost use Rattle.proto_records.specs.Fits.{counts_with};
-    ghost use Rattle.descriptor_pool.specs.LookUps.{definition_named};
+    ghost use Rattle.descriptor_pool.specs.Extensions.{ExtendeesLieIn, ListsAreWhole};
+    ghost use Rattle.descriptor_pool.specs.Invariant.{IsPool};
+    ghost use Rattle.pool_inner.specs.LookUps.{definition_named};
     ghost use Rattle.link_rules.specs.NamesBegin.{MessageNamesBegin};
     ghost use Rattle.descriptor_pool.specs.Outcome.{Outcome};
     ghost use Rattle.descriptor_pool.specs.Pool.{new_files};
@@ -82,44 +80,57 @@ impl DescriptorPool {
     pub fn get_by_name(&self, name: &str) -> Option<&Definition>
         ensures { option_copied result ≡ definition_named self.now name.now }
     {
-        self.inner.names.get(without_dot(name))
+        self.inner.get_by_name(name)
     }
 
     /// The file with an index, or none past the end.
     pub fn file(&self, file: FileDescriptor) -> Option<&FileDescriptorInner>
         ensures { option_copied result ≡ slice_get self.now.files file.index }
     {
-        self.inner.files.get(file.index() as usize)
+        self.inner.file(file)
     }
 
     /// The message with an index, or none past the end. Its name, and that of each of its fields,
-    /// begins in the full name where a character begins.
+    /// begins in the full name where a character begins. It lists the indexes of all extensions of
+    /// the pool that extend it, in rising order.
+    #[tactic(auto, using(crate::proofs::Extendees::lists_are_whole))]
     pub fn message(&self, message: MessageDescriptor) -> Option<&MessageDescriptorInner>
         ensures item { option_copied result ≡ slice_get self.now.messages message.index }
         ensures names { IfSome result (λ m. MessageNamesBegin m.now) }
+        ensures lists { ListsAreWhole self.now }
     {
-        self.inner.messages.get(message.index() as usize)
+        self.inner.message(message)
     }
 
     /// The enum with an index, or none past the end.
     pub fn enum_(&self, enumeration: EnumDescriptor) -> Option<&EnumDescriptorInner>
         ensures { option_copied result ≡ slice_get self.now.enums enumeration.index }
     {
-        self.inner.enums.get(enumeration.index() as usize)
+        self.inner.enum_(enumeration)
     }
 
-    /// The extension with an index, or none past the end.
+    /// The extension with an index, or none past the end. Each extends a message of the pool.
+    #[tactic(auto, using(crate::proofs::Extendees::extendees_lie))]
     pub fn extension(&self, extension: ExtensionDescriptor) -> Option<&ExtensionDescriptorInner>
-        ensures { option_copied result ≡ slice_get self.now.extensions extension.index }
+        ensures item { option_copied result ≡ slice_get self.now.extensions extension.index }
+        ensures extendees { ExtendeesLieIn self.now }
     {
-        self.inner.extensions.get(extension.index() as usize)
+        self.inner.extension(extension)
     }
 
     /// The service with an index, or none past the end.
     pub fn service(&self, service: ServiceDescriptor) -> Option<&ServiceDescriptorInner>
         ensures { option_copied result ≡ slice_get self.now.services service.index }
     {
-        self.inner.services.get(service.index() as usize)
+        self.inner.service(service)
+    }
+
+    /// What is true of every pool: its contents are made, from nothing, by batches that were accepted
+    /// and fit. A call does nothing; laws of pools are proved by it.
+    pub fn made(&self)
+        ensures { IsPool self.now }
+    {
+        let _ = &self.inner;
     }
 
     /// How many the pool has of each kind that has an index.
@@ -148,11 +159,7 @@ impl DescriptorPool {
         ensures resolved { AllResolved self.now }
         ensures fit { IsOk (counts_with no_counts (files_of self.now)) }
     {
-        let mut files = Vec::new(self.alloc);
-        for file in &self.inner.files {
-            files.push(file.raw.clone(self.alloc)?)?;
-        }
-        Ok(files)
+        self.inner.records(self.alloc)
     }
 
     /// Links the files of a batch whose names the pool lacks; the others are passed over unread.
@@ -163,7 +170,7 @@ impl DescriptorPool {
         ensures outcome { Outcome self.old files.items result self.new }
         ensures nothing_new { new_files self.old files.items ≡ [] → IsOk result }
     {
-        keep_new(&self.inner.file_names, &mut files);
+        self.inner.keep_new(&mut files);
         if files.is_empty() {
             return Ok(());
         }
@@ -177,7 +184,7 @@ impl DescriptorPool {
 
 /// Two pools are equal where their contents are.
 impl PartialEq for DescriptorPool {
-    ghost use Rattle.descriptor_pool.specs.Equality.{contents_eq, contents-per};
+    ghost use Rattle.pool_inner.specs.Equality.{contents_eq, contents-per};
 
     ghost eq = { contents_eq };
 
@@ -185,23 +192,5 @@ impl PartialEq for DescriptorPool {
 
     fn eq(&self, other: &DescriptorPool) -> bool {
         self.inner.same(&other.inner)
-    }
-}
-
-/// Keeps the files of a batch whose names are not among these, and takes no memory.
-fn keep_new(names: &FileNames, batch: &mut Vec<FileDescriptorProto>)
-    ensures { batch.new.items
-        ≡ filter (λ f. not (is_some (finite.get names.now (text_of f.name)))) batch.old.items }
-{
-    batch.retain(|file| names.get(file.name()).is_none());
-}
-
-/// A name without one leading dot.
-fn without_dot(name: &str) -> &str
-    ensures { result.now ≡ without_dot name.now }
-{
-    match name.strip_prefix('.') {
-        Some(rest) => rest,
-        None => name,
     }
 }

@@ -8,7 +8,8 @@ use Rattle.std.specs.declared.result.Result.{Result}
 use Rattle.std.specs.declared.result.Result.TheVariants.{Ok, Err}
 use Rattle.proto_records.specs.declared.counts.Counts.{Counts}
 use Rattle.proto_records.specs.declared.counts.CountKind.{CountKind}
-use Rattle.pool_types.specs.Contents.{Contents, no_contents}
+use Rattle.proto_records.specs.Counts.{counts_in}
+use Rattle.pool_types.specs.Contents.{Contents, no_contents, files_of}
 use Rattle.link_script.specs.declared.script.statement.Script.{Script}
 use Rattle.link_script.specs.declared.script.statement.Statement.{Statement}
 use Rattle.link_script.specs.declared.script.statement.Statement.TheVariants as say
@@ -17,7 +18,8 @@ use Rattle.link_script.specs.declared.building.Open.TheVariants as opened
 use Rattle.link_rules.specs.Broken.{Faults}
 use Rattle.descriptor_pool.specs.Pool.{Batch, faults, counts_after, link}
 use Rattle.link_script.specs.Building.{opened_by, stated_in, closed_in}
-use Rattle.descriptor_linker.specs.Report.Answers.{counts_line, refused_lines, too_many_line, find_answer, walk_answer, refs_answer, relink_answer, fault_line}
+use Rattle.script_answers.specs.Answers.{counts_line, refused_lines, too_many_line, walk_answer, refs_answer, fault_line}
+use Rattle.descriptor_linker.specs.Report.Answers.{find_answer, relink_answer}
 
 -- the records that are open, from the innermost out; whether an extension was stated last; the batch, the pool, and what is told
 pub record Session : Type 0 where
@@ -37,7 +39,7 @@ tell s text = record s { told = s.told ++ text }
 
 -- the pool and what is told of a batch that fits, by its faults
 abbrev pub accepted_or : Contents → Batch → Faults → Contents × List ℕ
-accepted_or p batch [] = (link p batch, counts_line (link p batch))
+accepted_or p batch [] = (link p batch, counts_line (counts_in (link p batch)))
 accepted_or p batch (f ∷ fs) = (p, refused_lines (f ∷ fs))
 
 -- the pool and what is told where a batch is linked, by the counts after it
@@ -84,8 +86,8 @@ open_or_state s said None = stating s said
 abbrev pub step : Session → Statement → Session
 step s say.Link = link_step s
 step s (say.Find name) = tell s (find_answer s.pool name)
-step s say.Walk = tell s (walk_answer s.pool)
-step s (say.Refs name) = tell s (refs_answer s.pool name)
+step s say.Walk = tell s (walk_answer (files_of s.pool))
+step s (say.Refs name) = tell s (refs_answer (files_of s.pool) name)
 step s say.Relink = tell s (relink_answer s.pool)
 step s say.End = close_step s s.open_records
 step s said = open_or_state s said (opened_by said)

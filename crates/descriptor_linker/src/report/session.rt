@@ -4,11 +4,12 @@ ghost use Rattle.std.specs.Prelude.{◌≡◌, OnOk};
 ghost use Rattle.link_script.specs.declared.script.statement.Statement.TheVariants as say;
 ghost use Rattle.descriptor_linker.specs.Report.Session.{new_session, opening, stating, extends_after, step};
 
-use super::answers::{tell_counts, tell_found, tell_refs, tell_refused, tell_too_many, tell_walk};
+use super::answers::{tell_found, tell_refs, tell_walk};
 use super::relink::tell_relink;
 use descriptor_pool::{BuildError, DescriptorPool};
 use link_script::{Open, Statement};
 use proto_files::FileDescriptorProto;
+use script_answers::{tell_counts, tell_refused, tell_too_many};
 use std::alloc::{AllocError, Global};
 use std::mem;
 
@@ -105,7 +106,7 @@ impl Session {
     {
         let batch = mem::replace(&mut self.batch, Vec::new(self.alloc));
         match self.pool.build_files(batch) {
-            Ok(()) => tell_counts(&mut self.told, &self.pool),
+            Ok(()) => tell_counts(&mut self.told, self.pool.counts()),
             Err(BuildError::TooMany(kind)) => tell_too_many(&mut self.told, kind),
             Err(BuildError::Descriptor(error)) => tell_refused(&mut self.told, error.errors()),
             Err(BuildError::OutOfMemory) => Err(AllocError),

@@ -3,11 +3,11 @@ use Rattle.std.specs.Result.{is_err}
 use Rattle.proto_records.proofs.Listings.{on-ok}
 use Rattle.pool_types.specs.Contents.{Contents}
 use Rattle.link_rules.specs.NamesBegin.{NamesBegin}
-use Rattle.descriptor_pool.specs.declared.build.growing.GrowingPool.{GrowingPool}
-use Rattle.descriptor_pool.specs.declared.inner.DescriptorPoolInner.{DescriptorPoolInner}
+use Rattle.growing_pool.specs.declared.growing.GrowingPool.{GrowingPool}
+use Rattle.pool_inner.specs.declared.inner.DescriptorPoolInner.{DescriptorPoolInner}
 use Rattle.descriptor_pool.specs.Behind.{faults_behind, linked_behind}
-use Rattle.descriptor_pool.specs.Invariant.{contents_in}
-use Rattle.descriptor_pool.specs.Passes.{TellsAll}
+use Rattle.pool_inner.specs.Held.{contents_in}
+use Rattle.descriptor_pool.specs.Tells.{TellsAll}
 use Rattle.descriptor_pool.proofs.Passed.{after-ok, after-err}
 use Rattle.descriptor_pool.proofs.build.link.Goals as goal
 use Rattle.descriptor_pool.proofs.build.link.Goals.{then-is_err, else-is_err}

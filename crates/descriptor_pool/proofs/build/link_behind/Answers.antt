@@ -8,12 +8,12 @@ use Rattle.proto_records.specs.Declarations.{declarations}
 use Rattle.link_rules.specs.NamesBegin.{NamesBegin}
 use Rattle.link_rules.specs.Short.{ShortFiles}
 use Rattle.descriptor_pool.specs.Behind.{names_behind, references_behind}
-use Rattle.descriptor_pool.specs.Entered.{file_entries}
-use Rattle.descriptor_pool.specs.Invariant.{contents_in}
-use Rattle.descriptor_pool.specs.Passes.{TellsAll}
+use Rattle.name_pass.specs.Entered.{file_entries}
+use Rattle.pool_inner.specs.Held.{contents_in}
+use Rattle.descriptor_pool.specs.Tells.{TellsAll}
 use Rattle.descriptor_pool.proofs.Files.{names-behind-before, room-files}
 use Rattle.descriptor_pool.proofs.Passed.{after-ok, ok-is}
-use Rattle.descriptor_pool.proofs.Seeing.{raws-stay}
+use Rattle.growing_pool.proofs.Seeing.{raws-stay}
 use Rattle.descriptor_pool.proofs.Stages.{base_before, linked_is, names_are, references_are, refused-first, told-second}
 use Rattle.descriptor_pool.proofs.build.link_behind.Goals as goal
 

@@ -7,10 +7,10 @@ use Rattle.proto_records.specs.Declarations.{declarations}
 use Rattle.proto_records.proofs.Listings.{on-ok}
 use Rattle.proto_records.proofs.Room.{room-fits}
 use Rattle.descriptor_pool.specs.Behind.{with_items}
-use Rattle.descriptor_pool.specs.Extended.{with_extended}
-use Rattle.descriptor_pool.specs.Growing.{before_items, first_extension}
-use Rattle.descriptor_pool.specs.Invariant.{contents_in}
-use Rattle.descriptor_pool.specs.Seen.{setting_with}
+use Rattle.growing_pool.specs.Extended.{with_extended}
+use Rattle.growing_pool.specs.Growing.{before_items, first_extension}
+use Rattle.pool_inner.specs.Held.{contents_in}
+use Rattle.reference_pass.specs.Against.{setting_with}
 use Rattle.descriptor_pool.proofs.Declared.{counts-with}
 use Rattle.descriptor_pool.proofs.Listed.{names-extended}
 use Rattle.descriptor_pool.proofs.Passed.{ReferencesPassed, passed-well, references_once_shown, verdict-tells, put-tells, put-well}

@@ -3,9 +3,9 @@ use Rattle.pool_types.specs.Contents.{Contents}
 use Rattle.proto_records.specs.Declarations.{declarations}
 use Rattle.proto_records.specs.Progress.{Progress}
 use Rattle.proto_records.proofs.Listings.{on-ok}
-use Rattle.descriptor_pool.specs.Growing.{kept_in}
-use Rattle.descriptor_pool.specs.Passes.{CanBeEntered, names_progress}
-use Rattle.descriptor_pool.specs.Seen.{names_seen}
+use Rattle.growing_pool.specs.Growing.{kept_in}
+use Rattle.name_pass.specs.Steps.{CanBeEntered, names_progress}
+use Rattle.name_pass.specs.Seen.{names_seen}
 use Rattle.descriptor_pool.proofs.Files.{declarations-entered}
 use borrow.Pointer.Hide.{carried_sameᵐ}
 use borrow.Rule.Reborrow.{re_n}

@@ -4,9 +4,9 @@ use Rattle.proto_records.specs.Declarations.{declarations}
 use Rattle.proto_records.specs.Progress.{Progress}
 use Rattle.proto_records.proofs.FullNames.{declarations-read}
 use Rattle.proto_records.proofs.Listings.{on-ok}
-use Rattle.descriptor_pool.specs.Growing.{kept_in}
-use Rattle.descriptor_pool.specs.Passes.{references_progress}
-use Rattle.descriptor_pool.specs.Seen.{references_seen}
+use Rattle.growing_pool.specs.Growing.{kept_in}
+use Rattle.reference_pass.specs.Steps.{references_progress}
+use Rattle.reference_pass.specs.Seen.{references_seen}
 use borrow.Pointer.Hide.{carried_sameᵐ}
 use borrow.Rule.Reborrow.{re_n}
 use mir.Syntax.{Dict}

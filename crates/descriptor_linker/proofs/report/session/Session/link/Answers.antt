@@ -1,12 +1,15 @@
-use Rattle.std.proofs.Common.{ap, ◌∙◌, string_bytes}
+use Rattle.std.proofs.Common.{◌≡◌, ◌++◌, OnOk, ap, subst, ◌∙◌, string_bytes}
+use Rattle.script_answers.specs.Answers.{counts_line}
 use Rattle.descriptor_linker.specs.Report.Code.{session_in}
 use Rattle.descriptor_linker.proofs.Batches.{on-linked, on-refused}
 use Rattle.descriptor_linker.proofs.report.session.Session.link.Goals as goal
 
 pub returns-in-Ok : goal.returns-in-Ok
 returns-in-Ok c =
+    let told = (session_in c.args.self.now).told in
+    let counted = subst (λ k. OnOk c.tell_counts.result (string_bytes c.tell_counts.new.told ≡ told ++ counts_line k)) c.counts.ensures c.tell_counts.ensures in
     on-linked c.tell_counts.result (session_in c.args.self.now) c.replace-batch.result.items c.replace-batch.new.dest.items c.build_files.new.self (string_bytes c.tell_counts.new.told)
-    (ap (λ b. b.items) c.replace-batch.ensures.value) (ap (λ b. b.items) c.replace-batch.ensures.after ∙ c.new.ensures.items) c.in-Ok.ensures.outcome c.tell_counts.ensures
+    (ap (λ b. b.items) c.replace-batch.ensures.value) (ap (λ b. b.items) c.replace-batch.ensures.after ∙ c.new.ensures.items) c.in-Ok.ensures.outcome counted
 
 pub returns-in-Err-Descriptor : goal.returns-in-Err-Descriptor
 returns-in-Err-Descriptor c =

@@ -1,0 +1,4 @@
+pub mod Each
+pub mod Kept
+pub mod Seeing
+pub mod Extending

@@ -1,0 +1,61 @@
+-- A pool while a batch is linked into it.
+use Rattle.std.specs.Prelude.{ℕ, ◌==◌, nat_le, List, [], ◌∷◌, ◌++◌, length, map, take, if◌then◌else◌}
+use Rattle.std.specs.FinMap as finite
+use Rattle.pool_types.specs.Contents.{Contents, files_of}
+use Rattle.pool_types.specs.declared.contents.file.FileDescriptorInner.{FileDescriptorInner}
+use Rattle.pool_types.specs.declared.contents.message.MessageDescriptorInner.{MessageDescriptorInner}
+use Rattle.file_visibility.specs.Visibility.{seen_from}
+use Rattle.places.specs.Each.{each}
+use Rattle.name_tables.specs.NameTables.{without_files_from, file_names_before}
+use Rattle.growing_pool.specs.declared.growing.GrowingPool.{GrowingPool}
+use Rattle.growing_pool.specs.Extended.{cut}
+use Rattle.pool_inner.specs.Held.{contents_in}
+
+-- what a roll-back leaves: all that was there before, and no extension that came in the lists of messages
+abbrev pub kept_in : GrowingPool → Contents
+kept_in p = record {
+  files = take p.base.files p.inner.files.items;
+  messages = map (cut p.base.extensions) (take p.base.messages p.inner.messages.items);
+  enums = take p.base.enums p.inner.enums.items;
+  services = take p.base.services p.inner.services.items;
+  extensions = take p.base.extensions p.inner.extensions.items;
+  names = without_files_from p.base.files p.inner.names;
+  file_names = file_names_before p.base.files p.inner.file_names;
+}
+
+-- the index of the first file that came
+abbrev pub first_new : GrowingPool → ℕ
+first_new p = length (kept_in p).files
+
+-- the index of the first extension that came
+abbrev pub first_extension : GrowingPool → ℕ
+first_extension p = length (kept_in p).extensions
+
+-- a message with one more extension behind the others
+abbrev pub with_extension : ℕ → MessageDescriptorInner → MessageDescriptorInner
+with_extension extension m = record m { extensions = m.extensions ++ extension ∷ [] }
+
+-- all messages, where the one with an index has one more extension
+abbrev pub message_extended : GrowingPool → ℕ → ℕ → List MessageDescriptorInner
+message_extended p message extension =
+    each (λ n m. if n == message then with_extension extension m else m) 0 p.inner.messages.items
+
+-- a file with the files that it sees
+abbrev pub seeing : List ℕ → FileDescriptorInner → FileDescriptorInner
+seeing seen f = record f { transitive_dependencies = record { keys = seen } }
+
+-- the files that the file with an index sees, of all that there are
+abbrev pub seen_in : GrowingPool → ℕ → List ℕ
+seen_in p n = seen_from (files_of (contents_in p.inner)) (finite.get p.inner.file_names) n
+
+-- all files, where the one with an index has those that it sees
+abbrev pub file_seeing : GrowingPool → ℕ → List FileDescriptorInner
+file_seeing p file = each (λ n f. if n == file then seeing (seen_in p file) f else f) 0 p.inner.files.items
+
+-- all files, where each that came has those that it sees
+abbrev pub files_seeing : GrowingPool → List FileDescriptorInner
+files_seeing p = each (λ n f. if nat_le (first_new p) n then seeing (seen_in p n) f else f) 0 p.inner.files.items
+
+-- all that there is by now, but of files only those that were there before
+abbrev pub before_items : GrowingPool → Contents
+before_items p = record (contents_in p.inner) { files = (kept_in p).files }

@@ -1,0 +1,206 @@
+-- Laws on linked files that are read again, behind which files may come: what relinking rests on.
+use Rattle.std.specs.Prelude.{◌≡◌, ◌<◌, ℕ, ℤ, Bool, true, IsSome, List, [], ◌∷◌, ◌++◌, length}
+use Rattle.std.specs.FinMap as finite
+use Rattle.std.specs.List.{All, Contains, flat_map}
+use Rattle.std.specs.declared.option.Option.{Option}
+use Rattle.std.specs.declared.option.Option.TheVariants.{None, Some}
+use Rattle.proto_files.specs.declared.file.FileDescriptorProto.{FileDescriptorProto}
+use Rattle.proto_files.specs.declared.message.DescriptorProto.{DescriptorProto, out-DescriptorProto}
+use Rattle.proto_types.specs.declared.records.enumeration.EnumDescriptorProto.{EnumDescriptorProto}
+use Rattle.proto_types.specs.declared.records.service.ServiceDescriptorProto.{ServiceDescriptorProto}
+use Rattle.proto_types.specs.declared.records.field.FieldDescriptorProto.{FieldDescriptorProto}
+use Rattle.proto_types.specs.Lists.{listed}
+use Rattle.proto_types.specs.Names.{fronts}
+use Rattle.proto_types.specs.Readers.{text_of}
+use Rattle.pool_kinds.specs.declared.default_value.DefaultValue.{DefaultValue}
+use Rattle.pool_kinds.specs.declared.kinds.KindIndex.{KindIndex}
+use Rattle.pool_types.specs.Contents.{ByText}
+use Rattle.pool_types.specs.declared.contents.definition.Definition.{Definition}
+use Rattle.pool_types.specs.declared.contents.extension.ExtensionDescriptorInner.{ExtensionDescriptorInner}
+use Rattle.pool_types.specs.declared.contents.file.FileDescriptorInner.{FileDescriptorInner}
+use Rattle.pool_types.specs.declared.contents.message.MessageDescriptorInner.{MessageDescriptorInner}
+use Rattle.pool_types.specs.declared.contents.service.ServiceDescriptorInner.{ServiceDescriptorInner}
+use Rattle.proto_records.specs.declared.counts.Counts.{Counts}
+use Rattle.proto_records.specs.Declarations.{file_walk}
+use Rattle.proto_records.specs.Changed.{changed, changed_message, changed_service}
+use Rattle.proto_records.specs.Protos.{of_extension, of_message, of_service}
+use Rattle.proto_records.specs.Shown.{Shown}
+use Rattle.syntax_rules.specs.Syntaxes.{syntax_at}
+use Rattle.pool_parts.specs.declared.filter.ResolveNameFilter.{ResolveNameFilter}
+use Rattle.pool_parts.specs.References.{reference_fault}
+use Rattle.pool_parts.specs.Resolution.{found, resolution}
+use Rattle.file_visibility.specs.Visibility.{file_at, seen_from}
+use Rattle.link_rules.specs.Defaults.{field_default, field_default_faults}
+use Rattle.link_rules.specs.Definitions.{enum_record, message_record}
+use Rattle.link_rules.specs.FieldTypes.{field_kind, type_faults}
+use Rattle.enum_rules.specs.Values.{values_faults}
+use Rattle.link_rules.specs.Broken.{extension_faults, message_faults, owner_faults, service_faults}
+use Rattle.link_rules.specs.Imports.{import_faults}
+use Rattle.link_rules.specs.Items.{extension_item, file_item, message_item, service_item}
+use Rattle.link_rules.specs.Linked.{linked, linked_extension, linked_field, linking, resolved}
+use Rattle.link_rules.specs.Messages.{message_found, message_meaning}
+use Rattle.link_rules.specs.Setting.{Setting, meaning, seen_by}
+
+-- each name that means a file means one of them
+abbrev pub NamesFiles : List FileDescriptorProto → (List ℕ → Option ℕ) → Type 0
+NamesFiles files naming = (name : List ℕ) (n : ℕ) → naming name ≡ Some n → n < length files
+
+-- the imports of files mean the same under two namings
+abbrev pub ImportsStay : List FileDescriptorProto → (List ℕ → Option ℕ) → (List ℕ → Option ℕ) → Type 0
+ImportsStay files before after = (n : ℕ) → n < length files → (name : List ℕ) → Contains (file_at files n).dependency name → after name ≡ before name
+
+-- law: a file sees what it saw where files come behind, and its imports and theirs mean what they meant
+abbrev pub SeenStays : Type 0
+SeenStays =
+    (files more : List FileDescriptorProto) (before after : List ℕ → Option ℕ) → NamesFiles files before → NamesFiles (files ++ more) after → ImportsStay files before after
+    → (a : ℕ) → a < length files → seen_from (files ++ more) after a ≡ seen_from files before a
+
+-- names come, and each file sees what it saw
+pub record Grows (s t : Setting) : Type 0 where
+  pub names : (name : List ℕ) (def : Definition) → finite.get s.names name ≡ Some def → finite.get t.names name ≡ Some def
+  pub sees : (n : ℕ) → n < length s.files → seen_by t n ≡ seen_by s n
+
+-- law: what a reference of a file means, a dot and the full name that was found mean in that file, in any scope
+abbrev pub FoundAgain : Type 0
+FoundAgain =
+    (s t : Setting) → Grows s t → (file : ℕ) (scope other written : List ℕ) (filter : ResolveNameFilter) (name : List ℕ) (def : Definition) → file < length s.files
+    → meaning s file scope filter written ≡ found name def → meaning t file other filter (46 ∷ name) ≡ found name def
+
+-- the type of a field breaks nothing, its kind is this one, and linking leaves the field as it is
+pub record IsTyped (t : Setting) (d : Shown) (kind : Option KindIndex) (f : FieldDescriptorProto) : Type 0 where
+  pub faults : type_faults t d f ≡ []
+  pub kind_is : field_kind t d f ≡ kind
+  pub still : linked_field t d.file d.full_name f ≡ f
+
+-- law: so it is with a linked field whose type broke nothing, and its kind is what it was
+abbrev pub TypedAgain : Type 0
+TypedAgain =
+    (s t : Setting) → Grows s t → (d : Shown) → d.file < length s.files → (f : FieldDescriptorProto) → type_faults s d f ≡ []
+    → IsTyped t d (field_kind s d f) (linked_field s d.file d.full_name f)
+
+-- the name of a message that a declaration refers to breaks nothing, means the message with this index, and is left by linking as it is
+pub record IsMessageName (t : Setting) (d : Shown) (path : List ℤ) (index : Option ℕ) (name : Option (List ℕ)) : Type 0 where
+  pub faults : listed (reference_fault t.files (text_of name) d.file path (message_meaning t d name)) ≡ []
+  pub index_is : message_found (message_meaning t d name) ≡ index
+  pub still : resolved (message_meaning t d name) name ≡ name
+
+-- law: so it is with a linked one that broke nothing: with what an extension extends, and with what a method takes and gives
+abbrev pub MessageNamedAgain : Type 0
+MessageNamedAgain =
+    (s t : Setting) → Grows s t → (d : Shown) → d.file < length s.files → (path : List ℤ) (given : Option (List ℕ))
+    → listed (reference_fault s.files (text_of given) d.file path (message_meaning s d given)) ≡ []
+    → IsMessageName t d path (message_found (message_meaning s d given)) (resolved (message_meaning s d given) given)
+
+-- each definition that a name meant has the record of an enum that it had
+abbrev pub EnumsStay : Setting → Setting → Type 0
+EnumsStay s t = (name : List ℕ) (def : Definition) → finite.get s.names name ≡ Some def → enum_record t def ≡ enum_record s def
+
+-- the default value of a field is this one, and breaks nothing
+pub record IsDefaulted (t : Setting) (d : Shown) (value : Option DefaultValue) (f : FieldDescriptorProto) : Type 0 where
+  pub faults : field_default_faults t d f ≡ []
+  pub value_is : field_default t d f ≡ value
+
+-- law: so it is with a linked field whose type and whose default value broke nothing, and the value is what it was
+abbrev pub DefaultedAgain : Type 0
+DefaultedAgain =
+    (s t : Setting) → Grows s t → EnumsStay s t → (d : Shown) → d.file < length s.files → (f : FieldDescriptorProto)
+    → type_faults s d f ≡ [] → field_default_faults s d f ≡ [] → IsDefaulted t d (field_default s d f) (linked_field s d.file d.full_name f)
+
+-- two records of a message with the same ranges
+pub record SameRanges (m n : DescriptorProto) : Type 0 where
+  pub reserved : (out-DescriptorProto n).reserved_range ≡ (out-DescriptorProto m).reserved_range
+  pub extensions : (out-DescriptorProto n).extension_range ≡ (out-DescriptorProto m).extension_range
+
+-- the records of a message, if it has one, have the same ranges
+abbrev pub RangesStay : Option DescriptorProto → Option DescriptorProto → Type 0
+RangesStay None None = Unit {0}
+RangesStay (Some m) (Some n) = SameRanges m n
+RangesStay _ _ = ⊥
+
+-- names come, of files too; each file sees what it saw, and has the syntax that it had; what names meant are enums with the records
+-- that they had, and messages with the ranges that they had
+pub record Rereads (s t : Setting) : Type 0 where
+  pub grows : Grows s t
+  pub file_names : (name : List ℕ) (n : ℕ) → finite.get s.file_names name ≡ Some n → finite.get t.file_names name ≡ Some n
+  pub syntaxes : (n : ℕ) → n < length s.files → syntax_at t.files n ≡ syntax_at s.files n
+  pub enums : EnumsStay s t
+  pub ranges : (name : List ℕ) (def : Definition) → finite.get s.names name ≡ Some def → RangesStay (message_record s def) (message_record t def)
+
+-- a message that is declared where another is
+abbrev pub message_at_place : Shown → DescriptorProto → Shown
+message_at_place d m = record d { proto = of_message m }
+
+-- the fields of a message break nothing, and its item is this one
+pub record IsMessage (t : Setting) (d : Shown) (item : MessageDescriptorInner) (m : DescriptorProto) : Type 0 where
+  pub faults : message_faults t (message_at_place d m) m ≡ []
+  pub item_is : message_item t (message_at_place d m) m ≡ item
+
+-- law: so it is with a linked message whose fields broke nothing, and the item is what it was
+abbrev pub MessageAgain : Type 0
+MessageAgain =
+    (s t : Setting) → Rereads s t → (d : Shown) → d.file < length s.files → (m : DescriptorProto)
+    → message_faults s (message_at_place d m) m ≡ [] → IsMessage t d (message_item s (message_at_place d m) m) (changed_message (linking s) d.file d.full_name m)
+
+-- an extension that is declared where another is
+abbrev pub extension_at_place : Shown → FieldDescriptorProto → Shown
+extension_at_place d x = record d { proto = of_extension x }
+
+-- an extension breaks nothing, its item is this one, and linking leaves it as it is
+pub record IsExtension (t : Setting) (d : Shown) (item : ExtensionDescriptorInner) (x : FieldDescriptorProto) : Type 0 where
+  pub faults : extension_faults t d x ≡ []
+  pub item_is : extension_item t (extension_at_place d x) x ≡ item
+  pub still : linked_extension t d.file d.full_name x ≡ x
+
+-- law: so it is with a linked extension that broke nothing, and the item is what it was
+abbrev pub ExtensionAgain : Type 0
+ExtensionAgain =
+    (s t : Setting) → Rereads s t → (d : Shown) → d.file < length s.files → (x : FieldDescriptorProto)
+    → extension_faults s d x ≡ [] → IsExtension t d (extension_item s (extension_at_place d x) x) (linked_extension s d.file d.full_name x)
+
+-- a service that is declared where another is
+abbrev pub service_at_place : Shown → ServiceDescriptorProto → Shown
+service_at_place d v = record d { proto = of_service v }
+
+-- the methods of a service break nothing, its item is this one, and linking leaves it as it is
+pub record IsService (t : Setting) (d : Shown) (item : ServiceDescriptorInner) (v : ServiceDescriptorProto) : Type 0 where
+  pub faults : service_faults t d v ≡ []
+  pub item_is : service_item t (service_at_place d v) v ≡ item
+  pub still : changed_service (linking t) d.file d.full_name v ≡ v
+
+-- law: so it is with a linked service whose methods broke nothing, and the item is what it was
+abbrev pub ServiceAgain : Type 0
+ServiceAgain =
+    (s t : Setting) → Grows s t → (d : Shown) → d.file < length s.files → (v : ServiceDescriptorProto)
+    → service_faults s d v ≡ [] → IsService t d (service_item s (service_at_place d v) v) (changed_service (linking s) d.file d.full_name v)
+
+-- law: an enum whose values broke nothing breaks nothing where it is read against other files
+abbrev pub EnumAgain : Type 0
+EnumAgain = (files others : List FileDescriptorProto) (d : Shown) (e : EnumDescriptorProto) → values_faults files d e ≡ [] → values_faults others d e ≡ []
+
+-- law: a linked declaration that broke nothing in the second pass breaks nothing when it is read again
+abbrev pub DeclarationAgain : Type 0
+DeclarationAgain =
+    (s t : Setting) → Rereads s t → (d : Shown) → d.file < length s.files → owner_faults s d ≡ [] → owner_faults t (changed (linking s) d) ≡ []
+
+-- the imports of a file break nothing, and its item is this one, with its linked record
+pub record IsFile (t : Setting) (index : ℕ) (item : FileDescriptorInner) (f : FileDescriptorProto) : Type 0 where
+  pub faults : import_faults t index f ≡ []
+  pub item_is : file_item t index f ≡ item
+
+-- law: so it is with a linked file whose declarations broke nothing, and the item is what it was: linking leaves the file as it is
+abbrev pub FileAgain : Type 0
+FileAgain =
+    (s t : Setting) → Rereads s t → (base : Counts) (f : FileDescriptorProto) → base.files < length s.files
+    → flat_map (owner_faults s) (file_walk base f) ≡ [] → IsFile t base.files (file_item s base.files f) (linked s base.files f)
+
+-- some names of others: what they mean stays, they have all that mean what is seen, and the texts before the dots of these
+pub record SeenAmong (names more : ByText Definition) (seen : ℕ → Bool) : Type 0 where
+  pub stay : (name : List ℕ) (def : Definition) → finite.get names name ≡ Some def → finite.get more name ≡ Some def
+  pub sees : (name : List ℕ) (def : Definition) → finite.get more name ≡ Some def → seen def.file ≡ true → finite.get names name ≡ Some def
+  pub prefixes : (name : List ℕ) (def : Definition) → finite.get more name ≡ Some def → seen def.file ≡ true → All (λ front. IsSome (finite.get names front)) (fronts name)
+
+-- law: what a reference finds among names it finds among such some of them
+abbrev pub FoundAmongFewer : Type 0
+FoundAmongFewer =
+    (names more : ByText Definition) (seen : ℕ → Bool) → SeenAmong names more seen → (filter : ResolveNameFilter) (scope written name : List ℕ) (def : Definition)
+    → resolution more seen filter scope written ≡ found name def → resolution names seen filter scope written ≡ found name def

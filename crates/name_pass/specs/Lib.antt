@@ -1,0 +1,4 @@
+pub mod Entered
+pub mod FirstPass
+pub mod Steps
+pub mod Seen

@@ -1,0 +1,10 @@
+pub mod Behind
+pub mod Records
+pub mod Alike
+pub mod Again
+pub mod Passes
+pub mod Items
+pub mod Relinked
+pub mod Entered
+pub mod Kept
+pub mod Unseen

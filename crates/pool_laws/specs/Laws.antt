@@ -1,0 +1,86 @@
+-- Laws of pools.
+use Rattle.std.specs.Prelude.{◌≡◌, ◌≢◌, ◌<◌, ◌+◌, ℕ, Bool, true, false, IsTrue, Some, List, [], ◌∷◌, ◌++◌, length, slice_get}
+use Rattle.std.specs.FinMap as finite
+use Rattle.std.specs.List.{All, Contains}
+use Rattle.proto_types.specs.Names.{fronts}
+use Rattle.proto_files.specs.declared.file.FileDescriptorProto.{FileDescriptorProto}
+use Rattle.pool_types.specs.Contents.{Contents, files_of, no_contents}
+use Rattle.pool_types.specs.declared.contents.definition.Definition.{Definition}
+use Rattle.pool_types.specs.declared.contents.definition.DefinitionKind.{DefinitionKind}
+use Rattle.pool_types.specs.declared.contents.definition.DefinitionKind.TheVariants as definition
+use Rattle.pool_types.specs.declared.contents.message.MessageDescriptorInner.{MessageDescriptorInner}
+use Rattle.pool_inner.specs.LookUps.{definition_named}
+use Rattle.name_tables.specs.Entries.{Entry}
+use Rattle.proto_records.specs.declared.counts.Counts.{Counts}
+use Rattle.proto_records.specs.Counts.{counted, no_counts}
+use Rattle.proto_records.specs.Declarations.{file_walk}
+use Rattle.proto_records.specs.Protos.{name_of}
+use Rattle.proto_records.specs.Walking.{within_file}
+use Rattle.name_pass.specs.Entered.{entries}
+use Rattle.linking_laws.specs.Laws.{SeenAmong}
+use Rattle.descriptor_pool.specs.Behind.{declared_behind, with_names}
+use Rattle.descriptor_pool.specs.Pool.{Accepts, Batch, Fits, link}
+
+-- law: the linked files of a pool, linked at once from nothing, break nothing, fit, and make an equal pool
+abbrev pub Relinks : Contents → Type 0
+Relinks p = Accepts no_contents (files_of p) × Fits no_contents (files_of p) × (link no_contents (files_of p) ≡ p)
+
+-- a list, and what comes behind it
+abbrev pub Begins : {X : Type 0} → List X → List X → Type 0
+Begins {X} xs ys = (rest : List X) × (ys ≡ xs ++ rest)
+
+-- what is in contents is in others as it was, save that further extensions stand behind those that a message lists
+pub record Keeps (p q : Contents) : Type 0 where
+  pub files : Begins p.files q.files
+  pub messages : (n : ℕ) (m : MessageDescriptorInner) → slice_get p.messages n ≡ Some m
+      → (more : List ℕ) × (slice_get q.messages n ≡ Some (record m { extensions = m.extensions ++ more }))
+  pub enums : Begins p.enums q.enums
+  pub services : Begins p.services q.services
+  pub extensions : Begins p.extensions q.extensions
+  pub names : (name : List ℕ) (def : Definition) → finite.get p.names name ≡ Some def → finite.get q.names name ≡ Some def
+  pub file_names : (name : List ℕ) (n : ℕ) → finite.get p.file_names name ≡ Some n → finite.get q.file_names name ≡ Some n
+
+-- law: what a pool has stays where a batch is linked into it
+abbrev pub EarlierStays : Contents → Type 0
+EarlierStays p = (batch : Batch) → Keeps p (link p batch)
+
+-- law: a dot before a name that doesn't begin with one says nothing
+abbrev pub DotSaysNothing : Contents → Type 0
+DotSaysNothing p = (name : List ℕ) → ((rest : List ℕ) → name ≢ 46 ∷ rest) → definition_named p (46 ∷ name) ≡ definition_named p name
+
+-- a name that is not empty, and in which no text stands before a dot
+abbrev pub IsPlainName : List ℕ → Type 0
+IsPlainName name = (name ≢ []) × (fronts name ≡ [])
+
+-- the names of all that stands in a file, numbered on from counts
+abbrev pub IsPlain : Counts → FileDescriptorProto → Type 0
+IsPlain base f = All (λ d. IsPlainName (name_of d.proto)) (within_file base.files base f)
+
+-- a package, a message or a service
+abbrev pub is_scope : DefinitionKind → Bool
+is_scope definition.Package = true
+is_scope (definition.Message _) = true
+is_scope (definition.Service _) = true
+is_scope _ = false
+
+-- entries have a name as one of these
+abbrev pub HasScope : List Entry → List ℕ → Type 0
+HasScope es name = (def : Definition) × Contains es (name, def) × IsTrue (is_scope def.kind)
+
+-- law: in a file whose names are plain, each text before a dot of a full name is that of a package, a message or a service that the file enters
+abbrev pub PrefixesEntered : FileDescriptorProto → Type 0
+PrefixesEntered f =
+    (base : Counts) → IsPlain base f
+    → All (λ d. All (HasScope (entries (file_walk base f))) (fronts d.full_name)) (within_file base.files base f)
+
+-- files in which all names are plain
+abbrev pub ArePlain : Counts → List FileDescriptorProto → Type 0
+ArePlain base [] = Unit {0}
+ArePlain base (f ∷ fs) = IsPlain base f × ArePlain (counted base (file_walk base f)) fs
+
+-- law: behind a pool, where names are plain, the names without those of later files have all that is seen where no later file is
+abbrev pub SeenNamesStand : Contents → Type 0
+SeenNamesStand p =
+    (front back : List FileDescriptorProto) → ArePlain no_counts (files_of p ++ front)
+    → (seen : ℕ → Bool) → ((n : ℕ) → seen n ≡ true → n < length p.files + length front)
+    → SeenAmong (with_names p (declared_behind p front)).names (with_names p (declared_behind p (front ++ back))).names seen

@@ -1,0 +1,40 @@
+//! A call does nothing: its contract is the law, and is proved of all pools and files.
+ghost use Rattle.pool_laws.specs.Laws.{DotSaysNothing, EarlierStays, PrefixesEntered, Relinks, SeenNamesStand};
+
+use descriptor_pool::DescriptorPool;
+use proto_files::FileDescriptorProto;
+
+/// The linked files of a pool, linked at once from nothing, break no rule, are not too many, and make
+/// an equal pool.
+pub fn relink(pool: &DescriptorPool)
+    ensures { Relinks pool.now }
+{
+    pool.made();
+}
+
+/// A batch that is linked leaves what the pool had: its files, enums, services and extensions are
+/// those that come first, with the indexes that they had; so are its messages, save that further
+/// extensions may stand behind those that a message lists; and each name means what it meant.
+pub fn earlier_stays(pool: &DescriptorPool)
+    ensures { EarlierStays pool.now }
+{}
+
+/// A pool has under a dot and a name what it has under the name, where that doesn't begin with a dot.
+pub fn dot_says_nothing(pool: &DescriptorPool)
+    ensures { DotSaysNothing pool.now }
+{}
+
+/// Where no name that stands in a file is empty or has a dot, each text before a dot of a full name
+/// that the file declares is the name of a package, a message or a service of that file.
+pub fn prefixes(file: &FileDescriptorProto)
+    ensures { PrefixesEntered file.now }
+{}
+
+/// Behind a pool, where no name that stands in its files and in the first of the new ones is empty or
+/// has a dot: without the names of later files there is all that is seen where no later file is seen,
+/// with what stands before the dots of it. So a reference finds what it found.
+pub fn seen_names_stand(pool: &DescriptorPool)
+    ensures { SeenNamesStand pool.now }
+{
+    pool.made();
+}

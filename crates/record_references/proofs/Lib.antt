@@ -1,0 +1,3 @@
+pub mod ReferencesFound
+pub mod MethodReferences
+pub mod ExtensionReferences

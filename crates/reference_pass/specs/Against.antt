@@ -1,0 +1,13 @@
+-- What the second pass reads declarations against.
+use Rattle.std.specs.Prelude.{map}
+use Rattle.pool_inner.specs.declared.inner.DescriptorPoolInner.{DescriptorPoolInner}
+use Rattle.link_rules.specs.Setting.{Setting}
+
+-- what is read against the files and the names of a pool, each file with those that it sees
+abbrev pub setting_with : DescriptorPoolInner → Setting
+setting_with p = record {
+  files = map (λ f. f.raw) p.files.items;
+  names = p.names;
+  file_names = p.file_names;
+  seen = map (λ f. f.transitive_dependencies) p.files.items;
+}

@@ -1,0 +1,3 @@
+pub mod Against
+pub mod Steps
+pub mod Seen

@@ -1,0 +1,245 @@
+//! What the commands of a script answer.
+
+ghost use Rattle.std.specs.Prelude.{◌≡◌, ◌++◌, IsOk, OnOk, map, string_bytes};
+ghost use Rattle.std.specs.Option.{option_copied};
+ghost use Rattle.proto_records.specs.Counts.{no_counts};
+ghost use Rattle.proto_records.specs.Fits.{counts_with};
+ghost use Rattle.record_references.specs.Code.{reference_of};
+ghost use Rattle.script_answers.specs.Answers as spec;
+
+use link_script::ScriptFault;
+use pool_faults::{DescriptorErrorKind, Labelled};
+use pool_types::{Definition, DefinitionKind};
+use proto_files::FileDescriptorProto;
+use proto_records::{CountKind, Counts, Declaration, DeclarationKind, list_declarations};
+use record_references::{Reference, references};
+use std::alloc::{AllocError, Global};
+use std::fmt;
+
+/// A name printed alone.
+fn alone(name: &str) -> &str
+    ensures { result.now ≡ spec.alone name.now }
+{
+    if name.is_empty() { "''" } else { name }
+}
+
+/// A kind, with the index that it holds.
+#[derive(Clone, Copy)]
+struct KindWords(DefinitionKind);
+
+impl fmt::Display for KindWords {
+    ghost use Rattle.std.specs.Prelude.{Some};
+    ghost use Rattle.script_answers.specs.Answers.{kind_words};
+
+    ghost output = { λ kind. Some (kind_words kind.0) };
+
+    fn fmt<W: fmt::Write>(&self, f: &mut fmt::Formatter<W>) -> fmt::Result {
+        match self.0 {
+            DefinitionKind::Package => write!(f, "package"),
+            DefinitionKind::Message(index) => write!(f, "message {index}"),
+            DefinitionKind::Field(message) => write!(f, "field {message}"),
+            DefinitionKind::Oneof(message) => write!(f, "oneof {message}"),
+            DefinitionKind::Service(index) => write!(f, "service {index}"),
+            DefinitionKind::Method(service) => write!(f, "method {service}"),
+            DefinitionKind::Enum(index) => write!(f, "enum {index}"),
+            DefinitionKind::EnumValue(index) => write!(f, "value {index}"),
+            DefinitionKind::Extension(index) => write!(f, "extension {index}"),
+        }
+    }
+}
+
+/// The word for what there is too much of.
+fn count_word(kind: CountKind) -> &'static str
+    ensures { result.now ≡ spec.count_word kind }
+{
+    match kind {
+        CountKind::ListTooLong => "lists",
+        CountKind::Files => "files",
+        CountKind::Messages => "messages",
+        CountKind::Enums => "enums",
+        CountKind::Services => "services",
+        CountKind::Extensions => "extensions",
+    }
+}
+
+/// Tells how much there is of each kind.
+pub fn tell_counts(told: &mut String, counts: Counts) -> Result<(), AllocError>
+    ensures { OnOk result (string_bytes told.new ≡ string_bytes told.old
+        ++ spec.counts_line counts) }
+{
+    let Counts {
+        files,
+        messages,
+        enums,
+        services,
+        extensions,
+    } = counts;
+    writeln!(
+        told,
+        "ok {files} {messages} {enums} {services} {extensions}"
+    )
+}
+
+/// Tells what there is too much of.
+pub fn tell_too_many(told: &mut String, kind: CountKind) -> Result<(), AllocError>
+    ensures { OnOk result (string_bytes told.new ≡ string_bytes told.old
+        ++ spec.too_many_line kind) }
+{
+    let word = count_word(kind);
+    writeln!(told, "too many {word}")
+}
+
+/// Tells how many faults there are, and each on a line of its own.
+pub fn tell_refused(told: &mut String, faults: &[DescriptorErrorKind]) -> Result<(), AllocError>
+    ensures { OnOk result (string_bytes told.new ≡ string_bytes told.old
+        ++ spec.refused_lines faults.now) }
+{
+    let count = faults.len();
+    writeln!(told, "refused {count}")?;
+    for fault in faults {
+        let fault = Labelled(fault);
+        writeln!(told, "{fault}")?;
+    }
+    Ok(())
+}
+
+/// Tells what a name means: the kind of the definition, the name of its file, and its path.
+pub fn tell_definition(
+    told: &mut String,
+    definition: &Definition,
+    file: &str,
+) -> Result<(), AllocError>
+    ensures { OnOk result (string_bytes told.new ≡ string_bytes told.old
+        ++ spec.definition_line file.now definition.now) }
+{
+    let kind = KindWords(definition.kind);
+    let file = alone(file);
+    let path = definition.path.as_slice();
+    writeln!(told, "{kind} {file} {path:?}")
+}
+
+/// Tells that nothing has a name.
+pub fn tell_none(told: &mut String) -> Result<(), AllocError>
+    ensures { OnOk result (string_bytes told.new ≡ string_bytes told.old ++ spec.none_line) }
+{
+    writeln!(told, "none")
+}
+
+/// The word for a kind of declaration.
+fn declared_word(kind: DeclarationKind) -> &'static str
+    ensures { result.now ≡ spec.declared_word kind }
+{
+    match kind {
+        DeclarationKind::File => "file",
+        DeclarationKind::Message => "message",
+        DeclarationKind::Field => "field",
+        DeclarationKind::Oneof => "oneof",
+        DeclarationKind::Service => "service",
+        DeclarationKind::Method => "method",
+        DeclarationKind::Enum => "enum",
+        DeclarationKind::EnumValue => "value",
+        DeclarationKind::Extension => "extension",
+    }
+}
+
+/// Tells a declaration: its kind, its own index, its full name and its path.
+fn tell_declaration(told: &mut String, declaration: &Declaration) -> Result<(), AllocError>
+    ensures { OnOk result (string_bytes told.new ≡ string_bytes told.old
+        ++ spec.declaration_line declaration.now) }
+{
+    let kind = declared_word(declaration.kind);
+    let index = declaration.index;
+    let name = alone(declaration.full_name.as_str());
+    let path = declaration.path.as_slice();
+    writeln!(told, "{kind} {index} {name} {path:?}")
+}
+
+/// Tells how many declarations there are, and each on a line of its own.
+fn tell_declarations(told: &mut String, list: &[Declaration]) -> Result<(), AllocError>
+    ensures { OnOk result (string_bytes told.new ≡ string_bytes told.old
+        ++ spec.declaration_lines list.now) }
+{
+    let count = list.len();
+    writeln!(told, "walk {count}")?;
+    for declaration in list {
+        tell_declaration(told, declaration)?;
+    }
+    Ok(())
+}
+
+/// Tells what files declare, which must fit into a pool, as `Counts::of` tells.
+pub fn tell_walk(
+    alloc: Global,
+    told: &mut String,
+    files: &[FileDescriptorProto],
+) -> Result<(), AllocError>
+    requires { IsOk (counts_with no_counts files.now) }
+    ensures { OnOk result (string_bytes told.new ≡ string_bytes told.old
+        ++ spec.walk_answer files.now) }
+{
+    let base = Counts {
+        files: 0,
+        messages: 0,
+        enums: 0,
+        services: 0,
+        extensions: 0,
+    };
+    tell_declarations(told, &list_declarations(alloc, base, files)?)
+}
+
+/// The first file with a name.
+fn file_named<'a>(files: &'a [FileDescriptorProto], name: &str) -> Option<&'a FileDescriptorProto>
+    ensures { option_copied result ≡ spec.file_named files.now name.now }
+{
+    files.iter().find(|file| file.name() == name)
+}
+
+/// Tells a reference: the declaration that refers, the part of its record, and the text there.
+fn tell_reference(told: &mut String, reference: &Reference) -> Result<(), AllocError>
+    ensures { OnOk result (string_bytes told.new ≡ string_bytes told.old
+        ++ spec.reference_line (reference_of reference.now)) }
+{
+    let name = alone(reference.full_name.as_str());
+    let part = reference.part;
+    let text = reference.text;
+    writeln!(told, "{name} {part} {text}")
+}
+
+/// Tells how many references there are, and each on a line of its own.
+fn tell_references(told: &mut String, list: &[Reference]) -> Result<(), AllocError>
+    ensures { OnOk result (string_bytes told.new ≡ string_bytes told.old
+        ++ spec.reference_lines (map reference_of list.now)) }
+{
+    let count = list.len();
+    writeln!(told, "refs {count}")?;
+    for reference in list {
+        tell_reference(told, reference)?;
+    }
+    Ok(())
+}
+
+/// Tells to what the first file with a name refers. What the files declare must fit into a pool, as
+/// `Counts::of` tells.
+pub fn tell_refs(
+    alloc: Global,
+    told: &mut String,
+    files: &[FileDescriptorProto],
+    name: &str,
+) -> Result<(), AllocError>
+    requires { IsOk (counts_with no_counts files.now) }
+    ensures { OnOk result (string_bytes told.new ≡ string_bytes told.old
+        ++ spec.refs_answer files.now name.now) }
+{
+    let Some(file) = file_named(files, name) else {
+        return tell_none(told);
+    };
+    tell_references(told, &references(alloc, file)?)
+}
+
+/// Tells the fault of a script, and its line.
+pub fn tell_fault(told: &mut String, line: u64, fault: ScriptFault) -> Result<(), AllocError>
+    ensures { OnOk result (string_bytes told.new ≡ string_bytes told.old
+        ++ spec.fault_line (line, fault)) }
+{
+    writeln!(told, "line {line}: {fault}")
+}
