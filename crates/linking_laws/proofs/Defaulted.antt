@@ -25,7 +25,7 @@ use Rattle.linking_laws.proofs.Looked.{IsLooked, looked-named, resolution-looked
 use Rattle.linking_laws.proofs.Typed.{found-again, no-fault, seen, typed-again}
 
 -- a default that breaks nothing breaks nothing where other files are cited
-no-default-fault : (fs gs : List FileDescriptorProto) (file : ℕ) (path : List ℤ) (meant : MeantEnum) (kind : Option KindIndex) (given : Option (List ℕ))
+pub no-default-fault : (fs gs : List FileDescriptorProto) (file : ℕ) (path : List ℤ) (meant : MeantEnum) (kind : Option KindIndex) (given : Option (List ℕ))
     → option_map_or (λ k. default_faults fs file path k meant given) kind [] ≡ [] → option_map_or (λ k. default_faults gs file path k meant given) kind [] ≡ []
 no-default-fault fs gs file path meant None given none = refl
 no-default-fault fs gs file path meant (Some k) None none = refl

@@ -5,6 +5,10 @@ pub mod MessageNames
 pub mod Defaulted
 pub mod Numbered
 pub mod Kept
+pub mod Carries
+pub mod AsLinked
+pub mod AsGiven
+pub mod Unchanged
 pub mod Again
 pub mod Fields
 pub mod Items

@@ -14,19 +14,19 @@ use Rattle.linking_laws.proofs.Typed.{found-again}
 
 module _ (s t : Setting) (grows : Grows s t) (d : Shown) (below : d.file < length s.files) (path : List ℤ) (given : Option (List ℕ)) where
   found-named : (r : Resolution) → message_meaning s d given ≡ r → listed (reference_fault s.files (text_of given) d.file path r) ≡ []
-      → IsMessageName t d path (message_found r) (resolved r given)
+      → IsMessageName t d path (message_found r) (resolved r given) (resolved r given)
   found-named (found name def) is none =
       let again = found-again s t grows d.file d.full_name d.full_name (text_of given) Message name def below is in
       record {
         faults = ap (λ r. listed (reference_fault t.files (46 ∷ name) d.file path r)) again;
         index_is = ap message_found again;
-        still = ap (λ r. resolved r (Some (46 ∷ name))) again;
+        linked_is = ap (λ r. resolved r (Some (46 ∷ name))) again;
       }
   found-named (invalid_type name def filter) is none = absurd (cc)
   found-named (not_imported name other) is none = absurd (cc)
   found-named (shadowed name other) is none = absurd (cc)
   found-named not_found is none = absurd (cc)
 
-  pub message-again : listed (reference_fault s.files (text_of given) d.file path (message_meaning s d given)) ≡ []
-      → IsMessageName t d path (message_found (message_meaning s d given)) (resolved (message_meaning s d given) given)
-  message-again = found-named (message_meaning s d given) refl
+  pub message-named-again : listed (reference_fault s.files (text_of given) d.file path (message_meaning s d given)) ≡ []
+      → let made = resolved (message_meaning s d given) given in IsMessageName t d path (message_found (message_meaning s d given)) made made
+  message-named-again = found-named (message_meaning s d given) refl

@@ -1,5 +1,5 @@
--- A message that was linked, read once more: its fields break nothing, and its item is what it was.
-use Rattle.std.proofs.Common.{◌≡◌, ◌<◌, ℕ, List, [], length, refl, ap, ◌∙◌}
+-- A message that is carried to another setting: its fields break nothing, and its item is what it was.
+use Rattle.std.proofs.Common.{◌≡◌, ◌<◌, ℕ, List, [], refl, ap, ◌∙◌}
 use Rattle.proto_types.specs.Readers.{text_of}
 use Rattle.proto_files.specs.Computed.{literals}
 use Rattle.proto_files.specs.declared.message.DescriptorProto.{DescriptorProto, DescriptorProto', out-DescriptorProto}
@@ -9,9 +9,9 @@ use Rattle.places.specs.Identities.{named_at}
 use Rattle.field_rules.specs.Maps.{by_json_name, by_name, by_number}
 use Rattle.link_rules.specs.Broken.{message_faults}
 use Rattle.link_rules.specs.Items.{field_items, message_item, oneof_items}
-use Rattle.link_rules.specs.Linked.{linking}
 use Rattle.link_rules.specs.Setting.{Setting}
-use Rattle.linking_laws.specs.Laws.{IsMessage, Rereads, SameRanges, message_at_place}
+use Rattle.linking_laws.specs.Laws.{IsMessage, SameRanges, message_at_place}
+use Rattle.linking_laws.proofs.Carries.{Carries}
 use Rattle.linking_laws.proofs.Fields.{fields-again}
 use Rattle.linking_laws.proofs.Items.{items-again, json-names-again, names-again, numbers-again, oneofs-again}
 
@@ -31,25 +31,24 @@ parts-of c file full_name (DescriptorProto' name fields n nested enums ranges ex
   ranges = record { reserved = refl; extensions = refl };
 }
 
-module _ (s t : Setting) (again : Rereads s t) (d : Shown) (below : d.file < length s.files) (m : DescriptorProto) where
+module _ {s t : Setting} {c : Changes} {many : ℕ} (carries : Carries s t c many) (d : Shown) (below : d.file < many) (m : DescriptorProto) where
   abbrev new : DescriptorProto
-  new = changed_message (linking s) d.file d.full_name m
+  new = changed_message c d.file d.full_name m
 
-  pub message-again : message_faults s (message_at_place d m) m ≡ [] → IsMessage t d (message_item s (message_at_place d m) m) new
-  message-again none =
-      let parts = parts-of (linking s) d.file d.full_name m in
+  pub message-carried : message_faults s (message_at_place d m) m ≡ [] → IsMessage t d (message_item s (message_at_place d m) m) new
+  message-carried none =
+      let parts = parts-of c d.file d.full_name m in
       let old = out-DescriptorProto m in
-      let syntax = again.syntaxes d.file below in
-      let same = items-again s t again.grows again.enums d below syntax old.oneof_decl m 0 old.field none in
-      let oneofs = (λ i. oneof_items (parts.fields i) (inside d) (parts.oneofs i)) ∙ oneofs-again s t again.grows again.enums d below syntax (inside d) old.field old.oneof_decl in
+      let same = items-again carries d below old.oneof_decl m 0 old.field none in
+      let oneofs = (λ i. oneof_items (parts.fields i) (inside d) (parts.oneofs i)) ∙ oneofs-again carries d below (inside d) old.field old.oneof_decl in
       record {
-        faults = fields-again s t again.grows again.enums d below m new parts.ranges parts.oneofs parts.fields none;
+        faults = fields-again carries d below m new parts.ranges parts.oneofs parts.fields none;
         item_is = λ i. record (message_item s (message_at_place d m) m) {
           id = named_at d.file d.path d.full_name (text_of (parts.name i));
           fields = ((λ i. field_items t (parts.oneofs i) (inside d) (parts.fields i)) ∙ same) i;
-          field_numbers = (ap by_number parts.fields ∙ numbers-again s t again.grows again.enums d below syntax old.field) i;
-          field_names = (ap by_name parts.fields ∙ names-again s t again.grows again.enums d below syntax old.field) i;
-          field_json_names = (ap by_json_name parts.fields ∙ json-names-again s t again.grows again.enums d below syntax old.field) i;
+          field_numbers = (ap by_number parts.fields ∙ numbers-again carries d below old.field) i;
+          field_names = (ap by_name parts.fields ∙ names-again carries d below old.field) i;
+          field_json_names = (ap by_json_name parts.fields ∙ json-names-again carries d below old.field) i;
           oneofs = oneofs i;
         };
       }

@@ -1,7 +1,7 @@
 -- The number of a field or an extension that breaks nothing breaks nothing where it stands elsewhere, and other files are cited.
 use Rattle.std.proofs.Common.{◌≡◌, ℕ, ℤ, suc, Bool, true, false, not, is_some, if◌then◌else◌, Option, None, Some, List, [], ◌∷◌, ◌++◌, refl, ◌∙◌}
 use Rattle.std.specs.List.{find, enumerate_from, flat_map, list_any}
-use Rattle.std.specs.Option.{option_map}
+use Rattle.std.specs.Option.{option_map, option_map_or}
 use Rattle.proto_types.specs.declared.records.field.FieldDescriptorProto.{FieldDescriptorProto}
 use Rattle.proto_types.specs.Lists.{listed}
 use Rattle.proto_types.specs.Readers.{number_of}
@@ -9,12 +9,15 @@ use Rattle.proto_files.specs.declared.file.FileDescriptorProto.{FileDescriptorPr
 use Rattle.proto_files.specs.declared.message.DescriptorProto.{DescriptorProto, out-DescriptorProto}
 use Rattle.proto_files.specs.declared.message.ExtensionRange.{ExtensionRange}
 use Rattle.proto_files.specs.declared.message.ReservedRange.{ReservedRange}
+use Rattle.pool_types.specs.declared.contents.definition.Definition.{Definition}
 use Rattle.proto_records.specs.Shown.{Shown}
 use Rattle.pool_parts.specs.FieldNumbers.{is_valid_number}
 use Rattle.places.specs.Each.{each}
 use Rattle.number_rules.specs.Numbers.{by_extendee, extension_number_faults, extension_range_faults, field_number_faults, invalid_faults, outside_faults, reserved_fault, reserved_faults}
 use Rattle.number_rules.specs.Ranges.{extends, reserves}
-use Rattle.linking_laws.specs.Laws.{SameRanges}
+use Rattle.link_rules.specs.Extensions.{defined_at}
+use Rattle.link_rules.specs.Setting.{Setting}
+use Rattle.linking_laws.specs.Laws.{RangesStay, SameRanges}
 use Rattle.linking_laws.proofs.Typed.{no-fault}
 
 -- where both parts of a list hold nothing
@@ -80,3 +83,14 @@ pub extension-numbered : (fs gs : List FileDescriptorProto) (owner other d e : S
     → extension_number_faults fs owner m d f ≡ [] → extension_number_faults gs other k e g ≡ []
 extension-numbered fs gs owner other d e m k f g same number none =
     (λ i. by_extendee gs e (number_of (number i)) other k) ∙ by-extendee-again fs gs owner other d e (number_of f.number) m k same none
+
+-- the number of an extension, by the record of the message that it extends, if it has one
+module _ (s t : Setting) (d : Shown) (x y : FieldDescriptorProto) (number : y.number ≡ x.number) where
+  pub numbered-by : (name : List ℕ) (def : Definition) (old now : Option DescriptorProto) → RangesStay old now
+      → option_map_or (λ m. extension_number_faults s.files (defined_at name def m) m d x) old [] ≡ []
+      → option_map_or (λ m. extension_number_faults t.files (defined_at name def m) m d y) now [] ≡ []
+  numbered-by name def None None stay none = refl
+  numbered-by name def None (Some m) stay none = absurd stay
+  numbered-by name def (Some m) None stay none = absurd stay
+  numbered-by name def (Some m) (Some k) stay none =
+      extension-numbered s.files t.files (defined_at name def m) (defined_at name def k) d d m k x y stay number none

@@ -72,7 +72,7 @@ module _ (s t : Setting) (grows : Grows s t) (d : Shown) (below : d.file < lengt
   at = d.path ++ field.TYPE_NAME ∷ []
 
   found-typed : (f : FieldDescriptorProto) (r : Resolution) → type_meaning s d f ≡ r → listed (reference_fault s.files (text_of f.type_name) d.file at r) ≡ []
-      → IsTyped t d (option_and_then (named_kind (type_of f.type_)) (kind_found r)) (typed r f)
+      → IsTyped t d (option_and_then (named_kind (type_of f.type_)) (kind_found r)) (typed r f) (typed r f)
   found-typed f (found name def) is none =
       let now = subst (IsLooked s.names (seen s d.file) AnyType) is (resolution-looked s.names (seen s d.file) AnyType d.full_name (text_of f.type_name)) in
       let again = found-again s t grows d.file d.full_name d.full_name (text_of f.type_name) AnyType name def below is in
@@ -80,7 +80,7 @@ module _ (s t : Setting) (grows : Grows s t) (d : Shown) (below : d.file < lengt
       record {
         faults = ap (λ r. listed (reference_fault t.files (46 ∷ name) d.file at r)) again;
         kind_is = ap (λ r. option_and_then (named_kind (type_of (typed (found name def) f).type_)) (kind_found r)) again ∙ kinds.0;
-        still = ap (λ r. typed r (typed (found name def) f)) again ∙ (λ i. record (typed (found name def) f) { type_ = kinds.1 i });
+        linked_is = ap (λ r. typed r (typed (found name def) f)) again ∙ (λ i. record (typed (found name def) f) { type_ = kinds.1 i });
       }
   found-typed f (invalid_type name def filter) is none = absurd (cc)
   found-typed f (not_imported name other) is none = absurd (cc)
@@ -92,14 +92,16 @@ module _ (s t : Setting) (grows : Grows s t) (d : Shown) (below : d.file < lengt
         | [] ↦ only_if (not (is_some (simple_kind (type_of f.type_)))) (MissingRequiredField (label_in s.files d.file at))
         | _ ∷ _ ↦ listed (reference_fault s.files (text_of f.type_name) d.file at (type_meaning s d f))
       ] in
+      let made : FieldDescriptorProto = elim name [ [] ↦ f | _ ∷ _ ↦ typed (type_meaning s d f) f ] in
       faults ≡ [] → IsTyped t d (elim name [ [] ↦ simple_kind (type_of f.type_) | _ ∷ _ ↦ option_and_then (named_kind (type_of f.type_)) (kind_found (type_meaning s d f)) ])
-      (elim name [ [] ↦ f | _ ∷ _ ↦ typed (type_meaning s d f) f ])
+      made made
   by-name f [] is none = record {
     faults = rw (is, type_faults) (no-fault (not (is_some (simple_kind (type_of f.type_)))) (MissingRequiredField (label_in s.files d.file at)) (MissingRequiredField (label_in t.files d.file at)) none);
     kind_is = rw (is, field_kind) refl;
-    still = rw (is, linked_field) refl;
+    linked_is = rw (is, linked_field) refl;
   }
   by-name f (c ∷ cs) is none = found-typed f (type_meaning s d f) refl none
 
-  pub typed-again : (f : FieldDescriptorProto) → type_faults s d f ≡ [] → IsTyped t d (field_kind s d f) (linked_field s d.file d.full_name f)
+  pub typed-again : (f : FieldDescriptorProto) → type_faults s d f ≡ []
+      → let made = linked_field s d.file d.full_name f in IsTyped t d (field_kind s d f) made made
   typed-again f none = by-name f (text_of f.type_name) refl none

@@ -1,7 +1,7 @@
 -- Laws on linked files that are read again, behind which files may come: what relinking rests on.
 use Rattle.std.specs.Prelude.{◌≡◌, ◌<◌, ℕ, ℤ, Bool, true, IsSome, List, [], ◌∷◌, ◌++◌, length}
 use Rattle.std.specs.FinMap as finite
-use Rattle.std.specs.List.{All, Contains, flat_map}
+use Rattle.std.specs.List.{All, AllByRecursion, Contains, flat_map}
 use Rattle.std.specs.declared.option.Option.{Option}
 use Rattle.std.specs.declared.option.Option.TheVariants.{None, Some}
 use Rattle.proto_files.specs.declared.file.FileDescriptorProto.{FileDescriptorProto}
@@ -22,8 +22,8 @@ use Rattle.pool_types.specs.declared.contents.message.MessageDescriptorInner.{Me
 use Rattle.pool_types.specs.declared.contents.service.ServiceDescriptorInner.{ServiceDescriptorInner}
 use Rattle.proto_records.specs.declared.counts.Counts.{Counts}
 use Rattle.proto_records.specs.Declarations.{file_walk}
-use Rattle.proto_records.specs.Changed.{changed, changed_message, changed_service}
-use Rattle.proto_records.specs.Protos.{of_extension, of_message, of_service}
+use Rattle.proto_records.specs.Changed.{Changes, changed, changed_message, changed_service}
+use Rattle.proto_records.specs.Protos.{Proto, of_extension, of_file, of_message, of_service}
 use Rattle.proto_records.specs.Shown.{Shown}
 use Rattle.syntax_rules.specs.Syntaxes.{syntax_at}
 use Rattle.pool_parts.specs.declared.filter.ResolveNameFilter.{ResolveNameFilter}
@@ -66,30 +66,30 @@ FoundAgain =
     (s t : Setting) → Grows s t → (file : ℕ) (scope other written : List ℕ) (filter : ResolveNameFilter) (name : List ℕ) (def : Definition) → file < length s.files
     → meaning s file scope filter written ≡ found name def → meaning t file other filter (46 ∷ name) ≡ found name def
 
--- the type of a field breaks nothing, its kind is this one, and linking leaves the field as it is
-pub record IsTyped (t : Setting) (d : Shown) (kind : Option KindIndex) (f : FieldDescriptorProto) : Type 0 where
+-- the type of a field breaks nothing, its kind is this one, and linking makes this of the field
+pub record IsTyped (t : Setting) (d : Shown) (kind : Option KindIndex) (made f : FieldDescriptorProto) : Type 0 where
   pub faults : type_faults t d f ≡ []
   pub kind_is : field_kind t d f ≡ kind
-  pub still : linked_field t d.file d.full_name f ≡ f
+  pub linked_is : linked_field t d.file d.full_name f ≡ made
 
--- law: so it is with a linked field whose type broke nothing, and its kind is what it was
+-- law: so it is with a linked field whose type broke nothing: its kind is what it was, and linking leaves it as it is
 abbrev pub TypedAgain : Type 0
 TypedAgain =
     (s t : Setting) → Grows s t → (d : Shown) → d.file < length s.files → (f : FieldDescriptorProto) → type_faults s d f ≡ []
-    → IsTyped t d (field_kind s d f) (linked_field s d.file d.full_name f)
+    → let made = linked_field s d.file d.full_name f in IsTyped t d (field_kind s d f) made made
 
--- the name of a message that a declaration refers to breaks nothing, means the message with this index, and is left by linking as it is
-pub record IsMessageName (t : Setting) (d : Shown) (path : List ℤ) (index : Option ℕ) (name : Option (List ℕ)) : Type 0 where
+-- the name of a message that a declaration refers to breaks nothing, means the message with this index, and linking makes this of it
+pub record IsMessageName (t : Setting) (d : Shown) (path : List ℤ) (index : Option ℕ) (made name : Option (List ℕ)) : Type 0 where
   pub faults : listed (reference_fault t.files (text_of name) d.file path (message_meaning t d name)) ≡ []
   pub index_is : message_found (message_meaning t d name) ≡ index
-  pub still : resolved (message_meaning t d name) name ≡ name
+  pub linked_is : resolved (message_meaning t d name) name ≡ made
 
 -- law: so it is with a linked one that broke nothing: with what an extension extends, and with what a method takes and gives
 abbrev pub MessageNamedAgain : Type 0
 MessageNamedAgain =
     (s t : Setting) → Grows s t → (d : Shown) → d.file < length s.files → (path : List ℤ) (given : Option (List ℕ))
     → listed (reference_fault s.files (text_of given) d.file path (message_meaning s d given)) ≡ []
-    → IsMessageName t d path (message_found (message_meaning s d given)) (resolved (message_meaning s d given) given)
+    → let made = resolved (message_meaning s d given) given in IsMessageName t d path (message_found (message_meaning s d given)) made made
 
 -- each definition that a name meant has the record of an enum that it had
 abbrev pub EnumsStay : Setting → Setting → Type 0
@@ -105,6 +105,10 @@ abbrev pub DefaultedAgain : Type 0
 DefaultedAgain =
     (s t : Setting) → Grows s t → EnumsStay s t → (d : Shown) → d.file < length s.files → (f : FieldDescriptorProto)
     → type_faults s d f ≡ [] → field_default_faults s d f ≡ [] → IsDefaulted t d (field_default s d f) (linked_field s d.file d.full_name f)
+
+-- records are left as they are
+abbrev pub unchanged : Changes
+unchanged = record { field = λ _ _ f. f; extension = λ _ _ x. x; method = λ _ _ m. m }
 
 -- two records of a message with the same ranges
 pub record SameRanges (m n : DescriptorProto) : Type 0 where
@@ -126,6 +130,19 @@ pub record Rereads (s t : Setting) : Type 0 where
   pub enums : EnumsStay s t
   pub ranges : (name : List ℕ) (def : Definition) → finite.get s.names name ≡ Some def → RangesStay (message_record s def) (message_record t def)
 
+-- a reference of a file means what it meant, and that has the record of an enum that it had, or of a message with the same ranges
+pub record ReferenceStands (s t : Setting) (file : ℕ) (scope written : List ℕ) (filter : ResolveNameFilter) (name : List ℕ) (def : Definition) : Type 0 where
+  pub meaning_is : meaning t file scope filter written ≡ found name def
+  pub enum_is : enum_record t def ≡ enum_record s def
+  pub ranges : RangesStay (message_record s def) (message_record t def)
+
+-- so do all references of the files below a number that found something; each such file has the syntax that it had, and sees what it saw
+pub record Stands (s t : Setting) (many : ℕ) : Type 0 where
+  pub references : (file : ℕ) → file < many → (scope written : List ℕ) (filter : ResolveNameFilter) (name : List ℕ) (def : Definition)
+      → meaning s file scope filter written ≡ found name def → ReferenceStands s t file scope written filter name def
+  pub syntaxes : (n : ℕ) → n < many → syntax_at t.files n ≡ syntax_at s.files n
+  pub sees : (n : ℕ) → n < many → seen_by t n ≡ seen_by s n
+
 -- a message that is declared where another is
 abbrev pub message_at_place : Shown → DescriptorProto → Shown
 message_at_place d m = record d { proto = of_message m }
@@ -145,33 +162,33 @@ MessageAgain =
 abbrev pub extension_at_place : Shown → FieldDescriptorProto → Shown
 extension_at_place d x = record d { proto = of_extension x }
 
--- an extension breaks nothing, its item is this one, and linking leaves it as it is
-pub record IsExtension (t : Setting) (d : Shown) (item : ExtensionDescriptorInner) (x : FieldDescriptorProto) : Type 0 where
+-- an extension breaks nothing, its item is this one, and linking makes this of it
+pub record IsExtension (t : Setting) (d : Shown) (item : ExtensionDescriptorInner) (made x : FieldDescriptorProto) : Type 0 where
   pub faults : extension_faults t d x ≡ []
   pub item_is : extension_item t (extension_at_place d x) x ≡ item
-  pub still : linked_extension t d.file d.full_name x ≡ x
+  pub linked_is : linked_extension t d.file d.full_name x ≡ made
 
--- law: so it is with a linked extension that broke nothing, and the item is what it was
+-- law: so it is with a linked extension that broke nothing: the item is what it was, and linking leaves it as it is
 abbrev pub ExtensionAgain : Type 0
 ExtensionAgain =
     (s t : Setting) → Rereads s t → (d : Shown) → d.file < length s.files → (x : FieldDescriptorProto)
-    → extension_faults s d x ≡ [] → IsExtension t d (extension_item s (extension_at_place d x) x) (linked_extension s d.file d.full_name x)
+    → extension_faults s d x ≡ [] → let made = linked_extension s d.file d.full_name x in IsExtension t d (extension_item s (extension_at_place d x) x) made made
 
 -- a service that is declared where another is
 abbrev pub service_at_place : Shown → ServiceDescriptorProto → Shown
 service_at_place d v = record d { proto = of_service v }
 
--- the methods of a service break nothing, its item is this one, and linking leaves it as it is
-pub record IsService (t : Setting) (d : Shown) (item : ServiceDescriptorInner) (v : ServiceDescriptorProto) : Type 0 where
+-- the methods of a service break nothing, its item is this one, and linking makes this of it
+pub record IsService (t : Setting) (d : Shown) (item : ServiceDescriptorInner) (made v : ServiceDescriptorProto) : Type 0 where
   pub faults : service_faults t d v ≡ []
   pub item_is : service_item t (service_at_place d v) v ≡ item
-  pub still : changed_service (linking t) d.file d.full_name v ≡ v
+  pub linked_is : changed_service (linking t) d.file d.full_name v ≡ made
 
--- law: so it is with a linked service whose methods broke nothing, and the item is what it was
+-- law: so it is with a linked service whose methods broke nothing: the item is what it was, and linking leaves it as it is
 abbrev pub ServiceAgain : Type 0
 ServiceAgain =
     (s t : Setting) → Grows s t → (d : Shown) → d.file < length s.files → (v : ServiceDescriptorProto)
-    → service_faults s d v ≡ [] → IsService t d (service_item s (service_at_place d v) v) (changed_service (linking s) d.file d.full_name v)
+    → service_faults s d v ≡ [] → let made = changed_service (linking s) d.file d.full_name v in IsService t d (service_item s (service_at_place d v) v) made made
 
 -- law: an enum whose values broke nothing breaks nothing where it is read against other files
 abbrev pub EnumAgain : Type 0
@@ -192,6 +209,44 @@ abbrev pub FileAgain : Type 0
 FileAgain =
     (s t : Setting) → Rereads s t → (base : Counts) (f : FileDescriptorProto) → base.files < length s.files
     → flat_map (owner_faults s) (file_walk base f) ≡ [] → IsFile t base.files (file_item s base.files f) (linked s base.files f)
+
+-- law: a message whose fields broke nothing breaks nothing where references stand, and its item is what it was
+abbrev pub MessageStands : Type 0
+MessageStands =
+    (s t : Setting) (many : ℕ) → Stands s t many → (d : Shown) → d.file < many → (m : DescriptorProto)
+    → message_faults s (message_at_place d m) m ≡ [] → IsMessage t d (message_item s (message_at_place d m) m) m
+
+-- law: so it is with an extension, and linking makes of it what it made
+abbrev pub ExtensionStands : Type 0
+ExtensionStands =
+    (s t : Setting) (many : ℕ) → Stands s t many → (d : Shown) → d.file < many → (x : FieldDescriptorProto)
+    → extension_faults s d x ≡ [] → IsExtension t d (extension_item s (extension_at_place d x) x) (linked_extension s d.file d.full_name x) x
+
+-- law: and with a service
+abbrev pub ServiceStands : Type 0
+ServiceStands =
+    (s t : Setting) (many : ℕ) → Stands s t many → (d : Shown) → d.file < many → (v : ServiceDescriptorProto)
+    → service_faults s d v ≡ [] → IsService t d (service_item s (service_at_place d v) v) (changed_service (linking s) d.file d.full_name v) v
+
+-- each of these names of files means the file that it meant
+abbrev pub NamesStay : Setting → Setting → List (List ℕ) → Type 0
+NamesStay s t = AllByRecursion (λ name. (n : ℕ) → finite.get s.file_names name ≡ Some n → finite.get t.file_names name ≡ Some n)
+
+-- so do the imports of a file; of other records nothing is asked
+abbrev pub ImportsMean : Setting → Setting → Proto → Type 0
+ImportsMean s t (of_file f) = NamesStay s t f.dependency
+ImportsMean s t _ = Unit {0}
+
+-- law: a declaration that broke nothing in the second pass breaks nothing where references and imports stand
+abbrev pub DeclarationStands : Type 0
+DeclarationStands =
+    (s t : Setting) (many : ℕ) → Stands s t many → (d : Shown) → d.file < many → ImportsMean s t d.proto → owner_faults s d ≡ [] → owner_faults t d ≡ []
+
+-- law: a file whose declarations broke nothing has the item that it had, with the linked record
+abbrev pub FileStands : Type 0
+FileStands =
+    (s t : Setting) (many : ℕ) → Stands s t many → (base : Counts) (f : FileDescriptorProto) → base.files < many → NamesStay s t f.dependency
+    → flat_map (owner_faults s) (file_walk base f) ≡ [] → IsFile t base.files (file_item s base.files f) f
 
 -- some names of others: what they mean stays, they have all that mean what is seen, and the texts before the dots of these
 pub record SeenAmong (names more : ByText Definition) (seen : ℕ → Bool) : Type 0 where

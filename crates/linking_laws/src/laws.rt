@@ -1,5 +1,5 @@
 //! A call does nothing: its contract is the law, and is proved of all files and settings.
-ghost use Rattle.linking_laws.specs.Laws.{DeclarationAgain, DefaultedAgain, EnumAgain, ExtensionAgain, FileAgain, FoundAgain, FoundAmongFewer, MessageAgain, MessageNamedAgain, SeenStays, ServiceAgain, TypedAgain};
+ghost use Rattle.linking_laws.specs.Laws.{DeclarationAgain, DeclarationStands, DefaultedAgain, EnumAgain, ExtensionAgain, ExtensionStands, FileAgain, FileStands, FoundAgain, FoundAmongFewer, MessageAgain, MessageNamedAgain, MessageStands, SeenStays, ServiceAgain, ServiceStands, TypedAgain};
 
 /// A file sees what it saw where files come behind, as long as its imports and those of the files
 /// before these mean what they meant.
@@ -75,4 +75,36 @@ pub fn declaration_read_again()
 /// it is read again, and its imports break nothing. So linking leaves it as it is.
 pub fn file_read_again()
     ensures { FileAgain }
+{}
+
+/// A message whose fields broke nothing breaks nothing where its references mean what they meant,
+/// and its item is what it was: in another setting, where the enums that they name have the records
+/// that they had and the messages the ranges, and where files have the syntax that they had and see
+/// what they saw.
+pub fn message_stands()
+    ensures { MessageStands }
+{}
+
+/// An extension that broke nothing breaks nothing where its references mean what they meant; its item
+/// and what linking makes of it are what they were.
+pub fn extension_stands()
+    ensures { ExtensionStands }
+{}
+
+/// A service whose methods broke nothing breaks nothing where its references mean what they meant;
+/// its item and what linking makes of it are what they were.
+pub fn service_stands()
+    ensures { ServiceStands }
+{}
+
+/// A declaration that broke nothing in the second pass breaks nothing where its references mean what
+/// they meant, and of a file its imports.
+pub fn declaration_stands()
+    ensures { DeclarationStands }
+{}
+
+/// A file whose declarations broke nothing in the second pass has the item that it had where their
+/// references and its imports mean what they meant, with the linked record.
+pub fn file_stands()
+    ensures { FileStands }
 {}

@@ -5,7 +5,8 @@
 mod laws;
 
 pub use laws::{
-    declaration_read_again, defaulted_again, enum_read_again, extension_read_again,
-    file_read_again, found_again, found_among_fewer, message_named_again, message_read_again,
-    seen_stays, service_read_again, typed_again,
+    declaration_read_again, declaration_stands, defaulted_again, enum_read_again,
+    extension_read_again, extension_stands, file_read_again, file_stands, found_again,
+    found_among_fewer, message_named_again, message_read_again, message_stands, seen_stays,
+    service_read_again, service_stands, typed_again,
 };

@@ -1,4 +1,4 @@
--- The two passes over declarations that broke nothing, read once more: they find nothing.
+-- The two passes over declarations that broke nothing, and are carried to another setting: they find nothing.
 use Rattle.std.proofs.Common.{◌≡◌, ◌<◌, ℕ, List, [], ◌∷◌, ◌++◌, length, map, append-nil, append_assoc, refl, ap, sym, ◌∙◌}
 use Rattle.std.specs.List.{AllByRecursion, flat_map}
 use Rattle.std.specs.Option.{option_or}
@@ -12,14 +12,21 @@ use Rattle.syntax_rules.specs.Syntaxes.{syntax_at}
 use Rattle.link_rules.specs.Broken.{owner_faults}
 use Rattle.link_rules.specs.Linked.{linking}
 use Rattle.link_rules.specs.Setting.{Setting}
-use Rattle.linking_laws.specs.Laws.{Rereads}
-use Rattle.linking_laws.proofs.Declarations.{declaration-again}
+use Rattle.linking_laws.specs.Laws.{ImportsMean, Rereads}
+use Rattle.linking_laws.proofs.AsLinked.{linked-carried}
+use Rattle.linking_laws.proofs.Carries.{Carries}
+use Rattle.linking_laws.proofs.Declarations.{all-mean, declaration-carried}
 use Rattle.linking_laws.proofs.FirstPass.{first-again, holder-more}
 use Rattle.linking_laws.proofs.Numbered.{both-empty}
 use Rattle.name_pass.specs.Entered.{entries, file_entries, file_entries_of}
 use Rattle.name_pass.specs.FirstPass.{first_faults, holder}
 use Rattle.std.proofs.lemmas.Grind.{flat_map-append}
 use Rattle.descriptor_pool.proofs.Declared.{entries-append, entries-changed, file-entries-changed}
+
+-- what holds of each holds of all
+pub all-of : {X : Type 0} {P : X → Type 0} → ((x : X) → P x) → (xs : List X) → AllByRecursion P xs
+all-of each [] = tt
+all-of each (x ∷ xs) = (each x, all-of each xs)
 
 -- nothing for two lists, one behind the other
 pub after-both : {X Y : Type 0} (f : List X → X → List Y) (before xs ys : List X) → after_each f before xs ≡ [] → after_each f (before ++ xs) ys ≡ []
@@ -30,13 +37,19 @@ after-both f before (x ∷ xs) ys first second =
     let rest = after-both f (before ++ x ∷ []) xs ys parts.1 (ap (λ zs. after_each f zs ys) (append_assoc before (x ∷ []) xs) ∙ second) in
     λ i. parts.0 i ++ rest i
 
--- the second pass: linked declarations
+-- the second pass
+module _ {s t : Setting} {c : Changes} {many : ℕ} (carries : Carries s t c many) where
+  pub unbroken-carried : (ds : List Shown) → AllByRecursion (λ d. d.file < many) ds → AllByRecursion (λ d. ImportsMean s t d.proto) ds → flat_map (owner_faults s) ds ≡ []
+      → flat_map (owner_faults t) (map (changed c) ds) ≡ []
+  unbroken-carried [] lie mean none = refl
+  unbroken-carried (d ∷ ds) lie mean none =
+      let parts = both-empty (owner_faults s d) (flat_map (owner_faults s) ds) none in
+      λ i. declaration-carried carries d lie.0 mean.0 parts.0 i ++ unbroken-carried ds lie.1 mean.1 parts.1 i
+
+-- linked declarations
 pub unbroken-again : (s t : Setting) → Rereads s t → (ds : List Shown) → AllByRecursion (λ d. d.file < length s.files) ds → flat_map (owner_faults s) ds ≡ []
     → flat_map (owner_faults t) (map (changed (linking s)) ds) ≡ []
-unbroken-again s t again [] lie none = refl
-unbroken-again s t again (d ∷ ds) lie none =
-    let parts = both-empty (owner_faults s d) (flat_map (owner_faults s) ds) none in
-    λ i. declaration-again s t again d lie.0 parts.0 i ++ unbroken-again s t again ds lie.1 parts.1 i
+unbroken-again s t again ds lie = unbroken-carried (linked-carried s t again) ds lie (all-of (λ d. all-mean s t again.file_names d.proto) ds)
 
 -- the first pass: declarations whose names stay, behind others, where each name is held as it was
 module _ (c : Changes) (keep : KeepNames c) (fs gs : List FileDescriptorProto) (p q : Contents) where

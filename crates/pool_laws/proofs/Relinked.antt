@@ -33,6 +33,9 @@ use Rattle.link_rules.specs.Linked.{linking}
 use Rattle.link_rules.specs.Setting.{Setting}
 use Rattle.link_rules.proofs.Owners.{owners-tell}
 use Rattle.linking_laws.specs.Laws.{Rereads}
+use Rattle.linking_laws.proofs.AsLinked.{linked-carried}
+use Rattle.linking_laws.proofs.Carries.{Carries}
+use Rattle.linking_laws.proofs.Imports.{all-stay}
 use Rattle.growing_pool.specs.Extended.{extended_by, with_extended}
 use Rattle.growing_pool.proofs.Each.{each-all, each-append, each-map, each-same}
 use Rattle.name_pass.specs.FirstPass.{first_faults, first_pass, holder}
@@ -47,7 +50,7 @@ use Rattle.descriptor_pool.proofs.Sound.{Sound, fits_again, link-sound, made-sou
 use Rattle.pool_laws.specs.Laws.{Relinks}
 use Rattle.pool_laws.proofs.Again.{files-are, new-again, old-again, reread, seen_in, sees-is, setting-again}
 use Rattle.pool_laws.proofs.Items.{SameItem, all-fine, files-again, kind-again, same-enum, same-extension, same-message, same-service}
-use Rattle.pool_laws.proofs.Passes.{after-both, pass-again, unbroken-again}
+use Rattle.pool_laws.proofs.Passes.{after-both, all-of, pass-again, unbroken-again}
 
 -- what the files of a pool declare
 abbrev declared : Contents → List Shown
@@ -133,6 +136,12 @@ module _ (q : Contents) (new : List FileDescriptorProto) (before : Sound q) (was
   again-new : Rereads s t
   again-new = new-again q new before after was.second kept
 
+  carried-old : Carries alone t (linking alone) (length (files_of q))
+  carried-old = linked-carried alone t again-old
+
+  carried-new : Carries s t (linking s) (length (files_of q ++ new))
+  carried-new = linked-carried s t again-new
+
   many-files : length q.files + length new ≡ length (files_of q ++ new)
   many-files = let sum = length-append (files_of q) new in let old = length-map q.files (λ f. f.raw) in omega (arith, sum, old)
 
@@ -175,21 +184,21 @@ module _ (q : Contents) (new : List FileDescriptorProto) (before : Sound q) (was
       let start : 0 + length (files_of q) ≡ length q.files = let old = length-map q.files (λ f. f.raw) in omega (arith, old) in
       let whole : 0 + length (files_of q) ≤ length (files_of q) = omega arith in
       let room : length q.files + length new ≤ length (files_of q ++ new) = let many = many-files in omega (arith, many) in
-      let old = ap (each (file_item t) 0) (sym old-still) ∙ files-again alone t again-old no_counts (files_of q) whole was.second ∙ sym was.files in
-      let made = ap (λ n. each (file_item t) n came) start ∙ files-again s t again-new (counts_in q) new room unbroken in
+      let old = ap (each (file_item t) 0) (sym old-still) ∙ files-again carried-old no_counts (files_of q) whole (all-of (λ f. all-stay alone t again-old.file_names f.dependency) (files_of q)) was.second ∙ sym was.files in
+      let made = ap (λ n. each (file_item t) n came) start ∙ files-again carried-new (counts_in q) new room (all-of (λ f. all-stay s t again-new.file_names f.dependency) new) unbroken in
       ap (λ fs. q.files ++ fs) (items-of-files (file_item s) (counts_in q) new)
       ∙ (λ i. sym old i ++ sym made i)
       ∙ sym (each-append (file_item t) 0 (files_of q) came) ∙ ap (each (file_item t) 0) (sym (files-are q new before after))
 
   -- the items of another kind
-  kind-made : {X Y : Type 0} (pick : Proto → Option X) (old_item item now : Shown → X → Y) → SameItem alone t again-old pick old_item now → SameItem s t again-new pick item now
+  kind-made : {X Y : Type 0} (pick : Proto → Option X) (old_item item now : Shown → X → Y) → SameItem carried-old pick old_item now → SameItem carried-new pick item now
       → (had : List Y) → had ≡ map (λ e. old_item e.0 e.1) (of_kind pick (declared q))
       → had ++ map (λ e. item e.0 e.1) (of_kind pick ds) ≡ map (λ e. now e.0 e.1) (of_kind pick (declared p))
   kind-made {X} {Y} pick old_item item now same_old same had is =
       let make : Shown × X → Y = λ e. now e.0 e.1 in
-      let old = is ∙ sym (kind-again alone t again-old pick old_item now same_old (declared q) (all-fine alone (declared q) lie-old was.second))
+      let old = is ∙ sym (kind-again carried-old pick old_item now same_old (declared q) (all-fine alone (length (files_of q)) (declared q) lie-old was.second))
       ∙ ap (λ es. map make (of_kind pick es)) declared-still in
-      let made = sym (kind-again s t again-new pick item now same ds (all-fine s ds lie-new unbroken)) in
+      let made = sym (kind-again carried-new pick item now same ds (all-fine s (length (files_of q ++ new)) ds lie-new unbroken)) in
       (λ i. old i ++ made i)
       ∙ sym (map-append make (of_kind pick (declared q)) (of_kind pick linked_ds))
       ∙ ap (map make) (sym (filter_map-append (λ d. option_map (λ x. (d, x)) (pick d.proto)) (declared q) linked_ds) ∙ ap (of_kind pick) (sym declared-are))
@@ -200,7 +209,7 @@ module _ (q : Contents) (new : List FileDescriptorProto) (before : Sound q) (was
       let more = extended_by (length q.extensions) (drop (length q.extensions) (q.extensions ++ map (λ e. extension_item s e.0 e.1) (of_kind as_extension ds))) in
       each-map bare more 0 (q.messages ++ came) ∙ each-all bare 0 (q.messages ++ came) ∙ map-append bare q.messages came
       ∙ ap (λ ms. map bare q.messages ++ ms) (bare-made s (of_kind as_message ds))
-      ∙ kind-made as_message (message_item alone) (message_item s) (message_item t) (same-message alone t again-old) (same-message s t again-new) (map bare q.messages) was.messages
+      ∙ kind-made as_message (message_item alone) (message_item s) (message_item t) (same-message carried-old) (same-message carried-new) (map bare q.messages) was.messages
 
   linked-relinked : Relinked p
   linked-relinked = record {
@@ -208,9 +217,9 @@ module _ (q : Contents) (new : List FileDescriptorProto) (before : Sound q) (was
     second = second-again;
     files = files-made;
     messages = messages-made;
-    enums = kind-made as_enum enum_item enum_item enum_item (same-enum alone t again-old) (same-enum s t again-new) q.enums was.enums;
-    services = kind-made as_service (service_item alone) (service_item s) (service_item t) (same-service alone t again-old) (same-service s t again-new) q.services was.services;
-    extensions = kind-made as_extension (extension_item alone) (extension_item s) (extension_item t) (same-extension alone t again-old) (same-extension s t again-new)
+    enums = kind-made as_enum enum_item enum_item enum_item (same-enum carried-old) (same-enum carried-new) q.enums was.enums;
+    services = kind-made as_service (service_item alone) (service_item s) (service_item t) (same-service carried-old) (same-service carried-new) q.services was.services;
+    extensions = kind-made as_extension (extension_item alone) (extension_item s) (extension_item t) (same-extension carried-old) (same-extension carried-new)
         q.extensions was.extensions;
   }
 

@@ -1,5 +1,6 @@
-use Rattle.linking_laws.proofs.Messages.{message-again}
+use Rattle.linking_laws.proofs.AsLinked.{linked-carried}
+use Rattle.linking_laws.proofs.Messages.{message-carried}
 use Rattle.linking_laws.proofs.laws.message_read_again.Goals as goal
 
 pub returns : goal.returns
-returns c = message-again
+returns c = λ s t again. message-carried (linked-carried s t again)

@@ -1,0 +1,11 @@
+use Rattle.std.proofs.Common.{subst}
+use Rattle.std.proofs.Common.{◌≡◌, []}
+use Rattle.link_rules.specs.Broken.{owner_faults}
+use Rattle.linking_laws.proofs.AsGiven.{given-carried}
+use Rattle.linking_laws.proofs.Declarations.{declaration-carried}
+use Rattle.linking_laws.proofs.Unchanged.{declaration-unchanged}
+use Rattle.linking_laws.proofs.laws.declaration_stands.Goals as goal
+
+pub returns : goal.returns
+returns c = λ s t many stands d below mean none.
+    subst (λ e. owner_faults t e ≡ []) (declaration-unchanged d) (declaration-carried (given-carried stands) d below mean none)
