@@ -1,5 +1,5 @@
 -- What is found is what its full name gives by itself, and gives again where names come.
-use Rattle.std.proofs.Common.{◌≡◌, ℕ, Bool, true, false, not, cond, if◌then◌else◌, List, [], ◌∷◌, Option, None, Some, unwrap_or, refl, ap, ◌∙◌}
+use Rattle.std.proofs.Common.{◌≡◌, ℕ, Bool, true, false, not, cond, if◌then◌else◌, List, [], ◌∷◌, Option, None, Some, unwrap_or, refl, ap, subst, ◌∙◌}
 use Rattle.std.specs.FinMap as finite
 use Rattle.std.specs.List.{find}
 use Rattle.std.specs.Option.{option_map_or}
@@ -102,6 +102,22 @@ module _ (names : ByText Definition) (seen : ℕ → Bool) (filter : ResolveName
           | false ↦ λ is. absurd (cc)
         ]
         | false ↦ λ is. absurd (cc)
+      ]
+
+  got-seen : (x name : List ℕ) (def here : Definition) → answer x (Some here) ≡ found name def → seen here.file ≡ true
+  got-seen x name def here =
+      elim (seen here.file) as (λ sees. (if not sees then not_imported x here.file
+      else (if not (is_match filter here.kind) then invalid_type x here filter else found x here)) ≡ found name def → sees ≡ true) [
+        | true ↦ λ is. refl
+        | false ↦ λ is. absurd (cc)
+      ]
+
+  -- and is seen
+  pub looked-seen : (x name : List ℕ) (def : Definition) → look names seen filter x ≡ found name def → seen def.file ≡ true
+  looked-seen x name def =
+      elim (finite.get names x) as (λ got. answer x got ≡ found name def → seen def.file ≡ true) [
+        | None ↦ λ is. absurd (cc)
+        | Some here ↦ λ is. subst (λ (d : Definition). seen d.file ≡ true) (got-named x name def here is) (got-seen x name def here is)
       ]
 
   pub looked-named : (x name : List ℕ) (def : Definition) → look names seen filter x ≡ found name def → finite.get names x ≡ Some def

@@ -1,12 +1,12 @@
 -- What is left as it is: messages, services and files.
-use Rattle.std.proofs.Common.{◌≡◌, ℕ, ℤ, Option, List, [], ◌∷◌, map, refl}
+use Rattle.std.proofs.Common.{◌≡◌, ℕ, ℤ, suc, Option, List, [], ◌∷◌, map, refl}
 use Rattle.proto_types.specs.Names.{join}
 use Rattle.proto_types.specs.Readers.{text_of}
 use Rattle.proto_types.specs.declared.records.service.ServiceDescriptorProto.{ServiceDescriptorProto}
 use Rattle.proto_files.specs.Computed.{literals}
 use Rattle.proto_files.specs.declared.file.FileDescriptorProto.{FileDescriptorProto}
 use Rattle.proto_files.specs.declared.message.DescriptorProto.{DescriptorProto, DescriptorProto', out-DescriptorProto, Row_of-DescriptorProto, end_of-DescriptorProto, more_of-DescriptorProto}
-use Rattle.proto_records.specs.Changed.{changed, changed_file, changed_message, changed_nested, changed_service}
+use Rattle.proto_records.specs.Changed.{KeepNames, changed, changed_file, changed_files, changed_message, changed_nested, changed_service}
 use Rattle.proto_records.specs.Protos.{Proto, of_file, of_message, of_field, of_oneof, of_service, of_method, of_enum, of_value, of_extension}
 use Rattle.proto_records.specs.Shown.{Shown}
 use Rattle.linking_laws.specs.Laws.{unchanged}
@@ -55,3 +55,13 @@ module _ (file : ℕ) (parent : Option ℕ) (index : ℕ) (path : List ℤ) (ful
 
 pub declaration-unchanged : (d : Shown) → changed unchanged d ≡ d
 declaration-unchanged d = unchanged-by d.file d.parent d.index d.path d.full_name d.proto
+
+pub declarations-unchanged : (ds : List Shown) → map (changed unchanged) ds ≡ ds
+declarations-unchanged = map-same (changed unchanged) declaration-unchanged
+
+pub files-unchanged : (index : ℕ) (fs : List FileDescriptorProto) → changed_files unchanged index fs ≡ fs
+files-unchanged index [] = refl
+files-unchanged index (f ∷ fs) = λ i. file-unchanged index f i ∷ files-unchanged (suc index) fs i
+
+pub unchanged-keeps : KeepNames unchanged
+unchanged-keeps = record { fields = λ index name f. refl; extensions = λ index name x. refl; methods = λ index name m. refl }

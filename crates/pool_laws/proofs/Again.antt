@@ -63,7 +63,7 @@ setting-again p sound =
     }
 
 -- an entry of a list of which each is made by its position
-seen-at : {X Y : Type 0} (g : ℕ → Y) (none : Y) (i : ℕ) (xs : List X) (n : ℕ) → n < length xs → unwrap_or (slice_get (each (λ k _. g k) i xs) n) none ≡ g (i + n)
+pub seen-at : {X Y : Type 0} (g : ℕ → Y) (none : Y) (i : ℕ) (xs : List X) (n : ℕ) → n < length xs → unwrap_or (slice_get (each (λ k _. g k) i xs) n) none ≡ g (i + n)
 seen-at g none i [] n below = absurd (omega (arith, below))
 seen-at g none i (x ∷ xs) zero below = let here : i ≡ i + 0 = omega arith in ap g here
 seen-at g none i (x ∷ xs) (suc n) below =
@@ -87,13 +87,13 @@ seen-behind g none i (y ∷ ys) made xs (suc n) below =
     ∙ seen-behind g none (suc i) ys (λ m less. made (suc m) (omega (arith, less)) ∙ ap g (sym (there m))) xs n (omega (arith, below))
     ∙ ap g (there n)
 
-slice-front : {X : Type 0} (xs ys : List X) (n : ℕ) → n < length xs → slice_get (xs ++ ys) n ≡ slice_get xs n
+pub slice-front : {X : Type 0} (xs ys : List X) (n : ℕ) → n < length xs → slice_get (xs ++ ys) n ≡ slice_get xs n
 slice-front [] ys n below = absurd (omega (arith, below))
 slice-front (x ∷ xs) ys zero below = refl
 slice-front (x ∷ xs) ys (suc n) below = slice-front xs ys n (omega (arith, below))
 
 -- names of files mean files, and names mean what stands in files
-names-mean-files : (p : Contents) → Sound p → NamesFiles (files_of p) (finite.get p.file_names)
+pub names-mean-files : (p : Contents) → Sound p → NamesFiles (files_of p) (finite.get p.file_names)
 names-mean-files p sound name n is =
     let end = 0 + length (files_of p) in
     let known : IfSome (finite.get p.file_names name) (λ file. file < end) =
@@ -146,11 +146,23 @@ imports-known s index k (here ∷ names) none name (suc m, below, same) =
     let parts = both-empty (missing_file s index k here) (flat_map (λ (faults : Faults). faults) (each (missing_file s index) (suc k) names)) none in
     imports-known s index (suc k) names parts.1 name (m, omega (arith, below), same)
 
+-- a pool that breaks nothing knows the imports of its files
+pub known-imports : (q : Contents) → flat_map (owner_faults (reread q)) (declarations no_counts (files_of q)) ≡ []
+    → (n : ℕ) → n < length (files_of q) → (name : List ℕ) → Contains (file_at (files_of q) n).dependency name → IsSome (finite.get q.file_names name)
+known-imports q unbroken n below name found =
+    let f = file_at (files_of q) n in
+    let index = 0 + n in
+    let public = flat_map (index_fault f.dependency) f.public_dependency in
+    let weak = flat_map (index_fault f.dependency) f.weak_dependency in
+    let two = both-empty (missing_files (reread q) index f.dependency ++ public) weak (imports-unbroken (reread q) no_counts (files_of q) unbroken n below) in
+    let one = both-empty (missing_files (reread q) index f.dependency) public two.0 in
+    imports-known (reread q) index 0 f.dependency one.0 name found
+
 -- what is known stays where entries come
 pub stays-known : {X : Type 0} (known : ByText X) (more : List (List ℕ × X)) (name : List ℕ) (x : X) → finite.get known name ≡ Some x → finite.get (names_with known more) name ≡ Some x
 stays-known known more name x is = get-with known more name ∙ ap (λ found. option_or found (first_of more name)) is
 
-first-kept : {X : Type 0} (found other : Option X) → IsSome found → option_or found other ≡ found
+pub first-kept : {X : Type 0} (found other : Option X) → IsSome found → option_or found other ≡ found
 first-kept None other some = absurd (cc)
 first-kept (Some x) other some = refl
 
@@ -181,13 +193,7 @@ module _ (q : Contents) (new : List FileDescriptorProto) (before : Sound q) (aft
   module _ (unbroken : flat_map (owner_faults (reread q)) (declarations no_counts (files_of q)) ≡ []) where
     imports-stay : ImportsStay (files_of q) (finite.get q.file_names) (finite.get p.file_names)
     imports-stay n below name found =
-        let f = file_at (files_of q) n in
-        let index = 0 + n in
-        let public = flat_map (index_fault f.dependency) f.public_dependency in
-        let weak = flat_map (index_fault f.dependency) f.weak_dependency in
-        let two = both-empty (missing_files (reread q) index f.dependency ++ public) weak (imports-unbroken (reread q) no_counts (files_of q) unbroken n below) in
-        let one = both-empty (missing_files (reread q) index f.dependency) public two.0 in
-        let known = imports-known (reread q) index 0 f.dependency one.0 name found in
+        let known = known-imports q unbroken n below name found in
         get-with q.file_names (file_entries ds) name ∙ first-kept (finite.get q.file_names name) (first_of (file_entries ds) name) known
 
     sees-as-before : (n : ℕ) → n < length (files_of q) → seen_in p n ≡ seen_in q n

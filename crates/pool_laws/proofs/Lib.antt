@@ -5,6 +5,8 @@ pub mod Again
 pub mod Passes
 pub mod Items
 pub mod Relinked
+pub mod Parts
 pub mod Entered
 pub mod Kept
 pub mod Unseen
+pub mod Front

@@ -28,7 +28,16 @@ pub all-of : {X : Type 0} {P : X → Type 0} → ((x : X) → P x) → (xs : Lis
 all-of each [] = tt
 all-of each (x ∷ xs) = (each x, all-of each xs)
 
--- nothing for two lists, one behind the other
+-- nothing for two lists, one behind the other: nothing for each
+pub after-parts : {X Y : Type 0} (f : List X → X → List Y) (before xs ys : List X) → after_each f before (xs ++ ys) ≡ []
+    → (after_each f before xs ≡ []) × (after_each f (before ++ xs) ys ≡ [])
+after-parts f before [] ys none = (refl, ap (λ zs. after_each f zs ys) (append-nil before) ∙ none)
+after-parts f before (x ∷ xs) ys none =
+    let first = both-empty (f before x) (after_each f (before ++ x ∷ []) (xs ++ ys)) none in
+    let rest = after-parts f (before ++ x ∷ []) xs ys first.1 in
+    (λ i. first.0 i ++ rest.0 i, ap (λ zs. after_each f zs ys) (sym (append_assoc before (x ∷ []) xs)) ∙ rest.1)
+
+-- and the other way
 pub after-both : {X Y : Type 0} (f : List X → X → List Y) (before xs ys : List X) → after_each f before xs ≡ [] → after_each f (before ++ xs) ys ≡ []
     → after_each f before (xs ++ ys) ≡ []
 after-both f before [] ys first second = ap (λ zs. after_each f zs ys) (sym (append-nil before)) ∙ second

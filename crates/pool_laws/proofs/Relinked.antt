@@ -61,7 +61,7 @@ abbrev bare : MessageDescriptorInner → MessageDescriptorInner
 bare m = record m { extensions = [] }
 
 -- the files of a pool break nothing once more, and its items are what they make
-record Relinked (p : Contents) : Type 0 where
+pub record Relinked (p : Contents) : Type 0 where
   pub first : first_pass (files_of p) no_contents (declared p) ≡ []
   pub second : flat_map (owner_faults (reread p)) (declared p) ≡ []
   pub files : p.files ≡ each (file_item (reread p)) 0 (files_of p)
@@ -73,14 +73,10 @@ record Relinked (p : Contents) : Type 0 where
 nothing-relinked : Relinked no_contents
 nothing-relinked = record { first = refl; second = refl; files = refl; messages = refl; enums = refl; services = refl; extensions = refl }
 
-syntaxes-of : (many : ℕ) (fs gs : List FileDescriptorProto) → ((n : ℕ) → n < many → syntax_at gs n ≡ syntax_at fs n)
+pub syntaxes-of : (many : ℕ) (fs gs : List FileDescriptorProto) → ((n : ℕ) → n < many → syntax_at gs n ≡ syntax_at fs n)
     → (ds : List Shown) → AllByRecursion (λ d. d.file < many) ds → AllByRecursion (λ d. syntax_at gs d.file ≡ syntax_at fs d.file) ds
 syntaxes-of many fs gs same [] lie = tt
 syntaxes-of many fs gs same (d ∷ ds) lie = (same d.file lie.0, syntaxes-of many fs gs same ds lie.1)
-
-weaker-lie : (few many : ℕ) → few ≤ many → (ds : List Shown) → AllByRecursion (λ d. d.file < few) ds → AllByRecursion (λ d. d.file < many) ds
-weaker-lie few many le [] lie = tt
-weaker-lie few many le (d ∷ ds) lie = let here = lie.0 in (omega (arith, le, here), weaker-lie few many le ds lie.1)
 
 bare-made : (s : Setting) (es : List (Shown × DescriptorProto)) → map bare (map (λ e. message_item s e.0 e.1) es) ≡ map (λ e. message_item s e.0 e.1) es
 bare-made s [] = refl
@@ -89,6 +85,13 @@ bare-made s (e ∷ es) = ap (λ ms. message_item s e.0 e.1 ∷ ms) (bare-made s 
 or-nothing : {X : Type 0} (found : Option X) → found ≡ option_or found None
 or-nothing None = refl
 or-nothing (Some x) = refl
+
+-- what each file of a pool sees is kept with it
+pub seen-kept : (q : Contents) → Relinked q → map (λ f. f.transitive_dependencies) q.files ≡ (reread q).seen
+seen-kept q was =
+    ap (map (λ f. f.transitive_dependencies)) was.files
+    ∙ each-map (λ f. f.transitive_dependencies) (file_item (reread q)) 0 (files_of q)
+    ∙ each-same (λ n f. (file_item (reread q) n f).transitive_dependencies) (λ n _. seen_in q n) 0 (files_of q) (λ n f _ to. sees-is q n (omega (arith, to)))
 
 -- a pool that is relinked, and new files that break nothing behind it
 module _ (q : Contents) (new : List FileDescriptorProto) (before : Sound q) (was : Relinked q) (after : Sound (linked_behind q new))
@@ -124,17 +127,11 @@ module _ (q : Contents) (new : List FileDescriptorProto) (before : Sound q) (was
   declared-are : declared p ≡ declared q ++ linked_ds
   declared-are = declared-linked (with_names q ds) new before.counts_are s
 
-  kept : map (λ f. f.transitive_dependencies) q.files ≡ alone.seen
-  kept =
-      ap (map (λ f. f.transitive_dependencies)) was.files
-      ∙ each-map (λ f. f.transitive_dependencies) (file_item alone) 0 (files_of q)
-      ∙ each-same (λ n f. (file_item alone n f).transitive_dependencies) (λ n _. seen_in q n) 0 (files_of q) (λ n f _ to. sees-is q n (omega (arith, to)))
-
   again-old : Rereads alone t
   again-old = old-again q new before after was.second
 
   again-new : Rereads s t
-  again-new = new-again q new before after was.second kept
+  again-new = new-again q new before after was.second (seen-kept q was)
 
   carried-old : Carries alone t (linking alone) (length (files_of q))
   carried-old = linked-carried alone t again-old
@@ -223,7 +220,7 @@ module _ (q : Contents) (new : List FileDescriptorProto) (before : Sound q) (was
         q.extensions was.extensions;
   }
 
-made-relinked : (p : Contents) → Made p → Relinked p
+pub made-relinked : (p : Contents) → Made p → Relinked p
 made-relinked p (empty is) = subst Relinked (sym is) nothing-relinked
 made-relinked p (linked_to {q = q} batch made accepts fits is) =
     let before = made-sound q made in

@@ -1,8 +1,9 @@
 -- Laws of pools.
-use Rattle.std.specs.Prelude.{◌≡◌, ◌≢◌, ◌<◌, ◌+◌, ℕ, Bool, true, false, IsTrue, Some, List, [], ◌∷◌, ◌++◌, length, slice_get}
+use Rattle.std.specs.Prelude.{◌≡◌, ◌⊎◌, ◌≢◌, ◌<◌, ◌+◌, ℕ, Bool, true, false, IsTrue, Some, List, [], ◌∷◌, ◌++◌, length, map, slice_get}
 use Rattle.std.specs.FinMap as finite
 use Rattle.std.specs.List.{All, Contains}
 use Rattle.proto_types.specs.Names.{fronts}
+use Rattle.proto_types.specs.Readers.{text_of}
 use Rattle.proto_files.specs.declared.file.FileDescriptorProto.{FileDescriptorProto}
 use Rattle.pool_types.specs.Contents.{Contents, files_of, no_contents}
 use Rattle.pool_types.specs.declared.contents.definition.Definition.{Definition}
@@ -19,7 +20,7 @@ use Rattle.proto_records.specs.Walking.{within_file}
 use Rattle.name_pass.specs.Entered.{entries}
 use Rattle.linking_laws.specs.Laws.{SeenAmong}
 use Rattle.descriptor_pool.specs.Behind.{declared_behind, with_names}
-use Rattle.descriptor_pool.specs.Pool.{Accepts, Batch, Fits, link}
+use Rattle.descriptor_pool.specs.Pool.{Accepts, Batch, Fits, has_file, link, new_files}
 
 -- law: the linked files of a pool, linked at once from nothing, break nothing, fit, and make an equal pool
 abbrev pub Relinks : Contents → Type 0
@@ -84,3 +85,13 @@ SeenNamesStand p =
     (front back : List FileDescriptorProto) → ArePlain no_counts (files_of p ++ front)
     → (seen : ℕ → Bool) → ((n : ℕ) → seen n ≡ true → n < length p.files + length front)
     → SeenAmong (with_names p (declared_behind p front)).names (with_names p (declared_behind p (front ++ back))).names seen
+
+-- each of the new files imports only files of the pool and of these
+abbrev pub AreClosed : Contents → List FileDescriptorProto → Type 0
+AreClosed p new = All (λ f. All (λ name. IsTrue (has_file p name) ⊎ Contains (map (λ g. text_of g.name) new) name) f.dependency) new
+
+-- law: where a batch is accepted, its names and those of the pool are plain, and its first part imports nothing of the second, that part is accepted
+abbrev pub FrontAccepted : Contents → Type 0
+FrontAccepted p =
+    (front back : Batch) → ArePlain no_counts (files_of p ++ new_files p (front ++ back)) → AreClosed p (new_files p front)
+    → Accepts p (front ++ back) → Accepts p front

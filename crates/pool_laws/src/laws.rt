@@ -1,5 +1,5 @@
 //! A call does nothing: its contract is the law, and is proved of all pools and files.
-ghost use Rattle.pool_laws.specs.Laws.{DotSaysNothing, EarlierStays, PrefixesEntered, Relinks, SeenNamesStand};
+ghost use Rattle.pool_laws.specs.Laws.{DotSaysNothing, EarlierStays, FrontAccepted, PrefixesEntered, Relinks, SeenNamesStand};
 
 use descriptor_pool::DescriptorPool;
 use proto_files::FileDescriptorProto;
@@ -35,6 +35,15 @@ pub fn prefixes(file: &FileDescriptorProto)
 /// with what stands before the dots of it. So a reference finds what it found.
 pub fn seen_names_stand(pool: &DescriptorPool)
     ensures { SeenNamesStand pool.now }
+{
+    pool.made();
+}
+
+/// Where a batch is accepted, where no name that stands in its new files and in those of the pool is
+/// empty or has a dot, and where the files of its first part import only files of the pool and of
+/// that part, the first part is accepted alone.
+pub fn front_accepted(pool: &DescriptorPool)
+    ensures { FrontAccepted pool.now }
 {
     pool.made();
 }

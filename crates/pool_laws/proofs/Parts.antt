@@ -1,0 +1,217 @@
+-- New files in two parts, of which the first imports nothing of the second: what the first reads alone is what it reads with the second behind it.
+use Rattle.std.proofs.Common.{Greater, ◌≡◌, ◌≤◌, ◌<◌, ◌+◌, ◌||◌, inl, inr, ℕ, zero, suc, Bool, true, false, cond, IsSome, Option, Some, List, [], ◌∷◌, ◌++◌, length, map, slice_get, unwrap_or, append_assoc, refl, ap, subst, sym, ◌∙◌, arith}
+use Rattle.std.proofs.lemmas.Bool.{cases_lt}
+use Rattle.std.proofs.lemmas.Grind.{flat_map-append}
+use Rattle.std.proofs.lemmas.List.{length-append, length-map}
+use Rattle.std.specs.BTreeMap.{is_at}
+use Rattle.std.specs.BTreeSet.{BTreeSet, contains_by}
+use Rattle.std.specs.Cmp.{nat_cmp_is}
+use Rattle.std.specs.FinMap as finite
+use Rattle.std.specs.List.{Contains, filter, list_any, range_with_len}
+use Rattle.std.specs.Option.{IfSome}
+use Rattle.std.specs.Ordering.{is_eq, nat_cmp}
+use Rattle.proto_files.specs.Empty.{no_file}
+use Rattle.proto_files.specs.declared.file.FileDescriptorProto.{FileDescriptorProto}
+use Rattle.pool_types.specs.Contents.{Contents, files_of}
+use Rattle.name_tables.specs.Entries.{first_of, names_with}
+use Rattle.name_tables.specs.NameTables.{FileNamesBefore}
+use Rattle.name_tables.proofs.Entries.{get-with, with-more}
+use Rattle.file_visibility.specs.Visibility.{file_at, seen_from, sees}
+use Rattle.proto_records.specs.Counts.{counted, counts_in, no_counts}
+use Rattle.proto_records.specs.Declarations.{declarations}
+use Rattle.proto_records.specs.Shown.{Shown}
+use Rattle.proto_records.proofs.Appended.{declarations-append}
+use Rattle.places.specs.Each.{each}
+use Rattle.link_rules.specs.Setting.{Setting, seen_by}
+use Rattle.linking_laws.specs.Laws.{ImportsStay, NamesFiles}
+use Rattle.linking_laws.proofs.SeenStays.{seen-stays}
+use Rattle.growing_pool.proofs.Each.{each-append, each-same, length-each}
+use Rattle.name_pass.specs.Entered.{file_entries, file_entries_of}
+use Rattle.descriptor_pool.specs.Behind.{declared_behind, setting_behind, with_names}
+use Rattle.descriptor_pool.proofs.Files.{file-names-before, names-behind-before}
+use Rattle.descriptor_pool.proofs.Sound.{Sound}
+use Rattle.pool_laws.proofs.Again.{first-kept, known-imports, seen-at, seen_in, sees-is, slice-front}
+use Rattle.pool_laws.proofs.Relinked.{Relinked, seen-kept}
+
+-- what is found among the indexes from one on lies among these
+within-range : (test : ℕ → Bool) (i k n : ℕ) → list_any (is_at (nat_cmp n)) (filter test (range_with_len i k)) ≡ true → n < i + k
+within-range test i zero n = λ is. absurd (cc)
+within-range test i (suc k) n =
+    let rest = filter test (range_with_len (i + 1) k) in
+    let deeper : list_any (is_at (nat_cmp n)) rest ≡ true → n < i + suc k = λ is. (let below = within-range test (i + 1) k n is in omega (arith, below)) in
+    elim (test i) as (λ b. list_any (is_at (nat_cmp n)) (cond b (i ∷ rest) rest) ≡ true → n < i + suc k) [
+      | true ↦ elim (is_at (nat_cmp n) i) as (λ a. is_at (nat_cmp n) i ≡ a → (a || list_any (is_at (nat_cmp n)) rest) ≡ true → n < i + suc k) [
+        | true ↦ λ at _. here at
+        | false ↦ λ _ is. deeper is
+      ] refl
+      | false ↦ deeper
+    ]
+  where
+    here : is_at (nat_cmp n) i ≡ true → n < i + suc k
+    here at = elim (cases_lt n (i + suc k)) [
+      | inl less ↦ less
+      | inr more ↦
+          let past : i < n = omega (arith, more) in
+          let other : is_eq (nat_cmp n i) ≡ false = ap is_eq (sym (nat_cmp_is n i Greater past)) in
+          absurd (cc)
+    ]
+
+-- the files of a list that one sees are files of the list
+pub seen-within : (files : List FileDescriptorProto) (naming : List ℕ → Option ℕ) (a n : ℕ)
+    → contains_by (nat_cmp n) (record { keys = seen_from files naming a }) ≡ true → n < length files
+seen-within files naming a n is = let below = within-range (sees files naming a) 0 (length files) n is in omega (arith, below)
+
+-- each file of a list imports files that are known
+abbrev pub AllKnown : List FileDescriptorProto → (List ℕ → Option ℕ) → Type 0
+AllKnown files naming = (n : ℕ) → n < length files → (name : List ℕ) → Contains (file_at files n).dependency name → IsSome (naming name)
+
+file-front : (fs gs : List FileDescriptorProto) (n : ℕ) → n < length fs → file_at (fs ++ gs) n ≡ file_at fs n
+file-front fs gs n below = ap (λ o. unwrap_or o no_file) (slice-front fs gs n below)
+
+slice-rest : {X : Type 0} (xs ys : List X) (n : ℕ) → slice_get (xs ++ ys) (length xs + n) ≡ slice_get ys n
+slice-rest [] ys n = let same : 0 + n ≡ n = omega arith in ap (slice_get ys) same
+slice-rest (x ∷ xs) ys n = let same : suc (length xs) + n ≡ suc (length xs + n) = omega arith in ap (slice_get (x ∷ (xs ++ ys))) same ∙ slice-rest xs ys n
+
+-- a position that isn't before a length comes so many behind it
+position-behind : (n k : ℕ) → k ≤ n → (m : ℕ) × (n ≡ k + m)
+position-behind n zero le = (n, omega arith)
+position-behind zero (suc k) le = absurd (omega (arith, le))
+position-behind (suc n) (suc k) le = let less = position-behind n k (omega (arith, le)) in (less.0, (let is = less.1 in omega (arith, is)))
+
+known-both : (fs gs : List FileDescriptorProto) (naming : List ℕ → Option ℕ) → AllKnown fs naming → AllKnown gs naming → AllKnown (fs ++ gs) naming
+known-both fs gs naming first second n below name found = elim (cases_lt n (length fs)) [
+  | inl less ↦ first n less name (subst (λ (f : FileDescriptorProto). Contains f.dependency name) (file-front fs gs n less) found)
+  | inr more ↦
+      let parts = position-behind n (length fs) more in
+      let sum = length-append fs gs in
+      let same : n ≡ length fs + parts.0 = parts.1 in
+      second parts.0 (omega (arith, sum, below, same))
+      name (subst (λ (f : FileDescriptorProto). Contains f.dependency name) (ap (file_at (fs ++ gs)) same ∙ ap (λ o. unwrap_or o no_file) (slice-rest fs gs parts.0)) found)
+]
+
+module _ (p : Contents) (sound : Sound p) (again : Relinked p) (front back : List FileDescriptorProto)
+    (closed : AllKnown front (finite.get (with_names p (declared_behind p front)).file_names)) where
+  abbrev pub part : Setting
+  part = setting_behind p front
+
+  abbrev pub whole : Setting
+  whole = setting_behind p (front ++ back)
+
+  abbrev pub earlier : List Shown
+  earlier = declared_behind p front
+
+  abbrev pub later : List Shown
+  later = declarations (counted (counts_in p) earlier) back
+
+  pub declared-both : declared_behind p (front ++ back) ≡ earlier ++ later
+  declared-both = declarations-append (counts_in p) front back
+
+  pub more-file-names : whole.file_names ≡ names_with part.file_names (file_entries later)
+  more-file-names =
+      ap (λ ds. names_with p.file_names (file_entries ds)) declared-both
+      ∙ ap (names_with p.file_names) (flat_map-append file_entries_of earlier later)
+      ∙ sym (with-more p.file_names (file_entries earlier) (file_entries later))
+
+  -- a name of a file that is known is known as that with more files
+  pub known-stays : (name : List ℕ) → IsSome (finite.get part.file_names name) → finite.get whole.file_names name ≡ finite.get part.file_names name
+  known-stays name known =
+      ap (λ names. finite.get names name) more-file-names ∙ get-with part.file_names (file_entries later) name
+      ∙ first-kept (finite.get part.file_names name) (first_of (file_entries later) name) known
+
+  old-known : (name : List ℕ) → IsSome (finite.get p.file_names name) → IsSome (finite.get part.file_names name)
+  old-known name known =
+      subst IsSome (sym (get-with p.file_names (file_entries earlier) name ∙ first-kept (finite.get p.file_names name) (first_of (file_entries earlier) name) known)) known
+
+  -- all files of the pool and of the first part import files of these
+  pub all-known : AllKnown (files_of p ++ front) (finite.get part.file_names)
+  all-known =
+      known-both (files_of p) front (finite.get part.file_names)
+      (λ n below name found. old-known name (known-imports p again.second n below name found)) closed
+
+  imports-stay : ImportsStay (files_of p ++ front) (finite.get part.file_names) (finite.get whole.file_names)
+  imports-stay n below name found = known-stays name (all-known n below name found)
+
+  -- names of files mean files
+  mean-files : (new : List FileDescriptorProto) (name : List ℕ) (n : ℕ) → finite.get (with_names p (declared_behind p new)).file_names name ≡ Some n
+      → n < length p.files + length new
+  mean-files new name n is =
+      let end = length p.files + length new in
+      subst (λ o. IfSome o (λ file. file < end)) is (names-behind-before (counts_in p) new p.file_names old name)
+    where
+      old : FileNamesBefore (length p.files) p.file_names
+      old name =
+          let many : 0 + length (files_of p) ≡ length p.files = let long = length-map p.files (λ f. f.raw) in omega (arith, long) in
+          subst (λ n. IfSome (finite.get p.file_names name) (λ file. file < n)) many
+          (subst (λ names. IfSome (finite.get names name) (λ file. file < 0 + length (files_of p))) (sym sound.file_names_are) (file-names-before no_counts (files_of p) name))
+
+  pub many-files : (new : List FileDescriptorProto) → length (files_of p ++ new) ≡ length p.files + length new
+  many-files new = length-append (files_of p) new ∙ ap (λ n. n + length new) (length-map p.files (λ f. f.raw))
+
+  part-names : NamesFiles (files_of p ++ front) (finite.get part.file_names)
+  part-names name n is = let below = mean-files front name n is in let many = many-files front in omega (arith, below, many)
+
+  whole-names : NamesFiles ((files_of p ++ front) ++ back) (finite.get whole.file_names)
+  whole-names name n is =
+      let below = mean-files (front ++ back) name n is in
+      let many = ap length (append_assoc (files_of p) front back) ∙ many-files (front ++ back) in
+      omega (arith, below, many)
+
+  -- a file of the first part sees the same files
+  same-keys : (n : ℕ) → n < length p.files + length front
+      → seen_from (files_of p ++ (front ++ back)) (finite.get whole.file_names) n ≡ seen_from (files_of p ++ front) (finite.get part.file_names) n
+  same-keys n below =
+      let many = many-files front in
+      ap (λ fs. seen_from fs (finite.get whole.file_names) n) (sym (append_assoc (files_of p) front back))
+      ∙ seen-stays (files_of p ++ front) back (finite.get part.file_names) (finite.get whole.file_names) part-names whole-names imports-stay n (omega (arith, below, many))
+
+  abbrev old_seen : List (BTreeSet ℕ)
+  old_seen = map (λ f. f.transitive_dependencies) p.files
+
+  abbrev keys_part : ℕ → FileDescriptorProto → BTreeSet ℕ
+  keys_part n _ = record { keys = seen_from (files_of p ++ front) (finite.get part.file_names) n }
+
+  abbrev keys_whole : ℕ → FileDescriptorProto → BTreeSet ℕ
+  keys_whole n _ = record { keys = seen_from (files_of p ++ (front ++ back)) (finite.get whole.file_names) n }
+
+  seen-more : whole.seen ≡ part.seen ++ each keys_whole (length p.files + length front) back
+  seen-more =
+      let first = each-same keys_whole keys_part (length p.files) front (λ n _ _ to. λ i. record { keys = same-keys n to i }) in
+      ap (λ sets. old_seen ++ sets) (each-append keys_whole (length p.files) front back ∙ ap (λ sets. sets ++ each keys_whole (length p.files + length front) back) first)
+      ∙ sym (append_assoc old_seen (each keys_part (length p.files) front) (each keys_whole (length p.files + length front) back))
+
+  long-seen : length part.seen ≡ length p.files + length front
+  long-seen =
+      length-append old_seen (each keys_part (length p.files) front)
+      ∙ (λ i. length-map p.files (λ f. f.transitive_dependencies) i + length-each keys_part (length p.files) front i)
+
+  pub sees-same : (n : ℕ) → n < length p.files + length front → seen_by part n ≡ seen_by whole n
+  sees-same n below =
+      let long = long-seen in
+      sym (ap (λ sets. unwrap_or (slice_get sets n) (record { keys = [] })) seen-more
+      ∙ ap (λ o. unwrap_or o (record { keys = [] })) (slice-front part.seen (each keys_whole (length p.files + length front) back) n (omega (arith, below, long))))
+
+  -- what it sees lies before the second part
+  pub sees-within : (n : ℕ) → n < length p.files + length front → (m : ℕ) → contains_by (nat_cmp m) (seen_by part n) ≡ true → m < length p.files + length front
+  sees-within n below m = elim (cases_lt n (length p.files)) [
+    | inl less ↦ λ is.
+        let old : length old_seen ≡ length p.files = length-map p.files (λ f. f.transitive_dependencies) in
+        let raw : length (files_of p) ≡ length p.files = length-map p.files (λ f. f.raw) in
+        let keys : seen_by part n ≡ seen_in p n =
+        ap (λ o. unwrap_or o (record { keys = [] })) (slice-front old_seen (each keys_part (length p.files) front) n (omega (arith, less, old)))
+        ∙ ap (λ sets. unwrap_or (slice_get sets n) (record { keys = [] })) (seen-kept p again) ∙ sees-is p n (omega (arith, less, raw)) in
+        let within = seen-within (files_of p) (finite.get p.file_names) n m (sym (ap (contains_by (nat_cmp m)) keys) ∙ is) in
+        omega (arith, within, raw)
+    | inr more ↦ λ is.
+        let old : length old_seen ≡ length p.files = length-map p.files (λ f. f.transitive_dependencies) in
+        let position = position-behind n (length old_seen) (omega (arith, more, old)) in
+        let place = position.1 in
+        let none : BTreeSet ℕ = record { keys = [] } in
+        let made : ℕ → BTreeSet ℕ = λ k. record { keys = seen_from (files_of p ++ front) (finite.get part.file_names) k } in
+        let keys : seen_by part n ≡ made (length p.files + position.0) =
+        ap (λ k. unwrap_or (slice_get part.seen k) none) place
+        ∙ ap (λ o. unwrap_or o none) (slice-rest old_seen (each keys_part (length p.files) front) position.0)
+        ∙ seen-at made none (length p.files) front position.0 (omega (arith, below, place, old)) in
+        let within = seen-within (files_of p ++ front) (finite.get part.file_names) (length p.files + position.0) m (sym (ap (contains_by (nat_cmp m)) keys) ∙ is) in
+        let many = many-files front in
+        omega (arith, within, many)
+  ]
