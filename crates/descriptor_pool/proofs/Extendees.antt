@@ -31,13 +31,14 @@ use Rattle.link_rules.specs.Messages.{message_found, message_meaning, or_missing
 use Rattle.link_rules.specs.Setting.{Setting, seen_by}
 use Rattle.growing_pool.specs.Extended.{extended_by, extending}
 use Rattle.growing_pool.proofs.Each.{each-append, each-same, each-twice, length-each}
-use Rattle.descriptor_pool.specs.Behind.{declared_behind, setting_behind}
+use Rattle.proto_files.specs.declared.file.FileDescriptorProto.{FileDescriptorProto}
+use Rattle.descriptor_pool.specs.Behind.{declared_behind, linked_behind, references_behind, setting_behind}
 use Rattle.descriptor_pool.specs.Extensions.{ExtendeesLieIn, ListsAreWhole}
 use Rattle.descriptor_pool.specs.Invariant.{IsPool}
-use Rattle.descriptor_pool.specs.Pool.{Batch, Made, empty, linked_to, new_files, faults_of_references, link}
+use Rattle.descriptor_pool.specs.Pool.{Made, empty, linked_to, new_files}
 use Rattle.descriptor_pool.proofs.Indexed.{MeansBefore, messages-lie}
 use Rattle.descriptor_pool.proofs.Resolved.{no_items}
-use Rattle.descriptor_pool.proofs.Sound.{Sound, link-sound, made-sound}
+use Rattle.descriptor_pool.proofs.Sound.{Known, link-known, made-sound}
 use Rattle.descriptor_pool.proofs.Wanted.{IsWanted, message-wanted, resolution-wanted}
 
 -- an extendee without a fault was found, and is one of the messages that names mean
@@ -89,7 +90,7 @@ module _ (s : Setting) (end : ℕ) (lie : (name : List ℕ) → IfSome (finite.g
       one-below before d.file d.parent d.index d.path d.full_name d.proto ds both.0 (all-below (before ++ d ∷ []) ds both.1)
 
 -- extensions behind others
-extending-append : (message first : ℕ) (xs ys : List ExtensionDescriptorInner)
+pub extending-append : (message first : ℕ) (xs ys : List ExtensionDescriptorInner)
     → extending message first (xs ++ ys) ≡ extending message first xs ++ extending message (first + length xs) ys
 extending-append message first [] ys = let here : first ≡ first + 0 = omega arith in ap (λ n. extending message n ys) here
 extending-append message first (x ∷ xs) ys =
@@ -108,7 +109,7 @@ extending-behind message xs ys =
     extending-append message 0 xs ys ∙ ap (λ n. extending message 0 xs ++ extending message n ys) from
 
 -- extensions of other messages
-extending-none : (message first end : ℕ) (xs : List ExtensionDescriptorInner) → AllByRecursion (λ x. x.extendee < end) xs → end ≤ message → extending message first xs ≡ []
+pub extending-none : (message first end : ℕ) (xs : List ExtensionDescriptorInner) → AllByRecursion (λ x. x.extendee < end) xs → end ≤ message → extending message first xs ≡ []
 extending-none message first end [] all past = refl
 extending-none message first end (x ∷ xs) all past =
     let below = all.0 in
@@ -117,7 +118,7 @@ extending-none message first end (x ∷ xs) all past =
     ap (λ b. map (λ (e : ℕ × ExtensionDescriptorInner). e.0) (cond b ((first, x) ∷ after) after)) other
     ∙ extending-none message (first + 1) end xs all.1 past
 
-drop-front : {X : Type 0} (xs ys : List X) → drop (length xs) (xs ++ ys) ≡ ys
+pub drop-front : {X : Type 0} (xs ys : List X) → drop (length xs) (xs ++ ys) ≡ ys
 drop-front [] ys = refl
 drop-front (x ∷ xs) ys = drop-front xs ys
 
@@ -169,9 +170,9 @@ pub record Whole (p : Contents) : Type 0 where
 nothing-whole : Whole no_contents
 nothing-whole = record { lists = refl; extendees = All-nil (λ x. x.extendee < 0) }
 
-link-whole : (q : Contents) (batch : Batch) → Sound (link q batch) → Whole q → faults_of_references q batch ≡ [] → Whole (link q batch)
-link-whole q batch sound was none =
-    let new = new_files q batch in
+-- so it is behind new files that break nothing in the second pass
+pub link-whole : (q : Contents) (new : List FileDescriptorProto) → Known q → Whole q → references_behind q new ≡ [] → Whole (linked_behind q new)
+link-whole q new known was none =
     let s = setting_behind q new in
     let ds = declared_behind q new in
     let old = q.extensions in
@@ -179,7 +180,7 @@ link-whole q batch sound was none =
     let ms = q.messages in
     let make = λ (e : Shown × _). message_item s e.0 e.1 in
     let later = map make (of_kind as_message ds) in
-    let end = length (link q batch).messages in
+    let end = length (linked_behind q new).messages in
     let many : end ≡ length (ms ++ later) = length-each (extended_by (length old) (drop (length old) (old ++ came))) 0 (ms ++ later) in
     let more : length ms ≤ end = let sum = length-append ms later in omega (arith, many, sum) in
     let below = recursion_from_All (λ x. x.extendee < length ms) old was.extendees in
@@ -190,13 +191,13 @@ link-whole q batch sound was none =
           ∙ ap (λ xs. each (listing (old ++ came)) 0 (each (extended_by (length old) xs) 0 (ms ++ later))) (sym rest);
       extendees = All-append (λ x. x.extendee < end) old came
           (All-weaker (λ x. x.extendee < length ms) (λ x. x.extendee < end) (λ x here. omega (arith, here, more)) old was.extendees)
-          (All-from_recursion (λ x. x.extendee < end) came (all-below s end (messages-lie (link q batch) sound) [] ds none));
+          (All-from_recursion (λ x. x.extendee < end) came (all-below s end (messages-lie (linked_behind q new) (link-known q new known)) [] ds none));
     }
 
 pub made-whole : (p : Contents) → Made p → Whole p
 made-whole p (empty is) = subst Whole (sym is) nothing-whole
 made-whole p (linked_to {q = q} batch made accepts fits is) =
-    subst Whole (sym is) (link-whole q batch (link-sound q batch (made-sound q made) accepts.1 fits) (made-whole q made) accepts.1)
+    subst Whole (sym is) (link-whole q (new_files q batch) (made-sound q made).known (made-whole q made) accepts.1)
 
 -- each message lists all extensions that extend it
 pub lists_are_whole : (p : Contents) → IsPool p → ListsAreWhole p

@@ -60,7 +60,7 @@ module _ (p : Contents) (batch : Batch) (fits : Fits p batch) where
       let counts = ap counts_in behind.ok ∙ counts-extended (length p.extensions) items ∙ counts-with (with_names p ds) (setting_behind p new) ds in
       record {
         made = made;
-        counts_are = (made-sound q made).counts_are;
+        counts_are = (made-sound q made).known.counts_are;
         within = subst WithinLimits (sym counts) (room-fits (counts_in p) new fits).within;
         names_begin = behind.names;
       }

@@ -21,7 +21,7 @@ use Rattle.link_rules.specs.Messages.{message_index}
 use Rattle.name_pass.specs.Entered.{entries, entries_of, package_entry, packages}
 use Rattle.descriptor_pool.proofs.Files.{first-has}
 use Rattle.descriptor_pool.proofs.Resolved.{all-append}
-use Rattle.descriptor_pool.proofs.Sound.{Sound}
+use Rattle.descriptor_pool.proofs.Sound.{Known}
 
 -- if it is a message, its index is below an end
 abbrev pub MeansBefore : ℕ → Definition → Type 0
@@ -93,11 +93,11 @@ entries-mean end (d ∷ ds) before =
     (entries-mean-of end d.file d.parent d.index d.path d.full_name d.proto before.0) (entries-mean end ds before.1)
 
 -- each message that the names of a pool mean is one of its messages
-pub messages-lie : (p : Contents) → Sound p → (name : List ℕ) → IfSome (finite.get p.names name) (MeansBefore (length p.messages))
-messages-lie p sound name =
+pub messages-lie : (p : Contents) → Known p → (name : List ℕ) → IfSome (finite.get p.names name) (MeansBefore (length p.messages))
+messages-lie p known name =
     let ds = declarations no_counts (files_of p) in
-    let many : (counted no_counts ds).messages ≡ length p.messages = ap (λ (c : Counts). c.messages) (sym sound.counts_are) in
+    let many : (counted no_counts ds).messages ≡ length p.messages = ap (λ (c : Counts). c.messages) (sym known.counts_are) in
     subst (λ n. IfSome (finite.get p.names name) (MeansBefore n)) many
-    (subst (λ known. IfSome (finite.get known name) (MeansBefore (counted no_counts ds).messages)) (sym sound.names_are)
+    (subst (λ known. IfSome (finite.get known name) (MeansBefore (counted no_counts ds).messages)) (sym known.names_are)
     (subst (λ found. IfSome found (MeansBefore (counted no_counts ds).messages)) (sym (get-lookup (entries ds) name))
     (first-has (MeansBefore (counted no_counts ds).messages) (entries ds) name (entries-mean (counted no_counts ds).messages ds (indexes-before no_counts (files_of p))))))

@@ -33,7 +33,7 @@ use Rattle.record_references.specs.References.{Reference, references_in}
 use Rattle.descriptor_pool.specs.Invariant.{IsPool}
 use Rattle.pool_inner.specs.Held.{ListsLieIn, NamesLieIn}
 use Rattle.descriptor_pool.specs.Pool.{Batch, Made, empty, linked_to, Fits, new_files, faults_of_references, link}
-use Rattle.descriptor_pool.specs.Behind.{declared_behind, setting_behind, with_items, with_names}
+use Rattle.descriptor_pool.specs.Behind.{declared_behind, linked_behind, setting_behind, with_items, with_names}
 use Rattle.descriptor_pool.specs.References.{AllResolved}
 use Rattle.descriptor_pool.proofs.Declared.{known_names, known_file_names, declared-behind, declared-linked, names-linked, file-names-linked, counts-linked}
 use Rattle.descriptor_pool.proofs.Files.{names-before, file-names-before}
@@ -58,18 +58,40 @@ both-fit (d ∷ ds) es first second =
     let rest = list_all (λ e. lists_fit e.proto) ds in
     λ i. first-true (lists_fit d.proto) rest first i && both-fit ds es (second-true (lists_fit d.proto) rest first) second i
 
--- the names are those that the files enter, the counts those of what they declare, no list of theirs is too long, each
--- reference names its definition, and what messages list are extensions
-pub record Sound (p : Contents) : Type 0 where
+-- the names are those that the files enter, and the counts those of what they declare
+pub record Known (p : Contents) : Type 0 where
   pub names_are : p.names ≡ names (known_names p)
   pub file_names_are : p.file_names ≡ names (known_file_names p)
   pub counts_are : counts_in p ≡ counted no_counts (declarations no_counts (files_of p))
+
+-- besides no list of the files is too long, each reference names its definition, and what messages list are extensions
+pub record Sound (p : Contents) : Type 0 where
+  pub known : Known p
   pub short : list_all (λ d. lists_fit d.proto) (declarations no_counts (files_of p)) ≡ true
   pub resolved : AllResolved p
   pub lists_lie : ListsLieIn p
 
 nothing-sound : Sound no_contents
-nothing-sound = record { names_are = refl; file_names_are = refl; counts_are = refl; short = refl; resolved = tt; lists_lie = All-nil (λ m. All (λ extension. extension < 0) m.extensions) }
+nothing-sound = record {
+  known = record { names_are = refl; file_names_are = refl; counts_are = refl };
+  short = refl;
+  resolved = tt;
+  lists_lie = All-nil (λ m. All (λ extension. extension < 0) m.extensions);
+}
+
+-- so they are behind new files
+pub link-known : (q : Contents) (new : List FileDescriptorProto) → Known q → Known (linked_behind q new)
+link-known q new known =
+    let s = setting_behind q new in
+    let ds = declared_behind q new in
+    let named = with_names q ds in
+    record {
+      names_are = ap (λ held. names_with held (entries ds)) known.names_are ∙ with-names (known_names q) (entries ds)
+          ∙ ap names (sym (names-linked named new known.counts_are s));
+      file_names_are = ap (λ held. names_with held (file_entries ds)) known.file_names_are ∙ with-names (known_file_names q) (file_entries ds)
+          ∙ ap names (sym (file-names-linked named new known.counts_are s));
+      counts_are = counts-extended (length q.extensions) (with_items named s ds) ∙ counts-linked named new known.counts_are s;
+    }
 
 -- new messages list nothing by themselves, and of the new extensions those that extend them
 link-lists : (q : Contents) (batch : Batch) → ListsLieIn q → ListsLieIn (link q batch)
@@ -93,15 +115,11 @@ link-sound q batch sound none fits =
     let earlier : AllNamed s.names (declarations no_counts (files_of q)) =
     all-behind q.names (entries ds) (flat_map references_in (declarations no_counts (files_of q))) sound.resolved in
     record {
-      names_are = ap (λ known. names_with known (entries ds)) sound.names_are ∙ with-names (known_names q) (entries ds)
-          ∙ ap names (sym (names-linked named new sound.counts_are s));
-      file_names_are = ap (λ known. names_with known (file_entries ds)) sound.file_names_are ∙ with-names (known_file_names q) (file_entries ds)
-          ∙ ap names (sym (file-names-linked named new sound.counts_are s));
-      counts_are = counts-extended (length q.extensions) (with_items named s ds) ∙ counts-linked named new sound.counts_are s;
-      short = ap (list_all (λ d. lists_fit d.proto)) (declared-linked named new sound.counts_are s)
+      known = link-known q new sound.known;
+      short = ap (list_all (λ d. lists_fit d.proto)) (declared-linked named new sound.known.counts_are s)
           ∙ both-fit (declarations no_counts (files_of q)) (map (changed (linking s)) ds) sound.short
           (all-fit-changed (linking s) ds ∙ (room-fits (counts_in q) new fits).short);
-      resolved = subst (AllNamed s.names) (sym (declared-linked named new sound.counts_are s))
+      resolved = subst (AllNamed s.names) (sym (declared-linked named new sound.known.counts_are s))
           (named-append s.names (declarations no_counts (files_of q)) (map (changed (linking s)) ds) earlier (linked-resolved s ds none));
       lists_lie = link-lists q batch sound.lists_lie;
     }
@@ -116,8 +134,8 @@ names_lie p pool =
     let sound = made-sound p pool.made in
     let same : length (files_of p) ≡ length p.files = length-map p.files (λ f. f.raw) in
     let many : 0 + length (files_of p) ≡ length p.files = omega (arith, same) in (
-      subst (λ n. AllBefore n p.names) many (subst (AllBefore (0 + length (files_of p))) (sym sound.names_are) (names-before no_counts (files_of p))),
-      subst (λ n. FileNamesBefore n p.file_names) many (subst (FileNamesBefore (0 + length (files_of p))) (sym sound.file_names_are) (file-names-before no_counts (files_of p))),
+      subst (λ n. AllBefore n p.names) many (subst (AllBefore (0 + length (files_of p))) (sym sound.known.names_are) (names-before no_counts (files_of p))),
+      subst (λ n. FileNamesBefore n p.file_names) many (subst (FileNamesBefore (0 + length (files_of p))) (sym sound.known.file_names_are) (file-names-before no_counts (files_of p))),
     )
 
 -- and what its messages list are its extensions
@@ -128,7 +146,7 @@ lists_lie p pool = (made-sound p pool.made).lists_lie
 pub short-behind : (p : Contents) → IsPool p → (new : List FileDescriptorProto) → IsOk (counts_with (counts_in p) new) → ShortFiles (files_of p ++ new)
 short-behind p pool new fits =
     let sound = made-sound p pool.made in
-    ap (list_all (λ d. lists_fit d.proto)) (declared-behind p new sound.counts_are new)
+    ap (list_all (λ d. lists_fit d.proto)) (declared-behind p new sound.known.counts_are new)
     ∙ both-fit (declarations no_counts (files_of p)) (declarations (counts_in p) new) sound.short (room-fits (counts_in p) new fits).short
 
 pub all_resolved : (p : Contents) → IsPool p → AllResolved p

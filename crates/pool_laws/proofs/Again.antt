@@ -37,7 +37,7 @@ use Rattle.name_pass.specs.Entered.{entries, file_entries}
 use Rattle.descriptor_pool.specs.Behind.{declared_behind, linked_behind, setting_behind, with_names}
 use Rattle.descriptor_pool.proofs.Declared.{files-linked, known_file_names, known_names}
 use Rattle.descriptor_pool.proofs.Files.{file-names-before, names-before}
-use Rattle.descriptor_pool.proofs.Sound.{Sound}
+use Rattle.descriptor_pool.proofs.Sound.{Known}
 use Rattle.pool_laws.proofs.Alike.{SameImports, sees-alike}
 use Rattle.pool_laws.proofs.Behind.{behind-at}
 use Rattle.pool_laws.proofs.Records.{Stays, file-stays, ranges-itself, stays-itself}
@@ -51,10 +51,10 @@ abbrev pub reread : Contents → Setting
 reread p = record { files = files_of p; names = p.names; file_names = p.file_names; seen = each (λ n _. seen_in p n) 0 (files_of p) }
 
 -- it is what they are read against behind nothing
-pub setting-again : (p : Contents) → Sound p → setting_behind no_contents (files_of p) ≡ reread p
-setting-again p sound =
-    let names_are : names_with no_contents.names (known_names p) ≡ p.names = with-names [] (known_names p) ∙ sym sound.names_are in
-    let file_names_are : names_with no_contents.file_names (known_file_names p) ≡ p.file_names = with-names [] (known_file_names p) ∙ sym sound.file_names_are in
+pub setting-again : (p : Contents) → Known p → setting_behind no_contents (files_of p) ≡ reread p
+setting-again p known =
+    let names_are : names_with no_contents.names (known_names p) ≡ p.names = with-names [] (known_names p) ∙ sym known.names_are in
+    let file_names_are : names_with no_contents.file_names (known_file_names p) ≡ p.file_names = with-names [] (known_file_names p) ∙ sym known.file_names_are in
     λ i. record {
       files = files_of p;
       names = names_are i;
@@ -93,19 +93,19 @@ slice-front (x ∷ xs) ys zero below = refl
 slice-front (x ∷ xs) ys (suc n) below = slice-front xs ys n (omega (arith, below))
 
 -- names of files mean files, and names mean what stands in files
-pub names-mean-files : (p : Contents) → Sound p → NamesFiles (files_of p) (finite.get p.file_names)
-names-mean-files p sound name n is =
+pub names-mean-files : (p : Contents) → Known p → NamesFiles (files_of p) (finite.get p.file_names)
+names-mean-files p known name n is =
     let end = 0 + length (files_of p) in
     let known : IfSome (finite.get p.file_names name) (λ file. file < end) =
-    subst (λ names. IfSome (finite.get names name) (λ file. file < end)) (sym sound.file_names_are) (file-names-before no_counts (files_of p) name) in
+    subst (λ names. IfSome (finite.get names name) (λ file. file < end)) (sym known.file_names_are) (file-names-before no_counts (files_of p) name) in
     let below : n < end = subst (λ found. IfSome found (λ file. file < end)) is known in
     omega (arith, below)
 
-pub names-mean-within : (p : Contents) → Sound p → (name : List ℕ) (def : Definition) → finite.get p.names name ≡ Some def → def.file < length (files_of p)
-names-mean-within p sound name def is =
+pub names-mean-within : (p : Contents) → Known p → (name : List ℕ) (def : Definition) → finite.get p.names name ≡ Some def → def.file < length (files_of p)
+names-mean-within p known name def is =
     let end = 0 + length (files_of p) in
     let known : IfSome (finite.get p.names name) (λ d. d.file < end) =
-    subst (λ names. IfSome (finite.get names name) (λ d. d.file < end)) (sym sound.names_are) (names-before no_counts (files_of p) name) in
+    subst (λ names. IfSome (finite.get names name) (λ d. d.file < end)) (sym known.names_are) (names-before no_counts (files_of p) name) in
     let below : def.file < end = subst (λ found. IfSome found (λ d. d.file < end)) is known in
     omega (arith, below)
 
@@ -167,7 +167,7 @@ first-kept None other some = absurd (cc)
 first-kept (Some x) other some = refl
 
 -- a pool, and what new files make of it
-module _ (q : Contents) (new : List FileDescriptorProto) (before : Sound q) (after : Sound (linked_behind q new)) where
+module _ (q : Contents) (new : List FileDescriptorProto) (before : Known q) (after : Known (linked_behind q new)) where
   abbrev p : Contents
   p = linked_behind q new
 

@@ -1,7 +1,7 @@
 -- The first part of a batch that is accepted is accepted, where it imports nothing of the second and all names are plain.
-use Rattle.std.proofs.Common.{◌≡◌, ◌<◌, ◌+◌, inl, inr, ◌⊎◌, IsTrue, ℕ, zero, suc, Bool, true, false, cond, not, IsSome, Option, None, Some, List, [], ◌∷◌, ◌++◌, length, map, slice_get, unwrap_or, append_assoc, refl, ap, subst, sym, ◌∙◌, arith}
+use Rattle.std.proofs.Common.{◌≡◌, ◌<◌, ◌+◌, inl, inr, ◌⊎◌, IsTrue, ℕ, zero, suc, Bool, true, false, cond, IsSome, Option, None, Some, List, [], ◌∷◌, ◌++◌, length, map, slice_get, unwrap_or, append_assoc, refl, ap, subst, sym, ◌∙◌, arith}
 use Rattle.std.proofs.lemmas.Grind.{flat_map-append}
-use Rattle.std.proofs.lemmas.List.Elements.{All-contains, All-head, All-tail, filter-append, recursion_from_All}
+use Rattle.std.proofs.lemmas.List.Elements.{All-contains, All-head, All-tail, recursion_from_All}
 use Rattle.std.specs.BTreeSet.{contains_by}
 use Rattle.std.specs.Cmp.Lexicographic.{bytes_decides}
 use Rattle.std.specs.FinMap as finite
@@ -42,34 +42,33 @@ use Rattle.linking_laws.proofs.Unchanged.{declarations-unchanged, unchanged-keep
 use Rattle.name_pass.specs.Entered.{file_entries, file_entries_of}
 use Rattle.name_pass.specs.FirstPass.{first_faults}
 use Rattle.descriptor_pool.specs.Behind.{declared_behind, names_behind, references_behind, with_names}
-use Rattle.descriptor_pool.specs.Invariant.{IsPool}
-use Rattle.descriptor_pool.specs.Pool.{has_file, new_files}
+use Rattle.descriptor_pool.specs.Pool.{has_file}
 use Rattle.descriptor_pool.proofs.Files.{lie-between}
 use Rattle.descriptor_pool.proofs.Resolved.{all-append}
-use Rattle.descriptor_pool.proofs.Sound.{Sound, made-sound}
-use Rattle.pool_laws.specs.Laws.{ArePlain, FrontAccepted}
+use Rattle.descriptor_pool.proofs.Sound.{Known}
+use Rattle.pool_laws.specs.Laws.{ArePlain}
 use Rattle.pool_laws.proofs.Again.{first-kept, slice-front}
 use Rattle.pool_laws.proofs.Parts.{AllKnown, declared-both, earlier, known-stays, later, many-files, part, sees-same, sees-within, whole}
 use Rattle.pool_laws.proofs.Passes.{after-parts, pass-again, unbroken-carried}
 use Rattle.pool_laws.proofs.Records.{ranges-itself}
-use Rattle.pool_laws.proofs.Relinked.{Relinked, made-relinked, syntaxes-of}
+use Rattle.pool_laws.proofs.Relinked.{Relinked, syntaxes-of}
 use Rattle.pool_laws.proofs.Unseen.{seen-stand}
 
-plain-front : (base : Counts) (fs gs : List FileDescriptorProto) → ArePlain base (fs ++ gs) → ArePlain base fs
+pub plain-front : (base : Counts) (fs gs : List FileDescriptorProto) → ArePlain base (fs ++ gs) → ArePlain base fs
 plain-front base [] gs plain = tt
 plain-front base (f ∷ fs) gs plain = (plain.0, plain-front (counted base (file_walk base f)) fs gs plain.1)
 
 -- names of files that are known mean what they meant
-module _ (p : Contents) (sound : Sound p) (again : Relinked p) (front back : List FileDescriptorProto)
+module _ (p : Contents) (entered : Known p) (again : Relinked p) (front back : List FileDescriptorProto)
     (closed : AllKnown front (finite.get (with_names p (declared_behind p front)).file_names)) where
   abbrev now : Setting
-  now = part p sound again front back closed
+  now = part p entered again front back closed
 
   abbrev was : Setting
-  was = whole p sound again front back closed
+  was = whole p entered again front back closed
 
   abbrev first : List Shown
-  first = earlier p sound again front back closed
+  first = earlier p entered again front back closed
 
   abbrev many : ℕ
   many = length p.files + length front
@@ -77,7 +76,7 @@ module _ (p : Contents) (sound : Sound p) (again : Relinked p) (front back : Lis
   names-stay : (names : List (List ℕ)) → ((name : List ℕ) → Contains names name → IsSome (finite.get now.file_names name)) → NamesStay was now names
   names-stay [] known = tt
   names-stay (name ∷ names) known =
-      (λ n is. sym (known-stays p sound again front back closed name (known name (zero, omega arith, refl))) ∙ is, names-stay names (λ other there. known other (behind other there)))
+      (λ n is. sym (known-stays p entered again front back closed name (known name (zero, omega arith, refl))) ∙ is, names-stay names (λ other there. known other (behind other there)))
     where
       behind : (other : List ℕ) → Contains names other → Contains (name ∷ names) other
       behind other (m, below, same) = (suc m, omega (arith, below), same)
@@ -99,12 +98,17 @@ module _ (p : Contents) (sound : Sound p) (again : Relinked p) (front back : Lis
       (names-stay f.dependency (λ name there. known 0 (omega arith) name there), all-inside inner (recursion_from_All (λ d. IsInside d.proto) inner inside))
       (imports-mean (counted base (file_walk base f)) fs (λ n below. known (suc n) (omega (arith, below))))
 
+  pub all-names-stay : (fs : List FileDescriptorProto) → AllKnown fs (finite.get now.file_names) → AllByRecursion (λ f. NamesStay was now f.dependency) fs
+  all-names-stay [] known = tt
+  all-names-stay (f ∷ fs) known =
+      (names-stay f.dependency (λ name there. known 0 (omega arith) name there), all-names-stay fs (λ n below. known (suc n) (omega (arith, below))))
+
   file-same : (n : ℕ) → n < many → slice_get now.files n ≡ slice_get was.files n
   file-same n below =
-      let long = many-files p sound again front back closed front in
+      let long = many-files p entered again front back closed front in
       sym (ap (λ fs. slice_get fs n) (sym (append_assoc (files_of p) front back)) ∙ slice-front (files_of p ++ front) back n (omega (arith, below, long)))
 
-  lie : AllByRecursion (λ d. d.file < many) first
+  pub lie : AllByRecursion (λ d. d.file < many) first
   lie = (lie-between (counts_in p) front).1
 
   -- with plain names, references of the first part stand
@@ -115,10 +119,10 @@ module _ (p : Contents) (sound : Sound p) (again : Relinked p) (front back : Lis
       seen n = contains_by (nat_cmp n) (seen_by was file)
 
       few : (n : ℕ) → seen n ≡ true → n < many
-      few n sees = sees-within p sound again front back closed file below n (ap (contains_by (nat_cmp n)) (sees-same p sound again front back closed file below) ∙ sees)
+      few n sees = sees-within p entered again front back closed file below n (ap (contains_by (nat_cmp n)) (sees-same p entered again front back closed file below) ∙ sees)
 
       fewer : resolution now.names seen filter scope written ≡ found name def
-      fewer = found-fewer now.names was.names seen (seen-stand p sound front back plain seen few) filter scope written name def is
+      fewer = found-fewer now.names was.names seen (seen-stand p entered front back plain seen few) filter scope written name def is
 
       lies : def.file < many
       lies =
@@ -130,7 +134,7 @@ module _ (p : Contents) (sound : Sound p) (again : Relinked p) (front back : Lis
 
       reference-stands : ReferenceStands was now file scope written filter name def
       reference-stands = record {
-        meaning_is = (λ i. resolution now.names (λ n. contains_by (nat_cmp n) (sees-same p sound again front back closed file below i)) filter scope written) ∙ fewer;
+        meaning_is = (λ i. resolution now.names (λ n. contains_by (nat_cmp n) (sees-same p entered again front back closed file below i)) filter scope written) ∙ fewer;
         enum_is = ap (option_and_then as_enum) record-same;
         ranges = subst (RangesStay (message_record was def)) (sym (ap (option_and_then as_message) record-same)) (ranges-itself (message_record was def));
       }
@@ -139,23 +143,23 @@ module _ (p : Contents) (sound : Sound p) (again : Relinked p) (front back : Lis
     front-stands = record {
       references = reference-stands;
       syntaxes = λ n below. ap (λ o. syntax_of (unwrap_or o no_file)) (file-same n below);
-      sees = λ n below. sees-same p sound again front back closed n below;
+      sees = λ n below. sees-same p entered again front back closed n below;
     }
 
     -- neither pass finds a fault
-    names-fine : names_behind p (front ++ back) ≡ [] → names_behind p front ≡ []
+    pub names-fine : names_behind p (front ++ back) ≡ [] → names_behind p front ≡ []
     names-fine none =
         let faults = first_faults was.files p in
-        let alone = (after-parts faults [] first (later p sound again front back closed) (sym (ap (after_each faults []) (declared-both p sound again front back closed)) ∙ none)).0 in
+        let alone = (after-parts faults [] first (later p entered again front back closed) (sym (ap (after_each faults []) (declared-both p entered again front back closed)) ∙ none)).0 in
         sym (ap (after_each (first_faults now.files p) []) (declarations-unchanged first))
         ∙ pass-again unchanged unchanged-keeps was.files now.files p p [] [] first (record { names = λ _. refl; files = λ _. refl })
         (syntaxes-of many was.files now.files front-stands.syntaxes first lie) alone
 
-    references-fine : references_behind p (front ++ back) ≡ [] → references_behind p front ≡ []
+    pub references-fine : references_behind p (front ++ back) ≡ [] → references_behind p front ≡ []
     references-fine none =
-        let behind = later p sound again front back closed in
+        let behind = later p entered again front back closed in
         let told : flat_map (owner_faults was) (first ++ behind) ≡ [] =
-        sym (ap (flat_map (owner_faults was)) (declared-both p sound again front back closed)) ∙ sym (owners-tell was (counts_in p) (front ++ back)) ∙ none in
+        sym (ap (flat_map (owner_faults was)) (declared-both p entered again front back closed)) ∙ sym (owners-tell was (counts_in p) (front ++ back)) ∙ none in
         let alone = (both-empty (flat_map (owner_faults was) first) (flat_map (owner_faults was) behind) (sym (flat_map-append (owner_faults was) first behind) ∙ told)).0 in
         owners-tell now (counts_in p) front ∙ sym (ap (flat_map (owner_faults now)) (declarations-unchanged first))
         ∙ unbroken-carried (given-carried front-stands) first lie (imports-mean (counts_in p) front closed) alone
@@ -201,22 +205,7 @@ module _ (p : Contents) (new : List FileDescriptorProto) where
       subst IsSome (sym (get-with p.file_names (file_entries (declared_behind p new)) name))
       (some-second (finite.get p.file_names name) (first_of (file_entries (declared_behind p new)) name) (name-entered (counts_in p) new name there))
 
-  each-known : (fs : List FileDescriptorProto) → All AllImported fs → AllKnown fs naming
+  pub each-known : (fs : List FileDescriptorProto) → All AllImported fs → AllKnown fs naming
   each-known [] closed n below name there = absurd (omega (arith, below))
   each-known (f ∷ fs) closed zero below name there = name-known name (All-contains Imported f.dependency name (All-head AllImported f fs closed) there)
   each-known (f ∷ fs) closed (suc n) below name there = each-known fs (All-tail AllImported f fs closed) n (omega (arith, below)) name there
-
--- the law
-pub front-accepted : (p : Contents) → IsPool p → FrontAccepted p
-front-accepted p pool front back plain closed accepts =
-    let sound = made-sound p pool.made in
-    let again = made-relinked p pool.made in
-    let fs = new_files p front in
-    let gs = new_files p back in
-    let both : new_files p (front ++ back) ≡ fs ++ gs = filter-append (λ f. not (has_file p (text_of f.name))) front back in
-    let known = each-known p fs fs closed in
-    let alone = plain-front no_counts (files_of p ++ fs) gs
-    (subst (ArePlain no_counts) (ap (λ new. files_of p ++ new) both ∙ sym (append_assoc (files_of p) fs gs)) plain) in (
-      names-fine p sound again fs gs known alone (sym (ap (names_behind p) both) ∙ accepts.0),
-      references-fine p sound again fs gs known alone (sym (ap (references_behind p) both) ∙ accepts.1),
-    )

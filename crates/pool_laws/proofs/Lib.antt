@@ -10,3 +10,7 @@ pub mod Entered
 pub mod Kept
 pub mod Unseen
 pub mod Front
+pub mod Lists
+pub mod Rest
+pub mod Joined
+pub mod Splits

@@ -29,7 +29,7 @@ use Rattle.growing_pool.proofs.Each.{each-append, each-same, length-each}
 use Rattle.name_pass.specs.Entered.{file_entries, file_entries_of}
 use Rattle.descriptor_pool.specs.Behind.{declared_behind, setting_behind, with_names}
 use Rattle.descriptor_pool.proofs.Files.{file-names-before, names-behind-before}
-use Rattle.descriptor_pool.proofs.Sound.{Sound}
+use Rattle.descriptor_pool.proofs.Sound.{Known}
 use Rattle.pool_laws.proofs.Again.{first-kept, known-imports, seen-at, seen_in, sees-is, slice-front}
 use Rattle.pool_laws.proofs.Relinked.{Relinked, seen-kept}
 
@@ -89,7 +89,7 @@ known-both fs gs naming first second n below name found = elim (cases_lt n (leng
       name (subst (λ (f : FileDescriptorProto). Contains f.dependency name) (ap (file_at (fs ++ gs)) same ∙ ap (λ o. unwrap_or o no_file) (slice-rest fs gs parts.0)) found)
 ]
 
-module _ (p : Contents) (sound : Sound p) (again : Relinked p) (front back : List FileDescriptorProto)
+module _ (p : Contents) (entered : Known p) (again : Relinked p) (front back : List FileDescriptorProto)
     (closed : AllKnown front (finite.get (with_names p (declared_behind p front)).file_names)) where
   abbrev pub part : Setting
   part = setting_behind p front
@@ -142,7 +142,7 @@ module _ (p : Contents) (sound : Sound p) (again : Relinked p) (front back : Lis
       old name =
           let many : 0 + length (files_of p) ≡ length p.files = let long = length-map p.files (λ f. f.raw) in omega (arith, long) in
           subst (λ n. IfSome (finite.get p.file_names name) (λ file. file < n)) many
-          (subst (λ names. IfSome (finite.get names name) (λ file. file < 0 + length (files_of p))) (sym sound.file_names_are) (file-names-before no_counts (files_of p) name))
+          (subst (λ names. IfSome (finite.get names name) (λ file. file < 0 + length (files_of p))) (sym entered.file_names_are) (file-names-before no_counts (files_of p) name))
 
   pub many-files : (new : List FileDescriptorProto) → length (files_of p ++ new) ≡ length p.files + length new
   many-files new = length-append (files_of p) new ∙ ap (λ n. n + length new) (length-map p.files (λ f. f.raw))
@@ -164,16 +164,16 @@ module _ (p : Contents) (sound : Sound p) (again : Relinked p) (front back : Lis
       ap (λ fs. seen_from fs (finite.get whole.file_names) n) (sym (append_assoc (files_of p) front back))
       ∙ seen-stays (files_of p ++ front) back (finite.get part.file_names) (finite.get whole.file_names) part-names whole-names imports-stay n (omega (arith, below, many))
 
-  abbrev old_seen : List (BTreeSet ℕ)
+  abbrev pub old_seen : List (BTreeSet ℕ)
   old_seen = map (λ f. f.transitive_dependencies) p.files
 
-  abbrev keys_part : ℕ → FileDescriptorProto → BTreeSet ℕ
+  abbrev pub keys_part : ℕ → FileDescriptorProto → BTreeSet ℕ
   keys_part n _ = record { keys = seen_from (files_of p ++ front) (finite.get part.file_names) n }
 
-  abbrev keys_whole : ℕ → FileDescriptorProto → BTreeSet ℕ
+  abbrev pub keys_whole : ℕ → FileDescriptorProto → BTreeSet ℕ
   keys_whole n _ = record { keys = seen_from (files_of p ++ (front ++ back)) (finite.get whole.file_names) n }
 
-  seen-more : whole.seen ≡ part.seen ++ each keys_whole (length p.files + length front) back
+  pub seen-more : whole.seen ≡ part.seen ++ each keys_whole (length p.files + length front) back
   seen-more =
       let first = each-same keys_whole keys_part (length p.files) front (λ n _ _ to. λ i. record { keys = same-keys n to i }) in
       ap (λ sets. old_seen ++ sets) (each-append keys_whole (length p.files) front back ∙ ap (λ sets. sets ++ each keys_whole (length p.files + length front) back) first)
@@ -190,6 +190,19 @@ module _ (p : Contents) (sound : Sound p) (again : Relinked p) (front back : Lis
       sym (ap (λ sets. unwrap_or (slice_get sets n) (record { keys = [] })) seen-more
       ∙ ap (λ o. unwrap_or o (record { keys = [] })) (slice-front part.seen (each keys_whole (length p.files + length front) back) n (omega (arith, below, long))))
 
+  -- what a new file of the first part sees, by its imports
+  pub keys-at : (n : ℕ) → length p.files ≤ n → n < length p.files + length front → seen_by part n ≡ keys_part n no_file
+  keys-at n from below =
+      let old : length old_seen ≡ length p.files = length-map p.files (λ f. f.transitive_dependencies) in
+      let position = position-behind n (length old_seen) (omega (arith, from, old)) in
+      let place = position.1 in
+      let none : BTreeSet ℕ = record { keys = [] } in
+      let made : ℕ → BTreeSet ℕ = λ k. keys_part k no_file in
+      let here : length p.files + position.0 ≡ n = omega (arith, place, old) in
+      ap (λ k. unwrap_or (slice_get part.seen k) none) place
+      ∙ ap (λ o. unwrap_or o none) (slice-rest old_seen (each keys_part (length p.files) front) position.0)
+      ∙ seen-at made none (length p.files) front position.0 (omega (arith, below, place, old)) ∙ ap made here
+
   -- what it sees lies before the second part
   pub sees-within : (n : ℕ) → n < length p.files + length front → (m : ℕ) → contains_by (nat_cmp m) (seen_by part n) ≡ true → m < length p.files + length front
   sees-within n below m = elim (cases_lt n (length p.files)) [
@@ -202,16 +215,7 @@ module _ (p : Contents) (sound : Sound p) (again : Relinked p) (front back : Lis
         let within = seen-within (files_of p) (finite.get p.file_names) n m (sym (ap (contains_by (nat_cmp m)) keys) ∙ is) in
         omega (arith, within, raw)
     | inr more ↦ λ is.
-        let old : length old_seen ≡ length p.files = length-map p.files (λ f. f.transitive_dependencies) in
-        let position = position-behind n (length old_seen) (omega (arith, more, old)) in
-        let place = position.1 in
-        let none : BTreeSet ℕ = record { keys = [] } in
-        let made : ℕ → BTreeSet ℕ = λ k. record { keys = seen_from (files_of p ++ front) (finite.get part.file_names) k } in
-        let keys : seen_by part n ≡ made (length p.files + position.0) =
-        ap (λ k. unwrap_or (slice_get part.seen k) none) place
-        ∙ ap (λ o. unwrap_or o none) (slice-rest old_seen (each keys_part (length p.files) front) position.0)
-        ∙ seen-at made none (length p.files) front position.0 (omega (arith, below, place, old)) in
-        let within = seen-within (files_of p ++ front) (finite.get part.file_names) (length p.files + position.0) m (sym (ap (contains_by (nat_cmp m)) keys) ∙ is) in
+        let within = seen-within (files_of p ++ front) (finite.get part.file_names) n m (sym (ap (contains_by (nat_cmp m)) (keys-at n more below)) ∙ is) in
         let many = many-files front in
         omega (arith, within, many)
   ]

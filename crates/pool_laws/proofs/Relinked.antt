@@ -46,7 +46,7 @@ use Rattle.descriptor_pool.specs.Pool.{Made, empty, linked_to, new_files}
 use Rattle.descriptor_pool.proofs.Declared.{declared-linked, each-changed, items-of-files, known_file_names, known_names, linking-keeps}
 use Rattle.descriptor_pool.proofs.Extendees.{each-made, made-whole}
 use Rattle.descriptor_pool.proofs.Files.{lie-between}
-use Rattle.descriptor_pool.proofs.Sound.{Sound, fits_again, link-sound, made-sound}
+use Rattle.descriptor_pool.proofs.Sound.{Known, fits_again, link-known, made-sound}
 use Rattle.pool_laws.specs.Laws.{Relinks}
 use Rattle.pool_laws.proofs.Again.{files-are, new-again, old-again, reread, seen_in, sees-is, setting-again}
 use Rattle.pool_laws.proofs.Items.{SameItem, all-fine, files-again, kind-again, same-enum, same-extension, same-message, same-service}
@@ -82,7 +82,7 @@ bare-made : (s : Setting) (es : List (Shown × DescriptorProto)) → map bare (m
 bare-made s [] = refl
 bare-made s (e ∷ es) = ap (λ ms. message_item s e.0 e.1 ∷ ms) (bare-made s es)
 
-or-nothing : {X : Type 0} (found : Option X) → found ≡ option_or found None
+pub or-nothing : {X : Type 0} (found : Option X) → found ≡ option_or found None
 or-nothing None = refl
 or-nothing (Some x) = refl
 
@@ -94,7 +94,7 @@ seen-kept q was =
     ∙ each-same (λ n f. (file_item (reread q) n f).transitive_dependencies) (λ n _. seen_in q n) 0 (files_of q) (λ n f _ to. sees-is q n (omega (arith, to)))
 
 -- a pool that is relinked, and new files that break nothing behind it
-module _ (q : Contents) (new : List FileDescriptorProto) (before : Sound q) (was : Relinked q) (after : Sound (linked_behind q new))
+module _ (q : Contents) (new : List FileDescriptorProto) (before : Known q) (was : Relinked q) (after : Known (linked_behind q new))
     (first : names_behind q new ≡ []) (second : references_behind q new ≡ []) where
   abbrev p : Contents
   p = linked_behind q new
@@ -223,8 +223,8 @@ module _ (q : Contents) (new : List FileDescriptorProto) (before : Sound q) (was
 pub made-relinked : (p : Contents) → Made p → Relinked p
 made-relinked p (empty is) = subst Relinked (sym is) nothing-relinked
 made-relinked p (linked_to {q = q} batch made accepts fits is) =
-    let before = made-sound q made in
-    subst Relinked (sym is) (linked-relinked q (new_files q batch) before (made-relinked q made) (link-sound q batch before accepts.1 fits) accepts.0 accepts.1)
+    let before = (made-sound q made).known in
+    subst Relinked (sym is) (linked-relinked q (new_files q batch) before (made-relinked q made) (link-known q (new_files q batch) before) accepts.0 accepts.1)
 
 -- all files are new to nothing
 all-new : (fs : List FileDescriptorProto) → new_files no_contents fs ≡ fs
@@ -234,10 +234,10 @@ all-new (f ∷ fs) =
     ∙ ap (λ gs. f ∷ gs) (all-new fs)
 
 -- what linking makes of the files of a pool behind nothing is the pool
-linked-again : (p : Contents) → Sound p → ListsAreWhole p → Relinked p → linked_behind no_contents (files_of p) ≡ p
-linked-again p sound lists again =
+linked-again : (p : Contents) → Known p → ListsAreWhole p → Relinked p → linked_behind no_contents (files_of p) ≡ p
+linked-again p known lists again =
     let ds = declared p in
-    let setting = setting-again p sound in
+    let setting = setting-again p known in
     let t = reread p in
     let whole : List MessageDescriptorInner → List MessageDescriptorInner = λ ms. each (extended_by 0 p.extensions) 0 ms in
     let messages = ap whole (sym again.messages) ∙ each-made (extended_by 0 p.extensions) bare 0 p.messages ∙ sym lists in
@@ -256,10 +256,10 @@ linked-again p sound lists again =
 pub relinked : (p : Contents) → IsPool p → Relinks p
 relinked p pool =
     let fs = files_of p in
-    let sound = made-sound p pool.made in
+    let known = (made-sound p pool.made).known in
     let again = made-relinked p pool.made in
-    let second = ap (λ s. second_pass s (declared p)) (setting-again p sound) ∙ owners-tell (reread p) no_counts fs ∙ again.second in (
+    let second = ap (λ s. second_pass s (declared p)) (setting-again p known) ∙ owners-tell (reread p) no_counts fs ∙ again.second in (
       (ap (names_behind no_contents) (all-new fs) ∙ again.first, ap (references_behind no_contents) (all-new fs) ∙ second),
       subst (λ new. IsOk (counts_with no_counts new)) (sym (all-new fs)) (fits_again p pool),
-      ap (linked_behind no_contents) (all-new fs) ∙ linked-again p sound (made-whole p pool.made).lists again,
+      ap (linked_behind no_contents) (all-new fs) ∙ linked-again p known (made-whole p pool.made).lists again,
     )

@@ -32,7 +32,7 @@ use Rattle.descriptor_pool.specs.Invariant.{IsPool}
 use Rattle.descriptor_pool.proofs.Declared.{declared-behind, entries-append, known_names}
 use Rattle.descriptor_pool.proofs.Files.{counted-files, first-has, lie-from}
 use Rattle.descriptor_pool.proofs.Resolved.{all-append}
-use Rattle.descriptor_pool.proofs.Sound.{Sound, made-sound}
+use Rattle.descriptor_pool.proofs.Sound.{Known, made-sound}
 use Rattle.pool_laws.specs.Laws.{ArePlain, HasScope, IsPlain, SeenNamesStand}
 use Rattle.pool_laws.proofs.Again.{stays-known}
 use Rattle.pool_laws.proofs.Entered.{entries-held, packages-held, prefixes_entered}
@@ -202,7 +202,7 @@ earlier-one : (a b : Option Definition) (def : Definition) → option_or a b ≡
 earlier-one None b def is later = absurd (later is)
 earlier-one (Some d) b def is later = is
 
-module _ (p : Contents) (sound : Sound p) (front back : List FileDescriptorProto) (plain : ArePlain no_counts (files_of p ++ front))
+module _ (p : Contents) (entered : Known p) (front back : List FileDescriptorProto) (plain : ArePlain no_counts (files_of p ++ front))
     (seen : ℕ → Bool) (few : (n : ℕ) → seen n ≡ true → n < length p.files + length front) where
   abbrev fewer : List Shown
   fewer = declared_behind p front
@@ -218,8 +218,8 @@ module _ (p : Contents) (sound : Sound p) (front back : List FileDescriptorProto
 
   known-are : known ≡ names all
   known-are =
-      ap (λ held. names_with held (entries fewer)) sound.names_are ∙ with-names (known_names p) (entries fewer)
-      ∙ ap names (sym (ap entries (declared-behind p front sound.counts_are front) ∙ entries-append (declarations no_counts (files_of p)) fewer))
+      ap (λ held. names_with held (entries fewer)) entered.names_are ∙ with-names (known_names p) (entries fewer)
+      ∙ ap names (sym (ap entries (declared-behind p front entered.counts_are front) ∙ entries-append (declarations no_counts (files_of p)) fewer))
 
   all-are : names_with p.names (entries (declared_behind p (front ++ back))) ≡ names_with known (entries later)
   all-are =
@@ -258,4 +258,4 @@ module _ (p : Contents) (sound : Sound p) (front back : List FileDescriptorProto
   })
 
 pub seen-names-stand : (p : Contents) → IsPool p → SeenNamesStand p
-seen-names-stand p pool front back plain seen few = seen-stand p (made-sound p pool.made) front back plain seen few
+seen-names-stand p pool front back plain seen few = seen-stand p (made-sound p pool.made).known front back plain seen few

@@ -90,8 +90,10 @@ SeenNamesStand p =
 abbrev pub AreClosed : Contents → List FileDescriptorProto → Type 0
 AreClosed p new = All (λ f. All (λ name. IsTrue (has_file p name) ⊎ Contains (map (λ g. text_of g.name) new) name) f.dependency) new
 
--- law: where a batch is accepted, its names and those of the pool are plain, and its first part imports nothing of the second, that part is accepted
-abbrev pub FrontAccepted : Contents → Type 0
-FrontAccepted p =
-    (front back : Batch) → ArePlain no_counts (files_of p ++ new_files p (front ++ back)) → AreClosed p (new_files p front)
-    → Accepts p (front ++ back) → Accepts p front
+-- law: where a batch is accepted, its names and those of the pool are plain, and its first part imports nothing of the second, each part
+-- is accepted behind what comes before it, and the two make the pool that the batch makes; where the batch fits, so does each part
+abbrev pub Splits : Contents → Batch → Batch → Type 0
+Splits p front back =
+    ArePlain no_counts (files_of p ++ new_files p (front ++ back)) → AreClosed p (new_files p front) → Accepts p (front ++ back)
+    → Accepts p front × Accepts (link p front) back × (link (link p front) back ≡ link p (front ++ back))
+    × (Fits p (front ++ back) → Fits p front × Fits (link p front) back)

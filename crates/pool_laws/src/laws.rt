@@ -1,5 +1,5 @@
 //! A call does nothing: its contract is the law, and is proved of all pools and files.
-ghost use Rattle.pool_laws.specs.Laws.{DotSaysNothing, EarlierStays, FrontAccepted, PrefixesEntered, Relinks, SeenNamesStand};
+ghost use Rattle.pool_laws.specs.Laws.{DotSaysNothing, EarlierStays, PrefixesEntered, Relinks, SeenNamesStand, Splits};
 
 use descriptor_pool::DescriptorPool;
 use proto_files::FileDescriptorProto;
@@ -39,11 +39,12 @@ pub fn seen_names_stand(pool: &DescriptorPool)
     pool.made();
 }
 
-/// Where a batch is accepted, where no name that stands in its new files and in those of the pool is
-/// empty or has a dot, and where the files of its first part import only files of the pool and of
-/// that part, the first part is accepted alone.
-pub fn front_accepted(pool: &DescriptorPool)
-    ensures { FrontAccepted pool.now }
+/// A batch that is accepted may be linked in two parts, front and back, where no name that stands in
+/// its new files and in those of the pool is empty or has a dot, and where the new files of the front
+/// import only files of the pool and each other: each part is accepted in its turn, and the pool is the
+/// one that the whole batch makes. Where the batch fits, so does each part.
+pub fn split(pool: &DescriptorPool, front: &[FileDescriptorProto], back: &[FileDescriptorProto])
+    ensures { Splits pool.now front.now back.now }
 {
     pool.made();
 }

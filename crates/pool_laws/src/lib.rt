@@ -3,6 +3,4 @@
 
 mod laws;
 
-pub use laws::{
-    dot_says_nothing, earlier_stays, front_accepted, prefixes, relink, seen_names_stand,
-};
+pub use laws::{dot_says_nothing, earlier_stays, prefixes, relink, seen_names_stand, split};

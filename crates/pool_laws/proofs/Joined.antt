@@ -1,0 +1,159 @@
+-- New files that are linked in two parts make the pool that they make at once.
+use Rattle.std.proofs.Common.{◌≡◌, ◌<◌, ◌+◌, Option, List, [], ◌++◌, length, map, drop, append_assoc, ap, subst, sym, ◌∙◌, arith}
+use Rattle.std.proofs.lemmas.List.{map-append}
+use Rattle.std.proofs.lemmas.List.Elements.{filter_map-append, recursion_from_All}
+use Rattle.std.specs.FinMap as finite
+use Rattle.std.specs.List.{AllByRecursion}
+use Rattle.std.specs.Option.{option_map}
+use Rattle.proto_files.specs.declared.file.FileDescriptorProto.{FileDescriptorProto}
+use Rattle.pool_types.specs.Contents.{Contents, files_of}
+use Rattle.pool_types.specs.declared.contents.extension.ExtensionDescriptorInner.{ExtensionDescriptorInner}
+use Rattle.pool_types.specs.declared.contents.message.MessageDescriptorInner.{MessageDescriptorInner}
+use Rattle.proto_records.specs.Counts.{counted, counts_in, no_counts}
+use Rattle.proto_records.specs.Protos.{Proto, as_enum, as_extension, as_file, as_message, as_service}
+use Rattle.proto_records.specs.Shown.{Shown, of_kind}
+use Rattle.enum_rules.specs.Items.{enum_item}
+use Rattle.places.specs.Each.{each}
+use Rattle.link_rules.specs.Items.{extension_item, file_item, message_item, service_item}
+use Rattle.link_rules.specs.Setting.{Setting}
+use Rattle.linking_laws.specs.Laws.{unchanged}
+use Rattle.linking_laws.proofs.AsGiven.{given-carried}
+use Rattle.linking_laws.proofs.Carries.{Carries}
+use Rattle.linking_laws.proofs.Imports.{all-stay}
+use Rattle.linking_laws.proofs.Still.{all-rest}
+use Rattle.linking_laws.proofs.Unchanged.{declarations-unchanged, files-unchanged}
+use Rattle.growing_pool.specs.Extended.{extended_by}
+use Rattle.growing_pool.proofs.Each.{each-append, length-each}
+use Rattle.descriptor_pool.specs.Behind.{declared_behind, linked_behind, references_behind, with_names}
+use Rattle.descriptor_pool.proofs.Declared.{items-of-files}
+use Rattle.descriptor_pool.proofs.Extendees.{Whole, drop-front, link-whole}
+use Rattle.descriptor_pool.proofs.Files.{counted-files}
+use Rattle.descriptor_pool.proofs.Sound.{Known}
+use Rattle.pool_laws.specs.Laws.{ArePlain}
+use Rattle.pool_laws.proofs.Front.{all-names-stay, front-stands, lie, references-fine}
+use Rattle.pool_laws.proofs.Items.{SameItem, all-fine, files-again, kind-again, same-enum, same-extension, same-message, same-service}
+use Rattle.pool_laws.proofs.Lists.{in-two-steps}
+use Rattle.pool_laws.proofs.Parts.{AllKnown, declared-both, earlier, later, part}
+use Rattle.pool_laws.proofs.Passes.{all-of}
+use Rattle.pool_laws.proofs.Relinked.{Relinked}
+use Rattle.pool_laws.proofs.Rest.{at_once, behind, declared-second, file-names-same, grown, lie-second, many, names-same, rest-stands, same-file-names, start, unbroken-both}
+
+module _ (p : Contents) (entered : Known p) (again : Relinked p) (front back : List FileDescriptorProto)
+    (closed : AllKnown front (finite.get (with_names p (declared_behind p front)).file_names)) (plain : ArePlain no_counts (files_of p ++ front))
+    (none : references_behind p (front ++ back) ≡ []) where
+  abbrev pool : Contents
+  pool = grown p entered again front back closed
+
+  abbrev s : Setting
+  s = at_once p entered again front back closed
+
+  abbrev u : Setting
+  u = part p entered again front back closed
+
+  abbrev t : Setting
+  t = behind p entered again front back closed
+
+  abbrev first : List Shown
+  first = earlier p entered again front back closed
+
+  abbrev second : List Shown
+  second = later p entered again front back closed
+
+  abbrev joint : List Shown
+  joint = declared_behind p (front ++ back)
+
+  abbrev after : List Shown
+  after = declared_behind pool back
+
+  front-carried : Carries s u unchanged (length p.files + length front)
+  front-carried = given-carried (front-stands p entered again front back closed plain)
+
+  rest-carried : Carries s t unchanged (many p entered again front back closed)
+  rest-carried = given-carried (rest-stands p entered again front back closed)
+
+  -- the items of one kind
+  kind-joined : {X Y : Type 0} (pick : Proto → Option X) (was alone now : Shown → X → Y) → SameItem front-carried pick was alone → SameItem rest-carried pick was now
+      → map (λ e. was e.0 e.1) (of_kind pick joint) ≡ map (λ e. alone e.0 e.1) (of_kind pick first) ++ map (λ e. now e.0 e.1) (of_kind pick after)
+  kind-joined {X} {Y} pick was alone now same_front same_rest =
+      let unbroken = unbroken-both p entered again front back closed none in
+      let make : (Shown → X → Y) → Shown × X → Y = λ item e. item e.0 e.1 in
+      let one = sym (kind-again front-carried pick was alone same_front first (all-fine s (length p.files + length front) first (lie p entered again front back closed) unbroken.0))
+      ∙ ap (λ ds. map (make alone) (of_kind pick ds)) (declarations-unchanged first) in
+      let two = sym (kind-again rest-carried pick was now same_rest second (all-fine s (many p entered again front back closed) second (lie-second p entered again front back closed) unbroken.1))
+      ∙ ap (λ ds. map (make now) (of_kind pick ds)) (declarations-unchanged second ∙ sym (declared-second p entered again front back closed)) in
+      ap (λ ds. map (make was) (of_kind pick ds)) (declared-both p entered again front back closed)
+      ∙ ap (map (make was)) (filter_map-append (λ d. option_map (λ x. (d, x)) (pick d.proto)) first second)
+      ∙ map-append (make was) (of_kind pick first) (of_kind pick second) ∙ (λ i. one i ++ two i)
+
+  -- those of files
+  files-joined : map (λ e. file_item s e.0.index e.1) (of_kind as_file joint)
+      ≡ map (λ e. file_item u e.0.index e.1) (of_kind as_file first) ++ map (λ e. file_item t e.0.index e.1) (of_kind as_file after)
+  files-joined =
+      let base = counted (counts_in p) first in
+      let unbroken = unbroken-both p entered again front back closed none in
+      let many_files = counted-files (counts_in p) front in
+      let stay = all-of (λ f. all-stay s t (same-file-names p entered again front back closed) f.dependency) back in
+      let one = ap (each (file_item u) (length p.files)) (sym (files-unchanged (length p.files) front))
+      ∙ files-again front-carried (counts_in p) front (omega arith) (all-names-stay p entered again front back closed front closed) unbroken.0 in
+      let two = ap (each (file_item t) base.files) (sym (files-unchanged base.files back)) ∙ files-again rest-carried base back (omega arith) stay unbroken.1 in
+      items-of-files (file_item s) (counts_in p) (front ++ back) ∙ each-append (file_item s) (length p.files) front back
+      ∙ (λ i. sym one i ++ (ap (λ n. each (file_item s) n back) (sym many_files) ∙ sym two ∙ ap (λ n. each (file_item t) n back) (many_files ∙ sym (start p entered again front back closed))) i)
+      ∙ (λ i. sym (items-of-files (file_item u) (counts_in p) front) i ++ sym (items-of-files (file_item t) (counts_in pool) back) i)
+
+  abbrev messages_first : List MessageDescriptorInner
+  messages_first = map (λ e. message_item u e.0 e.1) (of_kind as_message first)
+
+  abbrev messages_after : List MessageDescriptorInner
+  messages_after = map (λ e. message_item t e.0 e.1) (of_kind as_message after)
+
+  abbrev extensions_first : List ExtensionDescriptorInner
+  extensions_first = map (λ e. extension_item u e.0 e.1) (of_kind as_extension first)
+
+  abbrev extensions_after : List ExtensionDescriptorInner
+  extensions_after = map (λ e. extension_item t e.0 e.1) (of_kind as_extension after)
+
+  extensions-joined : map (λ e. extension_item s e.0 e.1) (of_kind as_extension joint) ≡ extensions_first ++ extensions_after
+  extensions-joined = kind-joined as_extension (extension_item s) (extension_item u) (extension_item t) (same-extension front-carried) (same-extension rest-carried)
+
+  messages-joined : map (λ e. message_item s e.0 e.1) (of_kind as_message joint) ≡ messages_first ++ messages_after
+  messages-joined = kind-joined as_message (message_item s) (message_item u) (message_item t) (same-message front-carried) (same-message rest-carried)
+
+  -- the extensions of the first part extend messages before those of the second
+  extend-before : Whole p → AllByRecursion (λ x. x.extendee < length (p.messages ++ messages_first)) extensions_first
+  extend-before lists =
+      let grown_lists = link-whole p front entered lists (references-fine p entered again front back closed plain none) in
+      let many_messages = length-each (extended_by (length p.extensions) (drop (length p.extensions) pool.extensions)) 0 (p.messages ++ messages_first) in
+      all-rest (λ x. x.extendee < length (p.messages ++ messages_first)) p.extensions extensions_first
+      (subst (λ n. AllByRecursion (λ x. x.extendee < n) pool.extensions) many_messages
+      (recursion_from_All (λ x. x.extendee < length pool.messages) pool.extensions grown_lists.extendees))
+
+  lists-joined : Whole p → (linked_behind pool back).messages ≡ (linked_behind p (front ++ back)).messages
+  lists-joined lists =
+      let old = p.extensions in
+      let before = p.messages ++ messages_first in
+      let all = map (λ e. extension_item s e.0 e.1) (of_kind as_extension joint) in
+      let filled : List ExtensionDescriptorInner → List MessageDescriptorInner → List MessageDescriptorInner = λ xs ms. each (extended_by (length old) xs) 0 ms in
+      (λ i. each (extended_by (length pool.extensions) (drop-front pool.extensions extensions_after i)) 0 (filled (drop-front old extensions_first i) before ++ messages_after))
+      ∙ in-two-steps old extensions_first extensions_after before messages_after (extend-before lists)
+      ∙ (λ i. filled ((sym extensions-joined ∙ sym (drop-front old all)) i) ((append_assoc p.messages messages_first messages_after ∙ ap (λ ms. p.messages ++ ms) (sym messages-joined)) i))
+
+  -- the pool
+  pub linked-joined : Whole p → linked_behind pool back ≡ linked_behind p (front ++ back)
+  linked-joined lists =
+      let files = append_assoc p.files (map (λ e. file_item u e.0.index e.1) (of_kind as_file first)) (map (λ e. file_item t e.0.index e.1) (of_kind as_file after))
+      ∙ ap (λ xs. p.files ++ xs) (sym files-joined) in
+      let messages = lists-joined lists in
+      let enums = append_assoc p.enums (map (λ e. enum_item e.0 e.1) (of_kind as_enum first)) (map (λ e. enum_item e.0 e.1) (of_kind as_enum after))
+      ∙ ap (λ xs. p.enums ++ xs) (sym (kind-joined as_enum enum_item enum_item enum_item (same-enum front-carried) (same-enum rest-carried))) in
+      let services = append_assoc p.services (map (λ e. service_item u e.0 e.1) (of_kind as_service first)) (map (λ e. service_item t e.0 e.1) (of_kind as_service after))
+      ∙ ap (λ xs. p.services ++ xs) (sym (kind-joined as_service (service_item s) (service_item u) (service_item t) (same-service front-carried) (same-service rest-carried))) in
+      let extensions = append_assoc p.extensions extensions_first extensions_after ∙ ap (λ xs. p.extensions ++ xs) (sym extensions-joined) in
+      λ i. record {
+        files = files i;
+        messages = messages i;
+        enums = enums i;
+        services = services i;
+        extensions = extensions i;
+        names = names-same p entered again front back closed i;
+        file_names = file-names-same p entered again front back closed i;
+      }

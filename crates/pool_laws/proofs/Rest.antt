@@ -1,0 +1,197 @@
+-- The second part of new files behind the linked first part: what it reads there is what it reads at once with the first.
+use Rattle.std.proofs.Common.{◌≡◌, ◌<◌, ◌+◌, ℕ, suc, None, Some, List, [], ◌∷◌, ◌++◌, length, map, slice_get, unwrap_or, append_assoc, refl, ap, subst, sym, ◌∙◌}
+use Rattle.std.proofs.lemmas.Grind.{flat_map-append}
+use Rattle.std.proofs.lemmas.List.{length-append, map-append}
+use Rattle.std.specs.BTreeSet.{contains_by}
+use Rattle.std.specs.FinMap as finite
+use Rattle.std.specs.List.{AllByRecursion, flat_map}
+use Rattle.std.specs.Option.{option_and_then}
+use Rattle.std.specs.Ordering.{nat_cmp}
+use Rattle.proto_types.specs.Lists.{after_each}
+use Rattle.proto_files.specs.Empty.{no_file}
+use Rattle.proto_files.specs.declared.file.FileDescriptorProto.{FileDescriptorProto}
+use Rattle.pool_types.specs.Contents.{Contents, files_of}
+use Rattle.pool_types.specs.declared.contents.definition.Definition.{Definition}
+use Rattle.name_tables.specs.Entries.{names_with}
+use Rattle.name_tables.proofs.Entries.{get-with, with-more}
+use Rattle.file_visibility.specs.Visibility.{file_at, seen_from}
+use Rattle.proto_records.specs.declared.counts.Counts.{Counts}
+use Rattle.proto_records.specs.Changed.{changed_files}
+use Rattle.proto_records.specs.Counts.{counted, counts_in}
+use Rattle.proto_records.specs.Declarations.{declarations}
+use Rattle.proto_records.specs.Leads.{leads}
+use Rattle.proto_records.specs.Shown.{Shown}
+use Rattle.pool_parts.specs.Resolution.{resolution}
+use Rattle.places.specs.Each.{each}
+use Rattle.syntax_rules.specs.Syntaxes.{syntax_at, syntax_of}
+use Rattle.link_rules.specs.Broken.{owner_faults}
+use Rattle.link_rules.specs.Definitions.{around_name, record_of}
+use Rattle.link_rules.specs.Items.{file_item}
+use Rattle.link_rules.specs.Linked.{linking}
+use Rattle.link_rules.specs.Setting.{Setting, seen_by}
+use Rattle.link_rules.proofs.Owners.{owners-tell}
+use Rattle.linking_laws.specs.Laws.{Stands, unchanged}
+use Rattle.linking_laws.proofs.AsGiven.{given-carried}
+use Rattle.linking_laws.proofs.Declarations.{all-mean}
+use Rattle.linking_laws.proofs.Numbered.{both-empty}
+use Rattle.linking_laws.proofs.Unchanged.{declarations-unchanged, unchanged-keeps}
+use Rattle.growing_pool.proofs.Each.{each-map, each-same}
+use Rattle.name_pass.specs.Entered.{entries, file_entries}
+use Rattle.name_pass.specs.FirstPass.{first_faults}
+use Rattle.descriptor_pool.specs.Behind.{declared_behind, linked_behind, names_behind, references_behind, setting_behind, with_items, with_names}
+use Rattle.descriptor_pool.proofs.Declared.{counts-with, entries-append, items-of-files}
+use Rattle.descriptor_pool.proofs.Files.{counted-files, lie-between}
+use Rattle.descriptor_pool.proofs.Listed.{counts-extended}
+use Rattle.descriptor_pool.proofs.Sound.{Known, link-known}
+use Rattle.pool_laws.proofs.Again.{files-are}
+use Rattle.pool_laws.proofs.Alike.{SameImports, sees-alike}
+use Rattle.pool_laws.proofs.Behind.{between-at}
+use Rattle.pool_laws.proofs.Parts.{AllKnown, declared-both, earlier, keys-at, keys_part, later, more-file-names, old_seen, part, seen-more, whole}
+use Rattle.pool_laws.proofs.Passes.{after-parts, all-of, pass-again, unbroken-carried}
+use Rattle.pool_laws.proofs.Records.{Stays, file-stays, stays-itself}
+use Rattle.pool_laws.proofs.Relinked.{Relinked, or-nothing, syntaxes-of}
+
+module _ (p : Contents) (entered : Known p) (again : Relinked p) (front back : List FileDescriptorProto)
+    (closed : AllKnown front (finite.get (with_names p (declared_behind p front)).file_names)) where
+  -- the pool with the first part, and what the second is read against behind it
+  abbrev pub grown : Contents
+  grown = linked_behind p front
+
+  abbrev pub behind : Setting
+  behind = setting_behind grown back
+
+  abbrev pub at_once : Setting
+  at_once = whole p entered again front back closed
+
+  abbrev first : List Shown
+  first = earlier p entered again front back closed
+
+  abbrev second : List Shown
+  second = later p entered again front back closed
+
+  abbrev alone : Setting
+  alone = part p entered again front back closed
+
+  abbrev came : List FileDescriptorProto
+  came = changed_files (linking alone) (length p.files) front
+
+  pub counts-same : counts_in grown ≡ counted (counts_in p) first
+  counts-same =
+      let named = with_names p first in
+      counts-extended (length p.extensions) (with_items named alone first) ∙ counts-with named alone first
+
+  pub declared-second : declared_behind grown back ≡ second
+  declared-second = ap (λ c. declarations c back) counts-same
+
+  pub names-same : behind.names ≡ at_once.names
+  names-same =
+      ap (λ ds. names_with grown.names (entries ds)) declared-second ∙ with-more p.names (entries first) (entries second)
+      ∙ ap (names_with p.names) (sym (entries-append first second)) ∙ ap (λ ds. names_with p.names (entries ds)) (sym (declared-both p entered again front back closed))
+
+  pub file-names-same : behind.file_names ≡ at_once.file_names
+  file-names-same = ap (λ ds. names_with grown.file_names (file_entries ds)) declared-second ∙ sym (more-file-names p entered again front back closed)
+
+  files-same : behind.files ≡ files_of p ++ (came ++ back)
+  files-same = ap (λ fs. fs ++ back) (files-are p front entered (link-known p front entered)) ∙ append_assoc (files_of p) came back
+
+  many-changed : (index : ℕ) (fs : List FileDescriptorProto) → length (changed_files (linking alone) index fs) ≡ length fs
+  many-changed index [] = refl
+  many-changed index (f ∷ fs) = ap suc (many-changed (suc index) fs)
+
+  same-length : length behind.files ≡ length at_once.files
+  same-length =
+      ap length files-same ∙ length-append (files_of p) (came ++ back)
+      ∙ ap (λ n. length (files_of p) + n) (length-append came back ∙ ap (λ n. n + length back) (many-changed (length p.files) front) ∙ sym (length-append front back))
+      ∙ sym (length-append (files_of p) (front ++ back))
+
+  alike : (n : ℕ) → SameImports (file_at at_once.files n) (file_at behind.files n)
+  alike n =
+      subst (λ fs. SameImports (file_at at_once.files n) (file_at fs n)) (sym files-same)
+      (between-at (linking alone) (λ old now. SameImports (unwrap_or old no_file) (unwrap_or now no_file))
+      (record { imports = refl; publics = refl }) (λ f. record { imports = refl; publics = refl }) (λ index f. record { imports = refl; publics = refl })
+      (files_of p) (length p.files) front back n)
+
+  -- what files see
+  new-keys : (n : ℕ) → seen_from behind.files (finite.get behind.file_names) n ≡ seen_from at_once.files (finite.get at_once.file_names) n
+  new-keys n =
+      ap (λ names. seen_from behind.files (finite.get names) n) file-names-same
+      ∙ sees-alike at_once.files behind.files same-length alike (finite.get at_once.file_names) n
+
+  old-seen : map (λ f. f.transitive_dependencies) grown.files ≡ alone.seen
+  old-seen =
+      let item = file_item alone in
+      let made = keys_part p entered again front back closed in
+      map-append (λ f. f.transitive_dependencies) p.files _
+      ∙ ap (λ sets. old_seen p entered again front back closed ++ sets)
+      (ap (map (λ f. f.transitive_dependencies)) (items-of-files item (counts_in p) front) ∙ each-map (λ f. f.transitive_dependencies) item (length p.files) front
+      ∙ each-same (λ n f. (item n f).transitive_dependencies) made (length p.files) front (λ n f from to. keys-at p entered again front back closed n from to))
+
+  pub start : length grown.files ≡ length p.files + length front
+  start = ap (λ (c : Counts). c.files) counts-same ∙ counted-files (counts_in p) front
+
+  seen-same : behind.seen ≡ at_once.seen
+  seen-same =
+      (λ i. old-seen i ++ each (λ n _. record { keys = new-keys n i }) (start i) back) ∙ sym (seen-more p entered again front back closed)
+
+  pub sees-same-behind : (n : ℕ) → seen_by behind n ≡ seen_by at_once n
+  sees-same-behind n = ap (λ sets. unwrap_or (slice_get sets n) (record { keys = [] })) seen-same
+
+  -- the records of files
+  record-stays : (def : Definition) → Stays (record_of at_once def) (record_of behind def)
+  record-stays def =
+      let path = around_name def.path in
+      subst (λ fs. Stays (record_of at_once def) (option_and_then (λ f. leads f path) (slice_get fs def.file))) (sym files-same)
+      (between-at (linking alone) (λ old now. Stays (option_and_then (λ f. leads f path) old) (option_and_then (λ f. leads f path) now))
+      (stays-itself None) (λ f. stays-itself (leads f path)) (λ index f. file-stays (linking alone) path index f)
+      (files_of p) (length p.files) front back def.file)
+
+  syntax-same : (n : ℕ) → syntax_at behind.files n ≡ syntax_at at_once.files n
+  syntax-same n =
+      ap (λ fs. syntax_at fs n) files-same
+      ∙ between-at (linking alone) (λ old now. syntax_of (unwrap_or now no_file) ≡ syntax_of (unwrap_or old no_file)) refl (λ f. refl) (λ index f. refl)
+      (files_of p) (length p.files) front back n
+
+  abbrev pub many : ℕ
+  many = (counted (counts_in p) first).files + length back
+
+  -- all references stand
+  pub rest-stands : Stands at_once behind many
+  rest-stands = record {
+    references = λ file _ scope written filter name def is. record {
+      meaning_is = (λ i. resolution (names-same i) (λ n. contains_by (nat_cmp n) (sees-same-behind file i)) filter scope written) ∙ is;
+      enum_is = (record-stays def).enums;
+      ranges = (record-stays def).messages;
+    };
+    syntaxes = λ n _. syntax-same n;
+    sees = λ n _. sees-same-behind n;
+  }
+
+  pub lie-second : AllByRecursion (λ d. d.file < many) second
+  lie-second = (lie-between (counted (counts_in p) first) back).1
+
+  pub same-file-names : (name : List ℕ) (n : ℕ) → finite.get at_once.file_names name ≡ Some n → finite.get behind.file_names name ≡ Some n
+  same-file-names name n is = ap (λ names. finite.get names name) file-names-same ∙ is
+
+  -- neither pass finds a fault
+  pub names-fine : names_behind p (front ++ back) ≡ [] → names_behind grown back ≡ []
+  names-fine none =
+      let faults = first_faults at_once.files p in
+      let parts = (after-parts faults [] first second (sym (ap (after_each faults []) (declared-both p entered again front back closed)) ∙ none)).1 in
+      ap (after_each (first_faults behind.files grown) []) (declared-second ∙ sym (declarations-unchanged second))
+      ∙ pass-again unchanged unchanged-keeps at_once.files behind.files p grown first [] second
+      (record {
+        names = λ name. sym (or-nothing (finite.get grown.names name)) ∙ get-with p.names (entries first) name;
+        files = λ name. sym (or-nothing (finite.get grown.file_names name)) ∙ get-with p.file_names (file_entries first) name;
+      })
+      (syntaxes-of many at_once.files behind.files rest-stands.syntaxes second lie-second) parts
+
+  pub unbroken-both : references_behind p (front ++ back) ≡ [] → (flat_map (owner_faults at_once) first ≡ []) × (flat_map (owner_faults at_once) second ≡ [])
+  unbroken-both none =
+      let told : flat_map (owner_faults at_once) (first ++ second) ≡ [] =
+      sym (ap (flat_map (owner_faults at_once)) (declared-both p entered again front back closed)) ∙ sym (owners-tell at_once (counts_in p) (front ++ back)) ∙ none in
+      both-empty (flat_map (owner_faults at_once) first) (flat_map (owner_faults at_once) second) (sym (flat_map-append (owner_faults at_once) first second) ∙ told)
+
+  pub references-fine : references_behind p (front ++ back) ≡ [] → references_behind grown back ≡ []
+  references-fine none =
+      owners-tell behind (counts_in grown) back ∙ ap (flat_map (owner_faults behind)) (declared-second ∙ sym (declarations-unchanged second))
+      ∙ unbroken-carried (given-carried rest-stands) second lie-second (all-of (λ d. all-mean at_once behind same-file-names d.proto) second) (unbroken-both none).1
