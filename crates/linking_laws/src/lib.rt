@@ -1,5 +1,5 @@
-//! The laws of linking, as far as they are proved: of relinking, that what files see, what
-//! references mean, what fields and messages are stays where linked files are read again.
+//! Laws of files that are read in another setting, linked or as they are: of what they see, of what
+//! their references mean, and of what their declarations break and make there.
 #![tactic(auto)]
 
 mod laws;

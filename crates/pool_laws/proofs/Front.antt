@@ -48,11 +48,11 @@ use Rattle.descriptor_pool.proofs.Resolved.{all-append}
 use Rattle.descriptor_pool.proofs.Sound.{Known}
 use Rattle.pool_laws.specs.Laws.{ArePlain}
 use Rattle.pool_laws.proofs.Again.{first-kept, slice-front}
-use Rattle.pool_laws.proofs.Parts.{AllKnown, declared-both, earlier, known-stays, later, many-files, part, sees-same, sees-within, whole}
+use Rattle.pool_laws.proofs.Parts.{AllKnown, declared-both, earlier, known-stays, later, many-files, part, sees-same, sees-within, unbroken-both, whole}
 use Rattle.pool_laws.proofs.Passes.{after-parts, pass-again, unbroken-carried}
 use Rattle.pool_laws.proofs.Records.{ranges-itself}
 use Rattle.pool_laws.proofs.Relinked.{Relinked, syntaxes-of}
-use Rattle.pool_laws.proofs.Unseen.{seen-stand}
+use Rattle.pool_laws.proofs.Unseen.{found-second, seen-stand}
 
 pub plain-front : (base : Counts) (fs gs : List FileDescriptorProto) → ArePlain base (fs ++ gs) → ArePlain base fs
 plain-front base [] gs plain = tt
@@ -157,18 +157,10 @@ module _ (p : Contents) (entered : Known p) (again : Relinked p) (front back : L
 
     pub references-fine : references_behind p (front ++ back) ≡ [] → references_behind p front ≡ []
     references-fine none =
-        let behind = later p entered again front back closed in
-        let told : flat_map (owner_faults was) (first ++ behind) ≡ [] =
-        sym (ap (flat_map (owner_faults was)) (declared-both p entered again front back closed)) ∙ sym (owners-tell was (counts_in p) (front ++ back)) ∙ none in
-        let alone = (both-empty (flat_map (owner_faults was) first) (flat_map (owner_faults was) behind) (sym (flat_map-append (owner_faults was) first behind) ∙ told)).0 in
         owners-tell now (counts_in p) front ∙ sym (ap (flat_map (owner_faults now)) (declarations-unchanged first))
-        ∙ unbroken-carried (given-carried front-stands) first lie (imports-mean (counts_in p) front closed) alone
+        ∙ unbroken-carried (given-carried front-stands) first lie (imports-mean (counts_in p) front closed) (unbroken-both p entered again front back closed none).0
 
 -- names that files have are known behind them
-some-second : {X : Type 0} (a b : Option X) → IsSome b → IsSome (option_or a b)
-some-second None b some = some
-some-second (Some x) b some = refl
-
 name-entered : (base : Counts) (fs : List FileDescriptorProto) (name : List ℕ) → Contains (map (λ g. text_of g.name) fs) name
     → IsSome (first_of (file_entries (declarations base fs)) name)
 name-entered base [] name there = absurd (omega (arith, there.1))
@@ -182,7 +174,7 @@ name-entered base (f ∷ fs) name there =
         | inl is ↦ let same = (bytes_decides name own).1 (sym is) in absurd (cc)
         | inr rest ↦
             subst IsSome (sym (ap (λ es. first_of es name) (flat_map-append file_entries_of inner behind) ∙ first-append (file_entries inner) (file_entries behind) name))
-            (some-second (first_of (file_entries inner) name) (first_of (file_entries behind) name) (name-entered (counted base (file_walk base f)) fs name rest))
+            (found-second (first_of (file_entries inner) name) (first_of (file_entries behind) name) (name-entered (counted base (file_walk base f)) fs name rest))
       ]
     ] refl
 
@@ -203,7 +195,7 @@ module _ (p : Contents) (new : List FileDescriptorProto) where
       subst IsSome (sym (get-with p.file_names (file_entries (declared_behind p new)) name ∙ there)) known
   name-known name (inr there) =
       subst IsSome (sym (get-with p.file_names (file_entries (declared_behind p new)) name))
-      (some-second (finite.get p.file_names name) (first_of (file_entries (declared_behind p new)) name) (name-entered (counts_in p) new name there))
+      (found-second (finite.get p.file_names name) (first_of (file_entries (declared_behind p new)) name) (name-entered (counts_in p) new name there))
 
   pub each-known : (fs : List FileDescriptorProto) → All AllImported fs → AllKnown fs naming
   each-known [] closed n below name there = absurd (omega (arith, below))

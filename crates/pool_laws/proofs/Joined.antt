@@ -33,10 +33,10 @@ use Rattle.pool_laws.specs.Laws.{ArePlain}
 use Rattle.pool_laws.proofs.Front.{all-names-stay, front-stands, lie, references-fine}
 use Rattle.pool_laws.proofs.Items.{SameItem, all-fine, files-again, kind-again, same-enum, same-extension, same-message, same-service}
 use Rattle.pool_laws.proofs.Lists.{in-two-steps}
-use Rattle.pool_laws.proofs.Parts.{AllKnown, declared-both, earlier, later, part}
+use Rattle.pool_laws.proofs.Parts.{AllKnown, declared-both, earlier, later, part, unbroken-both}
 use Rattle.pool_laws.proofs.Passes.{all-of}
 use Rattle.pool_laws.proofs.Relinked.{Relinked}
-use Rattle.pool_laws.proofs.Rest.{at_once, behind, declared-second, file-names-same, grown, lie-second, many, names-same, rest-stands, same-file-names, start, unbroken-both}
+use Rattle.pool_laws.proofs.Rest.{at_once, behind, declared-second, file-names-same, grown, lie-second, many, names-same, rest-stands, same-file-names, start}
 
 module _ (p : Contents) (entered : Known p) (again : Relinked p) (front back : List FileDescriptorProto)
     (closed : AllKnown front (finite.get (with_names p (declared_behind p front)).file_names)) (plain : ArePlain no_counts (files_of p ++ front))

@@ -7,7 +7,7 @@ use Rattle.std.specs.BTreeMap.{is_at}
 use Rattle.std.specs.BTreeSet.{BTreeSet, contains_by}
 use Rattle.std.specs.Cmp.{nat_cmp_is}
 use Rattle.std.specs.FinMap as finite
-use Rattle.std.specs.List.{Contains, filter, list_any, range_with_len}
+use Rattle.std.specs.List.{Contains, filter, flat_map, list_any, range_with_len}
 use Rattle.std.specs.Option.{IfSome}
 use Rattle.std.specs.Ordering.{is_eq, nat_cmp}
 use Rattle.proto_files.specs.Empty.{no_file}
@@ -22,12 +22,15 @@ use Rattle.proto_records.specs.Declarations.{declarations}
 use Rattle.proto_records.specs.Shown.{Shown}
 use Rattle.proto_records.proofs.Appended.{declarations-append}
 use Rattle.places.specs.Each.{each}
+use Rattle.link_rules.specs.Broken.{owner_faults}
 use Rattle.link_rules.specs.Setting.{Setting, seen_by}
+use Rattle.link_rules.proofs.Owners.{owners-tell}
 use Rattle.linking_laws.specs.Laws.{ImportsStay, NamesFiles}
+use Rattle.linking_laws.proofs.Numbered.{both-empty}
 use Rattle.linking_laws.proofs.SeenStays.{seen-stays}
 use Rattle.growing_pool.proofs.Each.{each-append, each-same, length-each}
 use Rattle.name_pass.specs.Entered.{file_entries, file_entries_of}
-use Rattle.descriptor_pool.specs.Behind.{declared_behind, setting_behind, with_names}
+use Rattle.descriptor_pool.specs.Behind.{declared_behind, references_behind, setting_behind, with_names}
 use Rattle.descriptor_pool.proofs.Files.{file-names-before, names-behind-before}
 use Rattle.descriptor_pool.proofs.Sound.{Known}
 use Rattle.pool_laws.proofs.Again.{first-kept, known-imports, seen-at, seen_in, sees-is, slice-front}
@@ -219,3 +222,10 @@ module _ (p : Contents) (entered : Known p) (again : Relinked p) (front back : L
         let many = many-files front in
         omega (arith, within, many)
   ]
+
+  -- declarations that break nothing at once break nothing in either part
+  pub unbroken-both : references_behind p (front ++ back) ≡ [] → (flat_map (owner_faults whole) earlier ≡ []) × (flat_map (owner_faults whole) later ≡ [])
+  unbroken-both none =
+      let told : flat_map (owner_faults whole) (earlier ++ later) ≡ [] =
+      sym (ap (flat_map (owner_faults whole)) declared-both) ∙ sym (owners-tell whole (counts_in p) (front ++ back)) ∙ none in
+      both-empty (flat_map (owner_faults whole) earlier) (flat_map (owner_faults whole) later) (sym (flat_map-append (owner_faults whole) earlier later) ∙ told)

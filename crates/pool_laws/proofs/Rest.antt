@@ -46,7 +46,7 @@ use Rattle.descriptor_pool.proofs.Sound.{Known, link-known}
 use Rattle.pool_laws.proofs.Again.{files-are}
 use Rattle.pool_laws.proofs.Alike.{SameImports, sees-alike}
 use Rattle.pool_laws.proofs.Behind.{between-at}
-use Rattle.pool_laws.proofs.Parts.{AllKnown, declared-both, earlier, keys-at, keys_part, later, more-file-names, old_seen, part, seen-more, whole}
+use Rattle.pool_laws.proofs.Parts.{AllKnown, declared-both, earlier, keys-at, keys_part, later, more-file-names, old_seen, part, seen-more, unbroken-both, whole}
 use Rattle.pool_laws.proofs.Passes.{after-parts, all-of, pass-again, unbroken-carried}
 use Rattle.pool_laws.proofs.Records.{Stays, file-stays, stays-itself}
 use Rattle.pool_laws.proofs.Relinked.{Relinked, or-nothing, syntaxes-of}
@@ -185,13 +185,7 @@ module _ (p : Contents) (entered : Known p) (again : Relinked p) (front back : L
       })
       (syntaxes-of many at_once.files behind.files rest-stands.syntaxes second lie-second) parts
 
-  pub unbroken-both : references_behind p (front ++ back) ≡ [] → (flat_map (owner_faults at_once) first ≡ []) × (flat_map (owner_faults at_once) second ≡ [])
-  unbroken-both none =
-      let told : flat_map (owner_faults at_once) (first ++ second) ≡ [] =
-      sym (ap (flat_map (owner_faults at_once)) (declared-both p entered again front back closed)) ∙ sym (owners-tell at_once (counts_in p) (front ++ back)) ∙ none in
-      both-empty (flat_map (owner_faults at_once) first) (flat_map (owner_faults at_once) second) (sym (flat_map-append (owner_faults at_once) first second) ∙ told)
-
   pub references-fine : references_behind p (front ++ back) ≡ [] → references_behind grown back ≡ []
   references-fine none =
       owners-tell behind (counts_in grown) back ∙ ap (flat_map (owner_faults behind)) (declared-second ∙ sym (declarations-unchanged second))
-      ∙ unbroken-carried (given-carried rest-stands) second lie-second (all-of (λ d. all-mean at_once behind same-file-names d.proto) second) (unbroken-both none).1
+      ∙ unbroken-carried (given-carried rest-stands) second lie-second (all-of (λ d. all-mean at_once behind same-file-names d.proto) second) (unbroken-both p entered again front back closed none).1

@@ -117,9 +117,9 @@ found-first : (a b : Option Definition) → IsSome a → IsSome (option_or a b)
 found-first None b some = absurd (cc)
 found-first (Some def) b some = refl
 
-found-second : (a b : Option Definition) → IsSome b → IsSome (option_or a b)
+pub found-second : {X : Type 0} (a b : Option X) → IsSome b → IsSome (option_or a b)
 found-second None b some = some
-found-second (Some def) b some = refl
+found-second (Some x) b some = refl
 
 rooted-first : (xs ys : List Entry) (name : List ℕ) → Rooted xs name → Rooted (xs ++ ys) name
 rooted-first xs ys name =

@@ -1,4 +1,4 @@
-//! The laws of pools: of relinking, of what stays, and of names.
+//! The laws of pools: of relinking, of splitting, of what stays, and of names.
 #![tactic(auto)]
 
 mod laws;

@@ -1,6 +1,5 @@
 use Rattle.linking_laws.proofs.Fewer.{found-fewer}
 use Rattle.linking_laws.proofs.laws.found_among_fewer.Goals as goal
 
--- src/laws.rt:18:1
 pub returns : goal.returns
 returns c = found-fewer

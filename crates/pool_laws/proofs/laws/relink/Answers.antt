@@ -1,6 +1,5 @@
 use Rattle.pool_laws.proofs.Relinked.{relinked}
 use Rattle.pool_laws.proofs.laws.relink.Goals as goal
 
--- src/laws.rt:9:1
 pub returns : goal.returns
 returns c = relinked c.args.pool.now c.made.ensures
