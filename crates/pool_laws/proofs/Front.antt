@@ -1,12 +1,12 @@
 -- The first part of a batch that is accepted is accepted, where it imports nothing of the second and all names are plain.
-use Rattle.std.proofs.Common.{◌≡◌, ◌<◌, ◌+◌, inl, inr, ◌⊎◌, IsTrue, ℕ, zero, suc, Bool, true, false, cond, IsSome, Option, None, Some, List, [], ◌∷◌, ◌++◌, length, map, slice_get, unwrap_or, append_assoc, refl, ap, subst, sym, ◌∙◌, arith}
+use Rattle.std.proofs.Common.{◌≡◌, ◌<◌, ◌+◌, inl, inr, ◌⊎◌, IsTrue, ℕ, zero, suc, Bool, true, false, cond, IsSome, Option, Some, List, [], ◌∷◌, ◌++◌, length, map, slice_get, unwrap_or, append_assoc, refl, ap, subst, sym, ◌∙◌, arith}
 use Rattle.std.proofs.lemmas.Grind.{flat_map-append}
 use Rattle.std.proofs.lemmas.List.Elements.{All-contains, All-head, All-tail, recursion_from_All}
 use Rattle.std.specs.BTreeSet.{contains_by}
 use Rattle.std.specs.Cmp.Lexicographic.{bytes_decides}
 use Rattle.std.specs.FinMap as finite
 use Rattle.std.specs.List.{All, AllByRecursion, Contains, flat_map}
-use Rattle.std.specs.Option.{option_and_then, option_or}
+use Rattle.std.specs.Option.{option_and_then}
 use Rattle.std.specs.Ordering.{nat_cmp}
 use Rattle.std.specs.Str.{bytes_eq}
 use Rattle.proto_types.specs.Lists.{after_each}
@@ -37,7 +37,6 @@ use Rattle.linking_laws.specs.Laws.{ImportsMean, NamesStay, RangesStay, Referenc
 use Rattle.linking_laws.proofs.AsGiven.{given-carried}
 use Rattle.linking_laws.proofs.Fewer.{found-fewer}
 use Rattle.linking_laws.proofs.Looked.{IsLooked, looked-seen, resolution-looked}
-use Rattle.linking_laws.proofs.Numbered.{both-empty}
 use Rattle.linking_laws.proofs.Unchanged.{declarations-unchanged, unchanged-keeps}
 use Rattle.name_pass.specs.Entered.{file_entries, file_entries_of}
 use Rattle.name_pass.specs.FirstPass.{first_faults}

@@ -1,6 +1,5 @@
 -- The second part of new files behind the linked first part: what it reads there is what it reads at once with the first.
 use Rattle.std.proofs.Common.{◌≡◌, ◌<◌, ◌+◌, ℕ, suc, None, Some, List, [], ◌∷◌, ◌++◌, length, map, slice_get, unwrap_or, append_assoc, refl, ap, subst, sym, ◌∙◌}
-use Rattle.std.proofs.lemmas.Grind.{flat_map-append}
 use Rattle.std.proofs.lemmas.List.{length-append, map-append}
 use Rattle.std.specs.BTreeSet.{contains_by}
 use Rattle.std.specs.FinMap as finite
@@ -33,7 +32,6 @@ use Rattle.link_rules.proofs.Owners.{owners-tell}
 use Rattle.linking_laws.specs.Laws.{Stands, unchanged}
 use Rattle.linking_laws.proofs.AsGiven.{given-carried}
 use Rattle.linking_laws.proofs.Declarations.{all-mean}
-use Rattle.linking_laws.proofs.Numbered.{both-empty}
 use Rattle.linking_laws.proofs.Unchanged.{declarations-unchanged, unchanged-keeps}
 use Rattle.growing_pool.proofs.Each.{each-map, each-same}
 use Rattle.name_pass.specs.Entered.{entries, file_entries}
