@@ -2,8 +2,9 @@ ghost use Rattle.std.specs.Prelude.{◌≡◌, ◌++◌, IfOk, OnOk};
 ghost use Rattle.pool_parts.specs.Resolution.{resolution_in};
 ghost use Rattle.proto_records.specs.Protos.{of_extension};
 ghost use Rattle.link_rules.specs.Broken.{extension_faults};
-ghost use Rattle.link_rules.specs.Extensions.{number_faults};
+ghost use Rattle.link_rules.specs.Extensions.{extendee_faults, number_faults};
 ghost use Rattle.link_rules.specs.Items.{bracketed, extension_item};
+ghost use Rattle.link_rules.specs.Messages.{message_found, message_meaning, or_missing};
 ghost use Rattle.link_rules.specs.SettingCode.{setting_in};
 ghost use Rattle.link_rules.specs.Short.{ShortFiles};
 ghost use Rattle.places.specs.Places.{shown_at};
@@ -45,22 +46,49 @@ pub fn read_extension(
         ++ extension_faults (setting_in setting.entry)
         (shown_at place.entry (of_extension extension.now)) extension.now) }
 {
-    let tag = tag::field::EXTENDEE;
-    let meaning = named_message(alloc, setting, place, tag, extension.extendee(), faults)?;
-    check_number(alloc, setting, &meaning, place, extension, faults)?;
+    let id = identity(alloc, place, extension.name())?;
+    let json_name = bracketed(alloc, place.full_name)?;
+    let extendee = read_extendee(alloc, setting, place, extension, faults)?;
     let (kind, default) = type_and_default(alloc, setting, place, extension, faults)?;
     let kind = kind.unwrap_or(KindIndex::Double);
     Ok(ExtensionDescriptorInner {
-        id: identity(alloc, place, extension.name())?,
+        id,
         parent: place.parent,
         number: item_number(extension.number()),
-        json_name: bracketed(alloc, place.full_name)?,
-        extendee: message_found(&meaning),
+        json_name,
+        extendee,
         kind,
         is_packed: is_packed(is_proto3(setting, place.file), kind, extension),
         cardinality: cardinality_of(extension.label()),
         default,
     })
+}
+
+/// The index of the message that is extended, or the largest number where none is found. That, or
+/// what the number breaks by the record of the message, is put behind the faults.
+fn read_extendee(
+    alloc: Global,
+    setting: Setting,
+    place: Place,
+    extension: &FieldDescriptorProto,
+    faults: &mut Vec<DescriptorErrorKind>,
+) -> Result<u32, AllocError>
+    requires { ShortFiles (setting_in setting).files }
+    ensures index { IfOk result (λ index. index
+        ≡ or_missing (message_found (message_meaning (setting_in setting.entry)
+        (shown_at place.entry (of_extension extension.now)) extension.now.extendee))) }
+    ensures faults { OnOk result (faults.new.items ≡ faults.old.items
+        ++ (extendee_faults (setting_in setting.entry)
+        (shown_at place.entry (of_extension extension.now)) extension.now
+        ++ number_faults (setting_in setting.entry)
+        (shown_at place.entry (of_extension extension.now)) extension.now
+        (message_meaning (setting_in setting.entry)
+        (shown_at place.entry (of_extension extension.now)) extension.now.extendee))) }
+{
+    let tag = tag::field::EXTENDEE;
+    let meaning = named_message(alloc, setting, place, tag, extension.extendee(), faults)?;
+    check_number(alloc, setting, &meaning, place, extension, faults)?;
+    Ok(message_found(&meaning))
 }
 
 /// Puts behind the faults what the number of an extension breaks, by the record of the message that

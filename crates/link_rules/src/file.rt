@@ -33,10 +33,12 @@ pub fn read_file(
         ++ import_faults (setting_in setting.entry) index file.now) }
 {
     check_imports(alloc, setting, index, file, faults)?;
+    let dependencies = imported_files(alloc, setting, file.dependency.as_slice())?;
+    let transitive_dependencies = setting.seen_by(alloc, index)?;
     Ok(FileDescriptorInner {
         syntax: syntax_of(file),
         raw: linked_file(alloc, setting, index, file)?,
-        dependencies: imported_files(alloc, setting, file.dependency.as_slice())?,
-        transitive_dependencies: setting.seen_by(alloc, index)?,
+        dependencies,
+        transitive_dependencies,
     })
 }

@@ -1,11 +1,11 @@
-ghost use Rattle.std.specs.Prelude.{◌≡◌, IfOk, map};
+ghost use Rattle.std.specs.Prelude.{◌≡◌, ◌∷◌, IfOk, map};
 ghost use Rattle.proto_types.specs.Names.{join};
 ghost use Rattle.proto_types.specs.Readers.{text_of};
 ghost use Rattle.proto_files.specs.declared.message.DescriptorProto.{out-DescriptorProto};
 ghost use Rattle.pool_parts.specs.Resolution.{resolution_in};
 ghost use Rattle.proto_records.specs.Changed.{changed_message, changed_messages, changed_fields, changed_methods, changed_service, changed_services};
 ghost use Rattle.link_rules.specs.Linked.{linking, linked, linked_field, linked_extension};
-ghost use Rattle.link_rules.specs.Linked.{linked_method, resolved, type_number, kind_number};
+ghost use Rattle.link_rules.specs.Linked.{linked_method, resolved, typed, type_number, kind_number};
 ghost use Rattle.link_rules.specs.Setting.{meaning};
 ghost use Rattle.link_rules.specs.SettingCode.{setting_in};
 
@@ -34,20 +34,9 @@ pub(crate) fn linked_file(
     for message in file.message_type.as_slice() {
         message_type.push(linked_message(alloc, setting, index, scope, message)?)?;
     }
-    Ok(FileDescriptorProto {
-        name: duplicate_given(alloc, &file.name)?,
-        package: duplicate_given(alloc, &file.package)?,
-        dependency: file.dependency.clone(alloc)?,
-        message_type,
-        enum_type: file.enum_type.clone(alloc)?,
-        service: linked_services(alloc, setting, index, scope, file.service.as_slice())?,
-        extension: linked_extensions(alloc, setting, index, scope, file.extension.as_slice())?,
-        options: duplicate_given(alloc, &file.options)?,
-        source_code_info: duplicate_given(alloc, &file.source_code_info)?,
-        public_dependency: Items::from_slice(alloc, file.public_dependency.as_slice())?,
-        weak_dependency: Items::from_slice(alloc, file.weak_dependency.as_slice())?,
-        syntax: duplicate_given(alloc, &file.syntax)?,
-    })
+    let service = linked_services(alloc, setting, index, scope, file.service.as_slice())?;
+    let extension = linked_extensions(alloc, setting, index, scope, file.extension.as_slice())?;
+    file.with_parts(alloc, message_type, service, extension)
 }
 
 /// A message in a scope, with its fields, its nested messages and its extensions.
@@ -100,19 +89,38 @@ fn linked_field(
         ≡ linked_field (setting_in setting.entry) index
         (join scope.now (text_of field.now.name)) field.now) }
 {
-    let mut linked = field.clone(alloc)?;
     if field.type_name().is_empty() {
-        return Ok(linked);
+        return field.clone(alloc);
     }
     let full_name = join(alloc, scope, field.name())?;
     let filter = ResolveNameFilter::FieldType;
     let meaning = setting.meaning(alloc, index, &full_name, filter, field.type_name())?;
-    if let ResolveNameResult::Found { name, def } = &meaning {
-        let name = name.as_str();
-        linked.type_name = Some(Text::from_string(format!(in alloc; ".{name}")?));
-        linked.type_ = type_number(field.field_type(), def.kind, field.type_);
-    }
+    typed(alloc, &meaning, field)
+}
+
+/// A field with its type name resolved, and its type as that says.
+fn typed(
+    alloc: Global,
+    meaning: &ResolveNameResult,
+    field: &FieldDescriptorProto,
+) -> Result<FieldDescriptorProto, AllocError>
+    ensures { IfOk result (λ f. f ≡ typed (resolution_in meaning.now) field.now) }
+{
+    let ResolveNameResult::Found { name, def } = meaning else {
+        return field.clone(alloc);
+    };
+    let type_name = dotted(alloc, name.as_str())?;
+    let mut linked = field.clone(alloc)?;
+    linked.type_name = Some(type_name);
+    linked.type_ = type_number(field.field_type(), def.kind, field.type_);
     Ok(linked)
+}
+
+/// A dot and a full name.
+fn dotted(alloc: Global, full_name: &str) -> Result<Text, AllocError>
+    ensures { IfOk result (λ name. name ≡ 46 ∷ full_name.now) }
+{
+    Ok(Text::from_string(format!(in alloc; ".{full_name}")?))
 }
 
 fn linked_extensions(
@@ -144,8 +152,9 @@ fn linked_extension(
         (join scope.now (text_of extension.now.name)) extension.now) }
 {
     let full_name = join(alloc, scope, extension.name())?;
+    let extendee = message_name(alloc, setting, index, &full_name, &extension.extendee)?;
     let mut linked = linked_field(alloc, setting, index, scope, extension)?;
-    linked.extendee = message_name(alloc, setting, index, &full_name, &extension.extendee)?;
+    linked.extendee = extendee;
     Ok(linked)
 }
 
@@ -236,9 +245,11 @@ fn linked_method(
         (join scope.now (text_of method.now.name)) method.now) }
 {
     let full_name = join(alloc, scope, method.name())?;
+    let input_type = message_name(alloc, setting, index, &full_name, &method.input_type)?;
+    let output_type = message_name(alloc, setting, index, &full_name, &method.output_type)?;
     let mut linked = method.clone(alloc)?;
-    linked.input_type = message_name(alloc, setting, index, &full_name, &method.input_type)?;
-    linked.output_type = message_name(alloc, setting, index, &full_name, &method.output_type)?;
+    linked.input_type = input_type;
+    linked.output_type = output_type;
     Ok(linked)
 }
 
@@ -257,10 +268,7 @@ fn message_name(
 {
     let filter = ResolveNameFilter::Message;
     match setting.meaning(alloc, index, full_name, filter, or_empty(given))? {
-        ResolveNameResult::Found { name, .. } => {
-            let name = name.as_str();
-            Ok(Some(Text::from_string(format!(in alloc; ".{name}")?)))
-        }
+        ResolveNameResult::Found { name, .. } => Ok(Some(dotted(alloc, name.as_str())?)),
         _ => duplicate_given(alloc, given),
     }
 }

@@ -48,11 +48,12 @@ pub fn read_message(
         ++ message_faults (setting_in setting.entry)
         (message_at place.entry message.now) message.now) }
 {
+    let id = identity(alloc, place, message.name())?;
     let mut maps = FieldMaps::new(alloc);
     let fields = read_fields(alloc, setting, place, message, &mut maps, faults)?;
     let oneofs = read_oneofs(alloc, place, message)?;
     Ok(MessageDescriptorInner {
-        id: identity(alloc, place, message.name())?,
+        id,
         parent: place.parent,
         extensions: Items::new(alloc),
         fields: Items::from_vec(fields),

@@ -32,6 +32,28 @@ pub(crate) fn named_message<'a>(
         place.entry.file place.entry.full_name.now ResolveNameFilter.Message written.now))) }
 {
     let filter = ResolveNameFilter::Message;
+    checked_meaning(alloc, setting, place, tag, filter, written, faults)
+}
+
+/// What the part of a declaration with a tag means; where it isn't found, that is put behind the
+/// faults.
+pub(crate) fn checked_meaning<'a>(
+    alloc: Global,
+    setting: Setting<'a>,
+    place: Place,
+    tag: i32,
+    filter: ResolveNameFilter,
+    written: &str,
+    faults: &mut Vec<DescriptorErrorKind>,
+) -> Result<ResolveNameResult<'a>, AllocError>
+    ensures meaning { IfOk result (λ r. resolution_in r
+        ≡ meaning (setting_in setting.entry) place.entry.file place.entry.full_name.now
+        filter written.now) }
+    ensures faults { OnOk result (faults.new.items ≡ faults.old.items
+        ++ listed (reference_fault (setting_in setting.entry).files written.now place.entry.file
+        (place.entry.path.now ++ tag ∷ []) (meaning (setting_in setting.entry)
+        place.entry.file place.entry.full_name.now filter written.now))) }
+{
     let meaning = setting.meaning(alloc, place.file, place.full_name, filter, written)?;
     check_found(alloc, setting, place, tag, written, &meaning, faults)?;
     Ok(meaning)

@@ -1,5 +1,7 @@
-ghost use Rattle.std.specs.Prelude.{◌≡◌, ◌++◌, IfOk, OnOk};
-ghost use Rattle.proto_types.specs.Lists.{listed};
+ghost use Rattle.std.specs.Prelude.{◌≡◌, ◌++◌, [], ◌∷◌, IfOk, OnOk};
+ghost use Rattle.proto_types.specs.declared.tag.field.TheConstants.{TYPE_NAME};
+ghost use Rattle.pool_faults.specs.declared.fault.DescriptorErrorKind.TheVariants.{MissingRequiredField};
+ghost use Rattle.pool_types.specs.Labels.{label_in};
 ghost use Rattle.proto_records.specs.Protos.{of_field};
 ghost use Rattle.pool_parts.specs.Resolution.{resolution_in};
 ghost use Rattle.default_rules.specs.MeantCode.{meant_in};
@@ -11,6 +13,7 @@ ghost use Rattle.places.specs.Places.{shown_at};
 ghost use Rattle.link_rules.specs.SettingCode.{setting_in};
 
 use crate::declared::enum_record;
+use crate::references::checked_meaning;
 use crate::setting::Setting;
 use default_rules::{MeantEnum, read_default};
 use places::Place;
@@ -62,62 +65,39 @@ fn field_type(
         ++ type_faults (setting_in setting.entry)
         (shown_at place.entry (of_field field.now)) field.now) }
 {
-    let (kind, fault) = kind_or_fault(alloc, setting, place, field)?;
-    if let Some(fault) = fault {
-        faults.push(fault)?;
+    let written = field.field_type();
+    if field.type_name().is_empty() {
+        let kind = simple_kind(written);
+        if kind.is_none() {
+            push_missing_type(alloc, setting, place, faults)?;
+        }
+        return Ok(kind);
     }
-    Ok(kind)
+    let filter = ResolveNameFilter::FieldType;
+    let tag = tag::field::TYPE_NAME;
+    let type_name = field.type_name();
+    match checked_meaning(alloc, setting, place, tag, filter, type_name, faults)? {
+        ResolveNameResult::Found { def, .. } => Ok(named_kind(written, def.kind)),
+        _ => Ok(None),
+    }
 }
 
-/// The kind of the type of a field or an extension, or the fault that it has none.
-fn kind_or_fault(
+/// Puts behind the faults that a field or an extension has neither a type nor the name of one.
+fn push_missing_type(
     alloc: Global,
     setting: Setting,
     place: Place,
-    field: &FieldDescriptorProto,
-) -> Result<(Option<KindIndex>, Option<DescriptorErrorKind>), AllocError>
-    ensures kind { IfOk result (λ t. t.0
-        ≡ field_kind (setting_in setting.entry)
-        (shown_at place.entry (of_field field.now)) field.now) }
-    ensures fault { IfOk result (λ t. listed t.1
-        ≡ type_faults (setting_in setting.entry)
-        (shown_at place.entry (of_field field.now)) field.now) }
+    faults: &mut Vec<DescriptorErrorKind>,
+) -> Result<(), AllocError>
+    ensures { OnOk result (faults.new.items ≡ faults.old.items
+        ++ MissingRequiredField (label_in (setting_in setting.entry).files place.entry.file
+        (place.entry.path.now ++ TYPE_NAME ∷ [])) ∷ []) }
 {
     let mut type_path = Vec::from_slice(alloc, place.path)?;
     type_path.push(tag::field::TYPE_NAME)?;
-    let written = field.field_type();
-    if field.type_name().is_empty() {
-        return match simple_kind(written) {
-            Some(kind) => Ok((Some(kind), None)),
-            None => {
-                let label = label_at(alloc, setting.files, place.file, &type_path)?;
-                Ok((
-                    None,
-                    Some(DescriptorErrorKind::MissingRequiredField { label }),
-                ))
-            }
-        };
-    }
-    let filter = ResolveNameFilter::FieldType;
-    let meaning = setting.meaning(
-        alloc,
-        place.file,
-        place.full_name,
-        filter,
-        field.type_name(),
-    )?;
-    let fault = meaning.fault(
-        alloc,
-        field.type_name(),
-        setting.files,
-        place.file,
-        &type_path,
-    )?;
-    let kind = match &meaning {
-        ResolveNameResult::Found { def, .. } => named_kind(written, def.kind),
-        _ => None,
-    };
-    Ok((kind, fault))
+    let label = label_at(alloc, setting.files, place.file, &type_path)?;
+    faults.push(DescriptorErrorKind::MissingRequiredField { label })?;
+    Ok(())
 }
 
 /// The default value of a field or an extension, if one is given. Where it is none of the kind of

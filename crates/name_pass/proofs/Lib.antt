@@ -1,3 +1,4 @@
 pub mod Fronts
 pub mod Packages
 pub mod Entering
+pub mod Showing

@@ -95,14 +95,34 @@ impl FileDescriptorProto {
     pub fn clone(&self, alloc: Global) -> Result<FileDescriptorProto, AllocError>
         ensures { IfOk result (λ copy. copy ≡ self.now) }
     {
+        let message_type = self.message_type.clone(alloc)?;
+        let service = self.service.clone(alloc)?;
+        let extension = self.extension.clone(alloc)?;
+        self.with_parts(alloc, message_type, service, extension)
+    }
+
+    /// An equal file, but for its messages, its services and its extensions, which are these.
+    ///
+    /// # Errors
+    /// `AllocError` where memory was refused.
+    pub fn with_parts(
+        &self,
+        alloc: Global,
+        message_type: Items<DescriptorProto>,
+        service: Items<ServiceDescriptorProto>,
+        extension: Items<FieldDescriptorProto>,
+    ) -> Result<FileDescriptorProto, AllocError>
+        ensures { IfOk result (λ f. f ≡ record self.now
+            { message_type = message_type; service = service; extension = extension }) }
+    {
         Ok(FileDescriptorProto {
             name: duplicate_given(alloc, &self.name)?,
             package: duplicate_given(alloc, &self.package)?,
             dependency: self.dependency.clone(alloc)?,
-            message_type: self.message_type.clone(alloc)?,
+            message_type,
             enum_type: self.enum_type.clone(alloc)?,
-            service: self.service.clone(alloc)?,
-            extension: self.extension.clone(alloc)?,
+            service,
+            extension,
             options: duplicate_given(alloc, &self.options)?,
             source_code_info: duplicate_given(alloc, &self.source_code_info)?,
             public_dependency: Items::from_slice(alloc, self.public_dependency.as_slice())?,

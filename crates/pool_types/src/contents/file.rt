@@ -24,11 +24,13 @@ impl FileDescriptorInner {
     pub fn clone(&self, alloc: Global) -> Result<FileDescriptorInner, AllocError>
         ensures { IfOk result (λ copy. copy ≡ self.now) }
     {
+        let dependencies = Items::from_slice(alloc, self.dependencies.as_slice())?;
+        let transitive_dependencies = self.transitive_dependencies.clone()?;
         Ok(FileDescriptorInner {
             syntax: self.syntax,
             raw: self.raw.clone(alloc)?,
-            dependencies: Items::from_slice(alloc, self.dependencies.as_slice())?,
-            transitive_dependencies: self.transitive_dependencies.clone()?,
+            dependencies,
+            transitive_dependencies,
         })
     }
 }

@@ -7,6 +7,7 @@ use Rattle.proto_records.specs.Changed.{changed_fields, changed_message, changed
 use Rattle.link_rules.specs.Linked.{linking, linked_extension}
 use Rattle.link_rules.specs.SettingCode.{setting_in}
 use Rattle.places.proofs.Each.{map-next}
+use Rattle.link_rules.proofs.Made.{if-ok}
 use Rattle.link_rules.proofs.linked.linked_file.Goals as goal
 
 -- one more message is linked
@@ -21,30 +22,17 @@ loop-message-preserved c =
     ∙ sym (map-next (λ n. changed_message change c.args.index (join scope (text_of (out-DescriptorProto n).name)) n)
     c.as_slice-message-items.result.now c.loop-message.message-index m c.loop-message-test.true c.message-item.is)
 
--- each part is linked or copied
+-- the messages, the services and the extensions are linked, and the rest stays
 pub returns : goal.returns
 returns c =
     let f = c.args.file.now in
     let s = setting_in c.args.setting in
     let scope = text_of f.«package» in
-    let messages : c.message_type-2.inside.inner.items ≡ changed_messages (linking s) c.args.index scope f.message_type =
-    c.message_type-2.view_is ∙ c.loop-message.invariant
+    let messages =
+    c.loop-message.invariant
     ∙ ap (changed_messages (linking s) c.args.index scope) (take_all c.loop-message.message-index c.as_slice-message-items.result.now c.loop-message-test.false ∙ c.as_slice-message-items.ensures) in
-    let services : c.in_ok-linked_services.field-0 ≡ changed_services (linking s) c.args.index scope f.service =
-    c.in_ok-linked_services.ensures ∙ (λ i. changed_services (linking s) c.args.index (c.package-scope.ensures i) (c.as_slice.ensures i)) in
-    let extensions : c.in_ok-linked_extensions.field-0 ≡ changed_fields (linked_extension s) c.args.index scope f.extension =
-    c.in_ok-linked_extensions.ensures ∙ (λ i. changed_fields (linked_extension s) c.args.index (c.package-scope.ensures i) (c.as_slice-2.ensures i)) in
-    λ i. record {
-      name = c.in_ok-duplicate_given.ensures i;
-      «package» = c.in_ok-duplicate_given-2.ensures i;
-      dependency = c.in_ok-clone.ensures i;
-      message_type = messages i;
-      enum_type = c.in_ok-clone-2.ensures i;
-      service = services i;
-      extension = extensions i;
-      options = c.in_ok-duplicate_given-3.ensures i;
-      source_code_info = c.in_ok-duplicate_given-4.ensures i;
-      public_dependency = (c.in_ok-from_slice.ensures ∙ c.as_slice-3.ensures) i;
-      weak_dependency = (c.in_ok-from_slice-2.ensures ∙ c.as_slice-4.ensures) i;
-      syntax = c.in_ok-duplicate_given-5.ensures i;
-    }
+    let services : c.in_ok-service.service ≡ changed_services (linking s) c.args.index scope f.service =
+    c.in_ok-service.ensures ∙ (λ i. changed_services (linking s) c.args.index (c.package-scope.ensures i) (c.as_slice.ensures i)) in
+    let extensions : c.in_ok-extension.extension ≡ changed_fields (linked_extension s) c.args.index scope f.extension =
+    c.in_ok-extension.ensures ∙ (λ i. changed_fields (linked_extension s) c.args.index (c.package-scope.ensures i) (c.as_slice-2.ensures i)) in
+    if-ok c.with_parts.result (λ i. record f { message_type = messages i; service = services i; extension = extensions i }) c.with_parts.ensures

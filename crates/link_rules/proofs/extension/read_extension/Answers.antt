@@ -1,0 +1,48 @@
+use Rattle.std.proofs.Common.{rules, FitsSigned, w32, to_z-of_z, ◌++◌, unwrap_or, ap, ◌∙◌}
+use Rattle.pool_kinds.specs.declared.kinds.KindIndex.TheVariants.{Double}
+use Rattle.proto_records.specs.Protos.{of_extension}
+use Rattle.proto_records.specs.Shown.{Shown}
+use Rattle.field_rules.specs.Encoding.{is_packed}
+use Rattle.field_rules.specs.Numbers.{item_number}
+use Rattle.places.specs.Identities.{named_at}
+use Rattle.places.specs.Places.{shown_at}
+use Rattle.pool_parts.specs.Kinds.{cardinality_of}
+use Rattle.link_rules.specs.Broken.{Faults}
+use Rattle.link_rules.specs.Defaults.{field_default_faults}
+use Rattle.link_rules.specs.Extensions.{extendee_faults, number_faults}
+use Rattle.link_rules.specs.FieldTypes.{type_faults}
+use Rattle.link_rules.specs.Messages.{message_meaning}
+use Rattle.link_rules.specs.SettingCode.{setting_in}
+use Rattle.link_rules.proofs.Made.{behind}
+use Rattle.link_rules.proofs.extension.read_extension.Goals as goal
+
+-- each part of the item is as it is read
+pub returns-clause-item : goal.returns-clause-item
+returns-clause-item c =
+    let x = c.args.extension.now in
+    let place = c.args.place in
+    let kind_is = c.unwrap_or-kind.ensures ∙ ap (λ k. unwrap_or k Double) c.in_ok-kind.ensures.kind in
+    let number : FitsSigned w32 c.number.result = search rules in
+    λ i. record {
+      id = (c.in_ok-id.ensures.id ∙ ap (named_at place.file place.path.now place.full_name.now) c.name.ensures) i;
+      parent = place.parent;
+      number = (c.item_number.ensures ∙ ap item_number (to_z-of_z number ∙ c.number.ensures)) i;
+      json_name = c.in_ok-json_name.ensures i;
+      extendee = c.in_ok-extendee.ensures.index i;
+      kind = kind_is i;
+      is_packed = (c.is_packed.ensures ∙ (λ j. is_packed (c.is_proto3.ensures j) (kind_is j) x)) i;
+      cardinality = (c.cardinality_of.ensures ∙ ap cardinality_of c.label.ensures) i;
+      default = c.in_ok-kind.ensures.default i;
+    }
+
+-- its extendee and its number are judged first, and then its type and its default value
+pub returns-clause-faults : goal.returns-clause-faults
+returns-clause-faults c =
+    let s = setting_in c.args.setting in
+    let x = c.args.extension.now in
+    let d : Shown = shown_at c.args.place (of_extension x) in
+    let extendee : Faults = extendee_faults s d x ++ number_faults s d x (message_meaning s d x.extendee) in
+    let typing : Faults = type_faults s d x in
+    let default : Faults = field_default_faults s d x in
+    c.in_ok-kind.ensures.faults ∙ ap (λ fs. fs ++ (typing ++ default)) c.in_ok-extendee.ensures.faults
+    ∙ behind c.args.faults.now.items extendee typing default

@@ -1,0 +1,23 @@
+use Rattle.std.proofs.Common.{List}
+use Rattle.pool_faults.specs.declared.fault.DescriptorErrorKind.{DescriptorErrorKind}
+use Rattle.proto_files.specs.declared.file.FileDescriptorProto.{FileDescriptorProto}
+use Rattle.proto_records.proofs.Listings.{on-ok}
+use Rattle.proto_records.specs.Protos.{of_message}
+use Rattle.proto_records.specs.Shown.{Shown, shown_as}
+use Rattle.syntax_rules.specs.CamelCase.{message_own_faults}
+use Rattle.name_pass.specs.Entered.{own_entry}
+use Rattle.name_pass.specs.Seen.{names_seen}
+use Rattle.name_pass.specs.Steps.{entered}
+use Rattle.name_pass.proofs.Showing.{shown, with-own}
+use Rattle.name_pass.proofs.names.NameVisitorVisitor.visit_message.Goals as goal
+
+-- its name is entered, and what it breaks by itself is told
+pub returns-clause-ok : goal.returns-clause-ok
+returns-clause-ok c =
+    let d : Shown = shown_as c.args.path.now c.args.full_name.now c.args.file c.args._parent c.args.index (of_message c.args.message.now) in
+    let old = names_seen c.args.self.now in
+    let here = names_seen c.enter_own.new.self in
+    let faults = c.check_camel_case_names.new.faults.items in
+    let own : List FileDescriptorProto → List DescriptorErrorKind = λ files. message_own_faults files c.args.file c.args.path.now c.args.message.now in
+    let is = with-own own here (entered old (own_entry d)) c.deref.result.now faults c.in_ok-enter_own.ensures.ok c.deref.ensures.value in
+    on-ok c.check_camel_case_names.result (λ told. shown old (record here { faults = faults }) d c.enter_own.ensures.kept c.requires (is told)) c.check_camel_case_names.ensures
