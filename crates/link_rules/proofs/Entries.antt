@@ -1,5 +1,5 @@
 -- Entries of lists, by their positions.
-use Rattle.std.proofs.Common.{◌≡◌, ℕ, zero, suc, ◌+◌, ◌<◌, List, [], ◌∷◌, ◌++◌, length, get_or, refl, ap, ◌∙◌, arith, append_assoc}
+use Rattle.std.proofs.Common.{◌≡◌, ℕ, zero, suc, ◌+◌, ◌<◌, List, [], ◌∷◌, ◌++◌, length, get_or, refl, ap, sym, ◌∙◌, arith, append_assoc}
 use Rattle.places.specs.Each.{each}
 
 -- an entry is itself, whatever stands in for one that isn't there
@@ -23,3 +23,7 @@ made-at make xs i d below = let here : 0 + i ≡ i = omega arith in each-found m
 
 pub regroup : {X : Type 0} (a b c d : List X) → ((a ++ b) ++ c) ++ d ≡ a ++ (b ++ (c ++ d))
 regroup a b c d = append_assoc (a ++ b) c d ∙ append_assoc a b (c ++ d)
+
+-- two lists come behind a list that came behind an old one
+pub behind : {X : Type 0} (old a b c : List X) → (old ++ a) ++ (b ++ c) ≡ old ++ (a ++ b ++ c)
+behind old a b c = append_assoc old a (b ++ c) ∙ ap (λ xs. old ++ xs) (sym (append_assoc a b c))

@@ -1,5 +1,5 @@
 -- What holds of what is made, where it is made.
-use Rattle.std.proofs.Common.{◌≡◌, ◌++◌, List, Result, Ok, Err, IfOk, OnOk, ap, sym, ◌∙◌, append_assoc}
+use Rattle.std.proofs.Common.{◌≡◌, Result, Ok, Err, IfOk, OnOk, ◌∙◌}
 
 -- what is made is another, where that is equal
 pub if-ok : {X E : Type 0} (r : Result X E) {a b : X} → a ≡ b → IfOk r (λ x. x ≡ a) → IfOk r (λ x. x ≡ b)
@@ -15,7 +15,3 @@ where-ok Q (Err e) p follows = tt
 pub known-ok : {X E P : Type 0} (r : Result X E) → P → OnOk r P
 known-ok (Ok x) p = p
 known-ok (Err e) p = tt
-
--- two lists come behind a list that came behind an old one
-pub behind : {X : Type 0} (old a b c : List X) → (old ++ a) ++ (b ++ c) ≡ old ++ (a ++ b ++ c)
-behind old a b c = append_assoc old a (b ++ c) ∙ ap (λ xs. old ++ xs) (sym (append_assoc a b c))

@@ -1,7 +1,7 @@
 ghost use Rattle.std.specs.Prelude.{◌≡◌, ◌++◌, [], ◌∷◌, IfOk, OnOk};
 ghost use Rattle.proto_types.specs.declared.tag.field.TheConstants.{TYPE_NAME};
 ghost use Rattle.pool_faults.specs.declared.fault.DescriptorErrorKind.TheVariants.{MissingRequiredField};
-ghost use Rattle.pool_types.specs.Labels.{label_in};
+ghost use Rattle.places.specs.Labels.{part_label};
 ghost use Rattle.proto_records.specs.Protos.{of_field};
 ghost use Rattle.pool_parts.specs.Resolution.{resolution_in};
 ghost use Rattle.default_rules.specs.MeantCode.{meant_in};
@@ -16,10 +16,10 @@ use crate::declared::enum_record;
 use crate::references::checked_meaning;
 use crate::setting::Setting;
 use default_rules::{MeantEnum, read_default};
-use places::Place;
+use places::{Place, part_label};
 use pool_faults::DescriptorErrorKind;
 use pool_kinds::{DefaultValue, KindIndex};
-use pool_parts::{ResolveNameFilter, ResolveNameResult, label_at, named_kind, simple_kind};
+use pool_parts::{ResolveNameFilter, ResolveNameResult, named_kind, simple_kind};
 use proto_types::{FieldDescriptorProto, tag};
 use std::alloc::{AllocError, Global};
 
@@ -66,7 +66,8 @@ fn field_type(
         (shown_at place.entry (of_field field.now)) field.now) }
 {
     let written = field.field_type();
-    if field.type_name().is_empty() {
+    let type_name = field.type_name();
+    if type_name.is_empty() {
         let kind = simple_kind(written);
         if kind.is_none() {
             push_missing_type(alloc, setting, place, faults)?;
@@ -75,7 +76,6 @@ fn field_type(
     }
     let filter = ResolveNameFilter::FieldType;
     let tag = tag::field::TYPE_NAME;
-    let type_name = field.type_name();
     match checked_meaning(alloc, setting, place, tag, filter, type_name, faults)? {
         ResolveNameResult::Found { def, .. } => Ok(named_kind(written, def.kind)),
         _ => Ok(None),
@@ -90,12 +90,10 @@ fn push_missing_type(
     faults: &mut Vec<DescriptorErrorKind>,
 ) -> Result<(), AllocError>
     ensures { OnOk result (faults.new.items ≡ faults.old.items
-        ++ MissingRequiredField (label_in (setting_in setting.entry).files place.entry.file
-        (place.entry.path.now ++ TYPE_NAME ∷ [])) ∷ []) }
+        ++ MissingRequiredField (part_label (setting_in setting.entry).files place.entry.file
+        place.entry.path.now TYPE_NAME) ∷ []) }
 {
-    let mut type_path = Vec::from_slice(alloc, place.path)?;
-    type_path.push(tag::field::TYPE_NAME)?;
-    let label = label_at(alloc, setting.files, place.file, &type_path)?;
+    let label = part_label(alloc, setting.files, place, tag::field::TYPE_NAME)?;
     faults.push(DescriptorErrorKind::MissingRequiredField { label })?;
     Ok(())
 }

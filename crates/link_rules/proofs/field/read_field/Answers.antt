@@ -11,7 +11,8 @@ use Rattle.link_rules.specs.Defaults.{field_default_faults}
 use Rattle.link_rules.specs.FieldTypes.{type_faults}
 use Rattle.link_rules.specs.Items.{item_of_kind}
 use Rattle.link_rules.specs.SettingCode.{setting_in}
-use Rattle.link_rules.proofs.Made.{behind, if-ok, known-ok}
+use Rattle.link_rules.proofs.Entries.{behind}
+use Rattle.link_rules.proofs.Made.{if-ok, known-ok}
 use Rattle.link_rules.proofs.field.read_field.Goals as goal
 
 -- the item is that of the kind and of the default value that were read
