@@ -5,7 +5,7 @@ use Rattle.pool_types.specs.Contents.{Contents, files_of}
 use Rattle.pool_types.specs.declared.contents.definition.Definition.{Definition}
 use Rattle.name_tables.specs.Entries.{Entry}
 use Rattle.name_tables.proofs.Entries.{with-absent, with-present}
-use Rattle.proto_records.proofs.Listings.{on-ok}
+use Rattle.std.proofs.lemmas.Result.{on_ok_weaker}
 use Rattle.proto_types.specs.Lists.{only_if}
 use Rattle.pool_faults.specs.declared.fault.DescriptorErrorKind.TheVariants.{DuplicateFileName}
 use Rattle.pool_faults.specs.declared.fault.DescriptorErrorKind.{DescriptorErrorKind}
@@ -16,7 +16,7 @@ module _ (seen : NamesSeen) (e : Entry) where
   -- which no name before it is
   pub new-name : {U E : Type 0} (r : Result U E) (q : Contents) → finite.get seen.pool.names e.0 ≡ None
       → OnOk r (q ≡ record seen.pool { names = finite.insert seen.pool.names e.0 e.1 }) → OnOk r (record seen { pool = q } ≡ entered seen e)
-  new-name r q absent inserted = on-ok r (λ is i. record seen {
+  new-name r q absent inserted = on_ok_weaker r (λ is i. record seen {
     pool = (is ∙ (λ j. record seen.pool { names = sym (with-absent seen.pool.names e.0 e.1 absent) j })) i;
     faults = (sym (append-nil seen.faults) ∙ ap (λ found. seen.faults ++ holder_faults (files_of seen.pool) found e) (sym absent)) i;
   }) inserted
@@ -44,7 +44,7 @@ module _ (seen : NamesSeen) (name : List ℕ) (index : ℕ) where
       → OnOk r (q ≡ record seen.pool { file_names = finite.insert seen.pool.file_names name index }) → OnOk r (record seen { pool = q } ≡ file_named seen name index)
   new-file-name r q none inserted =
       let absent = found-none (finite.get seen.pool.file_names name) none in
-      on-ok r (λ is i. record {
+      on_ok_weaker r (λ is i. record {
         pool = (is ∙ (λ j. record seen.pool { file_names = sym (with-absent seen.pool.file_names name index absent) j })) i;
         faults = (sym (append-nil seen.faults) ∙ ap (λ found. seen.faults ++ only_if (is_some found) (DuplicateFileName name)) (sym absent)) i;
       }) inserted

@@ -2,7 +2,7 @@ use Rattle.std.proofs.Common.{ℤ, List, Some, ◌++◌, map, ap, sym, ◌∙◌
 use Rattle.std.specs.Option.{option_copied}
 use Rattle.proto_types.specs.Lists.{listed}
 use Rattle.name_tables.specs.Entries.{Entry}
-use Rattle.proto_records.proofs.Listings.{on-ok}
+use Rattle.std.proofs.lemmas.Result.{on_ok_weaker}
 use Rattle.name_pass.specs.FirstPass.{holder_faults}
 use Rattle.pool_inner.specs.Held.{contents_in}
 use Rattle.name_pass.specs.Steps.{entered}
@@ -18,7 +18,7 @@ returns-in_default-clause-ok c =
     let at : List ℤ → Entry = λ path. (c.args.name.now, record { file = c.args.file; path = path; kind = c.args.kind }) in
     let absent = sym c.get.ensures ∙ ap option_copied c.in_default.is in
     let ok = new-name seen (at c.in_ok-from_slice.field-0) c.insert_name.result (contents_in c.insert_name.new.self.inner) absent c.insert_name.ensures.ok in
-    on-ok c.insert_name.result (λ is. is ∙ ap (λ path. entered seen (at path)) c.in_ok-from_slice.ensures) ok
+    on_ok_weaker c.insert_name.result (λ is. is ∙ ap (λ path. entered seen (at path)) c.in_ok-from_slice.ensures) ok
 
 -- the name has a holder
 pub returns-clause-ok : goal.returns-clause-ok

@@ -1,4 +1,4 @@
-use Rattle.proto_records.proofs.Listings.{on-ok}
+use Rattle.std.proofs.lemmas.Result.{on_ok_weaker}
 use Rattle.proto_records.specs.Protos.{of_extension}
 use Rattle.proto_records.specs.Shown.{Shown, shown_as}
 use Rattle.name_pass.specs.Seen.{names_seen}
@@ -9,4 +9,4 @@ use Rattle.name_pass.proofs.names.NameVisitorVisitor.visit_extension.Goals as go
 pub returns-clause-ok : goal.returns-clause-ok
 returns-clause-ok c =
     let d : Shown = shown_as c.args.path.now c.args.full_name.now c.args.file c.args._parent c.args.index (of_extension c.args._extension.now) in
-    on-ok c.enter_own.result (shown (names_seen c.args.self.now) (names_seen c.enter_own.new.self) d c.enter_own.ensures.kept c.requires) c.enter_own.ensures.ok
+    on_ok_weaker c.enter_own.result (shown (names_seen c.args.self.now) (names_seen c.enter_own.new.self) d c.enter_own.ensures.kept c.requires) c.enter_own.ensures.ok

@@ -1,7 +1,7 @@
 use Rattle.std.proofs.Common.{List}
 use Rattle.pool_faults.specs.declared.fault.DescriptorErrorKind.{DescriptorErrorKind}
 use Rattle.proto_files.specs.declared.file.FileDescriptorProto.{FileDescriptorProto}
-use Rattle.proto_records.proofs.Listings.{on-ok}
+use Rattle.std.proofs.lemmas.Result.{on_ok_weaker}
 use Rattle.proto_records.specs.Protos.{of_message}
 use Rattle.proto_records.specs.Shown.{Shown, shown_as}
 use Rattle.syntax_rules.specs.CamelCase.{message_own_faults}
@@ -20,4 +20,4 @@ returns-clause-ok c =
     let faults = c.check_camel_case_names.new.faults.items in
     let own : List FileDescriptorProto → List DescriptorErrorKind = λ files. message_own_faults files c.args.file c.args.path.now c.args.message.now in
     let is = with-own own here (entered old (own_entry d)) c.deref.result.now faults c.in_ok-enter_own.ensures.ok c.deref.ensures.value in
-    on-ok c.check_camel_case_names.result (λ told. shown old (record here { faults = faults }) d c.enter_own.ensures.kept c.requires (is told)) c.check_camel_case_names.ensures
+    on_ok_weaker c.check_camel_case_names.result (λ told. shown old (record here { faults = faults }) d c.enter_own.ensures.kept c.requires (is told)) c.check_camel_case_names.ensures
