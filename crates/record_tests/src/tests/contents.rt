@@ -35,18 +35,26 @@ fn definition(alloc: Global, kind: DefinitionKind) -> Result<Definition, AllocEr
 /// Default values of all kinds, those beside each other as alike as may be.
 fn defaults(alloc: Global) -> Result<Items<DefaultValue>, AllocError> {
     let mut defaults = Items::new(alloc);
+    push_numbers(&mut defaults)?;
+    push_texts(alloc, &mut defaults)?;
+    Ok(defaults)
+}
+
+fn push_numbers(defaults: &mut Items<DefaultValue>) -> Result<(), AllocError> {
     defaults.push(DefaultValue::I32(5))?;
     defaults.push(DefaultValue::EnumNumber(5))?;
     defaults.push(DefaultValue::I64(5))?;
     defaults.push(DefaultValue::U32(5))?;
     defaults.push(DefaultValue::U64(5))?;
     defaults.push(DefaultValue::Bool(false))?;
-    defaults.push(DefaultValue::Bool(true))?;
+    defaults.push(DefaultValue::Bool(true))
+}
+
+fn push_texts(alloc: Global, defaults: &mut Items<DefaultValue>) -> Result<(), AllocError> {
     defaults.push(DefaultValue::String(Text::from_str(alloc, "5")?))?;
     defaults.push(DefaultValue::FloatText(Text::from_str(alloc, "5")?))?;
     defaults.push(DefaultValue::Bytes(Items::from_slice(alloc, b"5")?))?;
-    defaults.push(DefaultValue::Bytes(Items::new(alloc)))?;
-    Ok(defaults)
+    defaults.push(DefaultValue::Bytes(Items::new(alloc)))
 }
 
 fn field(alloc: Global, default: &DefaultValue) -> Result<FieldDescriptorInner, AllocError> {
@@ -77,40 +85,65 @@ fn names(alloc: Global, name: &str) -> Result<TextMap, AllocError> {
     Ok(names)
 }
 
-/// A message that these extensions extend.
-fn message(alloc: Global, extensions: &[u32]) -> Result<MessageDescriptorInner, AllocError> {
+/// A list of the field with this default value alone.
+fn fields(
+    alloc: Global,
+    default: &DefaultValue,
+) -> Result<Items<FieldDescriptorInner>, AllocError> {
     let mut fields = Items::new(alloc);
-    fields.push(field(alloc, &DefaultValue::EnumNumber(5))?)?;
+    fields.push(field(alloc, default)?)?;
+    Ok(fields)
+}
+
+/// A list of a oneof of the first field.
+fn oneofs(alloc: Global) -> Result<Items<OneofDescriptorInner>, AllocError> {
     let mut oneofs = Items::new(alloc);
+    let fields = Items::from_slice(alloc, &[0])?;
     oneofs.push(OneofDescriptorInner {
         id: identity(alloc)?,
-        fields: Items::from_slice(alloc, &[0])?,
-    })?;
-    Ok(MessageDescriptorInner {
-        id: identity(alloc)?,
-        parent: Some(2),
-        extensions: Items::from_slice(alloc, extensions)?,
         fields,
-        field_numbers: numbers(alloc, 7)?,
-        field_names: names(alloc, "f")?,
-        field_json_names: names(alloc, "g")?,
+    })?;
+    Ok(oneofs)
+}
+
+/// A message that these extensions extend.
+fn message(alloc: Global, extensions: &[u32]) -> Result<MessageDescriptorInner, AllocError> {
+    let extensions = Items::from_slice(alloc, extensions)?;
+    let (field_numbers, field_names) = (numbers(alloc, 7)?, names(alloc, "f")?);
+    let (field_json_names, id) = (names(alloc, "g")?, identity(alloc)?);
+    let oneofs = oneofs(alloc)?;
+    Ok(MessageDescriptorInner {
+        id,
+        parent: Some(2),
+        extensions,
+        fields: fields(alloc, &DefaultValue::EnumNumber(5))?,
+        field_numbers,
+        field_names,
+        field_json_names,
         oneofs,
     })
 }
 
-/// An enum with a value of this number.
-fn enumeration(alloc: Global, number: i32) -> Result<EnumDescriptorInner, AllocError> {
+/// A list of a value of this number.
+fn values(alloc: Global, number: i32) -> Result<Items<EnumValueDescriptorInner>, AllocError> {
     let mut values = Items::new(alloc);
     values.push(EnumValueDescriptorInner {
         id: identity(alloc)?,
         number,
     })?;
+    Ok(values)
+}
+
+/// An enum with a value of this number.
+fn enumeration(alloc: Global, number: i32) -> Result<EnumDescriptorInner, AllocError> {
+    let value_numbers = Items::from_slice(alloc, &[(number, 0)])?;
+    let (value_names, id) = (names(alloc, "V")?, identity(alloc)?);
     Ok(EnumDescriptorInner {
-        id: identity(alloc)?,
+        id,
         parent: None,
-        values,
-        value_numbers: Items::from_slice(alloc, &[(number, 0)])?,
-        value_names: names(alloc, "V")?,
+        values: values(alloc, number)?,
+        value_numbers,
+        value_names,
         allow_alias: true,
     })
 }

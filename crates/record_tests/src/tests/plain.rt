@@ -19,18 +19,27 @@ fn words_of_copy(alloc: Global, given: &Option<Text>) -> Result<String, AllocErr
     }
 }
 
-fn check_words(rt: &impl Abort, alloc: Global) -> Result<(), AllocError> {
-    assert!(rt; Text::new(alloc).as_str() == "");
-    let given = Some(text_of_string(alloc, "given")?);
-    assert!(rt; words_of_copy(alloc, &given)?.as_str() == "given");
-    assert!(rt; words_of_copy(alloc, &None)?.as_str() == "none");
+fn given(alloc: Global) -> Result<Option<Text>, AllocError> {
+    Ok(Some(text_of_string(alloc, "given")?))
+}
+
+fn check_words(
+    rt: &impl Abort,
+    alloc: Global,
+    given: &Option<Text>,
+    wanted: &str,
+) -> Result<(), AllocError> {
+    let words = words_of_copy(alloc, given)?;
+    assert!(rt; words.as_str() == wanted, "{words}");
     Ok(())
 }
 
 #[test]
 fn texts_are_what_they_are_given(rt: HostRuntime) -> Result<(), Fail> {
     let alloc = rt.alloc();
-    check_words(&rt, alloc)?;
+    assert!(rt; Text::new(alloc).as_str() == "");
+    check_words(&rt, alloc, &given(alloc)?, "given")?;
+    check_words(&rt, alloc, &None, "none")?;
     check_made(
         &rt,
         alloc,

@@ -259,23 +259,33 @@ fn records_read_as_they_are(rt: HostRuntime) -> Result<(), Fail> {
     Ok(())
 }
 
-/// What a field reads as of which is said what no statement says.
-fn completed_field(alloc: Global) -> Result<String, AllocError> {
+/// A field of which is said what no statement says.
+fn completed_field(alloc: Global) -> Result<FieldDescriptorProto, AllocError> {
     let mut field = FieldDescriptorProto::empty(alloc);
     field.complete(alloc)?;
+    Ok(field)
+}
+
+fn told_field(alloc: Global, field: &FieldDescriptorProto) -> Result<String, AllocError> {
     let mut told = String::new(alloc);
-    tell_field(&mut told, &field)?;
+    tell_field(&mut told, field)?;
     Ok(told)
 }
 
 #[test]
 fn a_field_reads_as_it_is_by_hand(rt: HostRuntime) -> Result<(), Fail> {
-    let told = completed_field(rt.alloc())?;
+    let told = told_field(rt.alloc(), &completed_field(rt.alloc())?)?;
     assert!(rt;
         told.as_str() == "'' 0 Optional Double '' '.N' '' true\n",
         "{told}"
     );
-    assert!(rt; FileDescriptorProto::empty(rt.alloc()).name.is_none());
+    Ok(())
+}
+
+#[test]
+fn a_file_has_no_name_and_an_enum_no_aliases_by_themselves(rt: HostRuntime) -> Result<(), Fail> {
+    let file = FileDescriptorProto::empty(rt.alloc());
+    assert!(rt; file.name.is_none());
     assert!(rt; !EnumOptions { allow_alias: None }.allow_alias());
     Ok(())
 }
