@@ -26,8 +26,8 @@ use Rattle.proto_records.proofs.Walks.{IsInside, within-all}
 use Rattle.places.specs.Each.{each}
 use Rattle.enum_rules.specs.Items.{enum_item}
 use Rattle.link_rules.specs.Items.{file_item, message_item, service_item, extension_item}
-use Rattle.link_rules.specs.Linked.{linking, linked_field, typed}
-use Rattle.link_rules.specs.Setting.{Setting, meaning}
+use Rattle.linked_records.specs.Linked.{linking, linked_field, typed}
+use Rattle.linked_records.specs.Setting.{Setting, meaning}
 use Rattle.name_pass.specs.Entered.{entries_of, entries, file_entries_of, file_entries}
 use Rattle.growing_pool.proofs.Each.{each-map}
 use Rattle.descriptor_pool.specs.Behind.{with_items}

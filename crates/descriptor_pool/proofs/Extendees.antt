@@ -28,7 +28,7 @@ use Rattle.link_rules.specs.Extensions.{extendee_faults, number_faults}
 use Rattle.link_rules.specs.FieldTypes.{type_faults}
 use Rattle.link_rules.specs.Items.{extension_item, message_item}
 use Rattle.link_rules.specs.Messages.{message_found, message_meaning, or_missing}
-use Rattle.link_rules.specs.Setting.{Setting, seen_by}
+use Rattle.linked_records.specs.Setting.{Setting, seen_by}
 use Rattle.growing_pool.specs.Extended.{extended_by, extending}
 use Rattle.growing_pool.proofs.Each.{each-append, each-same, each-twice, length-each}
 use Rattle.proto_files.specs.declared.file.FileDescriptorProto.{FileDescriptorProto}

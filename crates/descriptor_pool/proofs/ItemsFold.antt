@@ -11,7 +11,7 @@ use Rattle.proto_records.specs.Shown.{Shown, of_kind}
 use Rattle.link_rules.specs.Broken.{owner_faults, second_pass}
 use Rattle.enum_rules.specs.Items.{enum_item}
 use Rattle.link_rules.specs.Items.{file_item, message_item, service_item, extension_item}
-use Rattle.link_rules.specs.Setting.{Setting}
+use Rattle.linked_records.specs.Setting.{Setting}
 use Rattle.link_rules.proofs.Owners.{owners-tell}
 use Rattle.reference_pass.specs.Steps.{ReferencesSeen, referred, references_progress}
 use Rattle.descriptor_pool.specs.Behind.{with_items}

@@ -28,9 +28,9 @@ use Rattle.link_rules.specs.Broken.{Faults, Owner, field_faults, own_faults, mes
 use Rattle.link_rules.specs.Defaults.{field_default_faults}
 use Rattle.link_rules.specs.Extensions.{extendee_faults, number_faults}
 use Rattle.link_rules.specs.FieldTypes.{type_meaning, type_faults}
-use Rattle.link_rules.specs.Linked.{resolved, typed, linking}
+use Rattle.linked_records.specs.Linked.{resolved, typed, linking}
 use Rattle.link_rules.specs.Messages.{message_meaning}
-use Rattle.link_rules.specs.Setting.{Setting, seen_by}
+use Rattle.linked_records.specs.Setting.{Setting, seen_by}
 use Rattle.std.specs.BTreeSet.{contains_by}
 use Rattle.std.specs.Ordering.{nat_cmp}
 use Rattle.record_references.specs.References.{Reference, reference_in, references_in}

@@ -14,7 +14,7 @@ use Rattle.link_rules.specs.Broken.{Faults, second_pass}
 use Rattle.places.specs.Each.{each}
 use Rattle.enum_rules.specs.Items.{enum_item}
 use Rattle.link_rules.specs.Items.{file_item, message_item, service_item, extension_item}
-use Rattle.link_rules.specs.Setting.{Setting}
+use Rattle.linked_records.specs.Setting.{Setting}
 use Rattle.name_pass.specs.Entered.{entries, file_entries}
 use Rattle.growing_pool.specs.Extended.{with_extended}
 use Rattle.name_pass.specs.FirstPass.{first_pass}

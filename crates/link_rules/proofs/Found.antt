@@ -7,7 +7,7 @@ use Rattle.proto_records.specs.Counts.{no_counts, lists_fit}
 use Rattle.proto_records.specs.Protos.{Proto, of_file, of_message, of_field, of_oneof, of_service, of_method, of_enum, of_value, of_extension, as_message}
 use Rattle.proto_records.proofs.Reached.{found-fits}
 use Rattle.link_rules.specs.Definitions.{around_name, message_record, record_of}
-use Rattle.link_rules.specs.Setting.{Setting}
+use Rattle.linked_records.specs.Setting.{Setting}
 use Rattle.link_rules.specs.Short.{ShortFiles}
 
 -- a record that is read as a message is one

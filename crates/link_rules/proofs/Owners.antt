@@ -28,7 +28,7 @@ use Rattle.proto_records.specs.Shown.{Shown, Surrounding, shown, file_shown, row
 use Rattle.enum_rules.specs.Values.{value_faults, values_faults}
 use Rattle.link_rules.specs.Broken.{Faults, Owner, last, field_faults, faults_of_fields, method_faults, faults_of_methods, second_faults, second_pass, owner_faults}
 use Rattle.places.specs.Each.{each}
-use Rattle.link_rules.specs.Setting.{Setting}
+use Rattle.linked_records.specs.Setting.{Setting}
 
 -- of two lists, each element with those before it
 after-append : {X Y : Type 0} (f : List X → X → List Y) (before xs ys : List X)

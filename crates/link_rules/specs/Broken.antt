@@ -28,7 +28,7 @@ use Rattle.link_rules.specs.FieldTypes.{type_faults}
 use Rattle.link_rules.specs.Imports.{import_faults}
 use Rattle.link_rules.specs.Messages.{method_at, message_meaning}
 use Rattle.places.specs.Places.{field_at}
-use Rattle.link_rules.specs.Setting.{Setting}
+use Rattle.linked_records.specs.Setting.{Setting}
 
 abbrev pub Faults : Type 0
 Faults = List DescriptorErrorKind

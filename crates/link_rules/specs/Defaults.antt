@@ -13,7 +13,7 @@ use Rattle.pool_parts.specs.Resolution.{Resolution}
 use Rattle.default_rules.specs.Defaults.{MeantEnum, default_value, default_faults}
 use Rattle.link_rules.specs.Definitions.{found_as, enum_record}
 use Rattle.link_rules.specs.FieldTypes.{field_kind, type_meaning}
-use Rattle.link_rules.specs.Setting.{Setting}
+use Rattle.linked_records.specs.Setting.{Setting}
 
 -- no enum
 abbrev pub no_enum_meant : MeantEnum

@@ -9,7 +9,7 @@ use Rattle.pool_types.specs.declared.contents.definition.Definition.{Definition}
 use Rattle.proto_records.specs.Leads.{leads}
 use Rattle.proto_records.specs.Protos.{Proto, as_message, as_enum}
 use Rattle.pool_parts.specs.Resolution.{Resolution, found}
-use Rattle.link_rules.specs.Setting.{Setting}
+use Rattle.linked_records.specs.Setting.{Setting}
 
 -- the full name that was found, and its definition
 abbrev pub found_as : Resolution → Option (List ℕ × Definition)

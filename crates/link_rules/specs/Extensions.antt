@@ -17,7 +17,7 @@ use Rattle.pool_parts.specs.Resolution.{Resolution}
 use Rattle.number_rules.specs.Numbers.{extension_number_faults}
 use Rattle.link_rules.specs.Definitions.{found_as, around_name, message_record}
 use Rattle.link_rules.specs.Messages.{message_meaning}
-use Rattle.link_rules.specs.Setting.{Setting}
+use Rattle.linked_records.specs.Setting.{Setting}
 
 -- of the extendee, where it isn't found
 abbrev pub extendee_faults : Setting → Shown → FieldDescriptorProto → List DescriptorErrorKind

@@ -15,7 +15,7 @@ use Rattle.pool_parts.specs.declared.filter.ResolveNameFilter.TheVariants.{Field
 use Rattle.pool_parts.specs.Kinds.{simple_kind, named_kind}
 use Rattle.pool_parts.specs.References.{reference_fault}
 use Rattle.pool_parts.specs.Resolution.{Resolution, kind_found}
-use Rattle.link_rules.specs.Setting.{Setting, meaning}
+use Rattle.linked_records.specs.Setting.{Setting, meaning}
 
 -- what its type name means
 abbrev pub type_meaning : Setting → Shown → FieldDescriptorProto → Resolution

@@ -10,7 +10,7 @@ use Rattle.pool_types.specs.Labels.{label_in}
 use Rattle.pool_faults.specs.declared.fault.DescriptorErrorKind.{DescriptorErrorKind}
 use Rattle.pool_faults.specs.declared.fault.DescriptorErrorKind.TheVariants.{FileNotFound, InvalidImportIndex}
 use Rattle.places.specs.Each.{each}
-use Rattle.link_rules.specs.Setting.{Setting}
+use Rattle.linked_records.specs.Setting.{Setting}
 
 -- of an import of the file with an index, by its place, that names no file
 abbrev pub missing_file : Setting → ℕ → ℕ → List ℕ → List DescriptorErrorKind

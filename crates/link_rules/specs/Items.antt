@@ -33,10 +33,10 @@ use Rattle.field_rules.specs.Oneofs.{members, oneof_of}
 use Rattle.places.specs.Each.{each}
 use Rattle.places.specs.Identities.{identity}
 use Rattle.link_rules.specs.FieldTypes.{field_kind}
-use Rattle.link_rules.specs.Linked.{linked}
+use Rattle.linked_records.specs.Linked.{linked}
 use Rattle.link_rules.specs.Messages.{message_found, or_missing, method_at, message_meaning}
 use Rattle.places.specs.Places.{field_at, part_inside}
-use Rattle.link_rules.specs.Setting.{Setting, seen_by}
+use Rattle.linked_records.specs.Setting.{Setting, seen_by}
 
 -- the file with an index: its syntax, its linked record, the files that it imports, in order, and those that it sees
 abbrev pub file_item : Setting → ℕ → FileDescriptorProto → FileDescriptorInner

@@ -1,12 +1,9 @@
-pub mod Setting
-pub mod SettingCode
 pub mod FieldTypes
 pub mod Messages
 pub mod Short
 pub mod Definitions
 pub mod Extensions
 pub mod Defaults
-pub mod Linked
 pub mod Imports
 pub mod Items
 pub mod Broken

@@ -13,7 +13,7 @@ use Rattle.proto_records.specs.Shown.{Shown, Surrounding}
 use Rattle.pool_parts.specs.declared.filter.ResolveNameFilter.TheVariants.{Message}
 use Rattle.pool_parts.specs.Resolution.{Resolution, kind_found}
 use Rattle.places.specs.Places.{part_inside}
-use Rattle.link_rules.specs.Setting.{Setting, meaning}
+use Rattle.linked_records.specs.Setting.{Setting, meaning}
 
 -- the index of a message
 abbrev pub message_index : DefinitionKind → Option ℕ

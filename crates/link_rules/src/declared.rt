@@ -1,9 +1,9 @@
 ghost use Rattle.std.specs.Prelude.{◌≡◌};
 ghost use Rattle.std.specs.Option.{option_copied};
 ghost use Rattle.link_rules.specs.Definitions.{around_name, enum_record, message_record};
-ghost use Rattle.link_rules.specs.SettingCode.{setting_in};
+ghost use Rattle.linked_records.specs.SettingCode.{setting_in};
 
-use crate::setting::Setting;
+use linked_records::Setting;
 use pool_types::Definition;
 use proto_files::DescriptorProto;
 use proto_records::{find_enum_proto, find_message_proto};

@@ -5,16 +5,16 @@ ghost use Rattle.link_rules.specs.Broken.{extension_faults};
 ghost use Rattle.link_rules.specs.Extensions.{extendee_faults, number_faults};
 ghost use Rattle.link_rules.specs.Items.{bracketed, extension_item};
 ghost use Rattle.link_rules.specs.Messages.{message_found, message_meaning, or_missing};
-ghost use Rattle.link_rules.specs.SettingCode.{setting_in};
+ghost use Rattle.linked_records.specs.SettingCode.{setting_in};
 ghost use Rattle.link_rules.specs.Short.{ShortFiles};
 ghost use Rattle.places.specs.Places.{shown_at};
 
 use crate::declared::{around_name, message_record};
 use crate::field::is_proto3;
 use crate::references::{message_found, named_message};
-use crate::setting::Setting;
 use crate::types::type_and_default;
 use field_rules::{is_packed, item_number};
+use linked_records::Setting;
 use number_rules::check_extension_number;
 use places::{Place, identity};
 use plain_values::Text;

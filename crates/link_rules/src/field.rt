@@ -8,12 +8,12 @@ ghost use Rattle.link_rules.specs.Broken.{own_faults};
 ghost use Rattle.link_rules.specs.Items.{field_item, item_of_kind};
 ghost use Rattle.places.specs.NamesBegin.{BeginsAtBoundary};
 ghost use Rattle.places.specs.Places.{message_at, shown_at};
-ghost use Rattle.link_rules.specs.SettingCode.{setting_in};
+ghost use Rattle.linked_records.specs.SettingCode.{setting_in};
 ghost use Rattle.syntax_rules.specs.Syntaxes.{is_proto3, syntax_at};
 
-use crate::setting::Setting;
 use crate::types::type_and_default;
 use field_rules::{check_oneof_index, is_packed, item_number, oneof_of, supports_presence};
+use linked_records::Setting;
 use number_rules::check_field_number;
 use places::{Place, identity};
 use plain_values::duplicate_given;

@@ -3,11 +3,10 @@ ghost use Rattle.proto_records.specs.Counts.{lists_fit};
 ghost use Rattle.proto_records.specs.Protos.{of_file};
 ghost use Rattle.link_rules.specs.Imports.{import_faults};
 ghost use Rattle.link_rules.specs.Items.{file_item};
-ghost use Rattle.link_rules.specs.SettingCode.{setting_in};
+ghost use Rattle.linked_records.specs.SettingCode.{setting_in};
 
 use crate::imports::{check_imports, imported_files};
-use crate::linked::linked_file;
-use crate::setting::Setting;
+use linked_records::{Setting, linked_file};
 use pool_faults::DescriptorErrorKind;
 use pool_types::FileDescriptorInner;
 use proto_files::FileDescriptorProto;

@@ -5,9 +5,9 @@ ghost use Rattle.proto_types.specs.Lists.{at};
 ghost use Rattle.proto_records.specs.Counts.{fits_list, lists_fit};
 ghost use Rattle.proto_records.specs.Protos.{of_file};
 ghost use Rattle.link_rules.specs.Imports.{missing_file, missing_files, index_fault, import_faults};
-ghost use Rattle.link_rules.specs.SettingCode.{setting_in};
+ghost use Rattle.linked_records.specs.SettingCode.{setting_in};
 
-use crate::setting::Setting;
+use linked_records::Setting;
 use plain_values::{Items, Text};
 use pool_faults::DescriptorErrorKind;
 use pool_parts::label_at;

@@ -11,11 +11,11 @@ ghost use Rattle.link_rules.specs.Items.{field_item, field_items, message_item, 
 ghost use Rattle.places.specs.NamesBegin.{BeginsAtBoundary};
 ghost use Rattle.link_rules.specs.NamesBegin.{MessageNamesBegin};
 ghost use Rattle.places.specs.Places.{field_at, inside_of, message_at};
-ghost use Rattle.link_rules.specs.SettingCode.{setting_in};
+ghost use Rattle.linked_records.specs.SettingCode.{setting_in};
 
 use crate::field::read_field;
-use crate::setting::Setting;
 use field_rules::{FieldMaps, members};
+use linked_records::Setting;
 use places::{Place, identity, identity_inside};
 use plain_values::Items;
 use pool_faults::DescriptorErrorKind;

@@ -3,10 +3,10 @@ ghost use Rattle.proto_types.specs.Lists.{listed};
 ghost use Rattle.pool_parts.specs.References.{reference_fault};
 ghost use Rattle.pool_parts.specs.Resolution.{resolution_in};
 ghost use Rattle.link_rules.specs.Messages.{message_found, message_index, or_missing};
-ghost use Rattle.link_rules.specs.Setting.{meaning};
-ghost use Rattle.link_rules.specs.SettingCode.{setting_in};
+ghost use Rattle.linked_records.specs.Setting.{meaning};
+ghost use Rattle.linked_records.specs.SettingCode.{setting_in};
 
-use crate::setting::Setting;
+use linked_records::Setting;
 use places::Place;
 use pool_faults::DescriptorErrorKind;
 use pool_parts::{ResolveNameFilter, ResolveNameResult};

@@ -7,11 +7,11 @@ ghost use Rattle.link_rules.specs.Broken.{faults_of_methods, method_faults, serv
 ghost use Rattle.link_rules.specs.Items.{service_item, method_item, method_items};
 ghost use Rattle.link_rules.specs.Messages.{message_found, message_index, or_missing};
 ghost use Rattle.places.specs.Places.{inside_of, service_at, shown_at};
-ghost use Rattle.link_rules.specs.Setting.{meaning};
-ghost use Rattle.link_rules.specs.SettingCode.{setting_in};
+ghost use Rattle.linked_records.specs.Setting.{meaning};
+ghost use Rattle.linked_records.specs.SettingCode.{setting_in};
 
 use crate::references::{message_found, named_message};
-use crate::setting::Setting;
+use linked_records::Setting;
 use places::{Place, identity};
 use plain_values::Items;
 use pool_faults::DescriptorErrorKind;

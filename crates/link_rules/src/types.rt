@@ -10,12 +10,12 @@ ghost use Rattle.link_rules.specs.Defaults.{default_by, default_faults_by, enum_
 ghost use Rattle.link_rules.specs.Defaults.{field_default_faults, no_enum_meant, type_enum};
 ghost use Rattle.link_rules.specs.FieldTypes.{field_kind, type_faults};
 ghost use Rattle.places.specs.Places.{shown_at};
-ghost use Rattle.link_rules.specs.SettingCode.{setting_in};
+ghost use Rattle.linked_records.specs.SettingCode.{setting_in};
 
 use crate::declared::enum_record;
 use crate::references::checked_meaning;
-use crate::setting::Setting;
 use default_rules::{MeantEnum, read_default};
+use linked_records::Setting;
 use places::{Place, part_label};
 use pool_faults::DescriptorErrorKind;
 use pool_kinds::{DefaultValue, KindIndex};

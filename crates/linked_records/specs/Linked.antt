@@ -14,7 +14,7 @@ use Rattle.proto_types.specs.Readers.{text_of, type_of}
 use Rattle.proto_records.specs.Changed.{Changes, changed_file}
 use Rattle.pool_parts.specs.declared.filter.ResolveNameFilter.TheVariants.{Message, FieldType as AnyType}
 use Rattle.pool_parts.specs.Resolution.{Resolution, name_found, kind_found}
-use Rattle.link_rules.specs.Setting.{Setting, meaning}
+use Rattle.linked_records.specs.Setting.{Setting, meaning}
 
 -- a reference, or as it was where nothing was found
 abbrev pub resolved : Resolution → Option (List ℕ) → Option (List ℕ)

@@ -1,7 +1,7 @@
 -- What declarations are read against, as the program has it.
 use Rattle.std.specs.Prelude.{map}
-use Rattle.link_rules.specs.declared.setting.Setting.{Setting as Borrowed}
-use Rattle.link_rules.specs.Setting.{Setting}
+use Rattle.linked_records.specs.declared.setting.Setting.{Setting as Borrowed}
+use Rattle.linked_records.specs.Setting.{Setting}
 
 abbrev pub setting_in : Borrowed → Setting
 setting_in s = record {

@@ -4,12 +4,12 @@ ghost use Rattle.proto_types.specs.Readers.{text_of};
 ghost use Rattle.proto_files.specs.declared.message.DescriptorProto.{out-DescriptorProto};
 ghost use Rattle.pool_parts.specs.Resolution.{resolution_in};
 ghost use Rattle.proto_records.specs.Changed.{changed_message, changed_messages, changed_fields, changed_methods, changed_service, changed_services};
-ghost use Rattle.link_rules.specs.Linked.{linking, linked, linked_field, linked_extension};
-ghost use Rattle.link_rules.specs.Linked.{linked_method, resolved, typed, type_number, kind_number};
-ghost use Rattle.link_rules.specs.Setting.{meaning};
-ghost use Rattle.link_rules.specs.SettingCode.{setting_in};
+ghost use Rattle.linked_records.specs.Linked.{linking, linked, linked_field, linked_extension};
+ghost use Rattle.linked_records.specs.Linked.{linked_method, resolved, typed, type_number, kind_number};
+ghost use Rattle.linked_records.specs.Setting.{meaning};
+ghost use Rattle.linked_records.specs.SettingCode.{setting_in};
 
-use crate::setting::Setting;
+use crate::Setting;
 use plain_values::{Items, Text, duplicate_given};
 use pool_parts::{ResolveNameFilter, ResolveNameResult};
 use pool_types::DefinitionKind;
@@ -21,7 +21,10 @@ use std::alloc::{AllocError, Global};
 
 /// The record of the file with an index, with each type name, each extendee, and each input and
 /// output of a method, that is found as a dot and a full name.
-pub(crate) fn linked_file(
+///
+/// # Errors
+/// `AllocError` where memory was refused.
+pub fn linked_file(
     alloc: Global,
     setting: Setting,
     index: u32,

@@ -1,8 +1,8 @@
 ghost use Rattle.std.specs.Prelude.{IfOk, ◌≡◌, slice_get};
 ghost use Rattle.std.specs.Option.{option_copied};
-ghost use Rattle.link_rules.specs.Setting.{seen_by};
+ghost use Rattle.linked_records.specs.Setting.{seen_by};
 ghost use Rattle.pool_parts.specs.Resolution.{resolution_in};
-ghost use Rattle.link_rules.specs.Setting.{meaning};
+ghost use Rattle.linked_records.specs.Setting.{meaning};
 
 use name_tables::{FileNames, HashedNames};
 use pool_parts::{ResolveNameFilter, ResolveNameResult, resolve_name};
@@ -20,7 +20,7 @@ pub struct Setting<'a> {
 }
 
 impl<'a> Setting<'a> {
-    ghost use Rattle.link_rules.specs.SettingCode.{setting_in};
+    ghost use Rattle.linked_records.specs.SettingCode.{setting_in};
 
     /// What a reference means that is written in a scope of a file.
     ///
@@ -43,7 +43,10 @@ impl<'a> Setting<'a> {
     }
 
     /// The indexes of the files that the file with an index sees.
-    pub(crate) fn seen_by(self, alloc: Global, file: u32) -> Result<BTreeSet<u32>, AllocError>
+    ///
+    /// # Errors
+    /// `AllocError` where memory was refused.
+    pub fn seen_by(self, alloc: Global, file: u32) -> Result<BTreeSet<u32>, AllocError>
         ensures { IfOk result (λ seen. seen ≡ seen_by (setting_in self.entry) file) }
     {
         match self.visible(file) {

@@ -19,9 +19,9 @@ use Rattle.link_rules.specs.Defaults.{default_by, enum_found, field_default, fie
 use Rattle.link_rules.specs.Definitions.{message_record}
 use Rattle.link_rules.specs.Extensions.{number_faults}
 use Rattle.link_rules.specs.FieldTypes.{field_kind, type_faults, type_meaning}
-use Rattle.link_rules.specs.Linked.{linked_field, resolved, typed}
+use Rattle.linked_records.specs.Linked.{linked_field, resolved, typed}
 use Rattle.link_rules.specs.Messages.{message_found, message_meaning}
-use Rattle.link_rules.specs.Setting.{Setting}
+use Rattle.linked_records.specs.Setting.{Setting}
 use Rattle.linking_laws.specs.Laws.{IsDefaulted, IsMessageName, IsTyped, Stands, unchanged}
 use Rattle.linking_laws.proofs.Carries.{Carries, CarriesMethods, NamedThere}
 use Rattle.linking_laws.proofs.Defaulted.{no-default-fault}

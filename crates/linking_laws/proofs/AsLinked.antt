@@ -10,9 +10,9 @@ use Rattle.pool_parts.specs.References.{reference_fault}
 use Rattle.pool_parts.specs.Resolution.{Resolution, found, invalid_type, not_imported, shadowed, not_found}
 use Rattle.link_rules.specs.Definitions.{message_record}
 use Rattle.link_rules.specs.Extensions.{number_faults}
-use Rattle.link_rules.specs.Linked.{linking, resolved}
+use Rattle.linked_records.specs.Linked.{linking, resolved}
 use Rattle.link_rules.specs.Messages.{message_meaning}
-use Rattle.link_rules.specs.Setting.{Setting}
+use Rattle.linked_records.specs.Setting.{Setting}
 use Rattle.linking_laws.specs.Laws.{Grows, Rereads}
 use Rattle.linking_laws.proofs.Carries.{Carries, CarriesMethods}
 use Rattle.linking_laws.proofs.Defaulted.{defaulted-again}

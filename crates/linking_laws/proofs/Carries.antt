@@ -12,9 +12,9 @@ use Rattle.pool_parts.specs.References.{reference_fault}
 use Rattle.link_rules.specs.Defaults.{field_default, field_default_faults}
 use Rattle.link_rules.specs.Extensions.{extendee_faults, number_faults}
 use Rattle.link_rules.specs.FieldTypes.{field_kind, type_faults}
-use Rattle.link_rules.specs.Linked.{linked_field, resolved}
+use Rattle.linked_records.specs.Linked.{linked_field, resolved}
 use Rattle.link_rules.specs.Messages.{message_found, message_meaning}
-use Rattle.link_rules.specs.Setting.{Setting, seen_by}
+use Rattle.linked_records.specs.Setting.{Setting, seen_by}
 use Rattle.linking_laws.specs.Laws.{IsDefaulted, IsMessageName, IsTyped}
 use Rattle.linking_laws.proofs.Kept.{retyped}
 

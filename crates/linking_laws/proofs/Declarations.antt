@@ -5,7 +5,7 @@ use Rattle.proto_records.specs.Changed.{Changes, changed}
 use Rattle.proto_records.specs.Protos.{Proto, of_file, of_message, of_field, of_oneof, of_service, of_method, of_enum, of_value, of_extension}
 use Rattle.proto_records.specs.Shown.{Shown}
 use Rattle.link_rules.specs.Broken.{owner_faults}
-use Rattle.link_rules.specs.Setting.{Setting}
+use Rattle.linked_records.specs.Setting.{Setting}
 use Rattle.linking_laws.specs.Laws.{ImportsMean}
 use Rattle.linking_laws.proofs.Carries.{Carries}
 use Rattle.linking_laws.proofs.Enums.{values-still}

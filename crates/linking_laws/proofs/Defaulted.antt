@@ -18,8 +18,8 @@ use Rattle.pool_parts.specs.Resolution.{Resolution, found, invalid_type, not_imp
 use Rattle.default_rules.specs.Defaults.{MeantEnum, default_fault, default_faults, value_of}
 use Rattle.link_rules.specs.Defaults.{default_by, enum_found, field_default, field_default_faults, no_enum_meant, type_enum}
 use Rattle.link_rules.specs.FieldTypes.{field_kind, type_faults, type_meaning}
-use Rattle.link_rules.specs.Linked.{linked_field, typed}
-use Rattle.link_rules.specs.Setting.{Setting}
+use Rattle.linked_records.specs.Linked.{linked_field, typed}
+use Rattle.linked_records.specs.Setting.{Setting}
 use Rattle.linking_laws.specs.Laws.{EnumsStay, Grows, IsDefaulted}
 use Rattle.linking_laws.proofs.Looked.{IsLooked, looked-named, resolution-looked}
 use Rattle.linking_laws.proofs.Typed.{found-again, no-fault, seen, typed-again}

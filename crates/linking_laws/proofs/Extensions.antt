@@ -17,9 +17,9 @@ use Rattle.link_rules.specs.Defaults.{field_default_faults}
 use Rattle.link_rules.specs.Extensions.{extendee_faults, number_faults}
 use Rattle.link_rules.specs.FieldTypes.{type_faults}
 use Rattle.link_rules.specs.Items.{extension_item}
-use Rattle.link_rules.specs.Linked.{linked_extension, typed}
+use Rattle.linked_records.specs.Linked.{linked_extension, typed}
 use Rattle.link_rules.specs.Messages.{message_meaning, or_missing}
-use Rattle.link_rules.specs.Setting.{Setting, meaning}
+use Rattle.linked_records.specs.Setting.{Setting, meaning}
 use Rattle.linking_laws.specs.Laws.{IsExtension, extension_at_place}
 use Rattle.linking_laws.proofs.Carries.{Carries}
 use Rattle.linking_laws.proofs.Numbered.{both-empty}

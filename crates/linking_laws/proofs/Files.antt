@@ -12,7 +12,7 @@ use Rattle.places.specs.Each.{each}
 use Rattle.link_rules.specs.Broken.{Faults, owner_faults}
 use Rattle.link_rules.specs.Imports.{index_fault, missing_file, missing_files}
 use Rattle.link_rules.specs.Items.{file_item}
-use Rattle.link_rules.specs.Setting.{Setting}
+use Rattle.linked_records.specs.Setting.{Setting}
 use Rattle.linking_laws.specs.Laws.{IsFile, NamesStay}
 use Rattle.linking_laws.proofs.Carries.{Carries}
 use Rattle.linking_laws.proofs.Imports.{imports-still}

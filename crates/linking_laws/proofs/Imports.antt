@@ -8,7 +8,7 @@ use Rattle.pool_faults.specs.declared.fault.DescriptorErrorKind.{DescriptorError
 use Rattle.places.specs.Each.{each}
 use Rattle.link_rules.specs.Broken.{Faults}
 use Rattle.link_rules.specs.Imports.{import_faults, index_fault, missing_file, missing_files}
-use Rattle.link_rules.specs.Setting.{Setting}
+use Rattle.linked_records.specs.Setting.{Setting}
 use Rattle.linking_laws.specs.Laws.{NamesStay}
 use Rattle.linking_laws.proofs.Numbered.{both-empty}
 

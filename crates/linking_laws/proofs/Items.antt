@@ -29,7 +29,7 @@ use Rattle.link_rules.specs.Broken.{Faults, field_faults}
 use Rattle.link_rules.specs.Defaults.{field_default, field_default_faults}
 use Rattle.link_rules.specs.FieldTypes.{field_kind, type_faults}
 use Rattle.link_rules.specs.Items.{field_item, item_of_kind, oneof_items}
-use Rattle.link_rules.specs.Setting.{Setting}
+use Rattle.linked_records.specs.Setting.{Setting}
 use Rattle.linking_laws.proofs.Carries.{Carries}
 use Rattle.linking_laws.proofs.Fields.{carried, kept, renamed, breaks-nothing}
 use Rattle.linking_laws.proofs.Numbered.{both-empty}

@@ -4,8 +4,8 @@ use Rattle.proto_types.specs.Readers.{text_of}
 use Rattle.proto_types.specs.declared.records.field.FieldDescriptorProto.{FieldDescriptorProto}
 use Rattle.pool_parts.specs.declared.filter.ResolveNameFilter.TheVariants.{FieldType as AnyType}
 use Rattle.pool_parts.specs.Resolution.{Resolution}
-use Rattle.link_rules.specs.Linked.{linked_field, typed}
-use Rattle.link_rules.specs.Setting.{Setting, meaning}
+use Rattle.linked_records.specs.Linked.{linked_field, typed}
+use Rattle.linked_records.specs.Setting.{Setting, meaning}
 
 -- a field with the type name and the type of another
 abbrev pub retyped : FieldDescriptorProto → FieldDescriptorProto → FieldDescriptorProto

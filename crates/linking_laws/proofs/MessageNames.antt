@@ -6,9 +6,9 @@ use Rattle.proto_records.specs.Shown.{Shown}
 use Rattle.pool_parts.specs.declared.filter.ResolveNameFilter.TheVariants.{Message}
 use Rattle.pool_parts.specs.References.{reference_fault}
 use Rattle.pool_parts.specs.Resolution.{Resolution, found, invalid_type, not_imported, shadowed, not_found}
-use Rattle.link_rules.specs.Linked.{resolved}
+use Rattle.linked_records.specs.Linked.{resolved}
 use Rattle.link_rules.specs.Messages.{message_found, message_meaning}
-use Rattle.link_rules.specs.Setting.{Setting}
+use Rattle.linked_records.specs.Setting.{Setting}
 use Rattle.linking_laws.specs.Laws.{Grows, IsMessageName}
 use Rattle.linking_laws.proofs.Typed.{found-again}
 

@@ -16,7 +16,7 @@ use Rattle.places.specs.Each.{each}
 use Rattle.number_rules.specs.Numbers.{by_extendee, extension_number_faults, extension_range_faults, field_number_faults, invalid_faults, outside_faults, reserved_fault, reserved_faults}
 use Rattle.number_rules.specs.Ranges.{extends, reserves}
 use Rattle.link_rules.specs.Extensions.{defined_at}
-use Rattle.link_rules.specs.Setting.{Setting}
+use Rattle.linked_records.specs.Setting.{Setting}
 use Rattle.linking_laws.specs.Laws.{RangesStay, SameRanges}
 use Rattle.linking_laws.proofs.Typed.{no-fault}
 

@@ -13,9 +13,9 @@ use Rattle.pool_parts.specs.References.{reference_fault}
 use Rattle.places.specs.Each.{each}
 use Rattle.link_rules.specs.Broken.{Faults, method_faults, service_faults}
 use Rattle.link_rules.specs.Items.{method_item, service_item}
-use Rattle.link_rules.specs.Linked.{linked_method, linking}
+use Rattle.linked_records.specs.Linked.{linked_method, linking}
 use Rattle.link_rules.specs.Messages.{message_meaning, method_at, or_missing}
-use Rattle.link_rules.specs.Setting.{Setting}
+use Rattle.linked_records.specs.Setting.{Setting}
 use Rattle.linking_laws.specs.Laws.{IsService, service_at_place}
 use Rattle.linking_laws.proofs.Carries.{CarriesMethods}
 use Rattle.linking_laws.proofs.Numbered.{both-empty}

@@ -19,8 +19,8 @@ use Rattle.proto_records.specs.Shown.{Shown, Surrounding, inside, row, shown}
 use Rattle.places.specs.Each.{each}
 use Rattle.places.specs.Places.{field_at}
 use Rattle.link_rules.specs.Broken.{Faults, field_faults, owner_faults}
-use Rattle.link_rules.specs.Linked.{linked, linked_extension, linked_field, linking}
-use Rattle.link_rules.specs.Setting.{Setting}
+use Rattle.linked_records.specs.Linked.{linked, linked_extension, linked_field, linking}
+use Rattle.linked_records.specs.Setting.{Setting}
 use Rattle.linking_laws.proofs.Carries.{Carries}
 use Rattle.linking_laws.proofs.Extensions.{extension-carried}
 use Rattle.linking_laws.proofs.Fields.{carried, kept, breaks-nothing}

@@ -22,8 +22,8 @@ use Rattle.pool_parts.specs.Kinds.{is_match, named_kind, simple_kind}
 use Rattle.pool_parts.specs.References.{reference_fault}
 use Rattle.pool_parts.specs.Resolution.{Resolution, found, invalid_type, not_imported, shadowed, not_found, kind_found, look}
 use Rattle.link_rules.specs.FieldTypes.{field_kind, type_faults, type_meaning}
-use Rattle.link_rules.specs.Linked.{linked_field, type_number, typed}
-use Rattle.link_rules.specs.Setting.{Setting, meaning, seen_by}
+use Rattle.linked_records.specs.Linked.{linked_field, type_number, typed}
+use Rattle.linked_records.specs.Setting.{Setting, meaning, seen_by}
 use Rattle.linking_laws.specs.Laws.{Grows, IsTyped}
 use Rattle.linking_laws.proofs.Looked.{IsLooked, look-again, resolution-looked}
 

@@ -37,9 +37,9 @@ use Rattle.enum_rules.specs.Values.{values_faults}
 use Rattle.link_rules.specs.Broken.{extension_faults, message_faults, owner_faults, service_faults}
 use Rattle.link_rules.specs.Imports.{import_faults}
 use Rattle.link_rules.specs.Items.{extension_item, file_item, message_item, service_item}
-use Rattle.link_rules.specs.Linked.{linked, linked_extension, linked_field, linking, resolved}
+use Rattle.linked_records.specs.Linked.{linked, linked_extension, linked_field, linking, resolved}
 use Rattle.link_rules.specs.Messages.{message_found, message_meaning}
-use Rattle.link_rules.specs.Setting.{Setting, meaning, seen_by}
+use Rattle.linked_records.specs.Setting.{Setting, meaning, seen_by}
 
 -- each name that means a file means one of them
 abbrev pub NamesFiles : List FileDescriptorProto → (List ℕ → Option ℕ) → Type 0

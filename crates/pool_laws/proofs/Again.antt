@@ -28,8 +28,8 @@ use Rattle.places.specs.Each.{each}
 use Rattle.link_rules.specs.Broken.{Faults, owner_faults}
 use Rattle.link_rules.specs.Definitions.{around_name, message_record, record_of}
 use Rattle.link_rules.specs.Imports.{import_faults, index_fault, missing_file, missing_files}
-use Rattle.link_rules.specs.Linked.{linking}
-use Rattle.link_rules.specs.Setting.{Setting, seen_by}
+use Rattle.linked_records.specs.Linked.{linking}
+use Rattle.linked_records.specs.Setting.{Setting, seen_by}
 use Rattle.linking_laws.specs.Laws.{ImportsStay, NamesFiles, RangesStay, Rereads}
 use Rattle.linking_laws.proofs.Numbered.{both-empty}
 use Rattle.linking_laws.proofs.SeenStays.{seen-stays}

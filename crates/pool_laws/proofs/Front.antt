@@ -31,7 +31,7 @@ use Rattle.pool_parts.specs.Resolution.{found, resolution}
 use Rattle.syntax_rules.specs.Syntaxes.{syntax_of}
 use Rattle.link_rules.specs.Broken.{owner_faults}
 use Rattle.link_rules.specs.Definitions.{around_name, message_record, record_of}
-use Rattle.link_rules.specs.Setting.{Setting, meaning, seen_by}
+use Rattle.linked_records.specs.Setting.{Setting, meaning, seen_by}
 use Rattle.link_rules.proofs.Owners.{owners-tell}
 use Rattle.linking_laws.specs.Laws.{ImportsMean, NamesStay, RangesStay, ReferenceStands, Stands, unchanged}
 use Rattle.linking_laws.proofs.AsGiven.{given-carried}

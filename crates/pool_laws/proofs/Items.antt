@@ -14,7 +14,7 @@ use Rattle.enum_rules.specs.Items.{enum_item}
 use Rattle.places.specs.Each.{each}
 use Rattle.link_rules.specs.Broken.{owner_faults}
 use Rattle.link_rules.specs.Items.{extension_item, file_item, message_item, service_item}
-use Rattle.link_rules.specs.Setting.{Setting}
+use Rattle.linked_records.specs.Setting.{Setting}
 use Rattle.linking_laws.specs.Laws.{NamesStay}
 use Rattle.linking_laws.proofs.Carries.{Carries}
 use Rattle.linking_laws.proofs.Extensions.{extension-carried}

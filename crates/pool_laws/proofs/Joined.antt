@@ -15,7 +15,7 @@ use Rattle.proto_records.specs.Shown.{Shown, of_kind}
 use Rattle.enum_rules.specs.Items.{enum_item}
 use Rattle.places.specs.Each.{each}
 use Rattle.link_rules.specs.Items.{extension_item, file_item, message_item, service_item}
-use Rattle.link_rules.specs.Setting.{Setting}
+use Rattle.linked_records.specs.Setting.{Setting}
 use Rattle.linking_laws.specs.Laws.{unchanged}
 use Rattle.linking_laws.proofs.AsGiven.{given-carried}
 use Rattle.linking_laws.proofs.Carries.{Carries}

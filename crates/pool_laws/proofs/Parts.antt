@@ -23,7 +23,7 @@ use Rattle.proto_records.specs.Shown.{Shown}
 use Rattle.proto_records.proofs.Appended.{declarations-append}
 use Rattle.places.specs.Each.{each}
 use Rattle.link_rules.specs.Broken.{owner_faults}
-use Rattle.link_rules.specs.Setting.{Setting, seen_by}
+use Rattle.linked_records.specs.Setting.{Setting, seen_by}
 use Rattle.link_rules.proofs.Owners.{owners-tell}
 use Rattle.linking_laws.specs.Laws.{ImportsStay, NamesFiles}
 use Rattle.linking_laws.proofs.Numbered.{both-empty}

@@ -10,8 +10,8 @@ use Rattle.proto_records.specs.Changed.{Changes, KeepNames, changed}
 use Rattle.proto_records.specs.Shown.{Shown}
 use Rattle.syntax_rules.specs.Syntaxes.{syntax_at}
 use Rattle.link_rules.specs.Broken.{owner_faults}
-use Rattle.link_rules.specs.Linked.{linking}
-use Rattle.link_rules.specs.Setting.{Setting}
+use Rattle.linked_records.specs.Linked.{linking}
+use Rattle.linked_records.specs.Setting.{Setting}
 use Rattle.linking_laws.specs.Laws.{ImportsMean, Rereads}
 use Rattle.linking_laws.proofs.AsLinked.{linked-carried}
 use Rattle.linking_laws.proofs.Carries.{Carries}

@@ -29,8 +29,8 @@ use Rattle.enum_rules.specs.Items.{enum_item}
 use Rattle.places.specs.Each.{each}
 use Rattle.link_rules.specs.Broken.{owner_faults, second_pass}
 use Rattle.link_rules.specs.Items.{extension_item, file_item, message_item, service_item}
-use Rattle.link_rules.specs.Linked.{linking}
-use Rattle.link_rules.specs.Setting.{Setting}
+use Rattle.linked_records.specs.Linked.{linking}
+use Rattle.linked_records.specs.Setting.{Setting}
 use Rattle.link_rules.proofs.Owners.{owners-tell}
 use Rattle.linking_laws.specs.Laws.{Rereads}
 use Rattle.linking_laws.proofs.AsLinked.{linked-carried}

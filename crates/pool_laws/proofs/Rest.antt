@@ -26,8 +26,8 @@ use Rattle.syntax_rules.specs.Syntaxes.{syntax_at, syntax_of}
 use Rattle.link_rules.specs.Broken.{owner_faults}
 use Rattle.link_rules.specs.Definitions.{around_name, record_of}
 use Rattle.link_rules.specs.Items.{file_item}
-use Rattle.link_rules.specs.Linked.{linking}
-use Rattle.link_rules.specs.Setting.{Setting, seen_by}
+use Rattle.linked_records.specs.Linked.{linking}
+use Rattle.linked_records.specs.Setting.{Setting, seen_by}
 use Rattle.link_rules.proofs.Owners.{owners-tell}
 use Rattle.linking_laws.specs.Laws.{Stands, unchanged}
 use Rattle.linking_laws.proofs.AsGiven.{given-carried}

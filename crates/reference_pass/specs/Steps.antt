@@ -8,7 +8,7 @@ use Rattle.proto_records.specs.Shown.{Shown}
 use Rattle.link_rules.specs.Broken.{Faults, owner_faults}
 use Rattle.enum_rules.specs.Items.{enum_item}
 use Rattle.link_rules.specs.Items.{file_item, message_item, service_item, extension_item}
-use Rattle.link_rules.specs.Setting.{Setting}
+use Rattle.linked_records.specs.Setting.{Setting}
 
 -- what references are read against, the pool with the items that came, the files' items, and the faults so far
 pub record ReferencesSeen : Type 0 where

@@ -4,7 +4,7 @@ ghost use Rattle.std.specs.Prelude.{◌≡◌, ◌++◌, ◌∷◌, [], OnOk};
 ghost use Rattle.growing_pool.specs.Growing.{kept_in};
 ghost use Rattle.pool_inner.specs.Held.{contents_in};
 ghost use Rattle.link_rules.specs.NamesBegin.{MessageNamesBegin, NamesBegin};
-ghost use Rattle.link_rules.specs.SettingCode.{setting_in};
+ghost use Rattle.linked_records.specs.SettingCode.{setting_in};
 ghost use Rattle.reference_pass.specs.Against.{setting_with};
 
 use growing_pool::GrowingPool;

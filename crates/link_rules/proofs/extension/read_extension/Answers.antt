@@ -12,7 +12,7 @@ use Rattle.link_rules.specs.Defaults.{field_default_faults}
 use Rattle.link_rules.specs.Extensions.{extendee_faults, number_faults}
 use Rattle.link_rules.specs.FieldTypes.{type_faults}
 use Rattle.link_rules.specs.Messages.{message_meaning}
-use Rattle.link_rules.specs.SettingCode.{setting_in}
+use Rattle.linked_records.specs.SettingCode.{setting_in}
 use Rattle.link_rules.proofs.Entries.{behind}
 use Rattle.link_rules.proofs.extension.read_extension.Goals as goal
 

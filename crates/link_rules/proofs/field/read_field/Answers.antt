@@ -1,4 +1,5 @@
 use Rattle.std.proofs.Common.{◌++◌, unwrap_or, ap, ◌∙◌, append_assoc}
+use Rattle.std.proofs.lemmas.Result.{IfOk-weaker}
 use Rattle.pool_kinds.specs.declared.kinds.KindIndex.TheVariants.{Double}
 use Rattle.proto_files.specs.declared.message.DescriptorProto.{out-DescriptorProto}
 use Rattle.proto_records.specs.Protos.{of_field}
@@ -10,9 +11,9 @@ use Rattle.link_rules.specs.Broken.{Faults}
 use Rattle.link_rules.specs.Defaults.{field_default_faults}
 use Rattle.link_rules.specs.FieldTypes.{type_faults}
 use Rattle.link_rules.specs.Items.{item_of_kind}
-use Rattle.link_rules.specs.SettingCode.{setting_in}
+use Rattle.linked_records.specs.SettingCode.{setting_in}
 use Rattle.link_rules.proofs.Entries.{behind}
-use Rattle.link_rules.proofs.Made.{if-ok, known-ok}
+use Rattle.link_rules.proofs.Made.{known-ok}
 use Rattle.link_rules.proofs.field.read_field.Goals as goal
 
 -- the item is that of the kind and of the default value that were read
@@ -22,7 +23,8 @@ returns-clause-item c =
     let f = c.args.field.now in
     let d : Shown = shown_at c.args.place (of_field f) in
     let kind = c.unwrap_or-kind.ensures ∙ ap (λ k. unwrap_or k Double) c.in_ok-kind.ensures.kind in
-    if-ok c.item_of_kind.result (λ i. item_of_kind s (c.as_slice-oneofs.ensures i) d f (kind i) (c.in_ok-kind.ensures.default i)) c.item_of_kind.ensures.item
+    IfOk-weaker c.item_of_kind.result _ _ (λ _ is. is ∙ (λ i. item_of_kind s (c.as_slice-oneofs.ensures i) d f (kind i) (c.in_ok-kind.ensures.default i)))
+    c.item_of_kind.ensures.item
 
 pub returns-clause-begins : goal.returns-clause-begins
 returns-clause-begins c = c.item_of_kind.ensures.begins

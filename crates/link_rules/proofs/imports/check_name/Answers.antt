@@ -5,7 +5,7 @@ use Rattle.proto_types.specs.Lists.{only_if}
 use Rattle.proto_records.specs.Shown.{step}
 use Rattle.pool_types.specs.Labels.{label_in}
 use Rattle.pool_faults.specs.declared.fault.DescriptorErrorKind.TheVariants.{FileNotFound}
-use Rattle.link_rules.specs.SettingCode.{setting_in}
+use Rattle.linked_records.specs.SettingCode.{setting_in}
 use Rattle.link_rules.proofs.imports.check_name.Goals as goal
 
 -- no file has the name

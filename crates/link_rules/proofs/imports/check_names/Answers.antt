@@ -1,6 +1,6 @@
 use Rattle.std.proofs.Common.{◌++◌, ap, ◌∙◌, sym, append_assoc, take}
 use Rattle.link_rules.specs.Imports.{missing_file, missing_files}
-use Rattle.link_rules.specs.SettingCode.{setting_in}
+use Rattle.linked_records.specs.SettingCode.{setting_in}
 use Rattle.places.proofs.Each.{all-next, short-list}
 use Rattle.link_rules.proofs.imports.check_names.Goals as goal
 

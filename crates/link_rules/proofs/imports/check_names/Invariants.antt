@@ -1,6 +1,6 @@
 use Rattle.std.proofs.Common.{◌≡◌, ◌++◌, take}
 use Rattle.link_rules.specs.Imports.{missing_files}
-use Rattle.link_rules.specs.SettingCode.{setting_in}
+use Rattle.linked_records.specs.SettingCode.{setting_in}
 use Rattle.link_rules.proofs.imports.check_names.Given as goal
 
 -- what the imports so far break is told

@@ -9,7 +9,7 @@ use Rattle.field_rules.specs.Again.{again_faults}
 use Rattle.field_rules.specs.MapsOf.{AreMapsOf}
 use Rattle.link_rules.specs.Broken.{Faults, Owner, own_faults, field_faults}
 use Rattle.link_rules.specs.Items.{field_item}
-use Rattle.link_rules.specs.SettingCode.{setting_in}
+use Rattle.linked_records.specs.SettingCode.{setting_in}
 use Rattle.places.specs.Each.{each}
 use Rattle.places.specs.NamesBegin.{BeginsAtBoundary}
 use Rattle.places.specs.Places.{field_at, inside_of, message_at}

@@ -6,7 +6,7 @@ use Rattle.link_rules.specs.Broken.{faults_of_fields}
 use Rattle.link_rules.specs.Items.{field_items}
 use Rattle.places.specs.NamesBegin.{BeginsAtBoundary}
 use Rattle.places.specs.Places.{inside_of, message_at}
-use Rattle.link_rules.specs.SettingCode.{setting_in}
+use Rattle.linked_records.specs.SettingCode.{setting_in}
 use Rattle.link_rules.proofs.message.read_fields.Given as goal
 
 -- the fields so far are read, and entered

@@ -5,7 +5,7 @@ use Rattle.places.specs.Each.{each}
 use Rattle.link_rules.specs.Items.{method_item}
 use Rattle.link_rules.specs.Messages.{method_at}
 use Rattle.places.specs.Places.{inside_of}
-use Rattle.link_rules.specs.SettingCode.{setting_in}
+use Rattle.linked_records.specs.SettingCode.{setting_in}
 use Rattle.link_rules.proofs.service.read_methods.Given as goal
 
 -- the methods so far are read

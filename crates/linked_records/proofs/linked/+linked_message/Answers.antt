@@ -1,15 +1,15 @@
 use Rattle.std.proofs.Common.{◌≡◌, ◌++◌, ◌∷◌, [], ap, sym, ◌∙◌}
 use Rattle.std.proofs.lemmas.List.{take_all}
+use Rattle.std.proofs.lemmas.Result.{IfOk-weaker}
 use Rattle.proto_files.specs.declared.message.DescriptorProto.{out-DescriptorProto, roll-DescriptorProto}
 use Rattle.proto_types.specs.Names.{join}
 use Rattle.proto_types.specs.Readers.{text_of}
 use Rattle.proto_records.specs.Changed.{changed_fields, changed_message, changed_messages}
 use Rattle.proto_records.proofs.Changed.{changed-message-is}
-use Rattle.link_rules.specs.Linked.{linking, linked_field, linked_extension}
-use Rattle.link_rules.specs.SettingCode.{setting_in}
+use Rattle.linked_records.specs.Linked.{linking, linked_field, linked_extension}
+use Rattle.linked_records.specs.SettingCode.{setting_in}
 use Rattle.places.proofs.Each.{map-next}
-use Rattle.link_rules.proofs.Made.{if-ok}
-use Rattle.link_rules.proofs.linked.+linked_message.Goals as goal
+use Rattle.linked_records.proofs.linked.+linked_message.Goals as goal
 
 -- its fields, its nested messages and its extensions are linked, and the rest stays
 pub returns : goal.returns
@@ -28,7 +28,7 @@ returns t c =
     ∙ ap (changed_messages (linking s) c.args.index within) (take_all c.loop-nested.nested-index c.as_slice-nested-items.result.now c.loop-nested-test.false ∙ c.as_slice-nested-items.ensures) in
     let same = ap roll-DescriptorProto (λ i. record m { field = field i; nested_type = nested i; extension = extension i })
     ∙ sym (changed-message-is (linking s) c.args.index within c.args.message.now) in
-    if-ok c.with_parts.result same c.with_parts.ensures
+    IfOk-weaker c.with_parts.result _ _ (λ _ is. is ∙ same) c.with_parts.ensures
 
 -- one more nested message is linked
 pub loop-nested-preserved : goal.loop-nested-preserved

@@ -3,9 +3,9 @@ use Rattle.proto_types.specs.Names.{join}
 use Rattle.proto_types.specs.Readers.{text_of}
 use Rattle.proto_files.specs.declared.message.DescriptorProto.{out-DescriptorProto}
 use Rattle.proto_records.specs.Changed.{changed_messages}
-use Rattle.link_rules.specs.Linked.{linking}
-use Rattle.link_rules.specs.SettingCode.{setting_in}
-use Rattle.link_rules.proofs.linked.+linked_message.Given as goal
+use Rattle.linked_records.specs.Linked.{linking}
+use Rattle.linked_records.specs.SettingCode.{setting_in}
+use Rattle.linked_records.proofs.linked.+linked_message.Given as goal
 
 abbrev pub decreases-linked_message : goal.decreases-linked_message
 decreases-linked_message l = goal.size-linked_message l

@@ -1,8 +1,8 @@
 use Rattle.std.proofs.Common.{◌≡◌, ◌≢◌, ℕ, ℤ, Option, refl, ap, sym}
 use Rattle.pool_types.specs.declared.contents.definition.DefinitionKind.{DefinitionKind}
 use Rattle.pool_types.specs.declared.contents.definition.DefinitionKind.TheVariants.{Message, Enum}
-use Rattle.link_rules.specs.Linked.{kind_number}
-use Rattle.link_rules.proofs.linked.kind_number.Goals as goal
+use Rattle.linked_records.specs.Linked.{kind_number}
+use Rattle.linked_records.proofs.linked.kind_number.Goals as goal
 
 -- a definition that is no message and no enum
 neither : (kind : DefinitionKind) (given : Option ℤ) → ((m : ℕ) → kind ≢ Message m) → ((e : ℕ) → kind ≢ Enum e) → given ≡ kind_number kind given

@@ -1,8 +1,8 @@
 use Rattle.std.proofs.Common.{◌≡◌, take}
 use Rattle.proto_records.specs.Changed.{changed_fields}
-use Rattle.link_rules.specs.Linked.{linked_extension}
-use Rattle.link_rules.specs.SettingCode.{setting_in}
-use Rattle.link_rules.proofs.linked.linked_extensions.Given as goal
+use Rattle.linked_records.specs.Linked.{linked_extension}
+use Rattle.linked_records.specs.SettingCode.{setting_in}
+use Rattle.linked_records.proofs.linked.linked_extensions.Given as goal
 
 -- the extensions so far are linked
 abbrev pub invariant-loop-extension : goal.invariant-loop-extension

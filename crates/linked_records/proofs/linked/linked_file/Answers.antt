@@ -1,14 +1,14 @@
 use Rattle.std.proofs.Common.{◌≡◌, ◌++◌, ◌∷◌, [], ap, ◌∙◌, sym}
 use Rattle.std.proofs.lemmas.List.{take_all}
+use Rattle.std.proofs.lemmas.Result.{IfOk-weaker}
 use Rattle.proto_types.specs.Names.{join}
 use Rattle.proto_types.specs.Readers.{text_of}
 use Rattle.proto_files.specs.declared.message.DescriptorProto.{out-DescriptorProto}
 use Rattle.proto_records.specs.Changed.{changed_fields, changed_message, changed_messages, changed_services}
-use Rattle.link_rules.specs.Linked.{linking, linked_extension}
-use Rattle.link_rules.specs.SettingCode.{setting_in}
+use Rattle.linked_records.specs.Linked.{linking, linked_extension}
+use Rattle.linked_records.specs.SettingCode.{setting_in}
 use Rattle.places.proofs.Each.{map-next}
-use Rattle.link_rules.proofs.Made.{if-ok}
-use Rattle.link_rules.proofs.linked.linked_file.Goals as goal
+use Rattle.linked_records.proofs.linked.linked_file.Goals as goal
 
 -- one more message is linked
 pub loop-message-preserved : goal.loop-message-preserved
@@ -35,4 +35,4 @@ returns c =
     c.in_ok-service.ensures ∙ (λ i. changed_services (linking s) c.args.index (c.package-scope.ensures i) (c.as_slice.ensures i)) in
     let extensions : c.in_ok-extension.extension ≡ changed_fields (linked_extension s) c.args.index scope f.extension =
     c.in_ok-extension.ensures ∙ (λ i. changed_fields (linked_extension s) c.args.index (c.package-scope.ensures i) (c.as_slice-2.ensures i)) in
-    if-ok c.with_parts.result (λ i. record f { message_type = messages i; service = services i; extension = extensions i }) c.with_parts.ensures
+    IfOk-weaker c.with_parts.result _ _ (λ _ is. is ∙ (λ i. record f { message_type = messages i; service = services i; extension = extensions i })) c.with_parts.ensures

@@ -1,9 +1,9 @@
 use Rattle.std.proofs.Common.{◌≡◌, take}
 use Rattle.proto_types.specs.Readers.{text_of}
 use Rattle.proto_records.specs.Changed.{changed_messages}
-use Rattle.link_rules.specs.Linked.{linking}
-use Rattle.link_rules.specs.SettingCode.{setting_in}
-use Rattle.link_rules.proofs.linked.linked_file.Given as goal
+use Rattle.linked_records.specs.Linked.{linking}
+use Rattle.linked_records.specs.SettingCode.{setting_in}
+use Rattle.linked_records.proofs.linked.linked_file.Given as goal
 
 -- the messages so far are linked
 abbrev pub invariant-loop-message : goal.invariant-loop-message

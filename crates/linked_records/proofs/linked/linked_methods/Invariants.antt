@@ -1,8 +1,8 @@
 use Rattle.std.proofs.Common.{◌≡◌, take}
 use Rattle.proto_records.specs.Changed.{changed_methods}
-use Rattle.link_rules.specs.Linked.{linked_method}
-use Rattle.link_rules.specs.SettingCode.{setting_in}
-use Rattle.link_rules.proofs.linked.linked_methods.Given as goal
+use Rattle.linked_records.specs.Linked.{linked_method}
+use Rattle.linked_records.specs.SettingCode.{setting_in}
+use Rattle.linked_records.proofs.linked.linked_methods.Given as goal
 
 -- the methods so far are linked
 abbrev pub invariant-loop-method : goal.invariant-loop-method

@@ -1,8 +1,8 @@
 use Rattle.std.proofs.Common.{◌≡◌, take}
 use Rattle.proto_records.specs.Changed.{changed_services}
-use Rattle.link_rules.specs.Linked.{linking}
-use Rattle.link_rules.specs.SettingCode.{setting_in}
-use Rattle.link_rules.proofs.linked.linked_services.Given as goal
+use Rattle.linked_records.specs.Linked.{linking}
+use Rattle.linked_records.specs.SettingCode.{setting_in}
+use Rattle.linked_records.proofs.linked.linked_services.Given as goal
 
 -- the services so far are linked
 abbrev pub invariant-loop-service : goal.invariant-loop-service

@@ -1,7 +1,7 @@
 use Rattle.std.proofs.Common.{Some, ◌∷◌, ap, sym, ◌∙◌}
 use Rattle.pool_parts.specs.Resolution.{resolution_in}
-use Rattle.link_rules.specs.Linked.{type_number, typed}
-use Rattle.link_rules.proofs.linked.typed.Goals as goal
+use Rattle.linked_records.specs.Linked.{type_number, typed}
+use Rattle.linked_records.proofs.linked.typed.Goals as goal
 
 -- a definition is found
 pub returns : goal.returns

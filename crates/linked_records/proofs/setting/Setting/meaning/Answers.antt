@@ -3,9 +3,9 @@ use Rattle.std.specs.BTreeSet.{contains_by}
 use Rattle.std.specs.Option.{option_copied, unwrap_or}
 use Rattle.std.specs.Ordering.{nat_cmp}
 use Rattle.pool_parts.specs.Resolution.{resolution, resolution_in}
-use Rattle.link_rules.specs.Setting.{seen_by}
-use Rattle.link_rules.specs.SettingCode.{setting_in}
-use Rattle.link_rules.proofs.setting.Setting.meaning.Goals as goal
+use Rattle.linked_records.specs.Setting.{seen_by}
+use Rattle.linked_records.specs.SettingCode.{setting_in}
+use Rattle.linked_records.proofs.setting.Setting.meaning.Goals as goal
 
 given-copied : {X : Type 0} (o : Option (Bor X)) (other : Bor X) → (unwrap_or o other).now ≡ unwrap_or (option_copied o) other.now
 given-copied None other = refl
