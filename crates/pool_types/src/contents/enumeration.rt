@@ -33,12 +33,15 @@ impl EnumDescriptorInner {
     pub fn clone(&self, alloc: Global) -> Result<EnumDescriptorInner, AllocError>
         ensures { IfOk result (λ copy. copy ≡ self.now) }
     {
+        let value_numbers = Items::from_slice(alloc, self.value_numbers.as_slice())?;
+        let value_names = self.value_names.clone(alloc)?;
+        let id = self.id.clone(alloc)?;
         Ok(EnumDescriptorInner {
-            id: self.id.clone(alloc)?,
+            id,
             parent: self.parent,
             values: self.values.clone(alloc)?,
-            value_numbers: Items::from_slice(alloc, self.value_numbers.as_slice())?,
-            value_names: self.value_names.clone(alloc)?,
+            value_numbers,
+            value_names,
             allow_alias: self.allow_alias,
         })
     }

@@ -31,15 +31,21 @@ impl MessageDescriptorInner {
     pub fn clone(&self, alloc: Global) -> Result<MessageDescriptorInner, AllocError>
         ensures { IfOk result (λ copy. copy ≡ self.now) }
     {
+        let extensions = Items::from_slice(alloc, self.extensions.as_slice())?;
+        let field_numbers = self.field_numbers.clone(alloc)?;
+        let field_names = self.field_names.clone(alloc)?;
+        let field_json_names = self.field_json_names.clone(alloc)?;
+        let id = self.id.clone(alloc)?;
+        let oneofs = self.oneofs.clone(alloc)?;
         Ok(MessageDescriptorInner {
-            id: self.id.clone(alloc)?,
+            id,
             parent: self.parent,
-            extensions: Items::from_slice(alloc, self.extensions.as_slice())?,
+            extensions,
             fields: self.fields.clone(alloc)?,
-            field_numbers: self.field_numbers.clone(alloc)?,
-            field_names: self.field_names.clone(alloc)?,
-            field_json_names: self.field_json_names.clone(alloc)?,
-            oneofs: self.oneofs.clone(alloc)?,
+            field_numbers,
+            field_names,
+            field_json_names,
+            oneofs,
         })
     }
 }
