@@ -111,8 +111,18 @@ fn check(
     let (script, wanted, name, found) = *row;
     let told = answer(alloc, pool, script)?;
     assert!(rt; told.as_str() == wanted, "{told}");
+    check_found(rt, alloc, pool, name, found)
+}
+
+fn check_found(
+    rt: &impl Abort,
+    alloc: Global,
+    pool: &DescriptorPool,
+    name: &str,
+    wanted: &str,
+) -> Result<(), AllocError> {
     let told = found_words(alloc, pool, name)?;
-    assert!(rt; told.as_str() == found, "{name} {told}");
+    assert!(rt; told.as_str() == wanted, "{name} {told}");
     Ok(())
 }
 

@@ -1,6 +1,7 @@
 //! The faults of refused batches, as they are printed.
 
-use descriptor_pool::{BuildError, DescriptorPool};
+use super::rules::built;
+use descriptor_pool::BuildError;
 use plain_values::Text;
 use pool_faults::{DescriptorErrorKind, Labelled};
 use pool_parts::DescriptorError;
@@ -80,15 +81,20 @@ const REFUSED: &[(&str, &str)] = &[
 /// What an error tells.
 fn told_error(alloc: Global, error: &DescriptorError) -> Result<String, AllocError> {
     let mut told = String::new(alloc);
-    writeln!(&mut told, "{error}\n{error:?}")?;
+    tell_error(&mut told, error)?;
+    Ok(told)
+}
+
+fn tell_error(told: &mut String, error: &DescriptorError) -> Result<(), AllocError> {
+    writeln!(told, "{error}\n{error:?}")?;
     match (error.file(), error.path()) {
-        (Some(file), Some(path)) => writeln!(&mut told, "{file} {path:?}")?,
-        _ => writeln!(&mut told, "none")?,
+        (Some(file), Some(path)) => writeln!(told, "{file} {path:?}")?,
+        _ => writeln!(told, "none")?,
     }
     for fault in error.errors() {
-        tell_fault(&mut told, fault)?;
+        tell_fault(told, fault)?;
     }
-    Ok(told)
+    Ok(())
 }
 
 fn tell_fault(told: &mut String, fault: &DescriptorErrorKind) -> Result<(), AllocError> {
@@ -105,8 +111,7 @@ fn tell_fault(told: &mut String, fault: &DescriptorErrorKind) -> Result<(), Allo
 
 /// What the error of a refused batch tells.
 fn told_refusal(alloc: Global, script: &str) -> Result<String, AllocError> {
-    let mut pool = DescriptorPool::new(alloc);
-    match pool.build_files(files_of(alloc, script)?) {
+    match built(alloc, files_of(alloc, script)?) {
         Err(BuildError::Descriptor(error)) => told_error(alloc, &error),
         Err(BuildError::OutOfMemory) => Err(AllocError),
         _ => String::from_str(alloc, "no faults"),

@@ -123,18 +123,23 @@ fn tell_file(told: &mut String, file: &FileDescriptorInner) -> Result<(), AllocE
     tell_records(told, file.raw.extension.as_slice())
 }
 
-/// Tells the records of fields or extensions: their types, and what they extend, where they do.
+/// Tells the records of fields or extensions.
 fn tell_records(told: &mut String, fields: &[FieldDescriptorProto]) -> Result<(), AllocError> {
     for field in fields {
-        let (name, type_name, type_) = (field.name(), field.type_name(), field.type_);
-        write!(told, "record {name} '{type_name}' {type_:?}")?;
-        if !field.extendee().is_empty() {
-            let extendee = field.extendee();
-            write!(told, " '{extendee}'")?;
-        }
-        writeln!(told)?;
+        tell_record(told, field)?;
     }
     Ok(())
+}
+
+/// Tells the record of a field or an extension: its type, and what it extends, where it does.
+fn tell_record(told: &mut String, field: &FieldDescriptorProto) -> Result<(), AllocError> {
+    let (name, type_name, type_) = (field.name(), field.type_name(), field.type_);
+    write!(told, "record {name} '{type_name}' {type_:?}")?;
+    if !field.extendee().is_empty() {
+        let extendee = field.extendee();
+        write!(told, " '{extendee}'")?;
+    }
+    writeln!(told)
 }
 
 /// A pool with one batch.
@@ -150,10 +155,13 @@ fn check_kinds(rt: &impl Abort, pool: &DescriptorPool, kinds: &[(KindIndex, Card
     };
     let fields = message.fields.as_slice();
     assert!(rt; fields.len() == kinds.len());
-    for (field, (kind, cardinality)) in fields.iter().zip(kinds) {
-        assert!(rt; field.kind == *kind);
-        assert!(rt; field.cardinality == *cardinality);
+    for (field, kind) in fields.iter().zip(kinds) {
+        assert!(rt; is_of(field, *kind));
     }
+}
+
+fn is_of(field: &FieldDescriptorInner, (kind, cardinality): (KindIndex, Cardinality)) -> bool {
+    field.kind == kind && field.cardinality == cardinality
 }
 
 fn check(
@@ -254,10 +262,15 @@ fn told_inmost(alloc: Global, pool: &DescriptorPool) -> Result<String, AllocErro
     format!(in alloc; "{count} {parent:?} {path_len} {name_len} {name}")
 }
 
+fn check_inmost(rt: &impl Abort, alloc: Global, pool: &DescriptorPool) -> Result<(), AllocError> {
+    let told = told_inmost(alloc, pool)?;
+    assert!(rt; told.as_str() == "64 Some(62) 128 127 M", "{told}");
+    Ok(())
+}
+
 #[test]
 fn nested_messages_are_all_linked(rt: HostRuntime) -> Result<(), Fail> {
-    let pool = pool_of(rt.alloc(), nested(rt.alloc())?.as_str())?;
-    let told = told_inmost(rt.alloc(), &pool)?;
-    assert!(rt; told.as_str() == "64 Some(62) 128 127 M", "{told}");
+    let script = nested(rt.alloc())?;
+    check_inmost(&rt, rt.alloc(), &pool_of(rt.alloc(), script.as_str())?)?;
     Ok(())
 }

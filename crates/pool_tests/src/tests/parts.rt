@@ -8,7 +8,7 @@ use pool_types::{
     EnumDescriptor, EnumDescriptorInner, FieldDescriptorInner, MessageDescriptor,
     MessageDescriptorInner, ServiceDescriptor, ServiceDescriptorInner,
 };
-use proto_files::FileDescriptorProto;
+use proto_files::{DescriptorProto, FileDescriptorProto};
 use script_files::files_of;
 use std::alloc::{AllocError, Global};
 use std::fmt::Write;
@@ -343,11 +343,25 @@ fn say_optional(
     let Some(mut message) = file.message_type.pop() else {
         return Ok(());
     };
-    if let Some(mut field) = message.field.pop() {
-        field.proto3_optional = is_optional;
-        message.field.push(field)?;
-    }
+    say_field_optional(&mut message, is_optional)?;
     file.message_type.push(message)
+}
+
+fn say_field_optional(
+    message: &mut DescriptorProto,
+    is_optional: Option<bool>,
+) -> Result<(), AllocError> {
+    let Some(mut field) = message.field.pop() else {
+        return Ok(());
+    };
+    field.proto3_optional = is_optional;
+    message.field.push(field)
+}
+
+/// A file of these parts.
+fn files_with(alloc: Global, parts: &str) -> Result<Vec<FileDescriptorProto>, AllocError> {
+    let script = format!(in alloc; "file a.proto\n{parts}end\nend\n")?;
+    files_of(alloc, script.as_str())
 }
 
 /// A pool with a file of these parts, of whose field it is said.
@@ -356,8 +370,7 @@ fn pool_with(
     parts: &str,
     is_optional: Option<bool>,
 ) -> Result<DescriptorPool, BuildError> {
-    let script = format!(in alloc; "file a.proto\n{parts}end\nend\n")?;
-    let mut files = files_of(alloc, script.as_str())?;
+    let mut files = files_with(alloc, parts)?;
     if let Some(file) = files.last_mut() {
         say_optional(file, is_optional)?;
     }

@@ -231,44 +231,50 @@ const EXTENDING: &[(&str, &str, &str, &str)] = &[
     ),
 ];
 
-/// Gives the last field of a file's last message an extendee, and the file's last extension a oneof,
-/// which no statement does.
-fn give_extendee(
-    alloc: Global,
-    file: &mut FileDescriptorProto,
-    extendee: &str,
-) -> Result<(), AllocError> {
-    if let Some(mut extension) = file.extension.pop() {
-        extension.oneof_index = Some(7);
-        file.extension.push(extension)?;
-    }
+/// Gives the last field of a file's last message an extendee, which no statement does.
+fn give_extendee(file: &mut FileDescriptorProto, extendee: Text) -> Result<(), AllocError> {
     let Some(mut message) = file.message_type.pop() else {
         return Ok(());
     };
     if let Some(mut field) = message.field.pop() {
-        field.extendee = Some(Text::from_str(alloc, extendee)?);
+        field.extendee = Some(extendee);
         message.field.push(field)?;
     }
     file.message_type.push(message)
 }
 
-/// The files of a script, of which the last is given that extendee.
+/// Gives a file's last extension a oneof, which no statement does.
+fn give_oneof(file: &mut FileDescriptorProto) -> Result<(), AllocError> {
+    if let Some(mut extension) = file.extension.pop() {
+        extension.oneof_index = Some(7);
+        file.extension.push(extension)?;
+    }
+    Ok(())
+}
+
+/// The files of a script, of which the last is given that extendee and a oneof.
 fn files_extending(
     alloc: Global,
     script: &str,
     extendee: &str,
 ) -> Result<Vec<FileDescriptorProto>, AllocError> {
+    let extendee = Text::from_str(alloc, extendee)?;
     let mut files = files_of(alloc, script)?;
     if let Some(file) = files.last_mut() {
-        give_extendee(alloc, file, extendee)?;
+        give_extendee(file, extendee)?;
+        give_oneof(file)?;
     }
     Ok(files)
 }
 
+/// How a new pool takes a batch.
+pub(super) fn built(alloc: Global, files: Vec<FileDescriptorProto>) -> Result<(), BuildError> {
+    DescriptorPool::new(alloc).build_files(files)
+}
+
 /// A line for each fault of a batch.
 fn told_faults(alloc: Global, files: Vec<FileDescriptorProto>) -> Result<String, AllocError> {
-    let mut pool = DescriptorPool::new(alloc);
-    match pool.build_files(files) {
+    match built(alloc, files) {
         Ok(()) => Ok(String::new(alloc)),
         Err(BuildError::Descriptor(error)) => told_error(alloc, &error),
         Err(BuildError::TooMany(_)) => String::from_str(alloc, "too many"),
