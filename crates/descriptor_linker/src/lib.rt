@@ -7,15 +7,15 @@ mod ending;
 mod report;
 mod runs;
 
+pub use descriptor_errors::DescriptorError;
 pub use descriptor_pool::{BuildError, DescriptorPool};
 pub use ending::Ending;
 pub use link_script::{Block, Keyword, Open, Script, ScriptFault, Statement, read_script};
 pub use plain_values::{Items, Text};
 pub use pool_faults::DescriptorErrorKind;
-pub use pool_parts::DescriptorError;
 pub use pool_types::{
     Cardinality, Definition, DefinitionKind, FieldDescriptorInner, FileDescriptor,
-    FileDescriptorInner, Identity, KindIndex, Label, MessageDescriptor, MessageDescriptorInner,
+    FileDescriptorInner, Identity, KindIndex, MessageDescriptor, MessageDescriptorInner,
     OneofDescriptorInner, Syntax,
 };
 pub use proto_files::{DescriptorProto, FileDescriptorProto};
@@ -29,3 +29,4 @@ pub use runs::run;
 pub use script_devices::{
     MemoryInput, MemoryOutput, ReaderInput, ReportOutput, ScriptInput, WriterOutput,
 };
+pub use source_labels::Label;

@@ -23,12 +23,12 @@ ghost use Rattle.reference_pass.specs.Against.{setting_with};
 ghost use Rattle.reference_pass.specs.Seen.{references_seen};
 
 use crate::error::BuildError;
+use descriptor_errors::DescriptorError;
 use growing_pool::GrowingPool;
 use name_pass::NameVisitor;
 use plain_values::Items;
 use pool_faults::DescriptorErrorKind;
 use pool_inner::DescriptorPoolInner;
-use pool_parts::DescriptorError;
 use pool_types::FileDescriptorInner;
 use proto_files::FileDescriptorProto;
 use proto_records::{Counts, visit};

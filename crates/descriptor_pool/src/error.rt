@@ -1,4 +1,4 @@
-use pool_parts::DescriptorError;
+use descriptor_errors::DescriptorError;
 use proto_records::CountKind;
 use std::alloc::AllocError;
 

@@ -6,8 +6,8 @@ ghost use Rattle.linked_records.specs.SettingCode.{setting_in};
 use linked_records::Setting;
 use pool_types::Definition;
 use proto_files::DescriptorProto;
-use proto_records::{find_enum_proto, find_message_proto};
 use proto_types::EnumDescriptorProto;
+use record_paths::{find_enum_proto, find_message_proto};
 
 /// The record of the message with a definition.
 pub(crate) fn message_record<'a>(

@@ -10,10 +10,10 @@ ghost use Rattle.linked_records.specs.SettingCode.{setting_in};
 use linked_records::Setting;
 use plain_values::{Items, Text};
 use pool_faults::DescriptorErrorKind;
-use pool_parts::label_at;
 use proto_files::FileDescriptorProto;
 use proto_records::entry_path;
 use proto_types::tag;
+use source_labels::label_at;
 use std::alloc::{AllocError, Global};
 
 /// Puts behind the faults one for each import of the file with an index that names no file, and then

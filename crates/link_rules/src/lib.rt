@@ -11,10 +11,7 @@ mod references;
 mod service;
 mod types;
 
-pub use enum_rules::read_enum;
 pub use extension::read_extension;
 pub use file::read_file;
-pub use linked_records::Setting;
 pub use message::read_message;
-pub use places::Place;
 pub use service::read_service;

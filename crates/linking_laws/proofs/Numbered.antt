@@ -11,7 +11,7 @@ use Rattle.proto_files.specs.declared.message.ExtensionRange.{ExtensionRange}
 use Rattle.proto_files.specs.declared.message.ReservedRange.{ReservedRange}
 use Rattle.pool_types.specs.declared.contents.definition.Definition.{Definition}
 use Rattle.proto_records.specs.Shown.{Shown}
-use Rattle.pool_parts.specs.FieldNumbers.{is_valid_number}
+use Rattle.number_rules.specs.FieldNumbers.{is_valid_number}
 use Rattle.places.specs.Each.{each}
 use Rattle.number_rules.specs.Numbers.{by_extendee, extension_number_faults, extension_range_faults, field_number_faults, invalid_faults, outside_faults, reserved_fault, reserved_faults}
 use Rattle.number_rules.specs.Ranges.{extends, reserves}

@@ -1,3 +1,4 @@
+pub mod FieldNumbers
 pub mod Ranges
 pub mod Numbers
 pub mod At

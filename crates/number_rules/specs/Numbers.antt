@@ -12,11 +12,11 @@ use Rattle.proto_files.specs.declared.file.FileDescriptorProto.{FileDescriptorPr
 use Rattle.proto_files.specs.declared.message.DescriptorProto.{DescriptorProto, out-DescriptorProto}
 use Rattle.proto_files.specs.declared.message.ExtensionRange.{ExtensionRange}
 use Rattle.proto_files.specs.declared.message.ReservedRange.{ReservedRange}
-use Rattle.pool_types.specs.declared.label.Label.{Label}
+use Rattle.source_labels.specs.declared.label.Label.{Label}
 use Rattle.pool_faults.specs.declared.fault.DescriptorErrorKind.{DescriptorErrorKind}
 use Rattle.pool_faults.specs.declared.fault.DescriptorErrorKind.TheVariants as fault
 use Rattle.proto_records.specs.Shown.{Shown}
-use Rattle.pool_parts.specs.FieldNumbers.{is_valid_number}
+use Rattle.number_rules.specs.FieldNumbers.{is_valid_number}
 use Rattle.places.specs.Each.{each}
 use Rattle.places.specs.Labels.{part_label, entry_label}
 use Rattle.number_rules.specs.Ranges.{reserves, extends}

@@ -4,9 +4,9 @@ ghost use Rattle.number_rules.specs.At.{any_at};
 ghost use Rattle.number_rules.specs.Numbers.{invalid_faults, reserved_fault, reserved_faults};
 ghost use Rattle.number_rules.specs.Ranges.{reserves};
 
+use crate::field_number::is_valid_number;
 use places::{Place, entry_label, part_label};
 use pool_faults::DescriptorErrorKind;
-use pool_parts::is_valid_number;
 use pool_types::FileDescriptorInner;
 use proto_files::ReservedRange;
 use proto_types::tag;

@@ -2,9 +2,9 @@ ghost use Rattle.std.specs.Prelude.{◌≡◌, ◌<◌, ◌^◌, IfOk, map};
 ghost use Rattle.places.specs.Labels.{part_label, entry_label, entry_part_label};
 
 use crate::Place;
-use pool_parts::label_at;
-use pool_types::{FileDescriptorInner, Label};
+use pool_types::FileDescriptorInner;
 use proto_records::entry_path;
+use source_labels::{Label, label_at};
 use std::alloc::{AllocError, Global};
 
 /// The label of a part of a declaration. The tag is the part's field number in descriptor.proto.

@@ -9,7 +9,6 @@ ghost use Rattle.pool_parts.specs.Parents.{outer};
 ghost use Rattle.pool_parts.specs.Resolution.{resolution, resolution_in, look, simple, dotted, or_shadowed, is_found, is_not_found};
 ghost use Rattle.pool_parts.specs.References.{reference_fault};
 
-use crate::files::label_at;
 use crate::filter::ResolveNameFilter;
 use crate::parents::CandidateParents;
 use name_tables::NameTable;
@@ -17,6 +16,7 @@ use plain_values::Text;
 use pool_faults::DescriptorErrorKind;
 use pool_types::{Definition, FileDescriptorInner};
 use proto_types::join;
+use source_labels::label_at;
 use std::alloc::{AllocError, Global};
 use std::collections::BTreeSet;
 

@@ -1,4 +1,4 @@
--- `==` of what a pool holds, and of labels, tells whether two values are one.
+-- `==` of what a pool holds tells whether two values are one.
 use Rattle.std.proofs.Common.{rules}
 use Rattle.std.specs.Prelude.{ℕ, nat_eq}
 use Rattle.std.specs.BTreeSet.{BTreeSet}
@@ -9,7 +9,6 @@ use Rattle.plain_maps.specs.Equality.{number_map-exact, text_map-exact}
 use Rattle.proto_files.specs.Equality.{file-exact}
 use Rattle.pool_kinds.specs.Equality.{cardinality-exact, default-exact, kind_index-exact, syntax-exact}
 use Rattle.pool_types.specs.contracts.contents.definition.DefinitionKindPartialEq.TheImpl as definition_kind
-use Rattle.pool_types.specs.contracts.label.LabelPartialEq.TheImpl as label
 use Rattle.pool_types.specs.contracts.contents.definition.IdentityPartialEq.TheImpl as identity
 use Rattle.pool_types.specs.contracts.contents.definition.DefinitionPartialEq.TheImpl as definition
 use Rattle.pool_types.specs.contracts.contents.field.FieldDescriptorInnerPartialEq.TheImpl as field_inner
@@ -66,7 +65,3 @@ method_inner-exact = by-parts (λ m. (m.id, (m.input, m.output))) (λ a b e. sea
 
 pub service_inner-exact : Exact service_inner.ghosts.eq
 service_inner-exact = by-parts (λ s. (s.id, s.methods)) (λ a b e. search rules) (identity-exact and items-exact method_inner-exact)
-
--- labels
-pub label-exact : Exact label.ghosts.eq
-label-exact = by-parts (λ l. (l.file, (l.path, l.span))) (λ a b e. search rules) (text-exact and numbers-exact and given numbers-exact)

@@ -1,5 +1,4 @@
 pub mod DefinitionKinds
 pub mod Contents
 pub mod ContentsCode
-pub mod Labels
 pub mod Equality

@@ -1,8 +1,8 @@
-ghost use Rattle.pool_types.specs.Equality.{definition_kind-exact, identity-exact, definition-exact, field_inner-exact, file_inner-exact, message_inner-exact, oneof_inner-exact, enum_inner-exact, value_inner-exact, extension_inner-exact, service_inner-exact, method_inner-exact, label-exact};
+ghost use Rattle.pool_types.specs.Equality.{definition_kind-exact, identity-exact, definition-exact, field_inner-exact, file_inner-exact, message_inner-exact, oneof_inner-exact, enum_inner-exact, value_inner-exact, extension_inner-exact, service_inner-exact, method_inner-exact};
 
 use crate::{
     Definition, DefinitionKind, EnumDescriptorInner, EnumValueDescriptorInner,
-    ExtensionDescriptorInner, FieldDescriptorInner, FileDescriptorInner, Identity, Label,
+    ExtensionDescriptorInner, FieldDescriptorInner, FileDescriptorInner, Identity,
     MessageDescriptorInner, MethodDescriptorInner, OneofDescriptorInner, ServiceDescriptorInner,
 };
 use plain_values::ExactEq;
@@ -53,8 +53,4 @@ impl ExactEq for ServiceDescriptorInner {
 
 impl ExactEq for MethodDescriptorInner {
     ghost exact = { method_inner-exact };
-}
-
-impl ExactEq for Label {
-    ghost exact = { label-exact };
 }

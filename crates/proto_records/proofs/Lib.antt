@@ -2,7 +2,6 @@ pub mod Checks
 pub mod Counted
 pub mod Tallies
 pub mod Saturated
-pub mod Finding
 pub mod Leading
 pub mod Walks
 pub mod Paths

@@ -8,7 +8,6 @@ pub mod Leads
 pub mod Indexes
 pub mod Changed
 pub mod InTurn
-pub mod Records
 pub mod Totals
 pub mod Walking
 pub mod Progress

@@ -13,11 +13,11 @@ ghost use Rattle.proto_records.specs.Shown.{Shown};
 ghost use Rattle.record_references.specs.References.{reference, reference_in, references_in, references};
 ghost use Rattle.record_references.specs.Code.{reference_of};
 
+use declaration_lists::list_declarations;
 use plain_values::Text;
 use proto_files::FileDescriptorProto;
-use proto_records::{
-    Counts, Declaration, DeclarationKind, find_field_proto, find_method_proto, list_declarations,
-};
+use proto_records::{Counts, Declaration, DeclarationKind};
+use record_paths::{find_field_proto, find_method_proto};
 use std::alloc::{AllocError, Global};
 use std::slice;
 

@@ -8,7 +8,7 @@ ghost use Rattle.linked_records.specs.SettingCode.{setting_in};
 ghost use Rattle.reference_pass.specs.Against.{setting_with};
 
 use growing_pool::GrowingPool;
-use link_rules::Setting;
+use linked_records::Setting;
 use pool_inner::DescriptorPoolInner;
 use pool_types::MessageDescriptorInner;
 use std::alloc::AllocError;

@@ -3,8 +3,10 @@ ghost use Rattle.link_rules.specs.NamesBegin.{NamesBegin};
 ghost use Rattle.link_rules.specs.Short.{ShortFiles};
 
 use crate::held::{put_message, setting_of};
+use enum_rules::read_enum;
 use growing_pool::GrowingPool;
-use link_rules::{Place, read_enum, read_extension, read_file, read_message, read_service};
+use link_rules::{read_extension, read_file, read_message, read_service};
+use places::Place;
 use pool_faults::DescriptorErrorKind;
 use pool_types::FileDescriptorInner;
 use proto_files::{DescriptorProto, FileDescriptorProto, OneofDescriptorProto};

@@ -7,11 +7,12 @@ ghost use Rattle.proto_records.specs.Fits.{counts_with};
 ghost use Rattle.record_references.specs.Code.{reference_of};
 ghost use Rattle.script_answers.specs.Answers as spec;
 
+use declaration_lists::list_declarations;
 use link_script::ScriptFault;
 use pool_faults::{DescriptorErrorKind, Labelled};
 use pool_types::{Definition, DefinitionKind};
 use proto_files::FileDescriptorProto;
-use proto_records::{CountKind, Counts, Declaration, DeclarationKind, list_declarations};
+use proto_records::{CountKind, Counts, Declaration, DeclarationKind};
 use record_references::{Reference, references};
 use std::alloc::{AllocError, Global};
 use std::fmt;

@@ -11,7 +11,7 @@ use Rattle.proto_types.specs.Readers.{text_of}
 use Rattle.proto_files.specs.declared.file.FileDescriptorProto.{FileDescriptorProto}
 use Rattle.proto_files.specs.declared.message.DescriptorProto.{DescriptorProto, out-DescriptorProto}
 use Rattle.proto_records.specs.Shown.{step}
-use Rattle.pool_types.specs.Labels.{label_in}
+use Rattle.source_labels.specs.Labels.{label_in}
 use Rattle.pool_faults.specs.declared.fault.DescriptorErrorKind.{DescriptorErrorKind}
 use Rattle.pool_faults.specs.declared.fault.DescriptorErrorKind.TheVariants.{DuplicateFieldCamelCaseName}
 use Rattle.syntax_rules.specs.Syntaxes.{syntax_at, is_proto3}

@@ -3,18 +3,18 @@ ghost use Rattle.std.specs.HashMap.{get_by_text};
 ghost use Rattle.std.specs.Str.{bytes_eq};
 ghost use Rattle.proto_records.specs.Counts.{fits_list, lists_fit};
 ghost use Rattle.proto_records.specs.Protos.{of_message};
-ghost use Rattle.pool_types.specs.Labels.{label_in};
+ghost use Rattle.source_labels.specs.Labels.{label_in};
 ghost use Rattle.syntax_rules.specs.CamelCase.{camel_case_key, name_path, camel_case_fault, camel_case_faults, message_own_faults};
 
 use crate::syntax::syntax_at;
 use plain_values::Text;
 use pool_faults::DescriptorErrorKind;
 use pool_kinds::Syntax;
-use pool_parts::label_at;
-use pool_types::{FileDescriptorInner, Label};
+use pool_types::FileDescriptorInner;
 use proto_files::DescriptorProto;
 use proto_records::entry_path;
 use proto_types::{FieldDescriptorProto, tag};
+use source_labels::{Label, label_at};
 use std::alloc::{AllocError, Global};
 use std::collections::HashMap;
 

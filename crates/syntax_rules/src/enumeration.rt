@@ -4,9 +4,9 @@ ghost use Rattle.syntax_rules.specs.Enumeration.{enum_faults};
 use crate::syntax::syntax_at;
 use pool_faults::DescriptorErrorKind;
 use pool_kinds::Syntax;
-use pool_parts::label_at;
 use pool_types::FileDescriptorInner;
 use proto_types::{EnumDescriptorProto, tag};
+use source_labels::label_at;
 use std::alloc::{AllocError, Global};
 
 /// Puts behind the faults that of an enum without values, or that of one whose first value isn't 0

@@ -5,10 +5,10 @@ ghost use Rattle.syntax_rules.specs.Syntaxes.{known_syntax, syntax_of, syntax_at
 use plain_values::Text;
 use pool_faults::DescriptorErrorKind;
 use pool_kinds::Syntax;
-use pool_parts::label_at;
 use pool_types::FileDescriptorInner;
 use proto_files::FileDescriptorProto;
 use proto_types::{or_empty, tag};
+use source_labels::label_at;
 use std::alloc::{AllocError, Global};
 
 /// The language that a file's `syntax` names: "proto2", in which a file is written that names none,

@@ -1,10 +1,10 @@
 //! The faults of refused batches, as they are printed.
 
 use super::rules::built;
+use descriptor_errors::DescriptorError;
 use descriptor_pool::BuildError;
 use plain_values::Text;
 use pool_faults::{DescriptorErrorKind, Labelled};
-use pool_parts::DescriptorError;
 use proto_records::CountKind;
 use script_files::files_of;
 use std::alloc::{AllocError, Global};

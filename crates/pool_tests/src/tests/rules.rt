@@ -1,13 +1,13 @@
 //! The faults of numbers, of ranges, of oneofs, of JSON names, of values, and of methods.
 
 use super::extension_faults::{DEFAULT_FAULTS, EXTENSION_FAULTS};
+use descriptor_errors::DescriptorError;
 use descriptor_pool::{BuildError, DescriptorPool};
 use plain_values::Text;
 use pool_faults::{DescriptorErrorKind, Labelled};
-use pool_parts::DescriptorError;
-use pool_types::Label;
 use proto_files::FileDescriptorProto;
 use script_files::files_of;
+use source_labels::Label;
 use std::alloc::{AllocError, Global};
 use std::fmt::Write;
 use std::process::Abort;

@@ -1,8 +1,9 @@
 //! The declarations that the walk over files shows.
 
 use super::counting::{EVERY_KIND, NONE};
+use declaration_lists::{Lister, list_declarations};
 use proto_files::FileDescriptorProto;
-use proto_records::{Counts, Declaration, Lister, list_declarations, visit};
+use proto_records::{Counts, Declaration, visit};
 use script_files::files_of;
 use std::alloc::{AllocError, Global};
 use std::fmt::Write;

@@ -5,8 +5,9 @@ ghost use Rattle.pool_types.specs.Contents.{no_contents};
 ghost use Rattle.proto_records.specs.Shown.{Shown};
 
 use super::counting::{EVERY_KIND, NONE};
+use declaration_lists::Lister;
 use proto_files::{DescriptorProto, FileDescriptorProto, OneofDescriptorProto};
-use proto_records::{Lister, Visitor, visit, visit_each};
+use proto_records::{Visitor, visit, visit_each};
 use proto_types::{
     EnumDescriptorProto, EnumValueDescriptorProto, FieldDescriptorProto, MethodDescriptorProto,
     ServiceDescriptorProto,

@@ -3,7 +3,7 @@ use Rattle.std.specs.FinMap as finite
 use Rattle.proto_types.specs.declared.tag.file.TheConstants.{DEPENDENCY}
 use Rattle.proto_types.specs.Lists.{only_if}
 use Rattle.proto_records.specs.Shown.{step}
-use Rattle.pool_types.specs.Labels.{label_in}
+use Rattle.source_labels.specs.Labels.{label_in}
 use Rattle.pool_faults.specs.declared.fault.DescriptorErrorKind.TheVariants.{FileNotFound}
 use Rattle.linked_records.specs.SettingCode.{setting_in}
 use Rattle.link_rules.proofs.imports.check_name.Goals as goal

@@ -1,0 +1,242 @@
+ghost use Rattle.std.specs.Prelude.{◌≡◌, [], ◌∷◌, ◌++◌, map, IsOk, IfOk, OnOk};
+ghost use Rattle.proto_records.specs.Fits.{counts_with};
+ghost use Rattle.proto_records.specs.Declarations.{declarations};
+ghost use Rattle.proto_records.specs.Listed.{declaration_of};
+
+use plain_values::{Items, Text};
+use proto_files::{DescriptorProto, FileDescriptorProto, OneofDescriptorProto};
+use proto_records::{Counts, Declaration, DeclarationKind, Visitor, visit};
+use proto_types::{
+    EnumDescriptorProto, EnumValueDescriptorProto, FieldDescriptorProto, MethodDescriptorProto,
+    ServiceDescriptorProto,
+};
+use std::alloc::{AllocError, Global};
+use std::marker::Model;
+
+/// A visitor that keeps the list of what it is shown. Contracts see it as that list.
+#[derive(Drop)]
+pub struct Lister {
+    alloc: Global,
+    list: Vec<Declaration>,
+}
+
+impl Model for Lister {
+    ghost use Rattle.std.specs.Prelude.{List};
+    ghost use Rattle.proto_records.specs.declared.declaration.Declaration.{Declaration};
+
+    ghost Value = { List Declaration };
+
+    ghost view = { λ l. l.list.items };
+}
+
+impl Lister {
+    /// A lister that was shown nothing, which takes no memory.
+    pub fn new(alloc: Global) -> Lister
+        ensures { result ≡ [] }
+    {
+        Lister {
+            alloc,
+            list: Vec::new(alloc),
+        }
+    }
+
+    /// What it was shown, in order.
+    pub fn declarations(&self) -> &[Declaration]
+        ensures { result.now ≡ self.now }
+    {
+        self.list.as_slice()
+    }
+
+    fn add(
+        &mut self,
+        kind: DeclarationKind,
+        file: u32,
+        parent: Option<u32>,
+        index: u32,
+        path: &[i32],
+        full_name: &str,
+    ) -> Result<(), AllocError>
+        ensures { OnOk result (self.new ≡ self.old
+            ++ record {
+              kind = kind;
+              file = file;
+              parent = parent;
+              index = index;
+              path = path.now;
+              full_name = full_name.now;
+            } ∷ []) }
+    {
+        let path = Items::from_slice(self.alloc, path)?;
+        let full_name = Text::from_str(self.alloc, full_name)?;
+        self.list.push(Declaration {
+            kind,
+            file,
+            parent,
+            index,
+            path,
+            full_name,
+        })?;
+        Ok(())
+    }
+}
+
+impl Visitor for Lister {
+    ghost use Rattle.std.specs.Prelude.{[], ◌++◌, map};
+    ghost use Rattle.pool_types.specs.Contents.{no_contents};
+    ghost use Rattle.proto_records.specs.Listed.{declaration_of};
+
+    ghost after = { λ l ds.
+        record { contents = no_contents; faults = []; listed = l ++ map declaration_of ds } };
+
+    ghost ready = { λ _ _. Unit {0} };
+
+    ghost kept = { λ _. no_contents };
+
+    ghost front_ready = { λ _ _ _ _. tt };
+
+    fn visit_file(
+        &mut self,
+        path: &[i32],
+        index: u32,
+        file: &FileDescriptorProto,
+    ) -> Result<(), AllocError> {
+        self.add(DeclarationKind::File, index, None, index, path, file.name())
+    }
+
+    fn visit_message(
+        &mut self,
+        path: &[i32],
+        full_name: &str,
+        file: u32,
+        parent: Option<u32>,
+        index: u32,
+        _message: &DescriptorProto,
+    ) -> Result<(), AllocError> {
+        let kind = DeclarationKind::Message;
+        self.add(kind, file, parent, index, path, full_name)
+    }
+
+    fn visit_field(
+        &mut self,
+        path: &[i32],
+        full_name: &str,
+        file: u32,
+        parent: u32,
+        index: u32,
+        _field: &FieldDescriptorProto,
+    ) -> Result<(), AllocError> {
+        let kind = DeclarationKind::Field;
+        self.add(kind, file, Some(parent), index, path, full_name)
+    }
+
+    fn visit_oneof(
+        &mut self,
+        path: &[i32],
+        full_name: &str,
+        file: u32,
+        parent: u32,
+        index: u32,
+        _oneof: &OneofDescriptorProto,
+    ) -> Result<(), AllocError> {
+        let kind = DeclarationKind::Oneof;
+        self.add(kind, file, Some(parent), index, path, full_name)
+    }
+
+    fn visit_service(
+        &mut self,
+        path: &[i32],
+        full_name: &str,
+        file: u32,
+        index: u32,
+        _service: &ServiceDescriptorProto,
+    ) -> Result<(), AllocError> {
+        let kind = DeclarationKind::Service;
+        self.add(kind, file, None, index, path, full_name)
+    }
+
+    fn visit_method(
+        &mut self,
+        path: &[i32],
+        full_name: &str,
+        file: u32,
+        parent: u32,
+        index: u32,
+        _method: &MethodDescriptorProto,
+    ) -> Result<(), AllocError> {
+        let kind = DeclarationKind::Method;
+        self.add(kind, file, Some(parent), index, path, full_name)
+    }
+
+    fn visit_enum(
+        &mut self,
+        path: &[i32],
+        full_name: &str,
+        file: u32,
+        parent: Option<u32>,
+        index: u32,
+        _enumeration: &EnumDescriptorProto,
+    ) -> Result<(), AllocError> {
+        let kind = DeclarationKind::Enum;
+        self.add(kind, file, parent, index, path, full_name)
+    }
+
+    fn visit_enum_value(
+        &mut self,
+        path: &[i32],
+        full_name: &str,
+        file: u32,
+        parent: u32,
+        index: u32,
+        _value: &EnumValueDescriptorProto,
+    ) -> Result<(), AllocError> {
+        let kind = DeclarationKind::EnumValue;
+        self.add(kind, file, Some(parent), index, path, full_name)
+    }
+
+    fn visit_extension(
+        &mut self,
+        path: &[i32],
+        full_name: &str,
+        file: u32,
+        parent: Option<u32>,
+        index: u32,
+        _extension: &FieldDescriptorProto,
+    ) -> Result<(), AllocError> {
+        let kind = DeclarationKind::Extension;
+        self.add(kind, file, parent, index, path, full_name)
+    }
+}
+
+/// What files declare, in order, each without its record, numbered on from the counts of a pool.
+///
+/// The counts of the files and the base together must fit, as `Counts::with_files` says, or `Counts::of` and then
+/// `Counts::plus`.
+///
+/// # Errors
+/// `AllocError` where memory was refused.
+pub fn list_declarations(
+    alloc: Global,
+    base: Counts,
+    files: &[FileDescriptorProto],
+) -> Result<Vec<Declaration>, AllocError>
+    requires fits { IsOk (counts_with base files.now) }
+    ensures { IfOk result (λ list. list.items ≡ map declaration_of (declarations base files.now)) }
+{
+    let mut lister = Lister::new(alloc);
+    show_lister(alloc, base, files, &mut lister)?;
+    let Lister { list, .. } = lister;
+    Ok(list)
+}
+
+fn show_lister(
+    alloc: Global,
+    base: Counts,
+    files: &[FileDescriptorProto],
+    lister: &mut Lister,
+) -> Result<(), AllocError>
+    requires fits { IsOk (counts_with base files.now) }
+    ensures { OnOk result (lister.new ≡ lister.old
+        ++ map declaration_of (declarations base files.now)) }
+{
+    visit(alloc, base, files, lister)
+}

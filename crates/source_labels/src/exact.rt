@@ -1,0 +1,8 @@
+ghost use Rattle.source_labels.specs.Equality.{label-exact};
+
+use crate::Label;
+use plain_values::ExactEq;
+
+impl ExactEq for Label {
+    ghost exact = { label-exact };
+}
