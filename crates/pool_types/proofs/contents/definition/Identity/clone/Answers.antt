@@ -1,0 +1,5 @@
+use Rattle.std.proofs.Common.{rules}
+use Rattle.pool_types.proofs.contents.definition.Identity.clone.Goals as goal
+
+pub returns : goal.returns
+returns c = search rules
