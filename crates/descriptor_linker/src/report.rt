@@ -1,12 +1,13 @@
 ghost use Rattle.std.specs.Prelude.{◌≡◌, ◌≢◌, true, false, None, IfOk, string_bytes};
+ghost use Rattle.std.specs.List.{fold};
 ghost use Rattle.link_script.specs.Script.Reading.{script};
-ghost use Rattle.descriptor_linker.specs.Report.Session.{report};
+ghost use Rattle.descriptor_linker.specs.Report.Session.{new_session, report, step};
 
 mod answers;
 mod relink;
 mod session;
 
-use link_script::{Script, read_script};
+use link_script::{Script, Statement, read_script};
 use script_answers::tell_fault;
 use session::Session;
 use std::alloc::{AllocError, Global};
@@ -26,11 +27,7 @@ pub fn report_of(alloc: Global, bytes: &[u8]) -> Result<Report, AllocError>
         × (r.has_fault ≡ true → (script bytes.now).fault ≢ None)) }
 {
     let Script { statements, fault } = read_script(alloc, bytes)?;
-    let mut session = Session::new(alloc);
-    for statement in statements.into_vec() {
-        session.step(statement)?;
-    }
-    let mut text = session.told;
+    let mut text = told_by(alloc, statements.into_vec())?;
     if let Some((line, fault)) = fault {
         tell_fault(&mut text, line, fault)?;
     }
@@ -38,4 +35,16 @@ pub fn report_of(alloc: Global, bytes: &[u8]) -> Result<Report, AllocError>
         text,
         has_fault: fault.is_some(),
     })
+}
+
+/// What the commands among statements tell, in order.
+fn told_by(alloc: Global, statements: Vec<Statement>) -> Result<String, AllocError>
+    ensures { IfOk result (λ told. string_bytes told
+        ≡ (fold step new_session statements.items).told) }
+{
+    let mut session = Session::new(alloc);
+    for statement in statements {
+        session.step(statement)?;
+    }
+    Ok(session.told)
 }

@@ -149,13 +149,9 @@ fn add_location(
 ) -> Result<(), AllocError>
     ensures { OnOk result (file.new ≡ in_file (say.At location) file.old) }
 {
-    let mut source = match file.source_code_info.take() {
-        Some(source) => source,
-        None => SourceCodeInfo::empty(alloc),
-    };
-    source.location.push(location)?;
-    file.source_code_info = Some(source);
-    Ok(())
+    let none = SourceCodeInfo::empty(alloc);
+    let source = file.source_code_info.get_or_insert(none);
+    source.location.push(location)
 }
 
 fn state_in_message(

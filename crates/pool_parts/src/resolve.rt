@@ -4,7 +4,10 @@ ghost use Rattle.std.specs.FinMap as finite;
 ghost use Rattle.std.specs.Option.{option_map_or};
 ghost use Rattle.std.specs.Ordering.{nat_cmp};
 ghost use Rattle.proto_types.specs.Names.{first_part};
+ghost use Rattle.pool_faults.specs.declared.fault.DescriptorErrorKind.TheVariants.{InvalidType, NameNotFound, NameShadowed};
 ghost use Rattle.pool_types.specs.DefinitionKinds.{is_parent};
+ghost use Rattle.source_labels.specs.Labels.{label_in};
+ghost use Rattle.pool_parts.specs.Kinds.{filter_text};
 ghost use Rattle.pool_parts.specs.Parents.{outer};
 ghost use Rattle.pool_parts.specs.Resolution.{resolution, resolution_in, look, simple, dotted, or_shadowed, is_found, is_not_found};
 ghost use Rattle.pool_parts.specs.References.{reference_fault};
@@ -202,28 +205,17 @@ impl<'a> ResolveNameResult<'a> {
         let fault = match self {
             ResolveNameResult::Found { .. } => return Ok(None),
             ResolveNameResult::InvalidType { name, def, filter } => {
-                DescriptorErrorKind::InvalidType {
-                    name: name.clone(alloc)?,
-                    expected: Text::from_string(format!(in alloc; "{filter}")?),
-                    found: label_at(alloc, files, found_file, path)?,
-                    defined: label_at(alloc, files, def.file, def.path.as_slice())?,
-                }
+                invalid_type(alloc, name, def, *filter, files, found_file, path)?
             }
-            ResolveNameResult::NotImported { name, .. } => DescriptorErrorKind::NameNotFound {
-                name: name.clone(alloc)?,
-                found: label_at(alloc, files, found_file, path)?,
-            },
+            ResolveNameResult::NotImported { name, .. } => {
+                name_not_found(alloc, name.as_str(), files, found_file, path)?
+            }
             ResolveNameResult::Shadowed { shadowed_name, .. } => {
-                DescriptorErrorKind::NameShadowed {
-                    name: Text::from_str(alloc, orig_name)?,
-                    shadowed_name: shadowed_name.clone(alloc)?,
-                    found: label_at(alloc, files, found_file, path)?,
-                }
+                name_shadowed(alloc, orig_name, shadowed_name, files, found_file, path)?
             }
-            ResolveNameResult::NotFound => DescriptorErrorKind::NameNotFound {
-                name: Text::from_str(alloc, orig_name)?,
-                found: label_at(alloc, files, found_file, path)?,
-            },
+            ResolveNameResult::NotFound => {
+                name_not_found(alloc, orig_name, files, found_file, path)?
+            }
         };
         Ok(Some(fault))
     }
@@ -257,4 +249,65 @@ impl<'a> ResolveNameResult<'a> {
             other => Ok(other),
         }
     }
+}
+
+/// The fault of a full name whose definition is not of a kind that is wanted, at a path of the
+/// file with an index.
+fn invalid_type(
+    alloc: Global,
+    name: &Text,
+    def: &Definition,
+    filter: ResolveNameFilter,
+    files: &[FileDescriptorInner],
+    found_file: u32,
+    path: &[i32],
+) -> Result<DescriptorErrorKind, AllocError>
+    ensures { IfOk result (λ fault. fault ≡ InvalidType name.now (filter_text filter)
+        (label_in (map (λ f. f.raw) files.now) found_file path.now)
+        (label_in (map (λ f. f.raw) files.now) def.now.file def.now.path)) }
+{
+    Ok(DescriptorErrorKind::InvalidType {
+        name: name.clone(alloc)?,
+        expected: Text::from_string(format!(in alloc; "{filter}")?),
+        found: label_at(alloc, files, found_file, path)?,
+        defined: label_at(alloc, files, def.file, def.path.as_slice())?,
+    })
+}
+
+/// The fault of a name, as it is shown, that a file does not see or that nothing has, at a path
+/// of the file with an index.
+fn name_not_found(
+    alloc: Global,
+    name: &str,
+    files: &[FileDescriptorInner],
+    found_file: u32,
+    path: &[i32],
+) -> Result<DescriptorErrorKind, AllocError>
+    ensures { IfOk result (λ fault. fault ≡ NameNotFound name.now
+        (label_in (map (λ f. f.raw) files.now) found_file path.now)) }
+{
+    Ok(DescriptorErrorKind::NameNotFound {
+        name: Text::from_str(alloc, name)?,
+        found: label_at(alloc, files, found_file, path)?,
+    })
+}
+
+/// The fault of a name as it is written that resolves to a full name which isn't defined, at a
+/// path of the file with an index.
+fn name_shadowed(
+    alloc: Global,
+    orig_name: &str,
+    shadowed_name: &Text,
+    files: &[FileDescriptorInner],
+    found_file: u32,
+    path: &[i32],
+) -> Result<DescriptorErrorKind, AllocError>
+    ensures { IfOk result (λ fault. fault ≡ NameShadowed orig_name.now shadowed_name.now
+        (label_in (map (λ f. f.raw) files.now) found_file path.now)) }
+{
+    Ok(DescriptorErrorKind::NameShadowed {
+        name: Text::from_str(alloc, orig_name)?,
+        shadowed_name: shadowed_name.clone(alloc)?,
+        found: label_at(alloc, files, found_file, path)?,
+    })
 }
