@@ -1,4 +1,4 @@
-use Rattle.std.proofs.Common.{◌≡◌, Ok, None, Some, sym, arith}
+use Rattle.std.proofs.Common.{◌≡◌, Ok, None, Some, sym, arith, rules}
 use Rattle.std.proofs.lemmas.Result.{err_from_is_err_and}
 use Rattle.default_values.specs.EscapeCode.{next_byte}
 use Rattle.default_values.proofs.Reading.{next-none, next-some, next-shorter, next-fault}
@@ -23,3 +23,6 @@ pub returns : goal.returns
 returns c =
     let next : next_byte c.loop-bytes.rest.now ≡ Ok None = sym (rw c.in_default.is at c.in_ok-byte.ensures) in
     next-none c.args.text.now c.loop-bytes.bytes.items c.loop-bytes.rest.now c.loop-bytes.invariant next
+
+pub loop-bytes-init : goal.loop-bytes-init
+loop-bytes-init c = search rules

@@ -1,3 +1,4 @@
+use Rattle.std.proofs.lemmas.Grind.{common_steps}
 use Rattle.std.proofs.Common.{arith, to_z, of_z, w32, ◌≡◌, ◌<◌, ℕ, List, get_or, subst, ◌++◌, ◌∷◌, [], take, length, ◌-◌, ap, ◌∙◌, sym}
 use Rattle.std.proofs.lemmas.Int.{to_z-of_z}
 use Rattle.proto_types.specs.declared.tag.enum_.TheConstants.{VALUE}
@@ -25,3 +26,6 @@ loop-position-preserved c =
     let is = subst (λ (xs : List EnumValueDescriptorProto). v ≡ get_or xs i v) c.as_slice-value-items.ensures c.value-item.is in
     c.in_ok-push.ensures.items ∙ (λ j. c.loop-position.invariant j ++ record { id = id j; number = number j } ∷ [])
     ∙ sym (each-next (λ n w. value_item (part_beside d VALUE n (of_value w)) (number_of w.number)) c.args.enumeration.now.value i v below is)
+
+pub returns : goal.returns
+returns c = grind (arith, common_steps)

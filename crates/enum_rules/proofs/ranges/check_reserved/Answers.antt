@@ -1,4 +1,5 @@
-use Rattle.std.proofs.Common.{◌≡◌, ◌+◌, ◌++◌, ◌∷◌, [], List, map, take, get_or, None, to_z, of_z, w32, ap, sym, ◌∙◌, append-nil}
+use Rattle.std.proofs.lemmas.Grind.{common_steps}
+use Rattle.std.proofs.Common.{◌≡◌, ◌+◌, ◌++◌, ◌∷◌, [], List, map, take, get_or, None, to_z, of_z, w32, ap, sym, ◌∙◌, append-nil, arith}
 use Rattle.proto_types.specs.declared.records.enumeration.EnumReservedRange.{EnumReservedRange}
 use Rattle.pool_faults.specs.declared.fault.DescriptorErrorKind.{DescriptorErrorKind}
 use Rattle.places.specs.Places.{enum_at}
@@ -31,3 +32,6 @@ loop-index-preserved c =
           ap (λ v. v.items) w.faults-is ∙ sym (append-nil c.loop-index.faults.items)
           ∙ next [] (told-free files owner c.args.position n i (get_or ranges i none) c.reserves.result c.reserves.ensures w.if-reserves.false)
     ]
+
+pub returns : goal.returns
+returns c = grind (arith, common_steps)

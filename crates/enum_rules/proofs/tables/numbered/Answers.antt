@@ -1,3 +1,4 @@
+use Rattle.std.proofs.lemmas.Grind.{common_steps}
 use Rattle.std.proofs.Common.{◌≡◌, arith, to_z, of_z, w32, ◌++◌, ◌∷◌, [], sym, ◌∙◌}
 use Rattle.std.proofs.lemmas.Int.{to_z-of_z}
 use Rattle.proto_types.specs.Readers.{number_of}
@@ -13,3 +14,6 @@ loop-position-preserved c =
     c.in_ok-push.ensures.items
     ∙ (λ j. c.loop-position.invariant j ++ (number j, i) ∷ [])
     ∙ sym (mapped-next (λ e. (number_of e.1.number, e.0)) c.args.values.now i v c.loop-position-test.true c.index-values-position.is)
+
+pub returns : goal.returns
+returns c = grind (arith, common_steps)

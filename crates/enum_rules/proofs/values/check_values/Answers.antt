@@ -1,3 +1,4 @@
+use Rattle.std.proofs.lemmas.Grind.{common_steps}
 use Rattle.std.proofs.Common.{◌≡◌, ◌<◌, ℤ, List, length, map, get_or, Some, unwrap_or, to_z, of_z, w32, subst, arith, ap, ◌∙◌}
 use Rattle.std.proofs.lemmas.Int.{to_z-of_z}
 use Rattle.std.specs.BTreeMap.{get}
@@ -45,3 +46,6 @@ loop-position-preserved c =
             c.allows_alias-alias.result c.allows_alias-alias.ensures w.if-not-alias.false
       ];
     }
+
+pub returns : goal.returns
+returns c = grind (arith, common_steps)

@@ -1,4 +1,5 @@
-use Rattle.std.proofs.Common.{◌++◌, ap, ◌∙◌, sym, append_assoc, take}
+use Rattle.std.proofs.lemmas.Grind.{common_steps}
+use Rattle.std.proofs.Common.{◌++◌, ap, ◌∙◌, sym, append_assoc, take, arith}
 use Rattle.link_rules.specs.Imports.{missing_file, missing_files}
 use Rattle.linked_records.specs.SettingCode.{setting_in}
 use Rattle.places.proofs.Each.{all-next, short-list}
@@ -17,3 +18,6 @@ loop-position-preserved c =
     ∙ append_assoc c.args.faults.now.items (missing_files s c.args.index (take i c.args.imports.now)) (missing_file s c.args.index i name)
     ∙ ap (λ faults. c.args.faults.now.items ++ faults)
     (sym (all-next (missing_file s c.args.index) c.args.imports.now i name c.loop-position-test.true c.index-imports-position.is))
+
+pub returns : goal.returns
+returns c = grind (arith, common_steps)

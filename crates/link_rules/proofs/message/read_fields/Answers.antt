@@ -1,4 +1,5 @@
-use Rattle.std.proofs.Common.{ℕ, List, ◌<◌, ◌+◌, length, take, get_or, subst, ◌++◌, ◌∷◌, [], ap, ◌∙◌, sym}
+use Rattle.std.proofs.lemmas.Grind.{common_steps}
+use Rattle.std.proofs.Common.{ℕ, List, ◌<◌, ◌+◌, length, take, get_or, subst, ◌++◌, ◌∷◌, [], ap, ◌∙◌, sym, arith}
 use Rattle.std.proofs.lemmas.List.Elements.{All-push}
 use Rattle.std.specs.List.{All, flat_map}
 use Rattle.proto_types.specs.Empty.{no_field}
@@ -45,3 +46,12 @@ loop-position-preserved c =
           ∙ regroup c.args.faults.now.items so_far own (again m.field)
           ∙ ap (λ fs. c.args.faults.now.items ++ fs) (sym (all-next breaks m.field i f below is));
     }
+
+pub returns-clause-faults : goal.returns-clause-faults
+returns-clause-faults c = grind (arith, common_steps)
+
+pub returns-clause-items : goal.returns-clause-items
+returns-clause-items c = grind (arith, common_steps)
+
+pub returns-clause-maps : goal.returns-clause-maps
+returns-clause-maps c = grind (arith, common_steps)

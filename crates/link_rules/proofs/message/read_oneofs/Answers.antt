@@ -1,3 +1,4 @@
+use Rattle.std.proofs.lemmas.Grind.{common_steps}
 use Rattle.std.proofs.Common.{List, ◌<◌, length, get_or, subst, arith, ◌≡◌, ◌++◌, ◌∷◌, [], ap, ◌∙◌, sym}
 use Rattle.std.proofs.lemmas.List.Elements.{All-push}
 use Rattle.std.specs.List.{All}
@@ -46,3 +47,6 @@ loop-position-preserved c =
       begin = subst (All Begins) (sym c.in_ok-push.ensures.items)
           (All-push Begins c.loop-position.items.items (record { id = c.in_ok-id.id; fields = c.in_ok-fields.fields }) c.loop-position.invariant.begin c.in_ok-id.ensures.begins);
     }
+
+pub returns-clause-items : goal.returns-clause-items
+returns-clause-items c = grind (arith, common_steps)

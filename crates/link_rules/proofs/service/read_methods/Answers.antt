@@ -1,4 +1,5 @@
-use Rattle.std.proofs.Common.{ℕ, take, Some, ◌≡◌, ◌++◌, ◌∷◌, [], ap, ◌∙◌, sym, append_assoc}
+use Rattle.std.proofs.lemmas.Grind.{common_steps}
+use Rattle.std.proofs.Common.{ℕ, take, Some, ◌≡◌, ◌++◌, ◌∷◌, [], ap, ◌∙◌, sym, append_assoc, arith}
 use Rattle.std.specs.List.{flat_map}
 use Rattle.proto_types.specs.declared.records.service.MethodDescriptorProto.{MethodDescriptorProto}
 use Rattle.proto_types.specs.Names.{join}
@@ -42,3 +43,6 @@ loop-position-preserved c =
           ∙ append_assoc c.args.faults.now.items (flat_map (λ fs. fs) (each breaks 0 (take i c.args.methods.now))) (breaks i m)
           ∙ ap (λ fs. c.args.faults.now.items ++ fs) (sym (all-next breaks c.args.methods.now i m c.loop-position-test.true c.index-methods-position.is));
     }
+
+pub returns-clause-items : goal.returns-clause-items
+returns-clause-items c = grind (arith, common_steps)

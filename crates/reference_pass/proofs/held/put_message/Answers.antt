@@ -1,4 +1,5 @@
-use Rattle.std.proofs.Common.{subst, sym}
+use Rattle.std.proofs.lemmas.Grind.{common_steps}
+use Rattle.std.proofs.Common.{subst, sym, arith}
 use Rattle.std.proofs.lemmas.List.Elements.{All-push}
 use Rattle.std.specs.List.{All}
 use Rattle.link_rules.specs.NamesBegin.{MessageNamesBegin}
@@ -8,3 +9,6 @@ use Rattle.reference_pass.proofs.held.put_message.Goals as goal
 pub returns-clause-names : goal.returns-clause-names
 returns-clause-names c = λ old own.
     subst (All MessageNamesBegin) (sym c.in_ok-push.ensures.items) (All-push MessageNamesBegin c.args.pool.now.inner.messages.items c.args.message old own)
+
+pub returns-clause-kept : goal.returns-clause-kept
+returns-clause-kept c = grind (arith, common_steps)

@@ -1,4 +1,5 @@
-use Rattle.std.proofs.Common.{map, ap, ◌∙◌}
+use Rattle.std.proofs.lemmas.Grind.{common_steps}
+use Rattle.std.proofs.Common.{map, ap, ◌∙◌, arith}
 use Rattle.growing_pool.specs.Extended.{cut}
 use Rattle.growing_pool.proofs.growing.GrowingPool.rollback.Goals as goal
 
@@ -15,3 +16,6 @@ returns c =
       names = c.remove_from.ensures i;
       file_names = c.remove_from-2.ensures i;
     }
+
+pub invariant_of-self : goal.invariant_of-self
+invariant_of-self c = grind (arith, common_steps)

@@ -1,3 +1,4 @@
+use Rattle.std.proofs.lemmas.Grind.{common_steps}
 use Rattle.std.proofs.Common.{◌≡◌, ◌+◌, ap, ◌∙◌, arith, map, set, get_or}
 use Rattle.std.specs.FinMap as finite
 use Rattle.file_visibility.specs.Visibility.{seen_from}
@@ -21,3 +22,6 @@ returns-clause-ok c =
     let files : set fs n (record was { transitive_dependencies = c.in_ok-seen.seen }) ≡ file_seeing old n =
     ap (set fs n) item ∙ set-each (seeing (seen_in old n)) 0 n fs was c.requires.here ∙ ap (λ m. each (one (seeing (seen_in old n)) m) 0 fs) first in
     λ i. record (contents_in old.inner) { files = files i }
+
+pub returns-clause-kept : goal.returns-clause-kept
+returns-clause-kept c = grind (arith, common_steps)

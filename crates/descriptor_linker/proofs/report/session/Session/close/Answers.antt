@@ -1,4 +1,5 @@
-use Rattle.std.proofs.Common.{refl, ap, reverse, ◌∙◌}
+use Rattle.std.proofs.lemmas.Grind.{common_steps}
+use Rattle.std.proofs.Common.{refl, ap, reverse, ◌∙◌, arith}
 use Rattle.descriptor_linker.proofs.Innermost.{innermost_of, reverse-last}
 use Rattle.descriptor_linker.proofs.report.session.Session.close.Goals as goal
 
@@ -7,3 +8,6 @@ returns-in_ok-close_in c =
     let records = c.pop.new.self in
     let outer = innermost_of records.items records.len c.in-Some-last_mut.outer.now c.close_in.new.self records.ok.0 (c.in-Some-last_mut.ensures.variant.0 refl) c.in-Some-last_mut.ensures.value in
     rw (ap reverse c.in-Some.ensures.items ∙ reverse-last records.items c.in-Some.inner, outer.before, outer.after, c.in_ok-close_in.ensures) refl
+
+pub returns-after-inner : goal.returns-after-inner
+returns-after-inner c = grind (arith, common_steps)
