@@ -5,7 +5,7 @@ ghost use Rattle.proto_records.specs.Listed.{declaration_of};
 
 use plain_values::{Items, Text};
 use proto_files::{DescriptorProto, FileDescriptorProto, OneofDescriptorProto};
-use proto_records::{Counts, Declaration, DeclarationKind, Visitor, visit};
+use proto_records::{Counts, Declaration, DeclarationKind, Visitor, walk_files};
 use proto_types::{
     EnumDescriptorProto, EnumValueDescriptorProto, FieldDescriptorProto, MethodDescriptorProto,
     ServiceDescriptorProto,
@@ -91,6 +91,8 @@ impl Visitor for Lister {
     ghost ready = { λ _ _. Unit {0} };
 
     ghost kept = { λ _. no_contents };
+
+    ghost borrows = { λ _. [] };
 
     ghost front_ready = { λ _ _ _ _. tt };
 
@@ -223,20 +225,7 @@ pub fn list_declarations(
     ensures { IfOk result (λ list. list.items ≡ map declaration_of (declarations base files.now)) }
 {
     let mut lister = Lister::new(alloc);
-    show_lister(alloc, base, files, &mut lister)?;
+    walk_files(alloc, base, files, &mut lister)?;
     let Lister { list, .. } = lister;
     Ok(list)
-}
-
-fn show_lister(
-    alloc: Global,
-    base: Counts,
-    files: &[FileDescriptorProto],
-    lister: &mut Lister,
-) -> Result<(), AllocError>
-    requires fits { IsOk (counts_with base files.now) }
-    ensures { OnOk result (lister.new ≡ lister.old
-        ++ map declaration_of (declarations base files.now)) }
-{
-    visit(alloc, base, files, lister)
 }

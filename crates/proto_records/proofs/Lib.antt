@@ -15,3 +15,5 @@ pub mod Appended
 pub mod FullNames
 pub mod Changed
 pub mod Reached
+pub mod Rests
+pub mod Cursors

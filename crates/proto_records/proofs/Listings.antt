@@ -1,14 +1,12 @@
--- What is left to be listed, and that there is room for it.
-use Rattle.std.proofs.Common.{Option, Result, Ok, Err, OnOk, string_bytes, to_z, of_z, w32, ◌≡◌, ℕ, ℤ, suc, ◌+◌, ◌<◌, ◌≤◌, Bool, true, false, ◌&&◌, List, [], ◌∷◌, ◌++◌, length, map, drop, get_or, refl, ap, sym, subst, ◌∙◌, arith, append_assoc, append-nil, add-one}
+-- That there is room for what is left.
+use Rattle.std.proofs.Common.{Result, Ok, Err, OnOk, ◌≡◌, ℕ, suc, ◌+◌, ◌<◌, ◌≤◌, Bool, true, false, ◌&&◌, List, [], ◌∷◌, ◌++◌, length, drop, get_or, refl, ap, sym, subst, ◌∙◌, arith, add-one}
 use Rattle.std.proofs.Math.Seq.{drop-cons}
 use Rattle.std.specs.List.{list_all}
 use Rattle.proto_records.specs.declared.counts.Counts.{Counts}
-use Rattle.proto_records.specs.declared.walk.site.Site.{Site}
-use Rattle.proto_records.specs.declared.walk.listing.Listing.{Listing}
 use Rattle.proto_records.specs.Protos.{Proto, of_file, of_message, of_field, of_oneof, of_service, of_method, of_enum, of_value, of_extension}
-use Rattle.proto_records.specs.Shown.{Shown, Surrounding, shown, row}
+use Rattle.proto_records.specs.Shown.{Shown}
 use Rattle.proto_records.specs.Counts.{counted, counting, lists_fit}
-use Rattle.proto_records.specs.Walking.{around, WithinLimits, Lists, Room, located}
+use Rattle.proto_records.specs.Walking.{WithinLimits, Room}
 use Rattle.proto_records.proofs.Counted.{counted-append}
 
 pub first-true : (b c : Bool) → (b && c) ≡ true → b ≡ true
@@ -85,68 +83,15 @@ room-back {c} ds es room = record {
   within = subst WithinLimits (counted-append c ds es) room.within;
 }
 
--- what is left to be listed of all declarations, and that there is room for it
-pub record Left (old now : Listing) (all rest : List Shown) : Type 0 where
-  pub list : map located now.list.items ++ rest ≡ map located old.list.items ++ all
-  pub counts : counted now.counts rest ≡ counted old.counts all
-  pub room : Room now.counts rest
-
-pub left-all : (l : Listing) (all : List Shown) → Room l.counts all → Left l l all all
-left-all l all room = record { list = refl; counts = refl; room = room }
-
--- the rest in other words
-pub left-as : {old now : Listing} {all rest rest' : List Shown} → Left old now all rest → rest ≡ rest' → Left old now all rest'
-left-as {old} {now} {all} left e = subst (Left old now all) e left
-
--- the first of what is left is listed
-pub left-fewer : {old now next : Listing} {all : List Shown} (first rest : List Shown) → Left old now all (first ++ rest) → Lists now next first → Left old next all rest
-left-fewer {old} {now} {next} {all} first rest left step = record {
-  list = ap (λ ds. ds ++ rest) step.list ∙ append_assoc (map located now.list.items) first rest ∙ left.list;
-  counts = ap (λ c. counted c rest) step.counts ∙ sym (counted-append now.counts first rest) ∙ left.counts;
-  room = subst (λ c. Room c rest) (sym step.counts) (room-back first rest left.room);
-}
-
--- nothing is left
-pub left-none : {old now : Listing} {all rest : List Shown} → Left old now all rest → rest ≡ [] → Lists old now all
-left-none {old} {now} {all} {rest} left none = record {
-  list = sym (append-nil (map located now.list.items)) ∙ ap (λ ds. map located now.list.items ++ ds) (sym none) ∙ left.list;
-  counts = ap (counted now.counts) (sym none) ∙ left.counts;
-}
-
 -- what holds of the answer's value, in other words
 pub on-ok : {A E P Q : Type 0} (r : Result A E) → (P → Q) → OnOk r P → OnOk r Q
 on-ok (Ok x) f p = f p
 on-ok (Err e) f p = tt
 
--- where the parts of a declaration stand
-pub site-is : (p : Site) (parent : Option ℕ) (s : Surrounding) → p.file ≡ s.file → p.path.items ≡ s.path → string_bytes p.name ≡ s.scope → parent ≡ s.parent → around p parent ≡ s
-site-is p parent s file path name up = λ i. record { file = file i; path = path i; scope = name i; parent = up i }
-
--- a number as a register holds it
-abbrev pub carried_int : ℤ → ℤ
-carried_int z = to_z w32 (of_z w32 z)
-
 -- what is left of a list begins with the item at the position
 pub next : {X : Type 0} (xs : List X) (i : ℕ) (x : X) → i < length xs → x ≡ get_or xs i x → drop i xs ≡ x ∷ drop (i + 1) xs
 next xs i x within is = rw add-one (drop-cons xs i x within ∙ ap (λ y. y ∷ drop (suc i) xs) (sym is))
 
--- so it is with a row
-pub row-next : {X : Type 0} (of : X → Proto) (here : Surrounding) (tag : ℤ) (n : ℕ) (xs : List X) (i : ℕ) (x : X) → i < length xs → x ≡ get_or xs i x
-    → row of here tag i n (drop i xs) ≡ (shown here tag i n (of x) ∷ []) ++ row of here tag (i + 1) (n + 1) (drop (i + 1) xs)
-row-next of here tag n xs i x within is =
-    ap (row of here tag i n) (next xs i x within is) ∙ (λ j. shown here tag i n (of x) ∷ row of here tag (sym (add-one i) j) (sym (add-one n) j) (drop (i + 1) xs))
-
 -- the counts after the first of what there is room for are within the limits
 pub within-first : {c : Counts} {d : Shown} {ds : List Shown} → Room c (d ∷ ds) → WithinLimits (counting c d.proto)
 within-first {c} {d} {ds} room = within-below (counted-grows (counting c d.proto) ds) room.within
-
--- the last of what is left is listed
-pub left-last : {old now next : Listing} {all last : List Shown} → Left old now all last → Lists now next last → Lists old next all
-left-last {old} {now} {next} {all} {last} left step = record {
-  list = step.list ∙ left.list;
-  counts = step.counts ∙ left.counts;
-}
-
--- what is listed at one position, in other words
-pub lists-as : {old now : Listing} {ds es : List Shown} → ds ≡ es → Lists old now ds → Lists old now es
-lists-as {old} {now} e lists = subst (Lists old now) e lists

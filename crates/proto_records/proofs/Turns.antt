@@ -1,12 +1,11 @@
--- What of a walk comes next, and the counts behind it.
-use Rattle.std.proofs.Common.{◌≤◌, true, subst, arith, ◌≡◌, ℕ, ℤ, suc, ◌+◌, ◌<◌, List, [], ◌∷◌, ◌++◌, length, drop, get_or, refl, ap, sym, ◌∙◌, append_assoc, add-one}
-use denote.Param.Weighed.{most, at_most}
+-- The counts behind the parts of a walk.
+use Rattle.std.proofs.Common.{true, ◌≡◌, ℕ, ℤ, suc, List, [], ◌∷◌, refl, ap, ◌∙◌}
 use Rattle.proto_records.specs.declared.counts.Counts.{Counts}
 use Rattle.proto_types.specs.declared.tag.message.TheConstants as message
 use Rattle.proto_types.specs.declared.tag.enum_.TheConstants as enumeration
 use Rattle.proto_types.specs.declared.tag.file.TheConstants as file
 use Rattle.proto_types.specs.declared.tag.service.TheConstants as service
-use Rattle.proto_files.specs.declared.message.DescriptorProto.{DescriptorProto, out-DescriptorProto, size-DescriptorProto, size_is-DescriptorProto}
+use Rattle.proto_files.specs.declared.message.DescriptorProto.{DescriptorProto, out-DescriptorProto}
 use Rattle.proto_types.specs.declared.records.enumeration.EnumDescriptorProto.{EnumDescriptorProto}
 use Rattle.proto_types.specs.declared.records.service.ServiceDescriptorProto.{ServiceDescriptorProto}
 use Rattle.proto_types.specs.declared.records.field.FieldDescriptorProto.{FieldDescriptorProto}
@@ -14,11 +13,10 @@ use Rattle.proto_files.specs.declared.message.OneofDescriptorProto.{OneofDescrip
 use Rattle.proto_records.specs.Protos.{Proto, of_message, of_field, of_oneof, of_service, of_method, of_enum, of_value}
 use Rattle.proto_records.specs.Shown.{Shown, Surrounding, shown, row, parts, inside, beside}
 use Rattle.proto_records.specs.Counts.{counted, counting, fits_list, lists_fit}
-use Rattle.proto_records.specs.Declarations.{enum_walk, enums_walk, service_walk, services_walk, message_front, message_end, message_walk, messages_walk}
-use Rattle.proto_records.specs.Walking.{Room, message_opening}
+use Rattle.proto_records.specs.Declarations.{enum_walk, enums_walk, service_walk, services_walk, message_front}
+use Rattle.proto_records.specs.Walking.{Room}
 use Rattle.proto_records.proofs.Counted.{counted-append}
-use Rattle.proto_records.proofs.Leading.{message-walk-opens}
-use Rattle.proto_records.proofs.Listings.{first-true, next, second-true}
+use Rattle.proto_records.proofs.Listings.{first-true, second-true}
 
 -- what no pool numbers changes no count
 pub counted-row : {X : Type 0} (of : X → Proto) → ((c : Counts) (x : X) → counting c (of x) ≡ c) → (c : Counts) (here : Surrounding) (tag : ℤ) (i n : ℕ) (xs : List X)
@@ -52,72 +50,12 @@ services-keep c here i n (s ∷ ss) =
     ap (λ (k : Counts). k.extensions) (counted-append c (service_walk here i n s) (services_walk here (suc i) (suc n) ss) ∙ ap (λ k. counted k (services_walk here (suc i) (suc n) ss)) (counted-service c here i n s))
     ∙ services-keep (counting c (of_service s)) here (suc i) (suc n) ss
 
-pub enums-next : (here : Surrounding) (tag : ℤ) (n : ℕ) (es : List EnumDescriptorProto) (i : ℕ) (e : EnumDescriptorProto) → i < length es → e ≡ get_or es i e
-    → enums_walk here tag i n (drop i es) ≡ enum_walk here tag i n e ++ enums_walk here tag (i + 1) (suc n) (drop (i + 1) es)
-enums-next here tag n es i e within is =
-    ap (enums_walk here tag i n) (next es i e within is)
-    ∙ (λ j. enum_walk here tag i n e ++ enums_walk here tag (sym (add-one i) j) (suc n) (drop (i + 1) es))
-
-pub services-next : (here : Surrounding) (n : ℕ) (ss : List ServiceDescriptorProto) (i : ℕ) (s : ServiceDescriptorProto) → i < length ss → s ≡ get_or ss i s
-    → services_walk here i n (drop i ss) ≡ service_walk here i n s ++ services_walk here (i + 1) (suc n) (drop (i + 1) ss)
-services-next here n ss i s within is =
-    ap (services_walk here i n) (next ss i s within is)
-    ∙ (λ j. service_walk here i n s ++ services_walk here (sym (add-one i) j) (suc n) (drop (i + 1) ss))
-
 -- the opening of a message counts the message alone
 pub counted-front : (c : Counts) (here : Surrounding) (os : List OneofDescriptorProto) (fs : List FieldDescriptorProto) → counted c (message_front here os fs) ≡ c
 counted-front c here os fs =
     counted-append c (parts of_oneof here message.ONEOF_DECL os) (parts of_field here message.FIELD fs)
     ∙ ap (λ k. counted k (parts of_field here message.FIELD fs)) (counted-row of_oneof (λ _ _. refl) c here message.ONEOF_DECL 0 0 os)
     ∙ counted-row of_field (λ _ _. refl) c here message.FIELD 0 0 fs
-
-pub counted-opening : (c : Counts) (here : Surrounding) (tag : ℤ) (i n : ℕ) (m : DescriptorProto) → counted c (message_opening here tag i n m) ≡ counting c (of_message m)
-counted-opening c here tag i n m =
-    counted-front (counting c (of_message m)) (inside (shown here tag i n (of_message m))) (out-DescriptorProto m).oneof_decl (out-DescriptorProto m).field
-
--- a message's nested messages, and what follows them
-module _ (here : Surrounding) (tag : ℤ) (base : Counts) (i : ℕ) (m : DescriptorProto) where
-  abbrev pub within : Surrounding
-  within = inside (shown here tag i base.messages (of_message m))
-
-  abbrev pub deeper : List Shown
-  deeper = messages_walk within message.NESTED_TYPE 0 (counting base (of_message m)) (out-DescriptorProto m).nested_type
-
-  abbrev pub before_end : Counts
-  before_end = counted (counting base (of_message m)) deeper
-
-  abbrev pub ending : List Shown
-  ending = message_end within before_end (out-DescriptorProto m).enum_type (out-DescriptorProto m).extension
-
-  abbrev pub opening : List Shown
-  opening = message_opening here tag i base.messages m
-
-  abbrev front : List Shown
-  front = message_front within (out-DescriptorProto m).oneof_decl (out-DescriptorProto m).field
-
-  pub counted-message : counted base (message_walk here tag i base m) ≡ counted before_end ending
-  counted-message =
-      ap (counted base) (message-walk-opens here tag i base m)
-      ∙ counted-append (counting base (of_message m)) (front ++ deeper) ending
-      ∙ ap (λ k. counted k ending) (counted-append (counting base (of_message m)) front deeper
-      ∙ ap (λ k. counted k deeper) (counted-front (counting base (of_message m)) within (out-DescriptorProto m).oneof_decl (out-DescriptorProto m).field))
-
-  pub messages-next : (ms : List DescriptorProto) → i < length ms → m ≡ get_or ms i m
-      → messages_walk here tag i base (drop i ms) ≡ opening ++ (deeper ++ (ending ++ messages_walk here tag (i + 1) (counted before_end ending) (drop (i + 1) ms)))
-  messages-next ms below is =
-      let rest = messages_walk here tag (i + 1) (counted before_end ending) (drop (i + 1) ms) in
-      ap (messages_walk here tag i base) (next ms i m below is)
-      ∙ (λ j. message-walk-opens here tag i base m j ++ messages_walk here tag (sym (add-one i) j) (counted-message j) (drop (i + 1) ms))
-      ∙ append_assoc (opening ++ deeper) ending rest
-      ∙ append_assoc opening deeper (ending ++ rest)
-
--- what is nested in a message of a list is less deep than the list
-pub nested-falls : (ms : List DescriptorProto) (i : ℕ) (m : DescriptorProto) (ns : List DescriptorProto) → i < length ms → m ≡ get_or ms i m
-    → ns ≡ (out-DescriptorProto m).nested_type → most size-DescriptorProto ns < most size-DescriptorProto ms
-nested-falls ms i m ns below is nested =
-    let less : size-DescriptorProto m ≤ most size-DescriptorProto ms = subst (λ (x : DescriptorProto). size-DescriptorProto x ≤ most size-DescriptorProto ms) (sym is) (at_most size-DescriptorProto ms i m below) in
-    let size = size_is-DescriptorProto m in
-    rw nested (omega arith)
 
 -- the lists of a message that is listed are short
 pub short-nested : (m : DescriptorProto) → lists_fit (of_message m) ≡ true → fits_list (out-DescriptorProto m).nested_type ≡ true

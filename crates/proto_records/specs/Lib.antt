@@ -12,3 +12,4 @@ pub mod Totals
 pub mod Walking
 pub mod Progress
 pub mod Listed
+pub mod Cursor

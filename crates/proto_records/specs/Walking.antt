@@ -1,20 +1,20 @@
 -- The list of declarations that a walk makes of a file.
-use Rattle.std.specs.Prelude.{◌≡◌, ℕ, ℤ, ◌≤◌, true, List, ◌∷◌, ◌++◌, map, string_bytes}
+use Rattle.std.specs.Prelude.{◌≡◌, ℕ, ◌≤◌, true, List, ◌++◌, map, string_bytes}
 use Rattle.std.specs.List.{list_all}
 use Rattle.std.specs.declared.option.Option.{Option}
 use Rattle.std.specs.declared.option.Option.TheVariants.{None, Some}
 use Rattle.proto_records.specs.declared.counts.Counts.{Counts}
-use Rattle.proto_records.specs.declared.walk.part.Part.{Part}
-use Rattle.proto_records.specs.declared.walk.part.Part.TheVariants as part
-use Rattle.proto_records.specs.declared.walk.site.Site.{Site}
-use Rattle.proto_records.specs.declared.walk.located.Located.{Located}
-use Rattle.proto_records.specs.declared.walk.listing.Listing.{Listing}
+use Rattle.proto_records.specs.declared.walking.part.Part.{Part}
+use Rattle.proto_records.specs.declared.walking.part.Part.TheVariants as part
+use Rattle.proto_records.specs.declared.walking.records.Records.{Records}
+use Rattle.proto_records.specs.declared.walking.records.Records.TheVariants as records
+use Rattle.proto_records.specs.declared.walking.site.Site.{Site}
+use Rattle.proto_records.specs.declared.walking.located.Located.{Located}
 use Rattle.proto_records.specs.Counts.{counted, count_limit, lists_fit}
 use Rattle.proto_records.specs.Protos.{Proto, of_file, of_message, of_field, of_oneof, of_service, of_method, of_enum, of_value, of_extension}
-use Rattle.proto_records.specs.Shown.{Shown, Surrounding, shown, shown_as, inside, row}
-use Rattle.proto_records.specs.Declarations.{message_front, messages_walk, enums_walk, services_walk, in_file}
+use Rattle.proto_records.specs.Shown.{Shown, shown_as, row}
+use Rattle.proto_records.specs.Declarations.{messages_walk, enums_walk, services_walk, in_file}
 use Rattle.proto_types.specs.declared.tag.file.TheConstants as file
-use Rattle.proto_files.specs.declared.message.DescriptorProto.{DescriptorProto, out-DescriptorProto}
 use Rattle.proto_files.specs.declared.file.FileDescriptorProto.{FileDescriptorProto}
 
 abbrev pub proto_of : Part → Proto
@@ -37,6 +37,27 @@ parent_of (part.Enum parent _) = parent
 parent_of (part.EnumValue parent _) = Some parent
 parent_of (part.Extension parent _) = parent
 
+-- the records of a list, and the index of what they stand in
+abbrev pub protos_in : Records → List Proto
+protos_in (records.Messages _ ms) = map of_message ms.now
+protos_in (records.Fields _ fs) = map of_field fs.now
+protos_in (records.Oneofs _ os) = map of_oneof os.now
+protos_in (records.Services ss) = map of_service ss.now
+protos_in (records.Methods _ ms) = map of_method ms.now
+protos_in (records.Enums _ es) = map of_enum es.now
+protos_in (records.EnumValues _ vs) = map of_value vs.now
+protos_in (records.Extensions _ xs) = map of_extension xs.now
+
+abbrev pub parent_in : Records → Option ℕ
+parent_in (records.Messages parent _) = parent
+parent_in (records.Fields parent _) = Some parent
+parent_in (records.Oneofs parent _) = Some parent
+parent_in (records.Services _) = None
+parent_in (records.Methods parent _) = Some parent
+parent_in (records.Enums parent _) = parent
+parent_in (records.EnumValues parent _) = Some parent
+parent_in (records.Extensions parent _) = parent
+
 -- the index of the next of a kind: how many were counted, or the position where none is
 abbrev pub index_at : Counts → ℕ → Proto → ℕ
 index_at c position (of_file _) = c.files
@@ -46,18 +67,9 @@ index_at c position (of_service _) = c.services
 index_at c position (of_extension _) = c.extensions
 index_at c position _ = position
 
--- a listed record as a declaration
-abbrev pub located : Located → Shown
-located l = shown_as l.site.path.items (string_bytes l.site.name) l.site.file (parent_of l.part) l.index (proto_of l.part)
-
--- what stands in a position
-abbrev pub around : Site → Option ℕ → Surrounding
-around p parent = record { file = p.file; path = p.path.items; scope = string_bytes p.name; parent = parent }
-
--- a message, its oneofs and its fields
-abbrev pub message_opening : Surrounding → ℤ → ℕ → ℕ → DescriptorProto → List Shown
-message_opening here tag position index m =
-    let d = shown here tag position index (of_message m) in d ∷ message_front (inside d) (out-DescriptorProto m).oneof_decl (out-DescriptorProto m).field
+-- a record as a declaration, as it stands at a site
+abbrev pub located : Site → Located → Shown
+located s l = shown_as s.path.items (string_bytes s.name) s.file (parent_of l.part) l.index (proto_of l.part)
 
 -- all that stands in the file with an index
 abbrev pub within_file : ℕ → Counts → FileDescriptorProto → List Shown
@@ -67,11 +79,6 @@ within_file index base f =
     let after = counted base messages in
     messages ++ enums_walk here file.ENUM_TYPE 0 after.enums f.enum_type ++ services_walk here 0 after.services f.service
     ++ row of_extension here file.EXTENSION 0 after.extensions f.extension
-
--- these declarations came to the list, and their counts to the counts
-pub record Lists (old new : Listing) (ds : List Shown) : Type 0 where
-  pub list : map located new.list.items ≡ map located old.list.items ++ ds
-  pub counts : new.counts ≡ counted old.counts ds
 
 -- each count is one that a pool can hold
 pub record WithinLimits (c : Counts) : Type 0 where

@@ -7,7 +7,7 @@ mod counts;
 mod declaration;
 mod laws;
 mod visitor;
-mod walk;
+mod walking;
 
 pub use counts::{CountKind, Counts};
 pub use declaration::{Declaration, DeclarationKind};
@@ -31,4 +31,4 @@ pub use proto_types::{
 };
 pub use source_labels::Label;
 pub use visitor::Visitor;
-pub use walk::{entry_path, visit, visit_each};
+pub use walking::{entry_path, visit, visit_each, walk, walk_files};

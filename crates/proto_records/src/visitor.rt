@@ -1,4 +1,4 @@
-ghost use Rattle.std.specs.Prelude.{◌≡◌, List, [], ◌∷◌, ◌++◌, OnOk, None, Some};
+ghost use Rattle.std.specs.Prelude.{◌≡◌, ℕ, List, [], ◌∷◌, ◌++◌, OnOk, None, Some};
 ghost use Rattle.pool_types.specs.Contents.{Contents};
 ghost use Rattle.proto_records.specs.Progress.{Progress, HasSeen};
 ghost use Rattle.proto_records.specs.Protos.{of_message, of_field, of_oneof, of_service, of_method, of_enum, of_value, of_extension};
@@ -28,6 +28,9 @@ pub trait Visitor: Drop {
     /// The contents that a roll-back would give.
     ghost kept: { Self → Contents };
 
+    /// The names of the `&mut`s that it holds.
+    ghost borrows: { Self → List ℕ };
+
     fn visit_file(
         &mut self,
         path: &[i32],
@@ -37,7 +40,8 @@ pub trait Visitor: Drop {
         requires { ready self.old (file_shown path.now index file.now ∷ []) }
         ensures ok { OnOk result (HasSeen (after self.old) (ready self.old) (after self.new)
             (ready self.new) (file_shown path.now index file.now ∷ [])) }
-        ensures kept { kept self.new ≡ kept self.old };
+        ensures kept { kept self.new ≡ kept self.old }
+        ensures borrows { borrows self.new ≡ borrows self.old };
 
     fn visit_message(
         &mut self,
@@ -53,7 +57,8 @@ pub trait Visitor: Drop {
         ensures ok { OnOk result
             (HasSeen (after self.old) (ready self.old) (after self.new) (ready self.new)
             (shown_as path.now full_name.now file parent index (of_message message.now) ∷ [])) }
-        ensures kept { kept self.new ≡ kept self.old };
+        ensures kept { kept self.new ≡ kept self.old }
+        ensures borrows { borrows self.new ≡ borrows self.old };
 
     fn visit_field(
         &mut self,
@@ -69,7 +74,8 @@ pub trait Visitor: Drop {
         ensures ok { OnOk result
             (HasSeen (after self.old) (ready self.old) (after self.new) (ready self.new)
             (shown_as path.now full_name.now file (Some parent) index (of_field field.now) ∷ [])) }
-        ensures kept { kept self.new ≡ kept self.old };
+        ensures kept { kept self.new ≡ kept self.old }
+        ensures borrows { borrows self.new ≡ borrows self.old };
 
     fn visit_oneof(
         &mut self,
@@ -85,7 +91,8 @@ pub trait Visitor: Drop {
         ensures ok { OnOk result
             (HasSeen (after self.old) (ready self.old) (after self.new) (ready self.new)
             (shown_as path.now full_name.now file (Some parent) index (of_oneof oneof.now) ∷ [])) }
-        ensures kept { kept self.new ≡ kept self.old };
+        ensures kept { kept self.new ≡ kept self.old }
+        ensures borrows { borrows self.new ≡ borrows self.old };
 
     fn visit_service(
         &mut self,
@@ -100,7 +107,8 @@ pub trait Visitor: Drop {
         ensures ok { OnOk result
             (HasSeen (after self.old) (ready self.old) (after self.new) (ready self.new)
             (shown_as path.now full_name.now file None index (of_service service.now) ∷ [])) }
-        ensures kept { kept self.new ≡ kept self.old };
+        ensures kept { kept self.new ≡ kept self.old }
+        ensures borrows { borrows self.new ≡ borrows self.old };
 
     fn visit_method(
         &mut self,
@@ -117,7 +125,8 @@ pub trait Visitor: Drop {
             (HasSeen (after self.old) (ready self.old) (after self.new) (ready self.new)
             (shown_as path.now full_name.now file (Some parent) index
             (of_method method.now) ∷ [])) }
-        ensures kept { kept self.new ≡ kept self.old };
+        ensures kept { kept self.new ≡ kept self.old }
+        ensures borrows { borrows self.new ≡ borrows self.old };
 
     fn visit_enum(
         &mut self,
@@ -133,7 +142,8 @@ pub trait Visitor: Drop {
         ensures ok { OnOk result
             (HasSeen (after self.old) (ready self.old) (after self.new) (ready self.new)
             (shown_as path.now full_name.now file parent index (of_enum enumeration.now) ∷ [])) }
-        ensures kept { kept self.new ≡ kept self.old };
+        ensures kept { kept self.new ≡ kept self.old }
+        ensures borrows { borrows self.new ≡ borrows self.old };
 
     fn visit_enum_value(
         &mut self,
@@ -149,7 +159,8 @@ pub trait Visitor: Drop {
         ensures ok { OnOk result
             (HasSeen (after self.old) (ready self.old) (after self.new) (ready self.new)
             (shown_as path.now full_name.now file (Some parent) index (of_value value.now) ∷ [])) }
-        ensures kept { kept self.new ≡ kept self.old };
+        ensures kept { kept self.new ≡ kept self.old }
+        ensures borrows { borrows self.new ≡ borrows self.old };
 
     fn visit_extension(
         &mut self,
@@ -165,7 +176,8 @@ pub trait Visitor: Drop {
         ensures ok { OnOk result
             (HasSeen (after self.old) (ready self.old) (after self.new) (ready self.new)
             (shown_as path.now full_name.now file parent index (of_extension extension.now) ∷ [])) }
-        ensures kept { kept self.new ≡ kept self.old };
+        ensures kept { kept self.new ≡ kept self.old }
+        ensures borrows { borrows self.new ≡ borrows self.old };
 
     /// It may be shown a front of a list that it may be shown.
     ghost front_ready: { (v : Self) (ds es : List Shown) → ready v (ds ++ es) → ready v ds };

@@ -14,5 +14,9 @@ pub fn join(alloc: Global, scope: &str, name: &str) -> Result<String, AllocError
     if scope.is_empty() {
         return String::from_str(alloc, name);
     }
-    format!(in alloc; "{scope}.{name}")
+    let mut full = String::with_capacity(alloc, scope.len() + 1 + name.len())?;
+    full.push_str(scope)?;
+    full.push('.')?;
+    full.push_str(name)?;
+    Ok(full)
 }

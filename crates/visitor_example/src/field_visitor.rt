@@ -59,6 +59,8 @@ impl Visitor for FieldVisitor {
 
     ghost kept = { λ _. no_contents };
 
+    ghost borrows = { λ _. [] };
+
     ghost front_ready = { λ _ _ _ _. tt };
 
     fn visit_file(&mut self, _: &[i32], _: u32, _: &FileDescriptorProto) -> Result<(), AllocError> {

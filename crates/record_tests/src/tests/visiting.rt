@@ -44,6 +44,8 @@ impl Visitor for Limited {
 
     ghost kept = { λ _. no_contents };
 
+    ghost borrows = { λ _. [] };
+
     ghost front_ready = { λ _ _ _ _. tt };
 
     fn visit_file(
