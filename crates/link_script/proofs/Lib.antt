@@ -4,4 +4,3 @@ pub mod Words
 pub mod Numbers
 pub mod Reading
 pub mod LastStated
-pub mod ManyWords

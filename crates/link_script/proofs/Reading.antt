@@ -1,21 +1,19 @@
 -- What lines say, one after another.
-use Rattle.std.proofs.Common.{◌≡◌, ℕ, suc, Bool, true, false, cond, not, List, [], ◌∷◌, ◌++◌, map, refl, ap, sym, ◌∙◌, append_assoc, add-one, ◌+◌, ◌<◌, length, get_or, drop, Bor, Some, None, Result, Ok, Err}
+use Rattle.std.proofs.Common.{◌≡◌, ℕ, suc, Bool, true, false, cond, not, List, [], ◌∷◌, ◌++◌, refl, ap, sym, ◌∙◌, append_assoc, add-one, ◌+◌, Some, None, Result, Ok, Err}
 use Rattle.std.specs.Str.{IsUtf8, is_utf8}
 use Rattle.std.proofs.lemmas.Str.{IsUtf8-from_is_utf8, is_utf8-from_IsUtf8}
-use Rattle.std.proofs.lemmas.List.{at_drop_more}
 use Rattle.link_script.specs.declared.script.statement.Statement.{Statement}
 use Rattle.link_script.specs.declared.script.statement.Script.{Script}
 use Rattle.link_script.specs.declared.script.statement.ScriptFault.{ScriptFault}
 use Rattle.link_script.specs.declared.script.statement.ScriptFault.TheVariants.{BadText}
-use Rattle.link_script.specs.Script.Words.{words}
+use Rattle.link_script.specs.Script.Words.{lines, words}
 use Rattle.link_script.specs.Script.Keywords.{Standing, standing_after}
 use Rattle.link_script.specs.Script.Answers.{after_line}
 use Rattle.link_script.specs.Script.Reading as spec
 
-pub line_said-text : (here : Standing) (line text : List ℕ) (slice items : List (Bor (List ℕ)))
-    → (text ≡ line) × IsUtf8 line → slice ≡ items → map (λ (w : Bor (List ℕ)). w.now) items ≡ words text → spec.of_words here text (map (λ (w : Bor (List ℕ)). w.now) slice) ≡ spec.line_said here line
-line_said-text here line text slice items whole same parted =
-    (λ i. spec.of_words here (whole.0 i) ((ap (map (λ (w : Bor (List ℕ)). w.now)) same ∙ parted ∙ ap words whole.0) i))
+pub line_said-text : (here : Standing) (line text : List ℕ) → (text ≡ line) × IsUtf8 line → spec.of_words here text (words text) ≡ spec.line_said here line
+line_said-text here line text whole =
+    ap (λ t. spec.of_words here t (words t)) whole.0
     ∙ ap (λ b. cond (not b) (Err BadText) (spec.of_words here line (words line))) (sym (is_utf8-from_IsUtf8 line whole.1))
 
 broken : (b : Bool) → (b ≡ true → ⊥) → not b ≡ true
@@ -54,11 +52,9 @@ step n before after here opened rest (Ok (Some s)) h =
     ∙ (λ i. behind (e i).0 (spec.said_from (suc n) (e i).1 rest))
 
 -- a line that is read, and the lines behind it
-pub said_from-line : (n i : ℕ) (before after : List Statement) (here opened : Standing) (lines : List (Bor (List ℕ))) (d : Bor (List ℕ)) → i < length lines
-    → after_line (spec.line_said here (get_or lines i d).now) before here ≡ Ok (after, opened)
-    → behind before (spec.said_from n here (map (λ (l : Bor (List ℕ)). l.now) (drop i lines))) ≡ behind after (spec.said_from (n + 1) opened (map (λ (l : Bor (List ℕ)). l.now) (drop (i + 1) lines)))
-said_from-line n i before after here opened lines d within h =
-    let rest = map (λ (l : Bor (List ℕ)). l.now) (drop (i + 1) lines) in
-    at_drop_more (λ (ls : List (Bor (List ℕ))). behind before (spec.said_from n here (map (λ (l : Bor (List ℕ)). l.now) ls))) lines i d within
-    ∙ step n before after here opened rest (spec.line_said here (get_or lines i d).now) h
-    ∙ ap (λ k. behind after (spec.said_from k opened rest)) (sym (add-one n))
+pub said_from-line : (n : ℕ) (before after : List Statement) (here opened : Standing) (left line rest : List ℕ) → lines left ≡ line ∷ lines rest
+    → after_line (spec.line_said here line) before here ≡ Ok (after, opened) → behind before (spec.said_from n here (lines left)) ≡ behind after (spec.said_from (n + 1) opened (lines rest))
+said_from-line n before after here opened left line rest first h =
+    ap (λ ls. behind before (spec.said_from n here ls)) first
+    ∙ step n before after here opened (lines rest) (spec.line_said here line) h
+    ∙ ap (λ k. behind after (spec.said_from k opened (lines rest))) (sym (add-one n))

@@ -1,6 +1,7 @@
 //! A script: what its lines say, up to the first fault.
 
 mod arguments;
+mod cuts;
 mod keyword;
 mod line_error;
 mod reading;

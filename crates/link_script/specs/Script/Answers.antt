@@ -1,5 +1,6 @@
 -- What the parts of the reader answer, where memory may be refused at any point.
-use Rattle.std.specs.Prelude.{◌≡◌, List, [], ◌∷◌, ◌++◌, reverse}
+use Rattle.std.specs.Prelude.{◌≡◌, ℕ, List, [], ◌∷◌, ◌++◌, reverse}
+use Rattle.std.specs.declared.option.Option.{Option}
 use Rattle.std.specs.declared.option.Option.TheVariants.{None, Some}
 use Rattle.std.specs.declared.result.Result.{Result}
 use Rattle.std.specs.declared.result.Result.TheVariants.{Ok, Err}
@@ -8,8 +9,12 @@ use Rattle.link_script.specs.declared.script.statement.ScriptFault.{ScriptFault}
 use Rattle.link_script.specs.declared.script.line_error.LineError.{LineError}
 use Rattle.link_script.specs.declared.script.line_error.LineError.TheVariants.{Fault, OutOfMemory}
 use Rattle.link_script.specs.declared.script.standing.Standing.{Standing as Code}
+use Rattle.link_script.specs.declared.script.words.Words.{Words}
+use Rattle.link_script.specs.Script.Words.{words}
 use Rattle.link_script.specs.Script.Keywords.{Standing, standing_after}
-use Rattle.link_script.specs.Script.Reading.{Line}
+use Rattle.link_script.specs.declared.script.statement.Keyword.{Keyword}
+use Rattle.link_script.specs.Script.Arguments.{said_in, and_then}
+use Rattle.link_script.specs.Script.Reading.{Line, of_words}
 
 -- the answer that is meant, unless memory was refused
 abbrev pub IsAnswer : {X : Type 0} → Result X ScriptFault → Result X LineError → Type 0
@@ -31,3 +36,17 @@ standing_in h = record { blocks = reverse h.blocks.items; more = h.more }
 abbrev pub IsFaultOf : Line → Type 0 → LineError → Type 0
 IsFaultOf said kept (Fault fault) = (said ≡ Err fault) × kept
 IsFaultOf said kept OutOfMemory = Unit {0}
+
+-- the words that are left to be read
+abbrev pub words_left : Words → List (List ℕ)
+words_left w = words w.rest.now
+
+-- what a line of text says behind other statements
+abbrev pub text_said : Standing → List ℕ → Line
+text_said here line = of_words here line (words line)
+
+-- what a line says, by its keyword and the words behind it, where it has them
+abbrev pub IsBegun : List ℕ → Line → Result (Option (Keyword × Words)) ScriptFault → Type 0
+IsBegun line said (Err fault) = said ≡ Err fault
+IsBegun line said (Ok None) = said ≡ Ok None
+IsBegun line said (Ok (Some b)) = said ≡ and_then (said_in line b.0 (words_left b.1)) (λ s. Ok (Some (b.0, s)))

@@ -1,8 +1,7 @@
 //! The statements that keywords and the words behind them make.
 
-ghost use Rattle.std.specs.Prelude.{map};
 ghost use Rattle.link_script.specs.Script.Arguments as spec;
-ghost use Rattle.link_script.specs.Script.Answers.{IsAnswer};
+ghost use Rattle.link_script.specs.Script.Answers.{IsAnswer, words_left};
 
 use super::line_error::LineError;
 use super::rest::rest;
@@ -10,6 +9,7 @@ use super::statement::{Keyword, ScriptFault, Statement};
 use super::values::{
     given_number, given_text, label_of, name_of, number_of, numbers, text, truth, type_of,
 };
+use super::words::Words;
 use proto_types::{
     EnumValueDescriptorProto, FieldDescriptorProto, Location, MethodDescriptorProto,
 };
@@ -20,9 +20,9 @@ pub(super) fn statement(
     alloc: Global,
     line: &str,
     keyword: Keyword,
-    words: &[&str],
+    words: Words<'_>,
 ) -> Result<Statement, LineError>
-    ensures { IsAnswer (spec.said_in line.now keyword (map (λ word. word.now) words.now)) result }
+    ensures { IsAnswer (spec.said_in line.now keyword (words_left words.entry)) result }
 {
     match keyword {
         Keyword::Default => Ok(Statement::Default(rest(alloc, line)?)),
@@ -31,21 +31,31 @@ pub(super) fn statement(
 }
 
 /// The statement of a keyword, by how many words are behind it.
-fn of_words(alloc: Global, keyword: Keyword, words: &[&str]) -> Result<Statement, LineError>
-    ensures { IsAnswer (spec.statement_in keyword (map (λ word. word.now) words.now)) result }
+fn of_words(alloc: Global, keyword: Keyword, mut words: Words<'_>) -> Result<Statement, LineError>
+    ensures { IsAnswer (spec.statement_in keyword (words_left words.entry)) result }
 {
-    match words {
-        [] => of_none(keyword),
-        [word] => of_one(alloc, keyword, word),
-        [first, second] => of_two(alloc, keyword, first, second),
-        [name, input, output] => of_three(alloc, keyword, name, input, output),
-        [name, number, label, type_, type_name, last] => {
-            of_six(alloc, keyword, name, number, label, type_, type_name, last)
-        }
-        [_, _, _, _] => Err(LineError::Fault(ScriptFault::WrongCount)),
-        [_, _, _, _, _] => Err(LineError::Fault(ScriptFault::WrongCount)),
-        [_, _, _, _, _, _, _, ..] => Err(LineError::Fault(ScriptFault::WrongCount)),
+    let Some(first) = words.next() else {
+        return of_none(keyword);
+    };
+    let Some(second) = words.next() else {
+        return of_one(alloc, keyword, first);
+    };
+    let Some(third) = words.next() else {
+        return of_two(alloc, keyword, first, second);
+    };
+    let Some(fourth) = words.next() else {
+        return of_three(alloc, keyword, first, second, third);
+    };
+    let Some(fifth) = words.next() else {
+        return Err(LineError::Fault(ScriptFault::WrongCount));
+    };
+    let Some(sixth) = words.next() else {
+        return Err(LineError::Fault(ScriptFault::WrongCount));
+    };
+    if words.next().is_some() {
+        return Err(LineError::Fault(ScriptFault::WrongCount));
     }
+    of_six(alloc, keyword, first, second, third, fourth, fifth, sixth)
 }
 
 fn of_none(keyword: Keyword) -> Result<Statement, LineError>

@@ -11,7 +11,7 @@ use plain_values::Text;
 use std::alloc::Global;
 
 /// A line behind its leading spaces.
-fn behind_spaces(line: &str) -> &str
+pub(super) fn behind_spaces(line: &str) -> &str
     ensures { result.now ≡ spec.behind_spaces line.now }
 {
     let mut rest = line;

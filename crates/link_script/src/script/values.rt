@@ -6,6 +6,7 @@ ghost use Rattle.proto_types.specs.Readers.{text_of};
 ghost use Rattle.link_script.specs.Script.Arguments as spec;
 ghost use Rattle.link_script.specs.Script.Answers.{IsAnswer};
 
+use super::cuts::cut_at;
 use super::line_error::LineError;
 use super::statement::ScriptFault;
 use plain_values::{Items, Text};
@@ -118,22 +119,19 @@ pub(super) fn given_number(word: &str) -> Result<i32, ScriptFault>
     int32(word).ok_or(ScriptFault::BadNumber)
 }
 
-/// The parts of a word between commas.
-fn parts(alloc: Global, word: &str) -> Result<Vec<&str>, AllocError>
-    ensures { IfOk result (λ parts. map (λ part. part.now) parts.items
-        ≡ slice_split (λ c. c == 44) word.now) }
+/// The numbers between commas.
+fn between_commas(alloc: Global, word: &str) -> Result<Items<i32>, LineError>
+    ensures { IsAnswer (spec.each_number (slice_split (λ c. c == 44) word.now)) result }
 {
-    word.split(',').collect(alloc)
-}
-
-/// The numbers that words write.
-fn each_number(alloc: Global, words: &[&str]) -> Result<Items<i32>, LineError>
-    ensures { IsAnswer (spec.each_number (map (λ word. word.now) words.now)) result }
-{
-    let mut numbers = Items::new(alloc);
-    for word in words {
-        numbers.push(given_number(word)?)?;
+    // A comma stands between each two numbers.
+    let most = word.len() / 2 + 1;
+    let mut numbers = Items::from_vec(Vec::with_capacity(alloc, most)?);
+    let mut left = word;
+    while let Some((number, rest)) = cut_at(left, b',') {
+        numbers.push(given_number(number)?)?;
+        left = rest;
     }
+    numbers.push(given_number(left)?)?;
     Ok(numbers)
 }
 
@@ -144,8 +142,7 @@ pub(super) fn numbers(alloc: Global, word: &str) -> Result<Items<i32>, LineError
     if word == "''" {
         return Ok(Items::new(alloc));
     }
-    let parts = parts(alloc, word)?;
-    each_number(alloc, &parts)
+    between_commas(alloc, word)
 }
 
 /// A truth value.

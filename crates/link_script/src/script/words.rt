@@ -1,39 +1,53 @@
 //! The lines of a script, and the words of a line.
 
-ghost use Rattle.std.specs.Prelude.{◌≡◌, ◌==◌, map, IfOk};
-ghost use Rattle.std.specs.List.{slice_split};
+ghost use Rattle.std.specs.Prelude.{◌≡◌, ◌<◌, [], ◌∷◌, length, MatchOption, IfSome};
 ghost use Rattle.link_script.specs.Script.Words as spec;
 
-use std::alloc::{AllocError, Global};
+use super::cuts::{cut_at, first_place};
+use super::rest::behind_spaces;
 
-/// The parts between line feeds.
-fn parts(alloc: Global, bytes: &[u8]) -> Result<Vec<&[u8]>, AllocError>
-    ensures { IfOk result (λ parts. map (λ part. part.now) parts.items
-        ≡ slice_split (λ c. c == 10) bytes.now) }
+/// The first line, and what stands behind its line feed. There is none where there is nothing.
+pub(super) fn first_line(bytes: &[u8]) -> Option<(&[u8], &[u8])>
+    ensures lines { MatchOption result (spec.lines bytes.now ≡ []) (λ split. spec.lines bytes.now
+        ≡ split.0.now ∷ spec.lines split.1.now) }
+    ensures shorter { IfSome result (λ split. length split.1.now < length bytes.now) }
 {
-    bytes.split(|byte| *byte == b'\n').collect(alloc)
-}
-
-/// The lines, without the empty part behind a last line feed.
-pub(super) fn lines(alloc: Global, bytes: &[u8]) -> Result<Vec<&[u8]>, AllocError>
-    ensures { IfOk result (λ lines. map (λ line. line.now) lines.items ≡ spec.lines bytes.now) }
-{
-    let mut lines = parts(alloc, bytes)?;
-    let ends_empty = match lines.last() {
-        Some(last) => last.is_empty(),
-        None => false,
-    };
-    if ends_empty {
-        lines.pop();
+    if bytes.is_empty() {
+        return None;
     }
-    Ok(lines)
+    match first_place(bytes, b'\n') {
+        Some(end) => Some((&bytes[..end], &bytes[end + 1..])),
+        None => Some((bytes, &[])),
+    }
 }
 
-/// The words of a line, parted by runs of spaces.
-pub(super) fn words(alloc: Global, line: &str) -> Result<Vec<&str>, AllocError>
-    ensures { IfOk result (λ words. map (λ word. word.now) words.items ≡ spec.words line.now) }
-{
-    line.split(' ')
-        .filter(|word| !word.is_empty())
-        .collect(alloc)
+/// The words that are left to be read of a line, which are parted by runs of spaces.
+#[derive(Drop)]
+pub(super) struct Words<'a> {
+    rest: &'a str,
+}
+
+impl<'a> Words<'a> {
+    ghost use Rattle.link_script.specs.Script.Answers.{words_left};
+
+    /// The words of a line.
+    pub(super) fn new(line: &'a str) -> Words<'a>
+        ensures { words_left result ≡ spec.words line.now }
+    {
+        Words { rest: line }
+    }
+
+    /// Reads the next word, if there is one.
+    pub(super) fn next(&mut self) -> Option<&'a str>
+        ensures { MatchOption result (words_left self.old ≡ []) (λ word. words_left self.old
+            ≡ word.now ∷ words_left self.new) }
+    {
+        let text = behind_spaces(self.rest);
+        if text.is_empty() {
+            return None;
+        }
+        let (word, rest) = cut_at(text, b' ').unwrap_or((text, ""));
+        self.rest = rest;
+        Some(word)
+    }
 }
