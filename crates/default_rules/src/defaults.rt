@@ -1,16 +1,15 @@
-ghost use Rattle.std.specs.Prelude.{◌≡◌, ◌++◌, IfOk, OnOk, map};
+ghost use Rattle.std.specs.Prelude.{◌≡◌, IfOk, OnOk};
 ghost use Rattle.default_rules.specs.Defaults.{default_faults, default_value};
 ghost use Rattle.default_rules.specs.MeantCode.{meant_in};
+ghost use Rattle.places.specs.Tells.{Tells, named_files};
 
 use crate::faults::default_fault;
 use crate::meant::MeantEnum;
 use crate::values::value_of;
-use places::Place;
+use places::{Findings, Place};
 use plain_values::Text;
-use pool_faults::DescriptorErrorKind;
 use pool_kinds::{DefaultValue, KindIndex};
-use pool_types::FileDescriptorInner;
-use std::alloc::{AllocError, Global};
+use std::alloc::AllocError;
 
 /// The default value of a field or an extension, if one is given, by the kind of its type
 /// (descriptor.proto on `default_value`): of an enum the number of the first of its values that has
@@ -18,32 +17,31 @@ use std::alloc::{AllocError, Global};
 /// reads. The meant enum is the one that the type names, and is read of no other kind.
 ///
 /// Where a default is given, be it the empty text, and is no value of the type, there is none, and
-/// `InvalidFieldDefault` is put behind the faults, found at the path of the declaration and 7. It
+/// `InvalidFieldDefault` is appended to `faults`, found at the path of the declaration and 7. It
 /// tells the text and the type: an enum by its full name, a message or a group as `message type`.
 ///
 /// # Errors
 /// `AllocError` where memory was refused.
 pub fn read_default(
-    alloc: Global,
-    files: &[FileDescriptorInner],
+    findings: &mut Findings,
     place: Place,
     kind: KindIndex,
     meant: MeantEnum,
     given: &Option<Text>,
-    faults: &mut Vec<DescriptorErrorKind>,
 ) -> Result<Option<DefaultValue>, AllocError>
     ensures value { IfOk result (λ value. value
         ≡ default_value kind (meant_in meant.entry) given.now) }
-    ensures faults { OnOk result (faults.new.items ≡ faults.old.items
-        ++ default_faults (map (λ f. f.raw) files.now) place.entry.file place.entry.path.now kind
-        (meant_in meant.entry) given.now) }
+    ensures faults { OnOk result (Tells findings.old findings.new
+        (default_faults (named_files findings.old) place.entry.file place.entry.path.now kind
+        (meant_in meant.entry) given.now)) }
 {
     let Some(text) = given else {
         return Ok(None);
     };
-    let value = value_of(alloc, kind, meant.values, text.as_str())?;
+    let value = value_of(findings.alloc, kind, meant.values, text.as_str())?;
     if value.is_none() {
-        faults.push(default_fault(alloc, files, place, kind, meant, text.as_str())?)?;
+        let fault = default_fault(findings, place, kind, meant, text.as_str())?;
+        findings.push(fault)?;
     }
     Ok(value)
 }

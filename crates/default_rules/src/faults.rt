@@ -1,35 +1,34 @@
 //! The fault of a default value that is none of the type.
 
-ghost use Rattle.std.specs.Prelude.{◌≡◌, IfOk, map};
+ghost use Rattle.std.specs.Prelude.{◌≡◌, IfOk};
 ghost use Rattle.default_rules.specs.Defaults.{default_fault, kind_named};
 ghost use Rattle.default_rules.specs.MeantCode.{meant_in};
+ghost use Rattle.places.specs.Tells.{named_files};
 
 use crate::meant::MeantEnum;
-use places::{Place, part_label};
+use places::{Findings, Place};
 use plain_values::Text;
 use pool_faults::DescriptorErrorKind;
 use pool_kinds::KindIndex;
-use pool_types::FileDescriptorInner;
 use proto_types::tag;
 use std::alloc::{AllocError, Global};
 
 /// The fault of a text that writes no value of a kind.
 pub(crate) fn default_fault(
-    alloc: Global,
-    files: &[FileDescriptorInner],
+    findings: &Findings,
     place: Place,
     kind: KindIndex,
     meant: MeantEnum,
     text: &str,
 ) -> Result<DescriptorErrorKind, AllocError>
     ensures { IfOk result (λ fault. fault
-        ≡ default_fault (map (λ f. f.raw) files.now) place.entry.file place.entry.path.now kind
+        ≡ default_fault (named_files findings.now) place.entry.file place.entry.path.now kind
         (meant_in meant.entry) text.now) }
 {
     Ok(DescriptorErrorKind::InvalidFieldDefault {
-        value: Text::from_str(alloc, text)?,
-        kind: kind_named(alloc, kind, meant.full_name)?,
-        found: part_label(alloc, files, place, tag::field::DEFAULT_VALUE)?,
+        value: Text::from_str(findings.alloc, text)?,
+        kind: kind_named(findings.alloc, kind, meant.full_name)?,
+        found: findings.part_label(place, tag::field::DEFAULT_VALUE)?,
     })
 }
 

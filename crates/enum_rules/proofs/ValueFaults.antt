@@ -1,6 +1,6 @@
--- The faults of an enum's values, one value more at a time.
-use Rattle.std.proofs.Common.{◌≡◌, ℕ, ℤ, ◌+◌, ◌<◌, Bool, true, false, cond, List, [], ◌++◌, length, take, get_or, Option, ap, sym, ◌∙◌, append_assoc, append-nil}
-use Rattle.std.specs.List.{enumerate_from, flat_map}
+-- What a value of an enum tells.
+use Rattle.std.proofs.Common.{◌≡◌, ℕ, ℤ, Bool, true, false, cond, List, [], ◌++◌, take, Option, ap, sym, ◌∙◌, append-nil}
+use Rattle.std.specs.List.{enumerate_from}
 use Rattle.std.specs.Option.{option_map}
 use Rattle.proto_types.specs.declared.records.enumeration.EnumDescriptorProto.{EnumDescriptorProto}
 use Rattle.proto_types.specs.declared.records.enumeration.EnumValueDescriptorProto.{EnumValueDescriptorProto}
@@ -10,11 +10,9 @@ use Rattle.proto_files.specs.declared.file.FileDescriptorProto.{FileDescriptorPr
 use Rattle.pool_faults.specs.declared.fault.DescriptorErrorKind.{DescriptorErrorKind}
 use Rattle.pool_faults.specs.declared.fault.DescriptorErrorKind.TheVariants as fault
 use Rattle.proto_records.specs.Shown.{Shown}
-use Rattle.places.specs.Each.{each}
 use Rattle.enum_rules.specs.Items.{allows_alias}
 use Rattle.enum_rules.specs.Values.{number_label, reserved_faults, again_faults, value_faults}
 use Rattle.enum_rules.proofs.Earlier.{earliest, told-earliest}
-use Rattle.enum_rules.proofs.Told.{told-next}
 
 module _ (files : List FileDescriptorProto) (owner : Shown) (e : EnumDescriptorProto) (i : ℕ) (v : EnumValueDescriptorProto) (number : ℤ) (number_is : number ≡ number_of v.number) where
   abbrev n : ℤ
@@ -32,32 +30,13 @@ module _ (files : List FileDescriptorProto) (owner : Shown) (e : EnumDescriptorP
       ∙ sym (told-earliest (again n) (earliest (enumerate_from 0 (take i e.value)) n))
 
   -- the faults of the value, where two values may not have one number, and where they may
-  told-alone : (earlier : Option ℕ) (alias : Bool) → alias ≡ allows_alias e.options → alias ≡ false → earlier ≡ option_map (λ x. x.0) (earliest (enumerate_from 0 (take i e.value)) number)
+  pub told-alone : (earlier : Option ℕ) (alias : Bool) → alias ≡ allows_alias e.options → alias ≡ false → earlier ≡ option_map (λ x. x.0) (earliest (enumerate_from 0 (take i e.value)) number)
       → reserved_faults files owner i number e.reserved_range ++ listed (option_map (again number) earlier) ≡ value_faults files owner e i v
   told-alone earlier alias alias_is off earlier_is = λ j.
       reserved_faults files owner i (number_is j) e.reserved_range
       ++ (again-told earlier earlier_is ∙ ap (λ b. cond b [] (again_faults files owner i n (take i e.value))) (sym off ∙ alias_is)) j
 
-  told-shared : (alias : Bool) → alias ≡ allows_alias e.options → alias ≡ true → reserved_faults files owner i number e.reserved_range ≡ value_faults files owner e i v
+  pub told-shared : (alias : Bool) → alias ≡ allows_alias e.options → alias ≡ true → reserved_faults files owner i number e.reserved_range ≡ value_faults files owner e i v
   told-shared alias alias_is on =
       sym (append-nil (reserved_faults files owner i number e.reserved_range))
       ∙ (λ j. reserved_faults files owner i (number_is j) e.reserved_range ++ ap (λ b. cond b [] (again_faults files owner i n (take i e.value))) (sym on ∙ alias_is) j)
-
-  module _ (below : i < length e.value) (is : v ≡ get_or e.value i v) (before now reserved : List DescriptorErrorKind)
-      (so_far : now ≡ before ++ flat_map (λ fs. fs) (each (value_faults files owner e) 0 (take i e.value)))
-      (reserved_is : reserved ≡ now ++ reserved_faults files owner i number e.reserved_range) where
-    step : (told : List DescriptorErrorKind) → told ≡ value_faults files owner e i v
-        → now ++ told ≡ before ++ flat_map (λ fs. fs) (each (value_faults files owner e) 0 (take (i + 1) e.value))
-    step told told_is = ap (λ fs. fs ++ told) so_far ∙ told-next (value_faults files owner e) before e.value i v told below is told_is
-
-    pub values-alone : (earlier : Option ℕ) (alias : Bool) (all : List DescriptorErrorKind) → alias ≡ allows_alias e.options → alias ≡ false
-        → earlier ≡ option_map (λ x. x.0) (earliest (enumerate_from 0 (take i e.value)) number) → all ≡ reserved ++ listed (option_map (again number) earlier)
-        → all ≡ before ++ flat_map (λ fs. fs) (each (value_faults files owner e) 0 (take (i + 1) e.value))
-    values-alone earlier alias all alias_is off earlier_is all_is =
-        all_is ∙ ap (λ fs. fs ++ listed (option_map (again number) earlier)) reserved_is
-        ∙ append_assoc now (reserved_faults files owner i number e.reserved_range) (listed (option_map (again number) earlier))
-        ∙ step (reserved_faults files owner i number e.reserved_range ++ listed (option_map (again number) earlier)) (told-alone earlier alias alias_is off earlier_is)
-
-    pub values-shared : (alias : Bool) → alias ≡ allows_alias e.options → alias ≡ true
-        → reserved ≡ before ++ flat_map (λ fs. fs) (each (value_faults files owner e) 0 (take (i + 1) e.value))
-    values-shared alias alias_is on = reserved_is ∙ step (reserved_faults files owner i number e.reserved_range) (told-shared alias alias_is on)

@@ -1,42 +1,40 @@
-ghost use Rattle.std.specs.Prelude.{◌≡◌, ◌++◌, true, IfOk, OnOk, map};
+ghost use Rattle.std.specs.Prelude.{◌≡◌, true, IfOk, OnOk};
 ghost use Rattle.proto_records.specs.Counts.{lists_fit};
 ghost use Rattle.proto_records.specs.FullNames.{EndsWithName};
 ghost use Rattle.proto_records.specs.Protos.{of_enum};
 ghost use Rattle.places.specs.Places.{enum_at};
+ghost use Rattle.places.specs.Tells.{Tells, named_files};
 ghost use Rattle.enum_rules.specs.Items.{enum_item, value_items};
 ghost use Rattle.enum_rules.specs.Values.{values_faults};
 
 use crate::tables::{value_names, value_numbers};
 use crate::values::{allows_alias, check_values};
-use places::{Place, identity, identity_beside};
+use places::{Findings, Place, identity, identity_beside};
 use plain_values::Items;
-use pool_faults::DescriptorErrorKind;
-use pool_types::{EnumDescriptorInner, EnumValueDescriptorInner, FileDescriptorInner};
+use pool_types::{EnumDescriptorInner, EnumValueDescriptorInner};
 use proto_types::{EnumDescriptorProto, tag};
 use std::alloc::{AllocError, Global};
 
 /// The item of an enum, with its values, which are named beside it, and their tables. What the
-/// numbers of its values break is put behind the faults, one value after another.
+/// numbers of its values break is appended to `faults`, one value after another.
 ///
 /// # Errors
 /// `AllocError` where memory was refused.
 pub fn read_enum(
-    alloc: Global,
-    files: &[FileDescriptorInner],
+    findings: &mut Findings,
     place: Place,
     enumeration: &EnumDescriptorProto,
-    faults: &mut Vec<DescriptorErrorKind>,
 ) -> Result<EnumDescriptorInner, AllocError>
     requires short { lists_fit (of_enum enumeration.now) ≡ true }
     requires ends { EndsWithName (enum_at place enumeration.now) }
     ensures item { IfOk result (λ item. item
         ≡ enum_item (enum_at place.entry enumeration.now) enumeration.now) }
-    ensures faults { OnOk result (faults.new.items ≡ faults.old.items
-        ++ values_faults (map (λ f. f.raw) files.now)
-        (enum_at place.entry enumeration.now) enumeration.now) }
+    ensures faults { OnOk result (Tells findings.old findings.new
+        (values_faults (named_files findings.old)
+        (enum_at place.entry enumeration.now) enumeration.now)) }
 {
-    check_values(alloc, files, place, enumeration, faults)?;
-    enum_item(alloc, place, enumeration)
+    check_values(findings, place, enumeration)?;
+    enum_item(findings.alloc, place, enumeration)
 }
 
 fn enum_item(

@@ -1,4 +1,4 @@
-ghost use Rattle.std.specs.Prelude.{◌≡◌, ◌++◌, ◌<◌, ◌^◌, ℤ, Some, true, IfOk, IfSome, OnOk, map, unwrap_or, if◌then◌else◌};
+ghost use Rattle.std.specs.Prelude.{◌≡◌, ◌<◌, ◌^◌, ℤ, Some, true, IfOk, IfSome, OnOk, unwrap_or, if◌then◌else◌};
 ghost use Rattle.std.specs.BTreeMap.{get};
 ghost use Rattle.std.specs.Option.{option_map};
 ghost use Rattle.std.specs.Ordering.{int_cmp, int_eq};
@@ -10,20 +10,20 @@ ghost use Rattle.proto_records.specs.Counts.{lists_fit};
 ghost use Rattle.proto_records.specs.Protos.{of_enum};
 ghost use Rattle.places.specs.Labels.{entry_part_label};
 ghost use Rattle.places.specs.Places.{enum_at};
+ghost use Rattle.places.specs.Tells.{Tells, named_files};
 ghost use Rattle.enum_rules.specs.Items.{allows_alias};
 ghost use Rattle.enum_rules.specs.Values.{values_faults};
 
 use crate::ranges::check_reserved;
-use places::{Place, entry_part_label};
+use places::{Findings, Place};
 use pool_faults::DescriptorErrorKind;
-use pool_types::FileDescriptorInner;
 use proto_types::{EnumDescriptorProto, tag};
 use source_labels::Label;
-use std::alloc::{AllocError, Global};
+use std::alloc::AllocError;
 use std::collections::BTreeMap;
 use std::collections::btree_map::Entry;
 
-/// Puts behind the faults what the numbers of an enum's values break, one value after another
+/// Appends to `faults` what the numbers of an enum's values break, one value after another
 /// (descriptor.proto on `reserved_range` and `allow_alias`): each reserved range that holds the
 /// number, and then, unless aliases are allowed, that an earlier value has it, of which the earliest
 /// is cited.
@@ -31,25 +31,23 @@ use std::collections::btree_map::Entry;
 /// # Errors
 /// `AllocError` where memory was refused.
 pub fn check_values(
-    alloc: Global,
-    files: &[FileDescriptorInner],
+    findings: &mut Findings,
     place: Place,
     enumeration: &EnumDescriptorProto,
-    faults: &mut Vec<DescriptorErrorKind>,
 ) -> Result<(), AllocError>
     requires { lists_fit (of_enum enumeration.now) ≡ true }
-    ensures { OnOk result (faults.new.items ≡ faults.old.items
-        ++ values_faults (map (λ f. f.raw) files.now)
-        (enum_at place.entry enumeration.now) enumeration.now) }
+    ensures { OnOk result (Tells findings.old findings.new
+        (values_faults (named_files findings.old)
+        (enum_at place.entry enumeration.now) enumeration.now)) }
 {
     let alias = allows_alias(enumeration);
-    let mut positions = BTreeMap::new(alloc);
+    let mut positions = BTreeMap::new(findings.alloc);
     for (position, value) in enumeration.value.as_slice().iter().enumerate() {
         let number = value.number();
         let earlier = earlier_position(&mut positions, number, position)?;
-        check_reserved(alloc, files, place, enumeration, position, number, faults)?;
+        check_reserved(findings, place, enumeration, position, number)?;
         if !alias {
-            check_again(alloc, files, place, number, earlier, position, faults)?;
+            check_again(findings, place, number, earlier, position)?;
         }
     }
     Ok(())
@@ -85,52 +83,40 @@ fn earlier_position(
     }
 }
 
-/// Puts behind the faults that of a value whose number an earlier value has, if one does.
+/// Appends to `faults` that of a value whose number an earlier value has, if one does.
 fn check_again(
-    alloc: Global,
-    files: &[FileDescriptorInner],
+    findings: &mut Findings,
     place: Place,
     number: i32,
     earlier: Option<usize>,
     position: usize,
-    faults: &mut Vec<DescriptorErrorKind>,
 ) -> Result<(), AllocError>
     requires earlier { IfSome earlier (λ first. first < 2 ^ 31) }
     requires position { position < 2 ^ 31 }
-    ensures { OnOk result (faults.new.items ≡ faults.old.items
-        ++ listed (option_map (λ first. DuplicateEnumNumber number
-        (entry_part_label (map (λ f. f.raw) files.now) place.entry.file place.entry.path.now
+    ensures { OnOk result (Tells findings.old findings.new
+        (listed (option_map (λ first. DuplicateEnumNumber number
+        (entry_part_label (named_files findings.old) place.entry.file place.entry.path.now
         VALUE first NUMBER)
-        (entry_part_label (map (λ f. f.raw) files.now) place.entry.file place.entry.path.now
-        VALUE position NUMBER)) earlier)) }
+        (entry_part_label (named_files findings.old) place.entry.file place.entry.path.now
+        VALUE position NUMBER)) earlier))) }
 {
     if let Some(first) = earlier {
-        faults.push(DescriptorErrorKind::DuplicateEnumNumber {
+        let fault = DescriptorErrorKind::DuplicateEnumNumber {
             number,
-            first: number_label(alloc, files, place, first)?,
-            second: number_label(alloc, files, place, position)?,
-        })?;
+            first: number_label(findings, place, first)?,
+            second: number_label(findings, place, position)?,
+        };
+        findings.push(fault)?;
     }
     Ok(())
 }
 
 /// The label of the number of the value with a position.
-fn number_label(
-    alloc: Global,
-    files: &[FileDescriptorInner],
-    place: Place,
-    position: usize,
-) -> Result<Label, AllocError>
+fn number_label(findings: &Findings, place: Place, position: usize) -> Result<Label, AllocError>
     requires { position < 2 ^ 31 }
-    ensures { IfOk result (λ l. l ≡ entry_part_label (map (λ f. f.raw) files.now)
+    ensures { IfOk result (λ l. l ≡ entry_part_label (named_files findings.now)
         place.entry.file place.entry.path.now VALUE position NUMBER) }
 {
-    entry_part_label(
-        alloc,
-        files,
-        place,
-        tag::enum_::VALUE,
-        position,
-        tag::enum_value::NUMBER,
-    )
+    let (values, part) = (tag::enum_::VALUE, tag::enum_value::NUMBER);
+    findings.entry_part_label(place, values, position, part)
 }

@@ -1,19 +1,21 @@
-ghost use Rattle.std.specs.Prelude.{◌≡◌, ◌++◌, ◌+◌, ◌<◌, ◌^◌, ℕ, List, true, [], IfOk, IfSome, OnOk, map, length, take, get_or};
+ghost use Rattle.std.specs.Prelude.{◌≡◌, ◌+◌, ◌<◌, ◌^◌, ℕ, List, true, [], IfOk, IfSome, OnOk};
+ghost use Rattle.std.specs.Prelude.{length, take, get_or};
 ghost use Rattle.std.specs.FinMap as finite;
 ghost use Rattle.std.specs.Option.{option_map, option_map_or};
 ghost use Rattle.proto_types.specs.Lists.{listed};
 ghost use Rattle.proto_types.specs.Empty.{no_field};
+ghost use Rattle.proto_files.specs.declared.message.DescriptorProto.{out-DescriptorProto};
 ghost use Rattle.proto_records.specs.Counts.{fits_list};
+ghost use Rattle.places.specs.Tells.{Tells, named_files};
 ghost use Rattle.field_rules.specs.Again.{again_faults};
 ghost use Rattle.field_rules.specs.Same.{same_number, same_json_name};
 ghost use Rattle.field_rules.specs.MapsOf.{AreMapsOf};
 ghost use Rattle.field_rules.specs.Numbers.{item_number};
 
-use places::{Place, entry_part_label};
+use places::{Findings, Owner, Place};
 use plain_maps::{NumberMap, TextMap};
 use plain_values::Text;
 use pool_faults::DescriptorErrorKind;
-use pool_types::FileDescriptorInner;
 use proto_types::{FieldDescriptorProto, tag};
 use std::alloc::{AllocError, Global};
 
@@ -38,49 +40,47 @@ impl FieldMaps {
         }
     }
 
-    /// Enters the field of a message with a position, from 0, behind those before it. That one of
-    /// these has its number, or its given JSON name, is put behind the faults; the latest such
-    /// field is cited (the protobuf language rules on field numbers, and on JSON names).
+    /// Enters the field of a message with a position, from 0, after those before it. That one of
+    /// these has its number, or its given JSON name, is appended to `faults`; the latest such field
+    /// is cited (the protobuf language rules on field numbers, and on JSON names).
     ///
     /// # Errors
     /// `AllocError` where memory was refused.
     pub fn insert(
         &mut self,
-        alloc: Global,
-        files: &[FileDescriptorInner],
-        owner: Place,
-        fields: &[FieldDescriptorProto],
+        findings: &mut Findings,
+        owner: Owner,
         position: usize,
-        faults: &mut Vec<DescriptorErrorKind>,
     ) -> Result<(), AllocError>
-        requires short { fits_list fields.now ≡ true }
-        requires there { position < length fields.now }
-        requires maps { AreMapsOf self.old (take position fields.now) }
-        ensures maps { OnOk result (AreMapsOf self.new (take (position + 1) fields.now)) }
-        ensures faults { OnOk result (faults.new.items ≡ faults.old.items
-            ++ again_faults (map (λ f. f.raw) files.now) owner.entry.file owner.entry.path.now
-            (take position fields.now) position (get_or fields.now position no_field)) }
+        requires short { fits_list (out-DescriptorProto owner.message.now).field ≡ true }
+        requires there { position < length (out-DescriptorProto owner.message.now).field }
+        requires maps { AreMapsOf self.old
+            (take position (out-DescriptorProto owner.message.now).field) }
+        ensures maps { OnOk result (AreMapsOf self.new
+            (take (position + 1) (out-DescriptorProto owner.entry.message.now).field)) }
+        ensures faults { OnOk result (Tells findings.old findings.new
+            (again_faults (named_files findings.old)
+            owner.entry.place.file owner.entry.place.path.now
+            (take position (out-DescriptorProto owner.entry.message.now).field) position
+            (get_or (out-DescriptorProto owner.entry.message.now).field position no_field))) }
     {
-        let field = &fields[position];
+        let field = &owner.message.field.as_slice()[position];
         let number = field.number();
-        check_number(alloc, files, owner, &self.numbers, position, number, faults)?;
+        check_number(findings, owner.place, &self.numbers, position, number)?;
         self.numbers.insert(item_number(number), position as u32)?;
         self.names.insert(field.name(), position as u32)?;
-        let json_names = &mut self.json_names;
-        enter_json_name(alloc, files, owner, json_names, position, field, faults)
+        enter_json_name(findings, owner.place, &mut self.json_names, position, field)
     }
 }
 
-/// Enters the JSON name of a field, if it has one. That an earlier field has it is put behind the
-/// faults.
+/// Enters the JSON name of a field, if it has one. That an earlier field has it is appended to
+/// `faults`.
 fn enter_json_name(
-    alloc: Global,
-    files: &[FileDescriptorInner],
+    findings: &mut Findings,
     owner: Place,
     json_names: &mut TextMap,
     position: usize,
     field: &FieldDescriptorProto,
-    faults: &mut Vec<DescriptorErrorKind>,
 ) -> Result<(), AllocError>
     requires short { position < 2 ^ 31 }
     requires holders_short { (name : List ℕ) → IfSome (finite.get json_names.old name) (λ first.
@@ -88,74 +88,67 @@ fn enter_json_name(
     ensures map { OnOk result (json_names.new
         ≡ option_map_or (λ name. finite.insert json_names.old name position)
         field.now.json_name json_names.old) }
-    ensures faults { OnOk result (faults.new.items ≡ faults.old.items
-        ++ option_map_or (λ name. listed (option_map (λ first. same_json_name
-        (map (λ f. f.raw) files.now) owner.entry.file owner.entry.path.now name first position)
-        (finite.get json_names.old name))) field.now.json_name []) }
+    ensures faults { OnOk result (Tells findings.old findings.new
+        (option_map_or (λ name. listed (option_map (λ first. same_json_name
+        (named_files findings.old) owner.entry.file owner.entry.path.now name first position)
+        (finite.get json_names.old name))) field.now.json_name [])) }
 {
     let Some(name) = &field.json_name else {
         return Ok(());
     };
-    check_json_name(alloc, files, owner, json_names, position, name, faults)?;
+    check_json_name(findings, owner, json_names, position, name)?;
     json_names.insert(name.as_str(), position as u32)
 }
 
-/// Puts behind the faults that of a number that an earlier field has, by the map of numbers.
+/// Appends to `faults` that of a number that an earlier field has, by the map of numbers.
 fn check_number(
-    alloc: Global,
-    files: &[FileDescriptorInner],
+    findings: &mut Findings,
     owner: Place,
     numbers: &NumberMap,
     position: usize,
     number: i32,
-    faults: &mut Vec<DescriptorErrorKind>,
 ) -> Result<(), AllocError>
     requires short { position < 2 ^ 31 }
     requires holders_short { IfSome (finite.get numbers.now (item_number number)) (λ first.
         first < 2 ^ 31) }
-    ensures { OnOk result (faults.new.items ≡ faults.old.items
-        ++ listed (option_map (λ first. same_number (map (λ f. f.raw) files.now) owner.entry.file
+    ensures { OnOk result (Tells findings.old findings.new
+        (listed (option_map (λ first. same_number (named_files findings.old) owner.entry.file
         owner.entry.path.now number first position)
-        (finite.get numbers.now (item_number number)))) }
+        (finite.get numbers.now (item_number number))))) }
 {
     let Some(first) = numbers.get(item_number(number)) else {
         return Ok(());
     };
-    let fault = same_number(alloc, files, owner, number, first as usize, position)?;
-    faults.push(fault)?;
-    Ok(())
+    let fault = same_number(findings, owner, number, first as usize, position)?;
+    findings.push(fault)
 }
 
-/// Puts behind the faults that of a JSON name that an earlier field has, by the map of these.
+/// Appends to `faults` that of a JSON name that an earlier field has, by the map of these.
 fn check_json_name(
-    alloc: Global,
-    files: &[FileDescriptorInner],
+    findings: &mut Findings,
     owner: Place,
     json_names: &TextMap,
     position: usize,
     name: &Text,
-    faults: &mut Vec<DescriptorErrorKind>,
 ) -> Result<(), AllocError>
     requires short { position < 2 ^ 31 }
     requires holders_short { IfSome (finite.get json_names.now name.now) (λ first.
         first < 2 ^ 31) }
-    ensures { OnOk result (faults.new.items ≡ faults.old.items
-        ++ listed (option_map (λ first. same_json_name (map (λ f. f.raw) files.now)
+    ensures { OnOk result (Tells findings.old findings.new
+        (listed (option_map (λ first. same_json_name (named_files findings.old)
         owner.entry.file owner.entry.path.now name.now first position)
-        (finite.get json_names.now name.now))) }
+        (finite.get json_names.now name.now)))) }
 {
     let Some(first) = json_names.get(name.as_str()) else {
         return Ok(());
     };
-    let fault = same_json_name(alloc, files, owner, name, first as usize, position)?;
-    faults.push(fault)?;
-    Ok(())
+    let fault = same_json_name(findings, owner, name, first as usize, position)?;
+    findings.push(fault)
 }
 
 /// The fault of two fields with one number, the earlier first.
 fn same_number(
-    alloc: Global,
-    files: &[FileDescriptorInner],
+    findings: &Findings,
     owner: Place,
     number: i32,
     first: usize,
@@ -163,21 +156,20 @@ fn same_number(
 ) -> Result<DescriptorErrorKind, AllocError>
     requires first_short { first < 2 ^ 31 }
     requires second_short { second < 2 ^ 31 }
-    ensures { IfOk result (λ fault. fault ≡ same_number (map (λ f. f.raw) files.now)
+    ensures { IfOk result (λ fault. fault ≡ same_number (named_files findings.now)
         owner.entry.file owner.entry.path.now number first second) }
 {
     let (message, part) = (tag::message::FIELD, tag::field::NUMBER);
     Ok(DescriptorErrorKind::DuplicateFieldNumber {
         number,
-        first: entry_part_label(alloc, files, owner, message, first, part)?,
-        second: entry_part_label(alloc, files, owner, message, second, part)?,
+        first: findings.entry_part_label(owner, message, first, part)?,
+        second: findings.entry_part_label(owner, message, second, part)?,
     })
 }
 
 /// The fault of two fields with one JSON name, the earlier first.
 fn same_json_name(
-    alloc: Global,
-    files: &[FileDescriptorInner],
+    findings: &Findings,
     owner: Place,
     name: &Text,
     first: usize,
@@ -185,14 +177,14 @@ fn same_json_name(
 ) -> Result<DescriptorErrorKind, AllocError>
     requires first_short { first < 2 ^ 31 }
     requires second_short { second < 2 ^ 31 }
-    ensures { IfOk result (λ fault. fault ≡ same_json_name (map (λ f. f.raw) files.now)
+    ensures { IfOk result (λ fault. fault ≡ same_json_name (named_files findings.now)
         owner.entry.file owner.entry.path.now name.now first second) }
 {
     let (message, part) = (tag::message::FIELD, tag::field::NAME);
     Ok(DescriptorErrorKind::DuplicateFieldJsonName {
-        name: name.clone(alloc)?,
-        first: entry_part_label(alloc, files, owner, message, first, part)?,
-        second: entry_part_label(alloc, files, owner, message, second, part)?,
+        name: name.clone(findings.alloc)?,
+        first: findings.entry_part_label(owner, message, first, part)?,
+        second: findings.entry_part_label(owner, message, second, part)?,
     })
 }
 

@@ -1,29 +1,31 @@
-ghost use Rattle.std.specs.Prelude.{◌≡◌, ◌++◌, true, [], OnOk, IfOk, map};
+ghost use Rattle.std.specs.Prelude.{◌≡◌, true, [], OnOk, IfOk, map};
 ghost use Rattle.proto_records.specs.Counts.{fits_list};
 ghost use Rattle.places.specs.Each.{each};
+ghost use Rattle.places.specs.Tells.{Tells};
 ghost use Rattle.field_rules.specs.Oneofs.{oneof_faults, oneof_of, members};
 
+use places::Findings;
 use plain_values::Items;
 use pool_faults::DescriptorErrorKind;
 use proto_files::OneofDescriptorProto;
 use proto_types::FieldDescriptorProto;
 use std::alloc::{AllocError, Global};
 
-/// Puts behind the faults that of a field whose oneof index is no position of its message's oneofs,
+/// Appends to `faults` that of a field whose oneof index is no position of its message's oneofs,
 /// which count from 0 (descriptor.proto on `oneof_index`).
 ///
 /// # Errors
 /// `AllocError` where memory was refused.
 pub fn check_oneof_index(
+    findings: &mut Findings,
     oneofs: &[OneofDescriptorProto],
     field: &FieldDescriptorProto,
-    faults: &mut Vec<DescriptorErrorKind>,
 ) -> Result<(), AllocError>
-    ensures { OnOk result (faults.new.items ≡ faults.old.items
-        ++ oneof_faults oneofs.now field.now) }
+    ensures { OnOk result (Tells findings.old findings.new
+        (oneof_faults oneofs.now field.now)) }
 {
     if field.oneof_index.is_some() && oneof_of(oneofs, field).is_none() {
-        faults.push(DescriptorErrorKind::InvalidOneofIndex)?;
+        findings.push(DescriptorErrorKind::InvalidOneofIndex)?;
     }
     Ok(())
 }

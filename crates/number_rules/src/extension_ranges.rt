@@ -1,67 +1,63 @@
-ghost use Rattle.std.specs.Prelude.{◌≡◌, ◌++◌, ◌<◌, ◌^◌, true, length, map, position, is_some};
+ghost use Rattle.std.specs.Prelude.{◌≡◌, ◌<◌, ◌^◌, true, length, position, is_some};
 ghost use Rattle.std.specs.Prelude.{if◌then◌else◌, IfOk, IfSome, OnOk};
 ghost use Rattle.std.specs.List.{list_any};
+ghost use Rattle.proto_files.specs.declared.message.DescriptorProto.{out-DescriptorProto};
 ghost use Rattle.proto_records.specs.Counts.{fits_list};
 ghost use Rattle.proto_types.specs.Readers.{number_of};
+ghost use Rattle.places.specs.Tells.{Tells, named_files};
 ghost use Rattle.number_rules.specs.At.{any_at};
 ghost use Rattle.number_rules.specs.Numbers.{extension_range_fault, extension_range_faults};
 ghost use Rattle.number_rules.specs.Numbers.{outside_faults};
 ghost use Rattle.number_rules.specs.Ranges.{extends};
 
-use places::{Place, entry_label, part_label};
+use places::{Findings, Owner, Place};
 use plain_values::Text;
 use pool_faults::DescriptorErrorKind;
-use pool_types::FileDescriptorInner;
 use proto_files::ExtensionRange;
 use proto_types::{FieldDescriptorProto, tag};
-use std::alloc::{AllocError, Global};
+use std::alloc::AllocError;
 
-/// Puts behind the faults what the number of a field breaks by the extension ranges of its message:
+/// Appends to `faults` what the number of a field breaks by the extension ranges of its message:
 /// that the first of them holds it; or, of a field that has an extendee, that none does.
 pub(crate) fn check_left_to_extensions(
-    alloc: Global,
-    files: &[FileDescriptorInner],
-    owner: Place,
-    ranges: &[ExtensionRange],
+    findings: &mut Findings,
+    owner: Owner,
     place: Place,
     field: &FieldDescriptorProto,
-    faults: &mut Vec<DescriptorErrorKind>,
 ) -> Result<(), AllocError>
-    requires { fits_list ranges.now ≡ true }
-    ensures { OnOk result (faults.new.items ≡ faults.old.items
-        ++ (if is_some field.now.extendee
-        then outside_faults (map (λ f. f.raw) files.now) (any_at place.entry)
-        (number_of field.now.number) (any_at owner.entry) ranges.now
-        else extension_range_faults (map (λ f. f.raw) files.now) (any_at place.entry)
-        (number_of field.now.number) (any_at owner.entry) ranges.now)) }
+    requires { fits_list (out-DescriptorProto owner.message.now).extension_range ≡ true }
+    ensures { OnOk result (Tells findings.old findings.new (if is_some field.now.extendee
+        then outside_faults (named_files findings.old) (any_at place.entry)
+        (number_of field.now.number) (any_at owner.entry.place)
+        (out-DescriptorProto owner.entry.message.now).extension_range
+        else extension_range_faults (named_files findings.old) (any_at place.entry)
+        (number_of field.now.number) (any_at owner.entry.place)
+        (out-DescriptorProto owner.entry.message.now).extension_range)) }
 {
     let number = field.number();
     if field.extendee.is_some() {
-        check_outside(alloc, files, owner, ranges, place, number, faults)?;
+        check_outside(findings, owner, place, number)
     } else {
-        check_inside(alloc, files, owner, ranges, place, number, faults)?;
+        check_inside(findings, owner, place, number)
     }
-    Ok(())
 }
 
-/// Puts behind the faults that of a number that no extension range of a message holds.
+/// Appends to `faults` that of a number that no extension range of a message holds.
 pub(crate) fn check_outside(
-    alloc: Global,
-    files: &[FileDescriptorInner],
-    owner: Place,
-    ranges: &[ExtensionRange],
+    findings: &mut Findings,
+    owner: Owner,
     place: Place,
     number: i32,
-    faults: &mut Vec<DescriptorErrorKind>,
 ) -> Result<(), AllocError>
-    ensures { OnOk result (faults.new.items ≡ faults.old.items
-        ++ outside_faults (map (λ f. f.raw) files.now) (any_at place.entry) number
-        (any_at owner.entry) ranges.now) }
+    ensures { OnOk result (Tells findings.old findings.new
+        (outside_faults (named_files findings.old) (any_at place.entry) number
+        (any_at owner.entry.place)
+        (out-DescriptorProto owner.entry.message.now).extension_range)) }
 {
-    if !any_extends(ranges, number) {
-        let message = Text::from_str(alloc, owner.full_name)?;
-        let found = part_label(alloc, files, place, tag::field::NUMBER)?;
-        faults.push(DescriptorErrorKind::ExtensionNumberOutOfRange {
+    if !any_extends(owner.message.extension_range.as_slice(), number) {
+        let message = Text::from_str(findings.alloc, owner.place.full_name)?;
+        let found = findings.part_label(place, tag::field::NUMBER)?;
+        findings.push(DescriptorErrorKind::ExtensionNumberOutOfRange {
             number,
             message,
             found,
@@ -70,32 +66,31 @@ pub(crate) fn check_outside(
     Ok(())
 }
 
-/// Puts behind the faults that of the first extension range of a message that holds the number.
+/// Appends to `faults` that of the first extension range of a message that holds the number.
 fn check_inside(
-    alloc: Global,
-    files: &[FileDescriptorInner],
-    owner: Place,
-    ranges: &[ExtensionRange],
+    findings: &mut Findings,
+    owner: Owner,
     place: Place,
     number: i32,
-    faults: &mut Vec<DescriptorErrorKind>,
 ) -> Result<(), AllocError>
-    requires { fits_list ranges.now ≡ true }
-    ensures { OnOk result (faults.new.items ≡ faults.old.items
-        ++ extension_range_faults (map (λ f. f.raw) files.now) (any_at place.entry) number
-        (any_at owner.entry) ranges.now) }
+    requires { fits_list (out-DescriptorProto owner.message.now).extension_range ≡ true }
+    ensures { OnOk result (Tells findings.old findings.new
+        (extension_range_faults (named_files findings.old) (any_at place.entry) number
+        (any_at owner.entry.place)
+        (out-DescriptorProto owner.entry.message.now).extension_range)) }
 {
+    let ranges = owner.message.extension_range.as_slice();
     if let Some(position) = first_that_extends(ranges, number) {
         let entry = (position, &ranges[position]);
-        faults.push(extension_range_fault(alloc, files, owner, entry, place, number)?)?;
+        let fault = extension_range_fault(findings, owner.place, entry, place, number)?;
+        findings.push(fault)?;
     }
     Ok(())
 }
 
 /// The fault of an extension range, given with its position, that holds the number of a field.
 fn extension_range_fault(
-    alloc: Global,
-    files: &[FileDescriptorInner],
+    findings: &Findings,
     owner: Place,
     entry: (usize, &ExtensionRange),
     place: Place,
@@ -103,7 +98,7 @@ fn extension_range_fault(
 ) -> Result<DescriptorErrorKind, AllocError>
     requires { entry.0 < 2 ^ 31 }
     ensures { IfOk result (λ fault. fault
-        ≡ extension_range_fault (map (λ f. f.raw) files.now) (any_at place.entry) number
+        ≡ extension_range_fault (named_files findings.now) (any_at place.entry) number
         (any_at owner.entry) (entry.entry.0, entry.entry.1.now)) }
 {
     let (position, range) = entry;
@@ -111,8 +106,8 @@ fn extension_range_fault(
         number,
         start: range.start(),
         end: range.end(),
-        defined: entry_label(alloc, files, owner, tag::message::EXTENSION_RANGE, position)?,
-        found: part_label(alloc, files, place, tag::field::NUMBER)?,
+        defined: findings.entry_label(owner, tag::message::EXTENSION_RANGE, position)?,
+        found: findings.part_label(place, tag::field::NUMBER)?,
     })
 }
 

@@ -1,71 +1,67 @@
-ghost use Rattle.std.specs.Prelude.{◌≡◌, ◌++◌, ◌<◌, ◌^◌, true, OnOk, map};
+ghost use Rattle.std.specs.Prelude.{◌≡◌, ◌<◌, ◌^◌, true, OnOk};
+ghost use Rattle.proto_files.specs.declared.message.DescriptorProto.{out-DescriptorProto};
 ghost use Rattle.proto_records.specs.Counts.{fits_list};
+ghost use Rattle.places.specs.Tells.{Tells, named_files};
 ghost use Rattle.number_rules.specs.At.{any_at};
 ghost use Rattle.number_rules.specs.Numbers.{invalid_faults, reserved_fault, reserved_faults};
 ghost use Rattle.number_rules.specs.Ranges.{reserves};
 
 use crate::field_number::is_valid_number;
-use places::{Place, entry_label, part_label};
+use places::{Findings, Owner, Place};
 use pool_faults::DescriptorErrorKind;
-use pool_types::FileDescriptorInner;
 use proto_files::ReservedRange;
 use proto_types::tag;
-use std::alloc::{AllocError, Global};
+use std::alloc::AllocError;
 
-/// Puts behind the faults that of a number that no field may have.
+/// Appends to `faults` that of a number that no field may have.
 pub(crate) fn check_valid(
-    alloc: Global,
-    files: &[FileDescriptorInner],
+    findings: &mut Findings,
     place: Place,
     number: i32,
-    faults: &mut Vec<DescriptorErrorKind>,
 ) -> Result<(), AllocError>
-    ensures { OnOk result (faults.new.items ≡ faults.old.items
-        ++ invalid_faults (map (λ f. f.raw) files.now) (any_at place.entry) number) }
+    ensures { OnOk result (Tells findings.old findings.new
+        (invalid_faults (named_files findings.old) (any_at place.entry) number)) }
 {
     if !is_valid_number(number) {
-        let found = part_label(alloc, files, place, tag::field::NUMBER)?;
-        faults.push(DescriptorErrorKind::InvalidFieldNumber { number, found })?;
+        let found = findings.part_label(place, tag::field::NUMBER)?;
+        findings.push(DescriptorErrorKind::InvalidFieldNumber { number, found })?;
     }
     Ok(())
 }
 
-/// Puts behind the faults one for each reserved range of a message that holds the number.
+/// Appends to `faults` one for each reserved range of a message that holds the number.
 pub(crate) fn check_reserved_ranges(
-    alloc: Global,
-    files: &[FileDescriptorInner],
-    owner: Place,
-    ranges: &[ReservedRange],
+    findings: &mut Findings,
+    owner: Owner,
     place: Place,
     number: i32,
-    faults: &mut Vec<DescriptorErrorKind>,
 ) -> Result<(), AllocError>
-    requires { fits_list ranges.now ≡ true }
-    ensures { OnOk result (faults.new.items ≡ faults.old.items
-        ++ reserved_faults (map (λ f. f.raw) files.now) (any_at place.entry) number
-        (any_at owner.entry) ranges.now) }
+    requires { fits_list (out-DescriptorProto owner.message.now).reserved_range ≡ true }
+    ensures { OnOk result (Tells findings.old findings.new
+        (reserved_faults (named_files findings.old) (any_at place.entry) number
+        (any_at owner.entry.place)
+        (out-DescriptorProto owner.entry.message.now).reserved_range)) }
 {
-    for (position, range) in ranges.iter().enumerate() {
+    for (position, range) in owner.message.reserved_range.as_slice().iter().enumerate() {
         let entry = (position, range);
-        check_reserved_range(alloc, files, owner, entry, place, number, faults)?;
+        check_reserved_range(findings, owner.place, entry, place, number)?;
     }
     Ok(())
 }
 
-/// Puts behind the faults that of a reserved range, given with its position, that holds the number.
+/// Appends to `faults` that of a reserved range of a message, given with its position, that holds
+/// the number.
 fn check_reserved_range(
-    alloc: Global,
-    files: &[FileDescriptorInner],
+    findings: &mut Findings,
     owner: Place,
     entry: (usize, &ReservedRange),
     place: Place,
     number: i32,
-    faults: &mut Vec<DescriptorErrorKind>,
 ) -> Result<(), AllocError>
     requires { entry.0 < 2 ^ 31 }
-    ensures { OnOk result (faults.new.items ≡ faults.old.items
-        ++ reserved_fault (map (λ f. f.raw) files.now) (any_at place.entry) number
-        (any_at owner.entry) entry.entry.0 entry.entry.1.now) }
+    ensures { OnOk result (Tells findings.old findings.new
+        (reserved_fault (named_files findings.old) (any_at place.entry) number
+        (any_at owner.entry) entry.entry.0 entry.entry.1.now)) }
 {
     let (position, range) = entry;
     if reserves(range, number) {
@@ -73,10 +69,10 @@ fn check_reserved_range(
             number,
             start: range.start(),
             end: range.end(),
-            defined: entry_label(alloc, files, owner, tag::message::RESERVED_RANGE, position)?,
-            found: part_label(alloc, files, place, tag::field::NUMBER)?,
+            defined: findings.entry_label(owner, tag::message::RESERVED_RANGE, position)?,
+            found: findings.part_label(place, tag::field::NUMBER)?,
         };
-        faults.push(fault)?;
+        findings.push(fault)?;
     }
     Ok(())
 }

@@ -1,2 +1,3 @@
 pub mod NamesBegin
 pub mod Each
+pub mod Tells

@@ -3,3 +3,4 @@ pub mod Places
 pub mod Identities
 pub mod Labels
 pub mod NamesBegin
+pub mod Tells

@@ -1,25 +1,23 @@
 -- What fields tell by their keys, one more at a time.
-use Rattle.std.proofs.Common.{◌≡◌, ℕ, ℤ, ◌+◌, ◌<◌, List, [], ◌++◌, length, get_or, take, find, Option, ap, sym, ◌∙◌, append_assoc}
+use Rattle.std.proofs.Common.{◌≡◌, ℕ, ℤ, ◌+◌, ◌<◌, List, [], ◌++◌, length, get_or, take, find, Option, ap, sym, ◌∙◌}
 use Rattle.std.specs.List.{enumerate_from}
 use Rattle.std.specs.Option.{option_map}
 use Rattle.std.specs.Str.{bytes_eq}
-use Rattle.pool_faults.specs.declared.fault.DescriptorErrorKind.{DescriptorErrorKind}
 use Rattle.proto_files.specs.declared.file.FileDescriptorProto.{FileDescriptorProto}
 use Rattle.proto_types.specs.Lists.{listed, after_each}
 use Rattle.proto_types.specs.declared.records.field.FieldDescriptorProto.{FieldDescriptorProto}
 use Rattle.syntax_rules.specs.CamelCase.{key_at, camel_case_fault, shared_key_faults, camel_case_faults}
 use Rattle.syntax_rules.proofs.Holders.{entries-next, after-append}
 
--- the faults before a field, and what was found of its key, make the faults up to it
-pub told-next : (files : List FileDescriptorProto) (file : ℕ) (path : List ℤ) (before : List DescriptorErrorKind) (fields : List FieldDescriptorProto) (i : ℕ) (f : FieldDescriptorProto) (key : List ℕ)
+-- the faults of the fields before one, and what was found of its key, make the faults up to it
+pub told-next : (files : List FileDescriptorProto) (file : ℕ) (path : List ℤ) (fields : List FieldDescriptorProto) (i : ℕ) (f : FieldDescriptorProto) (key : List ℕ)
     → i < length fields → f ≡ get_or fields i f → key ≡ key_at (i, f) → (found : Option (ℕ × FieldDescriptorProto))
     → find (λ e. bytes_eq key (key_at e)) (enumerate_from 0 (take i fields)) ≡ found
-    → (before ++ camel_case_faults files file path (take i fields)) ++ listed (option_map (λ e. camel_case_fault files file path e (i, f)) found)
-    ≡ before ++ camel_case_faults files file path (take (i + 1) fields)
-told-next files file path before fields i f key below is key_is found found_is =
+    → camel_case_faults files file path (take i fields) ++ listed (option_map (λ e. camel_case_fault files file path e (i, f)) found)
+    ≡ camel_case_faults files file path (take (i + 1) fields)
+told-next files file path fields i f key below is key_is found found_is =
     let seen = enumerate_from 0 (take i fields) in
     let shared = shared_key_faults files file path in
     let same = sym found_is ∙ ap (λ k. find (λ e. bytes_eq k (key_at e)) seen) key_is in
-    append_assoc before (camel_case_faults files file path (take i fields)) (listed (option_map (λ e. camel_case_fault files file path e (i, f)) found))
-    ∙ ap (λ o. before ++ (camel_case_faults files file path (take i fields) ++ listed (option_map (λ e. camel_case_fault files file path e (i, f)) o))) same
-    ∙ ap (λ fs. before ++ fs) (sym (ap (after_each shared []) (entries-next fields i f below is) ∙ after-append shared [] seen (i, f)))
+    ap (λ o. camel_case_faults files file path (take i fields) ++ listed (option_map (λ e. camel_case_fault files file path e (i, f)) o)) same
+    ∙ sym (ap (after_each shared []) (entries-next fields i f below is) ∙ after-append shared [] seen (i, f))

@@ -1,24 +1,25 @@
-ghost use Rattle.std.specs.Prelude.{◌≡◌, ◌<◌, ◌^◌, ◌++◌, ℕ, List, Some, true, unwrap_or, if◌then◌else◌, IfOk, OnOk, map, string_bytes};
+ghost use Rattle.std.specs.Prelude.{◌≡◌, ◌<◌, ◌^◌, ℕ, List, Some, true, unwrap_or, if◌then◌else◌, IfOk, OnOk, string_bytes};
 ghost use Rattle.std.specs.HashMap.{get_by_text};
 ghost use Rattle.std.specs.Str.{bytes_eq};
 ghost use Rattle.proto_records.specs.Counts.{fits_list, lists_fit};
 ghost use Rattle.proto_records.specs.Protos.{of_message};
 ghost use Rattle.source_labels.specs.Labels.{label_in};
+ghost use Rattle.places.specs.Tells.{Tells, named_files};
 ghost use Rattle.syntax_rules.specs.CamelCase.{camel_case_key, name_path, camel_case_fault, camel_case_faults, message_own_faults};
 
 use crate::syntax::syntax_at;
+use places::Findings;
 use plain_values::Text;
 use pool_faults::DescriptorErrorKind;
 use pool_kinds::Syntax;
-use pool_types::FileDescriptorInner;
 use proto_files::DescriptorProto;
 use proto_records::entry_path;
 use proto_types::{FieldDescriptorProto, tag};
-use source_labels::{Label, label_at};
+use source_labels::Label;
 use std::alloc::{AllocError, Global};
 use std::collections::HashMap;
 
-/// Puts behind the faults, in a file of proto3, one for each field whose name is that of an earlier
+/// Appends to `faults`, in a file of proto3, one for each field whose name is that of an earlier
 /// field but for underscores and the case of ASCII's letters; it cites the earliest such field (the
 /// protobuf language rules on proto3's JSON mapping). The message stands at the path in the file
 /// with the index, from 0 in the order of linking, and its lists are short enough for positions in
@@ -27,44 +28,40 @@ use std::collections::HashMap;
 /// # Errors
 /// `AllocError` where memory was refused.
 pub fn check_camel_case_names(
-    alloc: Global,
-    files: &[FileDescriptorInner],
+    findings: &mut Findings,
     file: u32,
     path: &[i32],
     message: &DescriptorProto,
-    faults: &mut Vec<DescriptorErrorKind>,
 ) -> Result<(), AllocError>
     requires { lists_fit (of_message message.now) ≡ true }
-    ensures { OnOk result (faults.new.items ≡ faults.old.items
-        ++ message_own_faults (map (λ f. f.raw) files.now) file path.now message.now) }
+    ensures { OnOk result (Tells findings.old findings.new
+        (message_own_faults (named_files findings.old) file path.now message.now)) }
 {
-    match syntax_at(files, file) {
+    match syntax_at(findings.files, file) {
         Syntax::Proto2 => Ok(()),
-        Syntax::Proto3 => check_keys(alloc, files, file, path, message.field.as_slice(), faults),
+        Syntax::Proto3 => check_keys(findings, file, path, message.field.as_slice()),
     }
 }
 
-/// Puts behind the faults one for each field whose key an earlier field has.
+/// Appends to `faults` one for each field whose key an earlier field has.
 fn check_keys(
-    alloc: Global,
-    files: &[FileDescriptorInner],
+    findings: &mut Findings,
     file: u32,
     path: &[i32],
     fields: &[FieldDescriptorProto],
-    faults: &mut Vec<DescriptorErrorKind>,
 ) -> Result<(), AllocError>
     requires { fits_list fields.now ≡ true }
-    ensures { OnOk result (faults.new.items ≡ faults.old.items
-        ++ camel_case_faults (map (λ f. f.raw) files.now) file path.now fields.now) }
+    ensures { OnOk result (Tells findings.old findings.new
+        (camel_case_faults (named_files findings.old) file path.now fields.now)) }
 {
-    let mut holders = HashMap::new(alloc);
+    let mut holders = HashMap::new(findings.alloc);
     for (position, field) in fields.iter().enumerate() {
-        let key = camel_case_key(alloc, field.name())?;
+        let key = camel_case_key(findings.alloc, field.name())?;
         let first = first_holder(&mut holders, key, position)?;
         if first != position {
             let holder = (first, &fields[first]);
-            let fault = camel_case_fault(alloc, files, file, path, holder, (position, field))?;
-            faults.push(fault)?;
+            let fault = camel_case_fault(findings, file, path, holder, (position, field))?;
+            findings.push(fault)?;
         }
     }
     Ok(())
@@ -96,8 +93,7 @@ fn first_holder(
 
 /// The fault of two fields, given with their positions, whose names have one key.
 fn camel_case_fault(
-    alloc: Global,
-    files: &[FileDescriptorInner],
+    findings: &Findings,
     file: u32,
     path: &[i32],
     first: (usize, &FieldDescriptorProto),
@@ -106,30 +102,29 @@ fn camel_case_fault(
     requires first_short { first.0 < 2 ^ 31 }
     requires second_short { second.0 < 2 ^ 31 }
     ensures { IfOk result (λ fault. fault
-        ≡ camel_case_fault (map (λ f. f.raw) files.now) file path.now
+        ≡ camel_case_fault (named_files findings.now) file path.now
         (first.entry.0, first.entry.1.now) (second.entry.0, second.entry.1.now)) }
 {
     Ok(DescriptorErrorKind::DuplicateFieldCamelCaseName {
-        first_name: Text::from_str(alloc, first.1.name())?,
-        second_name: Text::from_str(alloc, second.1.name())?,
-        first: name_label(alloc, files, file, path, first.0)?,
-        second: name_label(alloc, files, file, path, second.0)?,
+        first_name: Text::from_str(findings.alloc, first.1.name())?,
+        second_name: Text::from_str(findings.alloc, second.1.name())?,
+        first: name_label(findings, file, path, first.0)?,
+        second: name_label(findings, file, path, second.0)?,
     })
 }
 
 /// The label of a field's name.
 fn name_label(
-    alloc: Global,
-    files: &[FileDescriptorInner],
+    findings: &Findings,
     file: u32,
     path: &[i32],
     position: usize,
 ) -> Result<Label, AllocError>
     requires { position < 2 ^ 31 }
     ensures { IfOk result (λ l. l
-        ≡ label_in (map (λ f. f.raw) files.now) file (name_path path.now position)) }
+        ≡ label_in (named_files findings.now) file (name_path path.now position)) }
 {
-    let mut name_path = entry_path(alloc, path, tag::message::FIELD, position)?;
+    let mut name_path = entry_path(findings.alloc, path, tag::message::FIELD, position)?;
     name_path.push(tag::field::NAME)?;
-    label_at(alloc, files, file, &name_path)
+    findings.label(file, &name_path)
 }

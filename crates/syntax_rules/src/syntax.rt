@@ -1,15 +1,16 @@
-ghost use Rattle.std.specs.Prelude.{◌≡◌, ◌++◌, OnOk, map};
+ghost use Rattle.std.specs.Prelude.{◌≡◌, OnOk, map};
+ghost use Rattle.places.specs.Tells.{Tells, named_files};
 ghost use Rattle.std.specs.Option.{option_copied};
 ghost use Rattle.syntax_rules.specs.Syntaxes.{known_syntax, syntax_of, syntax_at, syntax_faults};
 
+use places::Findings;
 use plain_values::Text;
 use pool_faults::DescriptorErrorKind;
 use pool_kinds::Syntax;
 use pool_types::FileDescriptorInner;
 use proto_files::FileDescriptorProto;
 use proto_types::{or_empty, tag};
-use source_labels::label_at;
-use std::alloc::{AllocError, Global};
+use std::alloc::AllocError;
 
 /// The language that a file's `syntax` names: "proto2", in which a file is written that names none,
 /// or "proto3". There is none where it is any other text, and the empty one is such a text
@@ -42,28 +43,25 @@ pub fn syntax_at(files: &[FileDescriptorInner], file: u32) -> Syntax
     }
 }
 
-/// Puts behind the faults that of a file whose `syntax` is unknown (descriptor.proto). Its label is
+/// Appends to `faults` that of a file whose `syntax` is unknown (descriptor.proto). Its label is
 /// that of the file with the index, from 0 in the order of linking.
 ///
 /// # Errors
 /// `AllocError` where memory was refused.
 pub fn check_syntax(
-    alloc: Global,
-    files: &[FileDescriptorInner],
+    findings: &mut Findings,
     index: u32,
     file: &FileDescriptorProto,
-    faults: &mut Vec<DescriptorErrorKind>,
 ) -> Result<(), AllocError>
-    ensures { OnOk result (faults.new.items ≡ faults.old.items
-        ++ syntax_faults (map (λ f. f.raw) files.now) index file.now) }
+    ensures { OnOk result (Tells findings.old findings.new
+        (syntax_faults (named_files findings.old) index file.now)) }
 {
     if known_syntax(written_syntax(file)).is_some() {
         return Ok(());
     }
-    let syntax = Text::from_str(alloc, or_empty(&file.syntax))?;
-    let found = label_at(alloc, files, index, &[tag::file::SYNTAX])?;
-    faults.push(DescriptorErrorKind::UnknownSyntax { syntax, found })?;
-    Ok(())
+    let syntax = Text::from_str(findings.alloc, or_empty(&file.syntax))?;
+    let found = findings.label(index, &[tag::file::SYNTAX])?;
+    findings.push(DescriptorErrorKind::UnknownSyntax { syntax, found })
 }
 
 /// The `syntax` of a file, as it is written there.

@@ -1,36 +1,43 @@
 use Rattle.std.proofs.lemmas.Grind.{common_steps}
-use Rattle.std.proofs.Common.{◌≡◌, ◌+◌, ◌++◌, ◌∷◌, [], List, map, take, get_or, None, to_z, of_z, w32, ap, sym, ◌∙◌, append-nil, arith}
+use Rattle.std.proofs.Common.{◌≡◌, ◌+◌, ◌∷◌, [], List, take, get_or, None, to_z, of_z, w32, ap, sym, arith}
+use Rattle.std.proofs.lemmas.List.{get_or_default}
 use Rattle.proto_types.specs.declared.records.enumeration.EnumReservedRange.{EnumReservedRange}
 use Rattle.pool_faults.specs.declared.fault.DescriptorErrorKind.{DescriptorErrorKind}
+use Rattle.places.specs.declared.findings.Findings.{Findings}
 use Rattle.places.specs.Places.{enum_at}
+use Rattle.places.specs.Tells.{Tells, named_files}
+use Rattle.places.proofs.Tells.{tells-as, tells-next, tells-none}
 use Rattle.enum_rules.specs.Values.{reserved_fault, reserved_faults}
-use Rattle.enum_rules.proofs.Told.{told-held, told-free, ranges-next}
+use Rattle.enum_rules.proofs.Told.{told-held, told-free}
 use Rattle.enum_rules.proofs.ranges.check_reserved.Goals as goal
 use Rattle.enum_rules.proofs.ranges.check_reserved.Goals.{then-reserves+in_ok-fault+in_ok-push, else-reserves}
 
 -- one more range is checked
 pub loop-index-preserved : goal.loop-index-preserved
 loop-index-preserved c =
-    let files = map (λ f. f.raw) c.args.files.now in
+    let a = c.args.findings.now in
+    let b = c.loop-index.findings in
     let owner = enum_at c.args.place c.args.enumeration.now in
     let n = to_z w32 (of_z w32 c.args.number) in
     let i = c.loop-index.index in
     let none : EnumReservedRange = record { start = None; «end» = None } in
     let ranges = c.as_slice-range-items.result.now in
+    let range = get_or ranges i none in
     let same = c.as_slice-range-items.ensures in
-    let before = c.args.faults.now.items in
-    let so_far = c.loop-index.invariant ∙ ap (λ rs. before ++ reserved_faults files owner c.args.position n (take i rs)) (sym same) in
-    let next = λ (told : List DescriptorErrorKind) (is : told ≡ reserved_fault files owner c.args.position n i (get_or ranges i none)).
-    ranges-next files owner c.args.position n before c.loop-index.faults.items ranges i none told c.loop-index-test.true so_far is
-    ∙ ap (λ rs. before ++ reserved_faults files owner c.args.position n (take (i + 1) rs)) same in
+    let so_far = tells-as (ap (λ rs. reserved_faults (named_files a) owner c.args.position n (take i rs)) (sym same)) c.loop-index.invariant in
+    let next = λ (d : Findings) (told : List DescriptorErrorKind) (is : told ≡ reserved_fault (named_files b) owner c.args.position n i range) (tells : Tells b d told).
+    tells-as (ap (λ rs. reserved_faults (named_files a) owner c.args.position n (take (i + 1) rs)) same)
+    (tells-next (λ files. reserved_fault files owner c.args.position n) ranges i range c.loop-index-test.true
+    (get_or_default ranges i none range c.loop-index-test.true) so_far is tells) in
     elim c.if-reserves.branch [
       | then-reserves+in_ok-fault+in_ok-push w ↦
-          ap (λ v. v.items) w.faults-is ∙ w.in_ok-push.ensures.items
-          ∙ next (w.in_ok-fault.fault ∷ [])
-          (told-held files owner c.args.position n i (get_or ranges i none) c.reserves.result w.in_ok-fault.fault c.reserves.ensures w.if-reserves.true w.in_ok-fault.ensures)
+          next _ (w.in_ok-fault.fault ∷ [])
+          (told-held (named_files b) owner c.args.position n i range c.reserves.result w.in_ok-fault.fault c.reserves.ensures w.if-reserves.true w.in_ok-fault.ensures)
+          (rw w.findings-is w.in_ok-push.ensures)
       | else-reserves w ↦
-          ap (λ v. v.items) w.faults-is ∙ sym (append-nil c.loop-index.faults.items)
-          ∙ next [] (told-free files owner c.args.position n i (get_or ranges i none) c.reserves.result c.reserves.ensures w.if-reserves.false)
+          next _ []
+          (told-free (named_files b) owner c.args.position n i range c.reserves.result c.reserves.ensures w.if-reserves.false)
+          (rw w.findings-is (tells-none b))
     ]
 
 pub returns : goal.returns

@@ -1,21 +1,31 @@
 use Rattle.std.proofs.lemmas.Grind.{common_steps}
-use Rattle.std.proofs.Common.{◌≡◌, ◌<◌, ℤ, List, length, map, get_or, Some, unwrap_or, to_z, of_z, w32, subst, arith, ap, ◌∙◌}
+use Rattle.std.proofs.Common.{◌≡◌, ◌<◌, ℕ, ℤ, List, length, get_or, Some, unwrap_or, to_z, of_z, w32, subst, arith, ap, ◌∙◌}
 use Rattle.std.proofs.lemmas.Int.{to_z-of_z}
 use Rattle.std.specs.BTreeMap.{get}
 use Rattle.std.specs.Ordering.{int_cmp, int_eq}
 use Rattle.std.specs.Bool.{if◌then◌else◌}
+use Rattle.std.specs.Option.{option_map}
 use Rattle.proto_types.specs.Readers.{number_of}
 use Rattle.proto_types.specs.declared.records.enumeration.EnumValueDescriptorProto.{EnumValueDescriptorProto}
+use Rattle.proto_types.specs.Lists.{listed}
+use Rattle.proto_files.specs.declared.file.FileDescriptorProto.{FileDescriptorProto}
+use Rattle.pool_faults.specs.declared.fault.DescriptorErrorKind.{DescriptorErrorKind}
+use Rattle.pool_faults.specs.declared.fault.DescriptorErrorKind.TheVariants.{DuplicateEnumNumber}
+use Rattle.places.specs.declared.findings.Findings.{Findings}
 use Rattle.places.specs.Places.{enum_at}
+use Rattle.places.specs.Tells.{Tells, named_files}
+use Rattle.places.proofs.Tells.{same-files, tells-as, tells-next, tells-two}
+use Rattle.enum_rules.specs.Values.{number_label, value_faults}
 use Rattle.enum_rules.proofs.Earlier.{positions-next, below-next}
-use Rattle.enum_rules.proofs.ValueFaults.{values-alone, values-shared}
+use Rattle.enum_rules.proofs.ValueFaults.{told-alone, told-shared}
 use Rattle.enum_rules.proofs.values.check_values.Goals as goal
 use Rattle.enum_rules.proofs.values.check_values.Goals.{then-not-alias+in_ok-check_again, else-not-alias}
 
 -- one more value is checked: its number has a position, and its faults are told
 pub loop-position-preserved : goal.loop-position-preserved
 loop-position-preserved c =
-    let files = map (λ f. f.raw) c.args.files.now in
+    let b = c.loop-position.findings in
+    let files = named_files b in
     let e = c.args.enumeration.now in
     let owner = enum_at c.args.place e in
     let i = c.loop-position.position in
@@ -29,21 +39,22 @@ loop-position-preserved c =
     let new = λ (m : ℤ). get int_cmp c.earlier_position.new.positions m in
     let earlier = c.in_ok-earlier.earlier in
     let after = λ (m : ℤ). c.in_ok-earlier.ensures.positions m ∙ ap (λ o. if int_eq m n then Some (unwrap_or o i) else old m) c.in_ok-earlier.ensures.earlier in
+    let reserved = c.in_ok-check_reserved.ensures in
+    let again : List FileDescriptorProto → ℕ → DescriptorErrorKind = λ fs first. DuplicateEnumNumber n (number_label fs owner first) (number_label fs owner i) in
+    let next = λ (d : Findings) (told : List DescriptorErrorKind) (told_is : told ≡ value_faults files owner e i v) (tells : Tells b d told).
+    tells-next (λ fs. value_faults fs owner e) e.value i v below is c.loop-position.invariant.faults told_is tells in
     record {
       positions = positions-next e.value i v below is old new n number c.loop-position.invariant.positions after;
       below = below-next i old new n c.loop-position.invariant.below after;
       faults = elim c.if-not-alias.branch [
         | then-not-alias+in_ok-check_again w ↦
-            ap (λ fs. fs.items) w.faults-is
-            ∙ values-alone files owner e i v n number below is c.args.faults.now.items c.loop-position.faults.items c.check_reserved.new.faults.items
-            c.loop-position.invariant.faults c.in_ok-check_reserved.ensures
-            earlier c.allows_alias-alias.result w.check_again.new.faults.items c.allows_alias-alias.ensures w.if-not-alias.true
-            (c.in_ok-earlier.ensures.earlier ∙ c.loop-position.invariant.positions n) w.in_ok-check_again.ensures
+            rw w.findings-is (next _ _
+            (told-alone files owner e i v n number earlier c.allows_alias-alias.result c.allows_alias-alias.ensures w.if-not-alias.true
+            (c.in_ok-earlier.ensures.earlier ∙ c.loop-position.invariant.positions n))
+            (tells-two reserved (tells-as (ap (λ fs. listed (option_map (again fs) earlier)) (same-files reserved)) w.in_ok-check_again.ensures)))
         | else-not-alias w ↦
-            ap (λ fs. fs.items) w.faults-is
-            ∙ values-shared files owner e i v n number below is c.args.faults.now.items c.loop-position.faults.items c.check_reserved.new.faults.items
-            c.loop-position.invariant.faults c.in_ok-check_reserved.ensures
-            c.allows_alias-alias.result c.allows_alias-alias.ensures w.if-not-alias.false
+            rw w.findings-is (next _ _
+            (told-shared files owner e i v n number c.allows_alias-alias.result c.allows_alias-alias.ensures w.if-not-alias.false) reserved)
       ];
     }
 

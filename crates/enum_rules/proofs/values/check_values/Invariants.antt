@@ -1,4 +1,4 @@
-use Rattle.std.proofs.Common.{◌≡◌, ◌<◌, ℤ, ◌++◌, map, take, find, IfSome}
+use Rattle.std.proofs.Common.{◌≡◌, ◌<◌, ℤ, take, find, IfSome}
 use Rattle.std.specs.BTreeMap.{get}
 use Rattle.std.specs.List.{enumerate_from, flat_map}
 use Rattle.std.specs.Option.{option_map}
@@ -6,6 +6,7 @@ use Rattle.std.specs.Ordering.{int_cmp, int_eq}
 use Rattle.proto_types.specs.Readers.{number_of}
 use Rattle.places.specs.Each.{each}
 use Rattle.places.specs.Places.{enum_at}
+use Rattle.places.specs.Tells.{Tells, named_files}
 use Rattle.enum_rules.specs.Values.{value_faults}
 use Rattle.enum_rules.proofs.values.check_values.Given as goal
 
@@ -15,6 +16,6 @@ invariant-loop-position l = record {
   positions : (n : ℤ) → get int_cmp l.positions n
       ≡ option_map (λ e. e.0) (find (λ e. int_eq (number_of e.1.number) n) (enumerate_from 0 (take l.position l.enumeration.value)));
   below : (n : ℤ) → IfSome (get int_cmp l.positions n) (λ first. first < l.position);
-  faults : l.faults.items ≡ l.initial.faults.items
-      ++ flat_map (λ fs. fs) (each (value_faults (map (λ f. f.raw) l.files) (enum_at l.place l.enumeration) l.enumeration) 0 (take l.position l.enumeration.value));
+  faults : Tells l.initial.findings l.findings
+      (flat_map (λ fs. fs) (each (value_faults (named_files l.initial.findings) (enum_at l.place l.enumeration) l.enumeration) 0 (take l.position l.enumeration.value)));
 }

@@ -1,9 +1,11 @@
-use Rattle.std.proofs.Common.{◌++◌, ◌∷◌, [], map, take, find, string_bytes, None, Some, ap, sym, ◌∙◌, arith, append-nil}
+use Rattle.std.proofs.Common.{◌∷◌, [], take, find, string_bytes, None, Some, ap, sym, ◌∙◌, arith}
 use Rattle.std.specs.HashMap.{get_by_text}
 use Rattle.std.specs.List.{enumerate_from}
 use Rattle.std.specs.Option.{option_map}
 use Rattle.std.specs.Str.{bytes_eq}
-use Rattle.syntax_rules.specs.CamelCase.{camel_case_key, key_at}
+use Rattle.places.specs.Tells.{named_files}
+use Rattle.places.proofs.Tells.{same-files, tells-as, tells-none, tells-two}
+use Rattle.syntax_rules.specs.CamelCase.{camel_case_fault, camel_case_key, key_at}
 use Rattle.syntax_rules.proofs.CamelCase.{told-next}
 use Rattle.syntax_rules.proofs.Holders.{held-before, none-before, holders-next, entries-next, short-list}
 use Rattle.syntax_rules.proofs.camel_case.check_keys.Goals as goal
@@ -36,11 +38,12 @@ loop-position-preserved c =
     let first = c.in_ok-first.first in
     let key = string_bytes c.in_ok-key.key in
     let below = c.loop-position-test.true in
-    let files = map (λ f. f.raw) c.args.files.now in
+    let b = c.loop-position.findings in
+    let so_far = c.loop-position.invariant.faults in
     let key_is = c.in_ok-key.ensures ∙ ap camel_case_key c.name.ensures in
     let first_is = c.in_ok-first.ensures.first in
     let holder_is = c.loop-position.invariant.holders key in
-    let told = told-next files c.args.file c.args.path.now c.args.faults.now.items fields i f key below c.index-fields-position.is key_is in
+    let told = told-next (named_files c.args.findings.now) c.args.file c.args.path.now fields i f key below c.index-fields-position.is key_is in
     record {
       holders = λ text. holders-next key_at (enumerate_from 0 (take i fields)) (i, f) (λ t. get_by_text c.loop-position.holders t) first (λ t. get_by_text c.first_holder.new.holders t)
           key key_is c.loop-position.invariant.holders first_is c.in_ok-first.ensures.holders text
@@ -49,10 +52,10 @@ loop-position-preserved c =
         | then-first-position+in_ok-fault+in_ok-push w ↦
             let held = held-before fields i first below key_at key _ first_is holder_is w.if-first-position.true in
             let found = told (Some (first, w.index-fields-first.result)) (held.entry w.index-fields-first.result w.index-fields-first.is) in
-            ap (λ v. v.items) w.faults-is ∙ w.in_ok-push.ensures.items
-            ∙ (λ j. c.loop-position.invariant.faults j ++ w.in_ok-fault.ensures j ∷ []) ∙ found
+            let fault = w.in_ok-fault.ensures ∙ ap (λ fs. camel_case_fault fs c.args.file c.args.path.now (first, w.index-fields-first.result) (i, f)) (same-files so_far) in
+            rw w.findings-is (tells-as found (tells-two so_far (tells-as (ap (λ x. x ∷ []) fault) w.in_ok-push.ensures)))
         | else-first-position w ↦
             let found = told None (none-before fields i first below key_at key _ first_is holder_is w.if-first-position.false) in
-            ap (λ v. v.items) w.faults-is ∙ c.loop-position.invariant.faults ∙ sym (append-nil _) ∙ found
+            rw w.findings-is (tells-as found (tells-two so_far (tells-none b)))
       ];
     }

@@ -1,8 +1,9 @@
-use Rattle.std.proofs.Common.{◌≡◌, ◌++◌, ℕ, List, map, take, find}
+use Rattle.std.proofs.Common.{◌≡◌, ℕ, List, take, find}
 use Rattle.std.specs.HashMap.{get_by_text}
 use Rattle.std.specs.List.{enumerate_from}
 use Rattle.std.specs.Option.{option_map}
 use Rattle.std.specs.Str.{bytes_eq}
+use Rattle.places.specs.Tells.{Tells, named_files}
 use Rattle.syntax_rules.specs.CamelCase.{key_at, camel_case_faults}
 use Rattle.syntax_rules.proofs.camel_case.check_keys.Given as goal
 
@@ -11,5 +12,5 @@ abbrev pub invariant-loop-position : goal.invariant-loop-position
 invariant-loop-position l = record {
   holders : (text : List ℕ) → get_by_text l.holders text
       ≡ option_map (λ e. e.0) (find (λ e. bytes_eq text (key_at e)) (enumerate_from 0 (take l.position l.fields)));
-  faults : l.faults.items ≡ l.initial.faults.items ++ camel_case_faults (map (λ f. f.raw) l.files) l.file l.path (take l.position l.fields);
+  faults : Tells l.initial.findings l.findings (camel_case_faults (named_files l.initial.findings) l.file l.path (take l.position l.fields));
 }

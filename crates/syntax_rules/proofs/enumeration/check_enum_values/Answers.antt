@@ -8,5 +8,5 @@ returns-else-eq c = search rules
 pub returns-in_default : goal.returns-in_default
 returns-in_default c = search rules
 
-pub returns-in_ok-push-5 : goal.returns-in_ok-push-5
-returns-in_ok-push-5 c = grind (arith, common_steps)
+pub returns-in_ok-push-4 : goal.returns-in_ok-push-4
+returns-in_ok-push-4 c = grind (arith, common_steps)

@@ -1,0 +1,9 @@
+use crate::Place;
+use proto_files::DescriptorProto;
+
+/// A message at a place, for what its fields and its extensions are checked with.
+#[derive(Clone, Copy)]
+pub struct Owner<'a> {
+    pub place: Place<'a, 'a>,
+    pub message: &'a DescriptorProto,
+}
