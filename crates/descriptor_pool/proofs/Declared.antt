@@ -129,7 +129,7 @@ raw-items s base fs =
     ap (map (λ f. f.raw)) (items-of-files (file_item s) base fs) ∙ each-map (λ f. f.raw) (file_item s) base.files fs ∙ each-changed (linking s) base.files fs
 
 -- how many of each kind a list of declarations has
-abbrev many : Counts → List Shown → Counts
+abbrev pub many : Counts → List Shown → Counts
 many c ds = record {
   files = c.files + length (of_kind as_file ds);
   messages = c.messages + length (of_kind as_message ds);
@@ -150,7 +150,7 @@ many-one c file parent index path full_name (of_enum e) ds = counts_are _ _ refl
 many-one c file parent index path full_name (of_value v) ds = refl
 many-one c file parent index path full_name (of_extension x) ds = counts_are _ _ refl refl refl refl (omega arith)
 
-counted-many : (c : Counts) (ds : List Shown) → counted c ds ≡ many c ds
+pub counted-many : (c : Counts) (ds : List Shown) → counted c ds ≡ many c ds
 counted-many c [] = counts_are _ _ (omega arith) (omega arith) (omega arith) (omega arith) (omega arith)
 counted-many c (d ∷ ds) = counted-many (counting c d.proto) ds ∙ many-one c d.file d.parent d.index d.path d.full_name d.proto ds
 

@@ -22,6 +22,7 @@ use Rattle.pool_parts.specs.declared.filter.ResolveNameFilter.TheVariants.{Messa
 use Rattle.pool_parts.specs.References.{reference_fault}
 use Rattle.pool_parts.specs.Resolution.{Resolution, found, invalid_type, not_imported, shadowed, not_found}
 use Rattle.pool_parts.proofs.Named.{IsNamed, resolution-named}
+use Rattle.pool_parts.proofs.Wanted.{IsWanted, resolution-wanted}
 use Rattle.link_rules.specs.Broken.{second_faults}
 use Rattle.link_rules.specs.Defaults.{field_default_faults}
 use Rattle.link_rules.specs.Extensions.{extendee_faults, number_faults}
@@ -39,7 +40,7 @@ use Rattle.descriptor_pool.specs.Pool.{Made, empty, linked_to, new_files}
 use Rattle.descriptor_pool.proofs.Indexed.{MeansBefore, messages-lie}
 use Rattle.descriptor_pool.proofs.Resolved.{no_items}
 use Rattle.descriptor_pool.proofs.Sound.{Known, link-known, made-sound}
-use Rattle.descriptor_pool.proofs.Wanted.{IsWanted, message-wanted, resolution-wanted}
+use Rattle.descriptor_pool.proofs.Wanted.{message-wanted}
 
 -- an extendee without a fault was found, and is one of the messages that names mean
 found-below : (s : Setting) (end : ℕ) (path : List ℤ) (file : ℕ) (written : List ℕ) (r : Resolution)

@@ -13,3 +13,7 @@ pub mod Listed
 pub mod Wanted
 pub mod Indexed
 pub mod Extendees
+pub mod NamedItems
+pub mod LinkedFiles
+pub mod MadeItems
+pub mod Bases

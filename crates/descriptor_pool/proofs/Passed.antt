@@ -1,110 +1,111 @@
--- What a pass has found once its visitor has been shown all declarations.
-use Rattle.std.proofs.Common.{rules, ◌≡◌, true, false, List, [], ap, sym, subst, ◌∙◌, IsOk, Result, Ok, Err, OnOk, OnErr, IfErr, MatchResult}
+-- What a pass has found once its visitor has been shown all declarations, and is gone.
+use Rattle.std.proofs.Common.{rules, ◌≡◌, ℕ, true, false, List, [], ◌∷◌, ◌++◌, length, ap, sym, subst, ◌∙◌, append-nil, Result, Ok, Err, OnOk, OnErr, IfErr, Vec, Global}
+use Rattle.std.specs.List.{fold}
 use Rattle.std.specs.Result.{is_err}
 use Rattle.std.specs.declared.alloc.AllocError.{AllocError}
-use Rattle.std.specs.List.{fold}
-use Rattle.proto_records.specs.declared.counts.Counts.{Counts}
+use Rattle.pool_faults.specs.declared.fault.DescriptorErrorKind.{DescriptorErrorKind}
+use Rattle.pool_types.specs.Contents.{ByText, Contents, no_contents}
 use Rattle.pool_types.specs.declared.contents.file.FileDescriptorInner.{FileDescriptorInner}
-use Rattle.pool_types.specs.Contents.{files_of}
 use Rattle.proto_files.specs.declared.file.FileDescriptorProto.{FileDescriptorProto}
+use Rattle.proto_records.specs.declared.counts.Counts.{Counts}
 use Rattle.proto_records.specs.Declarations.{declarations}
-use Rattle.proto_records.specs.Progress.{Progress}
+use Rattle.pool_types.specs.declared.contents.definition.Definition.{Definition}
+use Rattle.name_tables.specs.NameTables.{file_names_before, without_files_from}
+use Rattle.proto_records.specs.Progress.{HasSeen, Progress}
 use Rattle.proto_records.specs.Shown.{Shown}
-use Rattle.proto_records.proofs.Listings.{on-ok}
 use Rattle.name_pass.specs.declared.names.NameVisitor.{NameVisitor}
-use Rattle.reference_pass.specs.declared.resolve.ResolveVisitor.{ResolveVisitor}
-use Rattle.growing_pool.specs.declared.growing.GrowingPool.{GrowingPool}
-use Rattle.name_pass.specs.FirstPass.{first_pass}
-use Rattle.link_rules.specs.Broken.{Faults}
-use Rattle.pool_inner.specs.Held.{contents_in}
-use Rattle.growing_pool.specs.Growing.{before_items}
-use Rattle.descriptor_pool.specs.declared.error.BuildError.{BuildError}
-use Rattle.descriptor_pool.specs.declared.error.BuildError.TheVariants.{OutOfMemory}
-use Rattle.name_pass.specs.Steps.{NamesSeen, named, names_progress}
-use Rattle.reference_pass.specs.Steps.{ReferencesSeen, referred, references_progress}
-use Rattle.descriptor_pool.specs.Tells.{TellsAll, TellsFaults}
-use Rattle.descriptor_pool.specs.Behind.{with_items, with_names}
+use Rattle.name_pass.specs.State.{borrows_of, first_new, kept_of, records_of, state_of}
+use Rattle.name_pass.specs.Steps.{NameState, name_progress, name_step, state_at}
+use Rattle.linked_records.specs.Setting.{Setting}
 use Rattle.link_rules.specs.Broken.{second_pass}
-use Rattle.name_pass.specs.Seen.{names_seen}
-use Rattle.reference_pass.specs.Against.{setting_with}
-use Rattle.reference_pass.specs.Seen.{references_seen}
-use Rattle.descriptor_pool.proofs.NamesFold.{progress_named}
-use Rattle.descriptor_pool.proofs.ItemsFold.{progress_referred}
+use Rattle.reference_pass.specs.declared.resolve.ResolveVisitor.{ResolveVisitor}
+use Rattle.reference_pass.specs.State.{state_of as state_of_references}
+use Rattle.reference_pass.specs.Steps.{ReferenceState, reference_progress, reference_step}
+use Rattle.descriptor_pool.specs.Items.{HasItems}
+use Rattle.descriptor_pool.proofs.ItemsFold.{faults-seen, fold-seen}
+use Rattle.link_rules.specs.Broken.{Faults}
+use Rattle.descriptor_pool.specs.declared.error.BuildError.{BuildError}
+use Rattle.descriptor_pool.specs.Tells.{TellsAll, TellsFaults}
 
-pub record NamesPassed (new : NameVisitor) (old : GrowingPool) (ds : List Shown) : Type 0 where
-  pub contents_are : contents_in new.pool.inner ≡ with_names (contents_in old.inner) ds
-  pub faults_are : new.faults.items ≡ first_pass (files_of (contents_in old.inner)) (contents_in old.inner) ds
+-- the first, the second and the third of some numbers
+abbrev first-of : List ℕ → ℕ
+first-of [] = 0
+first-of (n ∷ ns) = n
 
-module _ (old : GrowingPool) (faults : Faults) (new : NameVisitor) (ds : List Shown) where
-  abbrev pub start_names : NamesSeen
-  start_names = record { pool = contents_in old.inner; faults = faults }
+abbrev second-of : List ℕ → ℕ
+second-of [] = 0
+second-of (n ∷ ns) = first-of ns
 
-  names_passed : names_progress (names_seen new) ≡ names_progress (fold named start_names ds) → faults ≡ [] → NamesPassed new old ds
-  names_passed seen no_faults =
-      let e = seen ∙ progress_named (contents_in old.inner) start_names ds (λ i. record start_names { faults = no_faults i }) in
-      record { contents_are = ap (λ (p : Progress). p.contents) e; faults_are = ap (λ (p : Progress). p.faults) e }
+abbrev third-of : List ℕ → ℕ
+third-of [] = 0
+third-of (n ∷ ns) = second-of ns
 
-  pub names_once_shown : {U : Type 0} (shown : Result U AllocError)
-      → OnOk shown (names_progress (names_seen new) ≡ names_progress (fold named start_names ds)) → faults ≡ [] → OnOk shown (NamesPassed new old ds)
-  names_once_shown shown seen no_faults = on-ok shown (λ s. names_passed s no_faults) seen
+-- the names and faults that are left once a visitor is gone that was shown all and held them, and began under the same borrows
+module _ (new : NameVisitor) {m n k : ℕ} (same : borrows_of new ≡ m ∷ n ∷ k ∷ [])
+    (x : ByText Definition) (x-is : m ≡ new.names.ghost_name → x ≡ new.names.now)
+    (y : ByText ℕ) (y-is : n ≡ new.file_names.ghost_name → y ≡ new.file_names.now) where
+  names-left : x ≡ new.names.now
+  names-left = x-is (sym (ap first-of same))
 
-pub record ReferencesPassed (new : ResolveVisitor) (old : GrowingPool) (base : Counts) (fs : List FileDescriptorProto) : Type 0 where
-  pub contents_are : (references_progress (references_seen new)).contents ≡ with_items (before_items old) (setting_with old.inner) (declarations base fs)
-  pub faults_are : new.faults.items ≡ second_pass (setting_with old.inner) (declarations base fs)
+  file-names-left : y ≡ new.file_names.now
+  file-names-left = y-is (sym (ap second-of same))
 
-module _ (old : GrowingPool) (files : List FileDescriptorInner) (faults : Faults) (new : ResolveVisitor) (base : Counts) (fs : List FileDescriptorProto) where
-  abbrev pub start_references : ReferencesSeen
-  start_references = record { setting = setting_with old.inner; pool = before_items old; files = files; faults = faults }
+  pub names-end : (z : Vec DescriptorErrorKind Global) → (k ≡ new.faults.ghost_name → z ≡ new.faults.now) → (r : Result (Unit {0}) AllocError)
+      → (records : List FileDescriptorProto) (state : NameState) (ds : List Shown) (A : List Shown → Progress) (R S : List Shown → Type 0)
+      → A (ds ++ []) ≡ name_progress (fold (name_step records) state (ds ++ []))
+      → OnOk r (HasSeen A R (λ es. name_progress (fold (name_step (records_of new)) (state_of new) es)) S ds)
+      → OnOk r (state_at x y z.items ≡ fold (name_step records) state ds)
+  names-end z z-is (Ok u) records state ds A R S began seen =
+      let faults-left = ap (λ (v : Vec DescriptorErrorKind Global). v.items) (z-is (sym (ap third-of same))) in
+      let is = seen.after_is [] ∙ began ∙ (λ i. name_progress (fold (name_step records) state (append-nil ds i))) in
+      λ i. state_at ((names-left ∙ ap (λ (p : Progress). p.contents.names) is) i) ((file-names-left ∙ ap (λ (p : Progress). p.contents.file_names) is) i)
+      ((faults-left ∙ ap (λ (p : Progress). p.faults) is) i)
+  names-end z z-is (Err e) records state ds A R S began seen = tt
 
-  references_passed : references_progress (references_seen new) ≡ references_progress (fold referred start_references (declarations base fs))
-      → files ≡ [] → faults ≡ [] → ReferencesPassed new old base fs
-  references_passed seen no_files no_faults =
-      let is : start_references ≡ record start_references { files = []; faults = [] } = λ i. record start_references { files = no_files i; faults = no_faults i } in
-      let e = seen ∙ progress_referred start_references (setting_with old.inner) (before_items old) base fs is in
-      record { contents_are = ap (λ (p : Progress). p.contents) e; faults_are = ap (λ (p : Progress). p.faults) e }
+  -- the names of earlier files stay
+  module _ (first : ℕ) (files : List FileDescriptorInner) (names : ByText Definition) (file_names : ByText ℕ) (here : length files ≡ first)
+      (kept : kept_of new ≡ record no_contents { files = files; names = without_files_from (length files) names; file_names = file_names_before (length files) file_names }) where
+    here-still : first_new new ≡ first
+    here-still = ap (λ (c : Contents). length c.files) kept ∙ here
 
-  pub references_once_shown : {U : Type 0} (shown : Result U AllocError)
-      → OnOk shown (references_progress (references_seen new) ≡ references_progress (fold referred start_references (declarations base fs)))
-      → files ≡ [] → faults ≡ [] → OnOk shown (ReferencesPassed new old base fs)
-  references_once_shown shown seen no_files no_faults = on-ok shown (λ s. references_passed s no_files no_faults) seen
+    pub names-stay : without_files_from first x ≡ without_files_from first names
+    names-stay =
+        ap (without_files_from first) names-left ∙ (λ i. without_files_from (sym here-still i) new.names.now)
+        ∙ ap (λ (c : Contents). c.names) kept ∙ (λ i. without_files_from (here i) names)
 
--- what holds after all was shown
-once_shown : {U : Type 0} (shown : Result U AllocError) (P : Type 0) → IsOk shown → OnOk shown P → P
-once_shown (Ok u) P ok p = p
-once_shown (Err e) P ok p = absurd (search rules)
+    pub file-names-stay : file_names_before first y ≡ file_names_before first file_names
+    file-names-stay =
+        ap (file_names_before first) file-names-left ∙ (λ i. file_names_before (sym here-still i) new.file_names.now)
+        ∙ ap (λ (c : Contents). c.file_names) kept ∙ (λ i. file_names_before (here i) file_names)
 
--- what a verdict tells are the faults of the pass, unless memory was refused
-told_verdict : {U : Type 0} (shown : Result U AllocError) (error : BuildError) (found all : Faults)
-    → MatchResult shown (λ _. TellsFaults error found) (λ _. error ≡ OutOfMemory) → OnOk shown (found ≡ all) → TellsFaults error all
-told_verdict (Ok u) error found all told same = subst (TellsFaults error) same told
-told_verdict (Err e) error found all told same = subst (λ x. TellsFaults x all) (sym told) tt
+-- a second pass that has found nothing yet
+abbrev pub no_items : ReferenceState
+no_items = record { messages = []; enums = []; services = []; extensions = []; faults = [] }
 
--- how a pass ends: by what was shown, with what was found
-module _ {U V : Type 0} (shown : Result U AllocError) (found all : Faults) where
-  pub verdict-tells : (r : Result V BuildError) → OnOk r (IsOk shown × (found ≡ []))
-      → IfErr r (λ error. MatchResult shown (λ _. TellsFaults error found) (λ _. error ≡ OutOfMemory)) → OnOk shown (found ≡ all) → TellsAll r all
-  verdict-tells (Ok u) ok err same = sym (once_shown shown (found ≡ all) ok.0 same) ∙ ok.1
-  verdict-tells (Err error) ok err same = told_verdict shown error found all err same
+-- the items and the faults that a visitor of the second pass has once it was shown all that files declare, and began with none
+pub references-end : (s : Setting) (v : ResolveVisitor) (old : ReferenceState) (base : Counts) (fs : List FileDescriptorProto)
+    → old ≡ no_items
+    → reference_progress (state_of_references v) ≡ reference_progress (fold (reference_step s) old (declarations base fs ++ []))
+    → HasItems v.items s (declarations base fs) × (v.faults.items ≡ second_pass s (declarations base fs))
+references-end s v old base fs none seen =
+    let ds = declarations base fs in
+    let e = seen ∙ (λ i. reference_progress (fold (reference_step s) (none i) (append-nil ds i))) ∙ ap reference_progress (fold-seen s no_items ds) in (
+      record {
+        messages = ap (λ (p : Progress). p.contents.messages) e;
+        enums = ap (λ (p : Progress). p.contents.enums) e;
+        services = ap (λ (p : Progress). p.contents.services) e;
+        extensions = ap (λ (p : Progress). p.contents.extensions) e;
+      },
+      ap (λ (p : Progress). p.faults) e ∙ faults-seen s base fs,
+    )
 
--- what was found by a pass that ends well
-pub passed-well : {U V : Type 0} (shown : Result U AllocError) (r : Result V BuildError) (A P : Type 0) → OnOk r (IsOk shown × A) → OnOk shown P → OnOk r P
-passed-well shown (Ok u) A P ok p = once_shown shown P ok.0 p
-passed-well shown (Err e) A P ok p = tt
+-- a pass that is refused with its faults tells them
+pub refuse-tells : {U : Type 0} (r : Result U BuildError) (found all : Faults) → OnOk r (found ≡ []) → IfErr r (λ error. TellsFaults error found) → found ≡ all → TellsAll r all
+refuse-tells (Ok u) found all ok err same = sym same ∙ ok
+refuse-tells (Err e) found all ok err same = subst (TellsFaults e) same err
 
--- the linked records are put into the pool, unless the pass was refused or memory is
-pub put-tells : {U V : Type 0} (passed : Result U BuildError) (r : Result V BuildError) (A : Type 0) (all : Faults) → OnOk r (IsOk passed × A)
-    → IfErr r (λ error. MatchResult passed (λ _. error ≡ OutOfMemory) (λ told. error ≡ told)) → TellsAll passed all → TellsAll r all
-put-tells (Ok u) (Ok v) A all ok err told = told
-put-tells (Err e) (Ok v) A all ok err told = absurd (search rules)
-put-tells (Ok u) (Err e) A all ok err told = subst (λ x. TellsFaults x all) (sym err) tt
-put-tells (Err t) (Err e) A all ok err told = subst (λ x. TellsFaults x all) (sym err) told
-
--- and what is there then
-pub put-well : {U V W : Type 0} (shown : Result W AllocError) (passed : Result U BuildError) (r : Result V BuildError) (A B P : Type 0)
-    → OnOk r (IsOk passed × A) → OnOk passed (IsOk shown × B) → OnOk shown P → OnOk r (A × P)
-put-well shown (Ok u) (Ok v) A B P put passed p = (put.1, once_shown shown P passed.0 p)
-put-well shown (Err t) (Ok v) A B P put passed p = absurd (search rules)
-put-well shown passed (Err e) A B P put well p = tt
+pub tells-err : {U : Type 0} (r : Result U BuildError) (error : BuildError) (all : Faults) → r ≡ Err error → TellsFaults error all → TellsAll r all
+tells-err r error all is told = subst (λ x. TellsAll x all) (sym is) told
 
 -- what is made where no error came is another, where that is equal
 pub ok-is : {X U E : Type 0} (r : Result U E) (x a b : X) → a ≡ b → OnOk r (x ≡ a) → OnOk r (x ≡ b)

@@ -11,7 +11,7 @@ use Rattle.proto_files.specs.declared.file.FileDescriptorProto.{FileDescriptorPr
 use Rattle.places.specs.Each.{each}
 use Rattle.growing_pool.specs.declared.growing.GrowingPool.{GrowingPool}
 use Rattle.descriptor_pool.specs.Behind.{declared_behind, seen_behind, with_names}
-use Rattle.growing_pool.specs.Growing.{files_seeing, first_new, kept_in, seeing, seen_in}
+use Rattle.growing_pool.specs.Growing.{files_seeing, first_new, kept_in, seeing}
 use Rattle.pool_inner.specs.Held.{contents_in}
 use Rattle.growing_pool.proofs.Each.{each-all, each-append, each-map, each-same}
 
@@ -27,7 +27,7 @@ module _ (p : Contents) (new : List FileDescriptorProto) (r : GrowingPool) (kept
   sees n = record { keys = seen_from (files_of p ++ new) (finite.get (with_names p (declared_behind p new)).file_names) n }
 
   abbrev seen_of : ℕ → FileDescriptorInner → BTreeSet ℕ
-  seen_of n f = (if nat_le (first_new r) n then seeing (seen_in r n) f else f).transitive_dependencies
+  seen_of n f = (if nat_le (first_new r) n then seeing r n f else f).transitive_dependencies
 
   many : first_new r ≡ length p.files
   many = ap length kept
@@ -39,7 +39,7 @@ module _ (p : Contents) (new : List FileDescriptorProto) (r : GrowingPool) (kept
     where
       as_it_was : (n : ℕ) (f : FileDescriptorInner) → 0 ≤ n → n < 0 + length p.files → seen_of n f ≡ f.transitive_dependencies
       as_it_was n f from to = let before : nat_le (first_new r) n ≡ false = grind (arith, nat_tests, many) in
-          ap (λ b. (if b then seeing (seen_in r n) f else f).transitive_dependencies) before
+          ap (λ b. (if b then seeing r n f else f).transitive_dependencies) before
 
   seen-later : (came : List FileDescriptorInner) → map (λ f. f.raw) came ≡ new → each seen_of (0 + length p.files) came ≡ each (λ n _. sees n) (length p.files) new
   seen-later came is =
@@ -52,14 +52,14 @@ module _ (p : Contents) (new : List FileDescriptorProto) (r : GrowingPool) (kept
       anew : (n : ℕ) (f : FileDescriptorInner) → 0 + length p.files ≤ n → n < 0 + length p.files + length came → seen_of n f ≡ sees n
       anew n f from to =
           let behind : nat_le (first_new r) n ≡ true = grind (arith, nat_tests, many) in
-          ap (λ b. (if b then seeing (seen_in r n) f else f).transitive_dependencies) behind
+          ap (λ b. (if b then seeing r n f else f).transitive_dependencies) behind
           ∙ (λ i. record { keys = seen_from (files i) (finite.get (names i)) n })
 
   pub seen-are : map (λ f. f.transitive_dependencies) (files_seeing r) ≡ seen_behind p new
   seen-are =
       let fs = r.inner.files.items in
       let came = drop r.base.files fs in
-      let change : ℕ → FileDescriptorInner → FileDescriptorInner = λ n f. if nat_le (first_new r) n then seeing (seen_in r n) f else f in
+      let change : ℕ → FileDescriptorInner → FileDescriptorInner = λ n f. if nat_le (first_new r) n then seeing r n f else f in
       let whole : fs ≡ p.files ++ came = sym (take-append-drop r.base.files fs) ∙ ap (λ xs. xs ++ came) kept in
       let raws : map (λ f. f.raw) came ≡ new =
       append_cancel_left (files_of p) (map (λ f. f.raw) came) new (sym (map-append (λ f. f.raw) p.files came) ∙ ap (map (λ f. f.raw)) (sym whole) ∙ files) in

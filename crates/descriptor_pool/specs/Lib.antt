@@ -5,3 +5,4 @@ pub mod Behind
 pub mod Outcome
 pub mod Extensions
 pub mod References
+pub mod Items

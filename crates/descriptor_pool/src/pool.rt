@@ -178,7 +178,7 @@ impl DescriptorPool {
         if let Err(kind) = base.with_files(&files) {
             return Err(BuildError::TooMany(kind));
         }
-        link(self.alloc, base, &mut self.inner, &files)
+        link(self.alloc, base, &mut self.inner, files)
     }
 }
 

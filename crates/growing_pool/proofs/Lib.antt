@@ -1,4 +1,3 @@
 pub mod Each
-pub mod Kept
 pub mod Seeing
 pub mod Extending

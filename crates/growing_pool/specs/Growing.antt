@@ -1,9 +1,11 @@
 -- A pool while a batch is linked into it.
-use Rattle.std.specs.Prelude.{ℕ, ◌==◌, nat_le, List, [], ◌∷◌, ◌++◌, length, map, take, if◌then◌else◌}
+use Rattle.std.specs.Prelude.{ℕ, ◌==◌, nat_le, List, [], ◌∷◌, ◌++◌, length, map, take, drop, if◌then◌else◌}
 use Rattle.std.specs.FinMap as finite
+use Rattle.std.specs.List.{filter_map}
 use Rattle.pool_types.specs.Contents.{Contents, files_of}
 use Rattle.pool_types.specs.declared.contents.file.FileDescriptorInner.{FileDescriptorInner}
 use Rattle.pool_types.specs.declared.contents.message.MessageDescriptorInner.{MessageDescriptorInner}
+use Rattle.proto_files.specs.declared.file.FileDescriptorProto.{FileDescriptorProto}
 use Rattle.file_visibility.specs.Visibility.{seen_from}
 use Rattle.places.specs.Each.{each}
 use Rattle.name_tables.specs.NameTables.{without_files_from, file_names_before}
@@ -27,6 +29,14 @@ kept_in p = record {
 abbrev pub first_new : GrowingPool → ℕ
 first_new p = length (kept_in p).files
 
+-- the records of files from an index on
+abbrev pub records_from : ℕ → List FileDescriptorInner → List FileDescriptorProto
+records_from first files = map (λ f. f.raw) (drop first files)
+
+-- the records of the files that came
+abbrev pub new_records : GrowingPool → List FileDescriptorProto
+new_records p = records_from p.base.files p.inner.files.items
+
 -- the index of the first extension that came
 abbrev pub first_extension : GrowingPool → ℕ
 first_extension p = length (kept_in p).extensions
@@ -40,21 +50,24 @@ abbrev pub message_extended : GrowingPool → ℕ → ℕ → List MessageDescri
 message_extended p message extension =
     each (λ n m. if n == message then with_extension extension m else m) 0 p.inner.messages.items
 
--- a file with the files that it sees
-abbrev pub seeing : List ℕ → FileDescriptorInner → FileDescriptorInner
-seeing seen f = record f { transitive_dependencies = record { keys = seen } }
-
 -- the files that the file with an index sees, of all that there are
 abbrev pub seen_in : GrowingPool → ℕ → List ℕ
 seen_in p n = seen_from (files_of (contents_in p.inner)) (finite.get p.inner.file_names) n
 
+-- a file, by its index, with the files that it imports and those that it sees
+abbrev pub seeing : GrowingPool → ℕ → FileDescriptorInner → FileDescriptorInner
+seeing p n f = record f {
+  dependencies = filter_map (finite.get p.inner.file_names) f.raw.dependency;
+  transitive_dependencies = record { keys = seen_in p n };
+}
+
 -- all files, where the one with an index has those that it sees
 abbrev pub file_seeing : GrowingPool → ℕ → List FileDescriptorInner
-file_seeing p file = each (λ n f. if n == file then seeing (seen_in p file) f else f) 0 p.inner.files.items
+file_seeing p file = each (λ n f. if n == file then seeing p file f else f) 0 p.inner.files.items
 
 -- all files, where each that came has those that it sees
 abbrev pub files_seeing : GrowingPool → List FileDescriptorInner
-files_seeing p = each (λ n f. if nat_le (first_new p) n then seeing (seen_in p n) f else f) 0 p.inner.files.items
+files_seeing p = each (λ n f. if nat_le (first_new p) n then seeing p n f else f) 0 p.inner.files.items
 
 -- all that there is by now, but of files only those that were there before
 abbrev pub before_items : GrowingPool → Contents

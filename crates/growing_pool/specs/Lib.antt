@@ -1,2 +1,3 @@
 pub mod Extended
 pub mod Growing
+pub mod Unlinked

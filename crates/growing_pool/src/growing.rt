@@ -1,16 +1,19 @@
-ghost use Rattle.std.specs.Prelude.{◌≡◌, ◌≤◌, ◌<◌, ◌^◌, ◌++◌, ◌∷◌, [], OnOk, OnErr, None, length, map, nat_lt};
-ghost use Rattle.std.specs.FinMap as finite;
+ghost use Rattle.std.specs.Prelude.{◌≡◌, ◌≤◌, ◌<◌, ◌^◌, ◌++◌, ◌∷◌, OnOk, length, map, nat_lt};
 ghost use Rattle.std.specs.List.{filter};
 ghost use Rattle.growing_pool.specs.Extended.{cut};
+ghost use Rattle.growing_pool.specs.Unlinked.{unlinked};
 
+use file_visibility::{imported_files, visible_from};
 use name_tables::NameTable;
 use plain_values::Items;
 use pool_inner::DescriptorPoolInner;
-use pool_parts::visible_from;
-use pool_types::{Definition, FileDescriptorInner, MessageDescriptorInner};
+use pool_types::{FileDescriptorInner, MessageDescriptorInner};
+use proto_files::FileDescriptorProto;
 use proto_records::Counts;
 use std::alloc::{AllocError, Global};
+use std::collections::BTreeSet;
 use std::mem;
+use syntax_rules::syntax_of;
 
 /// What a pool holds while a batch is linked into it, and how much it had before.
 #[derive(Drop)]
@@ -44,31 +47,29 @@ impl GrowingPool {
         GrowingPool { inner, base }
     }
 
-    /// Enters a name that the pool lacks, and that means something in a file that came.
-    pub fn insert_name(&mut self, name: &str, definition: Definition) -> Result<(), AllocError>
-        requires absent { finite.get self.old.inner.names name.now ≡ None }
-        requires came { first_new self.old ≤ definition.file }
+    /// Puts new files behind the others as they are, without anything that linking makes of them.
+    /// Their records are moved.
+    ///
+    /// # Errors
+    /// `AllocError` where memory was refused.
+    pub fn add_files(
+        &mut self,
+        alloc: Global,
+        new: Vec<FileDescriptorProto>,
+    ) -> Result<(), AllocError>
         ensures ok { OnOk result (contents_in self.new.inner
             ≡ record (contents_in self.old.inner)
-            { names = finite.insert self.old.inner.names name.now definition }) }
+            { files = self.old.inner.files.items ++ map unlinked new.items }) }
         ensures kept { kept_in self.new ≡ kept_in self.old }
     {
-        self.inner.names.insert(name, definition)
+        for file in new {
+            self.inner.files.push(unlinked(alloc, file))?;
+        }
+        Ok(())
     }
 
-    /// Enters the name of a file that came, which no file has.
-    pub fn insert_file_name(&mut self, name: &str, file: u32) -> Result<(), AllocError>
-        requires absent { finite.get self.old.inner.file_names name.now ≡ None }
-        requires came { first_new self.old ≤ file }
-        ensures ok { OnOk result (contents_in self.new.inner
-            ≡ record (contents_in self.old.inner)
-            { file_names = finite.insert self.old.inner.file_names name.now file }) }
-        ensures kept { kept_in self.new ≡ kept_in self.old }
-    {
-        self.inner.file_names.insert(name, file)
-    }
-
-    /// Gives each file that came the files that it sees, of all that there are.
+    /// Gives each file that came the files that it imports and those that it sees, of all that there
+    /// are.
     pub fn see_files(&mut self, alloc: Global) -> Result<(), AllocError>
         requires few { length self.old.inner.files.items < 2 ^ 32 }
         requires places { FileNamesBefore (length self.old.inner.files.items)
@@ -93,8 +94,12 @@ impl GrowingPool {
         ensures kept { kept_in self.new ≡ kept_in self.old }
     {
         let inner = &self.inner;
+        let imports = inner.files[file as usize].raw.dependency.as_slice();
+        let dependencies = imported_files(alloc, &inner.file_names, imports)?;
         let seen = visible_from(alloc, &inner.files, &inner.file_names, file)?;
-        self.inner.files[file as usize].transitive_dependencies = seen;
+        let item = &mut self.inner.files[file as usize];
+        item.dependencies = dependencies;
+        item.transitive_dependencies = seen;
         Ok(())
     }
 
@@ -127,18 +132,6 @@ impl GrowingPool {
         Ok(())
     }
 
-    /// Replaces the files that came by their items.
-    pub fn put_files(&mut self, mut files: Vec<FileDescriptorInner>) -> Result<(), AllocError>
-        ensures ok { OnOk result (contents_in self.new.inner
-            ≡ record (contents_in self.old.inner)
-            { files = (kept_in self.old).files ++ files.items }) }
-        ensures kept { OnErr result (kept_in self.new ≡ kept_in self.old) }
-    {
-        self.inner.files.truncate(self.base.files as usize);
-        self.inner.files.append(&mut files)?;
-        Ok(())
-    }
-
     /// Takes away all that came, which takes no memory. A name goes with its file, and an extension
     /// goes out of the list of its message.
     pub fn rollback(&mut self, alloc: Global)
@@ -154,6 +147,18 @@ impl GrowingPool {
         cut_messages(alloc, &mut self.inner.messages, self.base.extensions);
         self.inner.names.remove_from(self.base.files);
         self.inner.file_names.remove_from(self.base.files);
+    }
+}
+
+/// The item of a new file, of which nothing but its syntax is known.
+fn unlinked(alloc: Global, file: FileDescriptorProto) -> FileDescriptorInner
+    ensures { result ≡ unlinked file }
+{
+    FileDescriptorInner {
+        syntax: syntax_of(&file),
+        raw: file,
+        dependencies: Items::new(alloc),
+        transitive_dependencies: BTreeSet::new(alloc),
     }
 }
 

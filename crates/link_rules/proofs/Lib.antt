@@ -1,4 +1,5 @@
 pub mod Entries
 pub mod Made
+pub mod Readings
 pub mod Found
 pub mod Owners

@@ -8,3 +8,4 @@ pub mod Imports
 pub mod Items
 pub mod Broken
 pub mod NamesBegin
+pub mod Reading

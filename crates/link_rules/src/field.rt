@@ -1,4 +1,4 @@
-ghost use Rattle.std.specs.Prelude.{◌≡◌, ◌++◌, true, IfOk, OnOk};
+ghost use Rattle.std.specs.Prelude.{◌≡◌, true, IfOk, OnOk};
 ghost use Rattle.proto_types.specs.Readers.{text_of};
 ghost use Rattle.proto_files.specs.declared.message.DescriptorProto.{out-DescriptorProto};
 ghost use Rattle.proto_records.specs.Counts.{lists_fit};
@@ -6,60 +6,56 @@ ghost use Rattle.proto_records.specs.FullNames.{EndsWith};
 ghost use Rattle.proto_records.specs.Protos.{of_field, of_message};
 ghost use Rattle.link_rules.specs.Broken.{own_faults};
 ghost use Rattle.link_rules.specs.Items.{field_item, item_of_kind};
+ghost use Rattle.link_rules.specs.Reading.{Reads, setting_of};
 ghost use Rattle.places.specs.NamesBegin.{BeginsAtBoundary};
 ghost use Rattle.places.specs.Places.{message_at, shown_at};
-ghost use Rattle.linked_records.specs.SettingCode.{setting_in};
 ghost use Rattle.syntax_rules.specs.Syntaxes.{is_proto3, syntax_at};
 
+use crate::reading::Reading;
 use crate::types::type_and_default;
 use field_rules::{check_oneof_index, is_packed, item_number, oneof_of, supports_presence};
-use linked_records::Setting;
 use number_rules::check_field_number;
-use places::{Place, identity};
+use places::{Owner, Place, identity};
 use plain_values::duplicate_given;
-use pool_faults::DescriptorErrorKind;
 use pool_kinds::{DefaultValue, KindIndex, Syntax};
 use pool_parts::cardinality_of;
 use pool_types::FieldDescriptorInner;
-use proto_files::{DescriptorProto, OneofDescriptorProto};
+use proto_files::OneofDescriptorProto;
 use proto_types::FieldDescriptorProto;
-use std::alloc::{AllocError, Global};
+use std::alloc::AllocError;
 use syntax_rules::syntax_at;
 
-/// The item of a field of a message. What the field breaks by itself is put behind the faults: its
+/// The item of a field of a message. What the field breaks by itself is appended to `faults`: its
 /// number, its type, its default value, its oneof.
 pub(crate) fn read_field(
-    alloc: Global,
-    setting: Setting,
-    owner: Place,
-    message: &DescriptorProto,
+    reading: &mut Reading,
+    owner: Owner,
     place: Place,
     field: &FieldDescriptorProto,
-    faults: &mut Vec<DescriptorErrorKind>,
 ) -> Result<FieldDescriptorInner, AllocError>
-    requires { lists_fit (of_message message.now) ≡ true }
+    requires { lists_fit (of_message owner.message.now) ≡ true }
     ensures item { IfOk result (λ item. item
-        ≡ field_item (setting_in setting.entry) (out-DescriptorProto message.now).oneof_decl
+        ≡ field_item (setting_of reading.old)
+        (out-DescriptorProto owner.entry.message.now).oneof_decl
         (shown_at place.entry (of_field field.now)) field.now) }
     ensures begins { IfOk result (λ item.
         EndsWith place.entry.full_name.now (text_of field.now.name) → BeginsAtBoundary item.id) }
-    ensures faults { OnOk result (faults.new.items ≡ faults.old.items
-        ++ own_faults (setting_in setting.entry)
-        (message_at owner.entry message.now, message.now)
-        (shown_at place.entry (of_field field.now)) field.now) }
+    ensures faults { OnOk result (Reads reading.old reading.new
+        (own_faults (setting_of reading.old)
+        (message_at owner.entry.place owner.entry.message.now, owner.entry.message.now)
+        (shown_at place.entry (of_field field.now)) field.now)) }
 {
-    let oneofs = message.oneof_decl.as_slice();
-    check_field_number(alloc, setting.files, owner, message, place, field, faults)?;
-    let (kind, default) = type_and_default(alloc, setting, place, field, faults)?;
-    check_oneof_index(oneofs, field, faults)?;
+    let oneofs = owner.message.oneof_decl.as_slice();
+    check_field_number(&mut reading.findings, owner, place, field)?;
+    let (kind, default) = type_and_default(reading, place, field)?;
+    check_oneof_index(&mut reading.findings, oneofs, field)?;
     let kind = kind.unwrap_or(KindIndex::Double);
-    item_of_kind(alloc, setting, oneofs, place, field, kind, default)
+    item_of_kind(reading, oneofs, place, field, kind, default)
 }
 
 /// The item of a field whose type is of a kind, with a default value.
 fn item_of_kind(
-    alloc: Global,
-    setting: Setting,
+    reading: &Reading,
     oneofs: &[OneofDescriptorProto],
     place: Place,
     field: &FieldDescriptorProto,
@@ -67,12 +63,13 @@ fn item_of_kind(
     default: Option<DefaultValue>,
 ) -> Result<FieldDescriptorInner, AllocError>
     ensures item { IfOk result (λ item. item
-        ≡ item_of_kind (setting_in setting.entry) oneofs.now
+        ≡ item_of_kind (setting_of reading.now) oneofs.now
         (shown_at place.entry (of_field field.now)) field.now kind default) }
     ensures begins { IfOk result (λ item.
         EndsWith place.entry.full_name.now (text_of field.now.name) → BeginsAtBoundary item.id) }
 {
-    let is_proto3 = is_proto3(setting, place.file);
+    let alloc = reading.findings.alloc;
+    let is_proto3 = is_proto3(reading, place.file);
     Ok(FieldDescriptorInner {
         id: identity(alloc, place, field.name())?,
         number: item_number(field.number()),
@@ -87,10 +84,10 @@ fn item_of_kind(
 }
 
 /// Whether the file with an index is written in proto3.
-pub(crate) fn is_proto3(setting: Setting, file: u32) -> bool
-    ensures { result ≡ is_proto3 (syntax_at (setting_in setting.entry).files file) }
+pub(crate) fn is_proto3(reading: &Reading, file: u32) -> bool
+    ensures { result ≡ is_proto3 (syntax_at (setting_of reading.now).files file) }
 {
-    match syntax_at(setting.files, file) {
+    match syntax_at(reading.findings.files, file) {
         Syntax::Proto2 => false,
         Syntax::Proto3 => true,
     }

@@ -1,104 +1,106 @@
-ghost use Rattle.std.specs.Prelude.{◌≡◌, ◌++◌, ◌<◌, ◌^◌, true, is_some, IfOk, OnOk};
-ghost use Rattle.std.specs.FinMap as finite;
-ghost use Rattle.std.specs.List.{filter_map, flat_map};
+ghost use Rattle.std.specs.Prelude.{◌≡◌, ◌<◌, ◌^◌, true, is_some, OnOk};
+ghost use Rattle.std.specs.List.{flat_map};
 ghost use Rattle.proto_types.specs.Lists.{at};
 ghost use Rattle.proto_records.specs.Counts.{fits_list, lists_fit};
 ghost use Rattle.proto_records.specs.Protos.{of_file};
 ghost use Rattle.link_rules.specs.Imports.{missing_file, missing_files, index_fault, import_faults};
+ghost use Rattle.link_rules.specs.Reading.{Reads, setting_of};
 ghost use Rattle.linked_records.specs.SettingCode.{setting_in};
+ghost use Rattle.places.specs.Tells.{Tells};
 
+use crate::reading::Reading;
 use linked_records::Setting;
-use plain_values::{Items, Text};
+use places::Findings;
+use plain_values::Text;
 use pool_faults::DescriptorErrorKind;
 use proto_files::FileDescriptorProto;
 use proto_records::entry_path;
 use proto_types::tag;
-use source_labels::label_at;
 use std::alloc::{AllocError, Global};
 
-/// Puts behind the faults one for each import of the file with an index that names no file, and then
-/// one for each public and each weak index that is no place of the list of imports.
-pub(crate) fn check_imports(
-    alloc: Global,
-    setting: Setting,
+/// Appends to `faults` one for each import of the file with an index that names no file, and then
+/// one for each public and each weak index that is no place of the list of imports. The index counts
+/// from 0 in the order of linking.
+///
+/// # Errors
+/// `AllocError` where memory was refused.
+pub fn check_imports(
+    reading: &mut Reading,
     index: u32,
     file: &FileDescriptorProto,
-    faults: &mut Vec<DescriptorErrorKind>,
 ) -> Result<(), AllocError>
     requires { lists_fit (of_file file.now) ≡ true }
-    ensures { OnOk result (faults.new.items ≡ faults.old.items
-        ++ import_faults (setting_in setting.entry) index file.now) }
+    ensures { OnOk result (Reads reading.old reading.new
+        (import_faults (setting_of reading.old) index file.now)) }
 {
     let imports = file.dependency.as_slice();
-    check_names(alloc, setting, index, imports, faults)?;
-    check_indexes(imports, file.public_dependency.as_slice(), faults)?;
-    check_indexes(imports, file.weak_dependency.as_slice(), faults)
+    check_names(reading, index, imports)?;
+    check_indexes(
+        &mut reading.findings,
+        imports,
+        file.public_dependency.as_slice(),
+    )?;
+    check_indexes(
+        &mut reading.findings,
+        imports,
+        file.weak_dependency.as_slice(),
+    )
 }
 
-fn check_names(
-    alloc: Global,
-    setting: Setting,
-    index: u32,
-    imports: &[Text],
-    faults: &mut Vec<DescriptorErrorKind>,
-) -> Result<(), AllocError>
+fn check_names(reading: &mut Reading, index: u32, imports: &[Text]) -> Result<(), AllocError>
     requires { fits_list imports.now ≡ true }
-    ensures { OnOk result (faults.new.items ≡ faults.old.items
-        ++ missing_files (setting_in setting.entry) index imports.now) }
+    ensures { OnOk result (Reads reading.old reading.new
+        (missing_files (setting_of reading.old) index imports.now)) }
 {
     for (position, name) in imports.iter().enumerate() {
-        check_name(alloc, setting, index, position, name, faults)?;
+        check_name(reading, index, position, name)?;
     }
     Ok(())
 }
 
-/// Puts behind the faults that of an import, by its place, which names no file.
+/// Appends to `faults` that of an import, by its place, which names no file.
 fn check_name(
-    alloc: Global,
-    setting: Setting,
+    reading: &mut Reading,
     index: u32,
     position: usize,
     name: &Text,
-    faults: &mut Vec<DescriptorErrorKind>,
 ) -> Result<(), AllocError>
     requires { position < 2 ^ 31 }
-    ensures { OnOk result (faults.new.items ≡ faults.old.items
-        ++ missing_file (setting_in setting.entry) index position name.now) }
+    ensures { OnOk result (Reads reading.old reading.new
+        (missing_file (setting_of reading.old) index position name.now)) }
 {
-    if setting.file_names.get(name.as_str()).is_some() {
+    if reading.file_names.get(name.as_str()).is_some() {
         return Ok(());
     }
+    let alloc = reading.findings.alloc;
     let path = entry_path(alloc, &[], tag::file::DEPENDENCY, position)?;
-    let found = label_at(alloc, setting.files, index, &path)?;
+    let found = reading.findings.label(index, &path)?;
     let name = name.clone(alloc)?;
-    faults.push(DescriptorErrorKind::FileNotFound { name, found })?;
-    Ok(())
+    reading
+        .findings
+        .push(DescriptorErrorKind::FileNotFound { name, found })
 }
 
-/// Puts behind the faults one for each index that is no place of the imports.
+/// Appends to `faults` one for each index that is no place of the imports.
 fn check_indexes(
+    findings: &mut Findings,
     imports: &[Text],
     indexes: &[i32],
-    faults: &mut Vec<DescriptorErrorKind>,
 ) -> Result<(), AllocError>
-    ensures { OnOk result (faults.new.items ≡ faults.old.items
-        ++ flat_map (index_fault imports.now) indexes.now) }
+    ensures { OnOk result (Tells findings.old findings.new
+        (flat_map (index_fault imports.now) indexes.now)) }
 {
     for index in indexes {
-        check_index(imports, *index, faults)?;
+        check_index(findings, imports, *index)?;
     }
     Ok(())
 }
 
-fn check_index(
-    imports: &[Text],
-    index: i32,
-    faults: &mut Vec<DescriptorErrorKind>,
-) -> Result<(), AllocError>
-    ensures { OnOk result (faults.new.items ≡ faults.old.items ++ index_fault imports.now index) }
+fn check_index(findings: &mut Findings, imports: &[Text], index: i32) -> Result<(), AllocError>
+    ensures { OnOk result (Tells findings.old findings.new (index_fault imports.now index)) }
 {
     if !is_place(imports, index) {
-        faults.push(DescriptorErrorKind::InvalidImportIndex)?;
+        findings.push(DescriptorErrorKind::InvalidImportIndex)?;
     }
     Ok(())
 }
@@ -111,22 +113,4 @@ fn is_place(imports: &[Text], index: i32) -> bool
         Ok(index) => index < imports.len(),
         Err(_) => false,
     }
-}
-
-/// The indexes of the files that imports name, in order; what names no file has none.
-pub(crate) fn imported_files(
-    alloc: Global,
-    setting: Setting,
-    imports: &[Text],
-) -> Result<Items<u32>, AllocError>
-    ensures { IfOk result (λ files. files
-        ≡ filter_map (finite.get (setting_in setting.entry).file_names) imports.now) }
-{
-    let mut files = Items::new(alloc);
-    for name in imports {
-        if let Some(file) = setting.file_names.get(name.as_str()) {
-            files.push(file)?;
-        }
-    }
-    Ok(files)
 }

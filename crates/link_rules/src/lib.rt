@@ -4,14 +4,15 @@
 mod declared;
 mod extension;
 mod field;
-mod file;
 mod imports;
 mod message;
+mod reading;
 mod references;
 mod service;
 mod types;
 
 pub use extension::read_extension;
-pub use file::read_file;
+pub use imports::check_imports;
 pub use message::read_message;
+pub use reading::Reading;
 pub use service::read_service;

@@ -1,4 +1,4 @@
-ghost use Rattle.std.specs.Prelude.{◌≡◌, ◌++◌, ◌<◌, true, [], IfOk, OnOk, length, get_or};
+ghost use Rattle.std.specs.Prelude.{◌≡◌, ◌<◌, true, [], IfOk, OnOk, length, get_or};
 ghost use Rattle.std.specs.List.{All};
 ghost use Rattle.proto_types.specs.Empty.{no_field};
 ghost use Rattle.proto_files.specs.declared.message.DescriptorProto.{out-DescriptorProto};
@@ -11,14 +11,13 @@ ghost use Rattle.link_rules.specs.Items.{field_item, field_items, message_item, 
 ghost use Rattle.places.specs.NamesBegin.{BeginsAtBoundary};
 ghost use Rattle.link_rules.specs.NamesBegin.{MessageNamesBegin};
 ghost use Rattle.places.specs.Places.{field_at, inside_of, message_at};
-ghost use Rattle.linked_records.specs.SettingCode.{setting_in};
+ghost use Rattle.link_rules.specs.Reading.{Reads, setting_of};
 
 use crate::field::read_field;
+use crate::reading::Reading;
 use field_rules::{FieldMaps, members};
-use linked_records::Setting;
-use places::{Place, identity, identity_inside};
+use places::{Owner, Place, identity, identity_inside};
 use plain_values::Items;
-use pool_faults::DescriptorErrorKind;
 use pool_types::{FieldDescriptorInner, MessageDescriptorInner, OneofDescriptorInner};
 use proto_files::DescriptorProto;
 use proto_records::entry_path;
@@ -26,31 +25,30 @@ use proto_types::{join, tag};
 use std::alloc::{AllocError, Global};
 
 /// The item of a message, with its fields, its oneofs and its maps, before what extends it is known.
-/// What its fields break is put behind the faults, one field after another: its number, its type,
-/// its default value, its oneof, and that an earlier field has its number or its JSON name.
+/// What its fields break is appended to `faults`, one field after another: its number, its type, its
+/// default value, its oneof, and that an earlier field has its number or its JSON name.
 ///
 /// # Errors
 /// `AllocError` where memory was refused.
 pub fn read_message(
-    alloc: Global,
-    setting: Setting,
+    reading: &mut Reading,
     place: Place,
     message: &DescriptorProto,
-    faults: &mut Vec<DescriptorErrorKind>,
 ) -> Result<MessageDescriptorInner, AllocError>
     requires { lists_fit (of_message message.now) ≡ true }
     ensures item { IfOk result (λ item. item
-        ≡ message_item (setting_in setting.entry)
+        ≡ message_item (setting_of reading.old)
         (message_at place.entry message.now) message.now) }
     ensures begins { IfOk result (λ item.
         EndsWithName (message_at place.entry message.now) → MessageNamesBegin item) }
-    ensures faults { OnOk result (faults.new.items ≡ faults.old.items
-        ++ message_faults (setting_in setting.entry)
-        (message_at place.entry message.now) message.now) }
+    ensures faults { OnOk result (Reads reading.old reading.new
+        (message_faults (setting_of reading.old)
+        (message_at place.entry message.now) message.now)) }
 {
+    let alloc = reading.findings.alloc;
     let id = identity(alloc, place, message.name())?;
     let mut maps = FieldMaps::new(alloc);
-    let fields = read_fields(alloc, setting, place, message, &mut maps, faults)?;
+    let fields = read_fields(reading, Owner { place, message }, &mut maps)?;
     let oneofs = read_oneofs(alloc, place, message)?;
     Ok(MessageDescriptorInner {
         id,
@@ -66,70 +64,69 @@ pub fn read_message(
 
 /// The items of the fields of a message, which are entered into its maps.
 fn read_fields(
-    alloc: Global,
-    setting: Setting,
-    place: Place,
-    message: &DescriptorProto,
+    reading: &mut Reading,
+    owner: Owner,
     maps: &mut FieldMaps,
-    faults: &mut Vec<DescriptorErrorKind>,
 ) -> Result<Vec<FieldDescriptorInner>, AllocError>
-    requires short { lists_fit (of_message message.now) ≡ true }
+    requires short { lists_fit (of_message owner.message.now) ≡ true }
     requires maps { AreMapsOf maps.old [] }
     ensures items { IfOk result (λ items. items.items
-        ≡ field_items (setting_in setting.entry) (out-DescriptorProto message.now).oneof_decl
-        (inside_of place.entry) (out-DescriptorProto message.now).field) }
+        ≡ field_items (setting_of reading.old)
+        (out-DescriptorProto owner.entry.message.now).oneof_decl
+        (inside_of owner.entry.place) (out-DescriptorProto owner.entry.message.now).field) }
     ensures begin { IfOk result (λ items. All (λ f. BeginsAtBoundary f.id) items.items) }
-    ensures maps { OnOk result (AreMapsOf maps.new (out-DescriptorProto message.now).field) }
-    ensures faults { OnOk result (faults.new.items ≡ faults.old.items
-        ++ faults_of_fields (setting_in setting.entry)
-        (message_at place.entry message.now, message.now)
-        (out-DescriptorProto message.now).field) }
+    ensures maps { OnOk result (AreMapsOf maps.new
+        (out-DescriptorProto owner.entry.message.now).field) }
+    ensures faults { OnOk result (Reads reading.old reading.new
+        (faults_of_fields (setting_of reading.old)
+        (message_at owner.entry.place owner.entry.message.now, owner.entry.message.now)
+        (out-DescriptorProto owner.entry.message.now).field)) }
 {
-    let fields = message.field.as_slice();
-    let mut items = Vec::new(alloc);
+    let fields = owner.message.field.as_slice();
+    let mut items = Vec::new(reading.findings.alloc);
     for position in 0..fields.len() {
-        items.push(read_field_at(alloc, setting, place, message, position, faults)?)?;
-        maps.insert(alloc, setting.files, place, fields, position, faults)?;
+        items.push(read_field_at(reading, owner, position)?)?;
+        maps.insert(&mut reading.findings, owner, position)?;
     }
     Ok(items)
 }
 
-/// The item of the field of a message with a position. What the field breaks by itself is put
-/// behind the faults.
+/// The item of the field of a message with a position. What the field breaks by itself is appended
+/// to `faults`.
 fn read_field_at(
-    alloc: Global,
-    setting: Setting,
-    owner: Place,
-    message: &DescriptorProto,
+    reading: &mut Reading,
+    owner: Owner,
     position: usize,
-    faults: &mut Vec<DescriptorErrorKind>,
 ) -> Result<FieldDescriptorInner, AllocError>
-    requires short { lists_fit (of_message message.now) ≡ true }
-    requires there { position < length (out-DescriptorProto message.now).field }
+    requires short { lists_fit (of_message owner.message.now) ≡ true }
+    requires there { position < length (out-DescriptorProto owner.message.now).field }
     ensures item { IfOk result (λ item. item
-        ≡ field_item (setting_in setting.entry) (out-DescriptorProto message.now).oneof_decl
-        (field_at (inside_of owner.entry) position
-        (get_or (out-DescriptorProto message.now).field position no_field))
-        (get_or (out-DescriptorProto message.now).field position no_field)) }
+        ≡ field_item (setting_of reading.old)
+        (out-DescriptorProto owner.entry.message.now).oneof_decl
+        (field_at (inside_of owner.entry.place) position
+        (get_or (out-DescriptorProto owner.entry.message.now).field position no_field))
+        (get_or (out-DescriptorProto owner.entry.message.now).field position no_field)) }
     ensures begins { IfOk result (λ item. BeginsAtBoundary item.id) }
-    ensures faults { OnOk result (faults.new.items ≡ faults.old.items
-        ++ own_faults (setting_in setting.entry)
-        (message_at owner.entry message.now, message.now)
-        (field_at (inside_of owner.entry) position
-        (get_or (out-DescriptorProto message.now).field position no_field))
-        (get_or (out-DescriptorProto message.now).field position no_field)) }
+    ensures faults { OnOk result (Reads reading.old reading.new
+        (own_faults (setting_of reading.old)
+        (message_at owner.entry.place owner.entry.message.now, owner.entry.message.now)
+        (field_at (inside_of owner.entry.place) position
+        (get_or (out-DescriptorProto owner.entry.message.now).field position no_field))
+        (get_or (out-DescriptorProto owner.entry.message.now).field position no_field))) }
 {
-    let field = &message.field.as_slice()[position];
-    let path = entry_path(alloc, owner.path, tag::message::FIELD, position)?;
-    let full_name = join(alloc, owner.full_name, field.name())?;
+    let alloc = reading.findings.alloc;
+    let around = owner.place;
+    let field = &owner.message.field.as_slice()[position];
+    let path = entry_path(alloc, around.path, tag::message::FIELD, position)?;
+    let full_name = join(alloc, around.full_name, field.name())?;
     let place = Place {
-        file: owner.file,
-        parent: Some(owner.index),
+        file: around.file,
+        parent: Some(around.index),
         index: position as u32,
         path: &path,
         full_name: &full_name,
     };
-    read_field(alloc, setting, owner, message, place, field, faults)
+    read_field(reading, owner, place, field)
 }
 
 /// The items of the oneofs of a message, each with the positions of its fields.

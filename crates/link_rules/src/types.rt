@@ -1,156 +1,178 @@
-ghost use Rattle.std.specs.Prelude.{◌≡◌, ◌++◌, [], ◌∷◌, IfOk, OnOk};
+ghost use Rattle.std.specs.Prelude.{◌≡◌, ◌++◌, [], ◌∷◌, not, is_some, IfOk, OnOk};
+ghost use Rattle.std.specs.Option.{option_and_then, option_map_or};
 ghost use Rattle.proto_types.specs.declared.tag.field.TheConstants.{TYPE_NAME};
+ghost use Rattle.proto_types.specs.Lists.{listed, only_if};
+ghost use Rattle.proto_types.specs.Readers.{text_of, type_of};
 ghost use Rattle.pool_faults.specs.declared.fault.DescriptorErrorKind.TheVariants.{MissingRequiredField};
 ghost use Rattle.places.specs.Labels.{part_label};
+ghost use Rattle.places.specs.Tells.{Tells, named_files};
 ghost use Rattle.proto_records.specs.Protos.{of_field};
-ghost use Rattle.pool_parts.specs.Resolution.{resolution_in};
+ghost use Rattle.pool_parts.specs.Kinds.{named_kind, simple_kind};
+ghost use Rattle.pool_parts.specs.References.{reference_fault};
+ghost use Rattle.pool_parts.specs.Resolution.{kind_found, resolution_in};
 ghost use Rattle.default_rules.specs.MeantCode.{meant_in};
-ghost use Rattle.default_rules.specs.Defaults.{default_faults, default_value};
-ghost use Rattle.link_rules.specs.Defaults.{default_by, default_faults_by, enum_found, field_default};
-ghost use Rattle.link_rules.specs.Defaults.{field_default_faults, no_enum_meant, type_enum};
-ghost use Rattle.link_rules.specs.FieldTypes.{field_kind, type_faults};
+ghost use Rattle.default_rules.specs.Defaults.{default_faults};
+ghost use Rattle.link_rules.specs.Defaults.{default_by, enum_found, field_default};
+ghost use Rattle.link_rules.specs.Defaults.{field_default_faults, no_enum_meant};
+ghost use Rattle.link_rules.specs.FieldTypes.{field_kind, type_faults, type_meaning};
+ghost use Rattle.link_rules.specs.Reading.{Reads, setting_of};
 ghost use Rattle.places.specs.Places.{shown_at};
 ghost use Rattle.linked_records.specs.SettingCode.{setting_in};
 
 use crate::declared::enum_record;
-use crate::references::checked_meaning;
+use crate::reading::Reading;
 use default_rules::{MeantEnum, read_default};
 use linked_records::Setting;
-use places::{Place, part_label};
+use places::{Findings, Place};
+use plain_values::Text;
 use pool_faults::DescriptorErrorKind;
 use pool_kinds::{DefaultValue, KindIndex};
 use pool_parts::{ResolveNameFilter, ResolveNameResult, named_kind, simple_kind};
-use proto_types::{FieldDescriptorProto, tag};
-use std::alloc::{AllocError, Global};
+use proto_types::{FieldDescriptorProto, FieldType, tag};
+use std::alloc::AllocError;
 
 /// The kind of the type of a field or an extension, where it has one, and the default value, where
-/// one is given. What these break is put behind the faults, the type before the default.
+/// one is given. What these break is appended to `faults`, the type before the default.
 pub(crate) fn type_and_default(
-    alloc: Global,
-    setting: Setting,
+    reading: &mut Reading,
     place: Place,
     field: &FieldDescriptorProto,
-    faults: &mut Vec<DescriptorErrorKind>,
 ) -> Result<(Option<KindIndex>, Option<DefaultValue>), AllocError>
     ensures kind { IfOk result (λ t. t.0
-        ≡ field_kind (setting_in setting.entry)
+        ≡ field_kind (setting_of reading.old)
         (shown_at place.entry (of_field field.now)) field.now) }
     ensures default { IfOk result (λ t. t.1
-        ≡ field_default (setting_in setting.entry)
+        ≡ field_default (setting_of reading.old)
         (shown_at place.entry (of_field field.now)) field.now) }
-    ensures faults { OnOk result (faults.new.items ≡ faults.old.items
-        ++ (type_faults (setting_in setting.entry)
+    ensures faults { OnOk result (Reads reading.old reading.new
+        (type_faults (setting_of reading.old)
         (shown_at place.entry (of_field field.now)) field.now
-        ++ field_default_faults (setting_in setting.entry)
+        ++ field_default_faults (setting_of reading.old)
         (shown_at place.entry (of_field field.now)) field.now)) }
 {
-    let kind = field_type(alloc, setting, place, field, faults)?;
-    let default = kind_default(alloc, setting, place, kind, field, faults)?;
+    if field.type_name().is_empty() {
+        written_type(&mut reading.findings, place, field)
+    } else {
+        named_type(reading, place, field)
+    }
+}
+
+/// The kind of a type that a field names by its number, and the default value.
+fn written_type(
+    findings: &mut Findings,
+    place: Place,
+    field: &FieldDescriptorProto,
+) -> Result<(Option<KindIndex>, Option<DefaultValue>), AllocError>
+    ensures kind { IfOk result (λ t. t.0 ≡ simple_kind (type_of field.now.type_)) }
+    ensures default { IfOk result (λ t. t.1
+        ≡ default_by (simple_kind (type_of field.now.type_)) no_enum_meant
+        field.now.default_value) }
+    ensures faults { OnOk result (Tells findings.old findings.new
+        (only_if (not (is_some (simple_kind (type_of field.now.type_))))
+        (MissingRequiredField (part_label (named_files findings.old) place.entry.file
+        place.entry.path.now TYPE_NAME))
+        ++ option_map_or (λ k. default_faults (named_files findings.old) place.entry.file
+        place.entry.path.now k no_enum_meant field.now.default_value)
+        (simple_kind (type_of field.now.type_)) [])) }
+{
+    let kind = simple_kind(field.field_type());
+    if kind.is_none() {
+        let label = findings.part_label(place, tag::field::TYPE_NAME)?;
+        findings.push(DescriptorErrorKind::MissingRequiredField { label })?;
+    }
+    let default = kind_default(findings, place, kind, no_enum(), &field.default_value)?;
     Ok((kind, default))
 }
 
-/// The kind of the type of a field or an extension. Where it has none, that is put behind the
-/// faults.
-fn field_type(
-    alloc: Global,
-    setting: Setting,
+/// The kind of the definition that the type name of a field means, and the default value.
+fn named_type(
+    reading: &mut Reading,
     place: Place,
     field: &FieldDescriptorProto,
-    faults: &mut Vec<DescriptorErrorKind>,
-) -> Result<Option<KindIndex>, AllocError>
-    ensures kind { IfOk result (λ kind. kind
-        ≡ field_kind (setting_in setting.entry)
-        (shown_at place.entry (of_field field.now)) field.now) }
-    ensures faults { OnOk result (faults.new.items ≡ faults.old.items
-        ++ type_faults (setting_in setting.entry)
-        (shown_at place.entry (of_field field.now)) field.now) }
+) -> Result<(Option<KindIndex>, Option<DefaultValue>), AllocError>
+    ensures kind { IfOk result (λ t. t.0
+        ≡ option_and_then (named_kind (type_of field.now.type_))
+        (kind_found (type_meaning (setting_of reading.old)
+        (shown_at place.entry (of_field field.now)) field.now))) }
+    ensures default { IfOk result (λ t. t.1
+        ≡ default_by (option_and_then (named_kind (type_of field.now.type_))
+        (kind_found (type_meaning (setting_of reading.old)
+        (shown_at place.entry (of_field field.now)) field.now)))
+        (enum_found (setting_of reading.old) (type_meaning (setting_of reading.old)
+        (shown_at place.entry (of_field field.now)) field.now)) field.now.default_value) }
+    ensures faults { OnOk result (Reads reading.old reading.new
+        (listed (reference_fault (setting_of reading.old).files (text_of field.now.type_name)
+        place.entry.file (place.entry.path.now ++ TYPE_NAME ∷ [])
+        (type_meaning (setting_of reading.old)
+        (shown_at place.entry (of_field field.now)) field.now))
+        ++ option_map_or (λ k. default_faults (setting_of reading.old).files place.entry.file
+        place.entry.path.now k (enum_found (setting_of reading.old)
+        (type_meaning (setting_of reading.old)
+        (shown_at place.entry (of_field field.now)) field.now)) field.now.default_value)
+        (option_and_then (named_kind (type_of field.now.type_))
+        (kind_found (type_meaning (setting_of reading.old)
+        (shown_at place.entry (of_field field.now)) field.now))) [])) }
 {
-    let written = field.field_type();
-    let type_name = field.type_name();
-    if type_name.is_empty() {
-        let kind = simple_kind(written);
-        if kind.is_none() {
-            push_missing_type(alloc, setting, place, faults)?;
-        }
-        return Ok(kind);
-    }
-    let filter = ResolveNameFilter::FieldType;
-    let tag = tag::field::TYPE_NAME;
-    match checked_meaning(alloc, setting, place, tag, filter, type_name, faults)? {
-        ResolveNameResult::Found { def, .. } => Ok(named_kind(written, def.kind)),
-        _ => Ok(None),
+    let (tag, filter) = (tag::field::TYPE_NAME, ResolveNameFilter::FieldType);
+    let meaning = reading.resolve_checked(place, tag, filter, field.type_name())?;
+    let kind = meant_kind(field.field_type(), &meaning);
+    let default = named_default(reading, place, kind, &meaning, &field.default_value)?;
+    Ok((kind, default))
+}
+
+/// The kind of a field of a written type whose type name has a meaning.
+fn meant_kind(written: FieldType, meaning: &ResolveNameResult) -> Option<KindIndex>
+    ensures { result ≡ option_and_then (named_kind written)
+        (kind_found (resolution_in meaning.now)) }
+{
+    match meaning {
+        ResolveNameResult::Found { def, .. } => named_kind(written, def.kind),
+        _ => None,
     }
 }
 
-/// Puts behind the faults that a field or an extension has neither a type nor the name of one.
-fn push_missing_type(
-    alloc: Global,
-    setting: Setting,
-    place: Place,
-    faults: &mut Vec<DescriptorErrorKind>,
-) -> Result<(), AllocError>
-    ensures { OnOk result (faults.new.items ≡ faults.old.items
-        ++ MissingRequiredField (part_label (setting_in setting.entry).files place.entry.file
-        place.entry.path.now TYPE_NAME) ∷ []) }
-{
-    let label = part_label(alloc, setting.files, place, tag::field::TYPE_NAME)?;
-    faults.push(DescriptorErrorKind::MissingRequiredField { label })?;
-    Ok(())
-}
-
-/// The default value of a field or an extension, if one is given. Where it is none of the kind of
-/// the type, that is put behind the faults; where the type has no kind, it isn't read.
-fn kind_default(
-    alloc: Global,
-    setting: Setting,
+/// The default value of a field or an extension whose type name has a meaning, if one is given.
+fn named_default(
+    reading: &mut Reading,
     place: Place,
     kind: Option<KindIndex>,
-    field: &FieldDescriptorProto,
-    faults: &mut Vec<DescriptorErrorKind>,
+    meaning: &ResolveNameResult,
+    given: &Option<Text>,
 ) -> Result<Option<DefaultValue>, AllocError>
     ensures value { IfOk result (λ value. value
-        ≡ default_by kind (type_enum (setting_in setting.entry)
-        (shown_at place.entry (of_field field.now)) field.now) field.now.default_value) }
-    ensures faults { OnOk result (faults.new.items ≡ faults.old.items
-        ++ default_faults_by (setting_in setting.entry)
-        (shown_at place.entry (of_field field.now)) field.now kind) }
+        ≡ default_by kind (enum_found (setting_of reading.old) (resolution_in meaning.now))
+        given.now) }
+    ensures faults { OnOk result (Reads reading.old reading.new
+        (option_map_or (λ k. default_faults (setting_of reading.old).files place.entry.file
+        place.entry.path.now k
+        (enum_found (setting_of reading.old) (resolution_in meaning.now)) given.now) kind [])) }
 {
-    match kind {
-        Some(kind) => given_default(alloc, setting, place, kind, field, faults),
-        None => Ok(None),
-    }
-}
-
-/// The default value of a field or an extension whose type is of a kind, if one is given. Where it
-/// is none of the kind, that is put behind the faults.
-fn given_default(
-    alloc: Global,
-    setting: Setting,
-    place: Place,
-    kind: KindIndex,
-    field: &FieldDescriptorProto,
-    faults: &mut Vec<DescriptorErrorKind>,
-) -> Result<Option<DefaultValue>, AllocError>
-    ensures value { IfOk result (λ value. value
-        ≡ default_value kind (type_enum (setting_in setting.entry)
-        (shown_at place.entry (of_field field.now)) field.now) field.now.default_value) }
-    ensures faults { OnOk result (faults.new.items ≡ faults.old.items
-        ++ default_faults (setting_in setting.entry).files place.entry.file place.entry.path.now
-        kind (type_enum (setting_in setting.entry)
-        (shown_at place.entry (of_field field.now)) field.now) field.now.default_value) }
-{
-    let given = &field.default_value;
     if given.is_none() {
         return Ok(None);
     }
-    if field.type_name().is_empty() {
-        return read_default(alloc, setting.files, place, kind, no_enum(), given, faults);
+    let meant = enum_found(reading.setting(), meaning);
+    kind_default(&mut reading.findings, place, kind, meant, given)
+}
+
+/// The default value of a field or an extension, if one is given. Where it is none of the kind of
+/// the type, that is appended to `faults`; where the type has no kind, it isn't read.
+fn kind_default(
+    findings: &mut Findings,
+    place: Place,
+    kind: Option<KindIndex>,
+    meant: MeantEnum,
+    given: &Option<Text>,
+) -> Result<Option<DefaultValue>, AllocError>
+    ensures value { IfOk result (λ value. value
+        ≡ default_by kind (meant_in meant.entry) given.now) }
+    ensures faults { OnOk result (Tells findings.old findings.new
+        (option_map_or (λ k. default_faults (named_files findings.old) place.entry.file
+        place.entry.path.now k (meant_in meant.entry) given.now) kind [])) }
+{
+    match kind {
+        Some(kind) => read_default(findings, place, kind, meant, given),
+        None => Ok(None),
     }
-    let filter = ResolveNameFilter::FieldType;
-    let scope = place.full_name;
-    let meaning = setting.meaning(alloc, place.file, scope, filter, field.type_name())?;
-    let meant = enum_found(setting, &meaning);
-    read_default(alloc, setting.files, place, kind, meant, given, faults)
 }
 
 /// The enum that was found, or none.

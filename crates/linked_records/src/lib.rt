@@ -1,8 +1,7 @@
-//! Records with each reference resolved, and what they are read against.
+//! What declarations are read against, and what linked records are: those with each reference
+//! resolved.
 #![tactic(auto)]
 
-mod linked;
 mod setting;
 
-pub use linked::linked_file;
 pub use setting::Setting;

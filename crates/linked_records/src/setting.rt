@@ -1,6 +1,5 @@
 ghost use Rattle.std.specs.Prelude.{IfOk, ◌≡◌, slice_get};
 ghost use Rattle.std.specs.Option.{option_copied};
-ghost use Rattle.linked_records.specs.Setting.{seen_by};
 ghost use Rattle.pool_parts.specs.Resolution.{resolution_in};
 ghost use Rattle.linked_records.specs.Setting.{meaning};
 
@@ -40,19 +39,6 @@ impl<'a> Setting<'a> {
         let nothing = BTreeSet::new(alloc);
         let visible = self.visible(file).unwrap_or(&nothing);
         resolve_name(alloc, visible, self.names, scope, written, filter)
-    }
-
-    /// The indexes of the files that the file with an index sees.
-    ///
-    /// # Errors
-    /// `AllocError` where memory was refused.
-    pub fn seen_by(self, alloc: Global, file: u32) -> Result<BTreeSet<u32>, AllocError>
-        ensures { IfOk result (λ seen. seen ≡ seen_by (setting_in self.entry) file) }
-    {
-        match self.visible(file) {
-            Some(visible) => visible.clone(),
-            None => Ok(BTreeSet::new(alloc)),
-        }
     }
 
     fn visible(self, file: u32) -> Option<&'a BTreeSet<u32>>

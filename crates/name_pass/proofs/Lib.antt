@@ -2,3 +2,4 @@ pub mod Fronts
 pub mod Packages
 pub mod Entering
 pub mod Showing
+pub mod Kept

@@ -1,30 +1,46 @@
 -- One more declaration is shown to the first pass.
-use Rattle.std.proofs.Common.{◌≡◌, List, [], ◌∷◌, ◌++◌, map, ap, subst, sym, ◌∙◌}
+use Rattle.std.proofs.Common.{◌≡◌, List, [], ◌∷◌, ◌++◌, Global, Vec, length, map, ap, subst, sym, ◌∙◌}
 use Rattle.std.specs.List.{fold}
 use Rattle.pool_faults.specs.declared.fault.DescriptorErrorKind.{DescriptorErrorKind}
-use Rattle.pool_types.specs.Contents.{Contents, files_of}
-use Rattle.pool_types.specs.declared.contents.file.FileDescriptorInner.{FileDescriptorInner}
-use Rattle.proto_files.specs.declared.file.FileDescriptorProto.{FileDescriptorProto}
+use Rattle.pool_types.specs.Contents.{Contents}
 use Rattle.proto_records.specs.Progress.{HasSeen}
 use Rattle.proto_records.specs.Shown.{Shown}
-use Rattle.name_pass.specs.Steps.{CanBeEntered, NamesSeen, faulted, named, names_progress}
+use Rattle.name_pass.specs.declared.names.NameVisitor.{NameVisitor}
+use Rattle.name_pass.specs.State.{first_new, records_of, state_of, Stays}
+use Rattle.name_pass.specs.Steps.{CanBeEntered, NameState, entered, faulted, file_step, name_progress, name_step, own_step}
+use Rattle.name_pass.specs.Entered.{entries_of}
+use borrow.Rule.Reborrow.{re_v}
 
 -- it holds then what the declaration makes of what it held
-pub shown : (old new : NamesSeen) {before now : Contents} (d : Shown) → now ≡ before → CanBeEntered before (d ∷ []) → new ≡ named old d
-    → HasSeen (λ ds. names_progress (fold named old ds)) (CanBeEntered before) (λ ds. names_progress (fold named new ds)) (CanBeEntered now) (d ∷ [])
-shown old new {before} {now} d kept can is = record {
-  after_is = λ rest. ap (λ seen. names_progress (fold named seen rest)) is;
-  ready_is = λ rest. (
-    λ (all : CanBeEntered now rest). (can.0, subst (λ (p : Contents). CanBeEntered p rest) kept all),
-    λ (all : CanBeEntered before (d ∷ rest)). subst (λ (p : Contents). CanBeEntered p rest) (sym kept) all.1,
-  );
-}
+pub shown : (old new : NameVisitor) (d : Shown) → Stays old new → CanBeEntered (first_new old) (d ∷ []) → state_of new ≡ name_step (records_of old) (state_of old) d
+    → HasSeen (λ ds. name_progress (fold (name_step (records_of old)) (state_of old) ds)) (CanBeEntered (first_new old))
+    (λ ds. name_progress (fold (name_step (records_of new)) (state_of new) ds)) (CanBeEntered (first_new new)) (d ∷ [])
+shown old new d stays can is =
+    let same = ap (λ (c : Contents). length c.files) stays.kept in
+    record {
+      after_is = λ rest i. name_progress (fold (name_step (map (λ f. f.raw) (stays.files i))) (is i) rest);
+      ready_is = λ rest. (
+        λ (all : CanBeEntered (first_new new) rest). (can.0, subst (λ first. CanBeEntered first rest) same all),
+        λ (all : CanBeEntered (first_new old) (d ∷ rest)). subst (λ first. CanBeEntered first rest) (sym same) all.1,
+      );
+    }
 
 -- behind its name come the faults of a declaration by itself
-pub with-own : (own : List FileDescriptorProto → List DescriptorErrorKind) (seen next : NamesSeen) (files : List FileDescriptorInner) (faults : List DescriptorErrorKind)
-    → seen ≡ next → files ≡ seen.pool.files → faults ≡ seen.faults ++ own (map (λ f. f.raw) files)
-    → record seen { faults = faults } ≡ faulted next (own (files_of next.pool))
-with-own own seen next files faults entered same told =
-    let here : faults ≡ seen.faults ++ own (files_of seen.pool) =
-    told ∙ ap (λ (fs : List FileDescriptorInner). seen.faults ++ own (map (λ f. f.raw) fs)) same in
-    (λ i. record seen { faults = here i }) ∙ ap (λ (s : NamesSeen). faulted s (own (files_of s.pool))) entered
+pub shown-own : (old here : NameVisitor) (d : Shown) → Stays old here → CanBeEntered (first_new old) (d ∷ []) → (faults : Vec DescriptorErrorKind Global) (own : List DescriptorErrorKind)
+    → state_of here ≡ fold (entered (records_of old)) (file_step (records_of old) (state_of old) d) (entries_of d)
+    → faults.items ≡ here.faults.now.items ++ own
+    → ((state : NameState) → own_step (records_of old) state d ≡ faulted state own)
+    → let new : NameVisitor = record here { faults = re_v faults here.faults } in
+    HasSeen (λ ds. name_progress (fold (name_step (records_of old)) (state_of old) ds)) (CanBeEntered (first_new old))
+    (λ ds. name_progress (fold (name_step (records_of new)) (state_of new) ds)) (CanBeEntered (first_new new)) (d ∷ [])
+shown-own old here d stays can faults own named told is-own =
+    shown old (record here { faults = re_v faults here.faults }) d (record { files = stays.files; kept = stays.kept; borrows = stays.borrows }) can
+    ((λ i. record (state_of here) { faults = told i }) ∙ ap (λ (s : NameState). faulted s own) named ∙ sym (is-own (fold (entered (records_of old)) (file_step (records_of old) (state_of old) d) (entries_of d))))
+
+-- what stays in two steps
+pub stays-on : {old now new : NameVisitor} → Stays old now → Stays now new → Stays old new
+stays-on first second = record {
+  files = second.files ∙ first.files;
+  kept = second.kept ∙ first.kept;
+  borrows = second.borrows ∙ first.borrows;
+}

@@ -1,4 +1,4 @@
 pub mod Entered
 pub mod FirstPass
 pub mod Steps
-pub mod Seen
+pub mod State

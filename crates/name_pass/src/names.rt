@@ -6,8 +6,8 @@ ghost use Rattle.pool_parts.specs.Kinds.{is_package};
 ghost use Rattle.name_pass.specs.Entered.{packages, package_entry};
 ghost use Rattle.name_pass.specs.FirstPass.{holder_faults};
 
-use growing_pool::GrowingPool;
-use name_tables::NameTable;
+use crate::checks::{check_camel_case_names, check_enum_values, check_syntax};
+use name_tables::{FileNames, HashedNames, NameTable};
 use plain_values::{Items, Text};
 use pool_faults::DescriptorErrorKind;
 use pool_parts::label_at;
@@ -19,22 +19,24 @@ use proto_types::{
     ServiceDescriptorProto, tag,
 };
 use std::alloc::{AllocError, Global};
-use syntax_rules::{check_camel_case_names, check_enum_values, check_syntax};
 
-/// The first pass: it enters the names of declarations into a pool whose files are those of a
-/// batch as well, and gathers the faults of names, and of what a file, a message or an enum shows by
-/// itself.
+/// The first pass: it enters the names of declarations into the tables of a pool whose files are
+/// those of a batch as well, and gathers the faults of names, and of what a file, a message or an
+/// enum shows by itself.
 #[derive(Drop)]
-pub struct NameVisitor {
+pub struct NameVisitor<'a> {
     pub alloc: Global,
-    pub pool: GrowingPool,
-    pub faults: Vec<DescriptorErrorKind>,
+    /// The index of the first file of the batch.
+    pub first: u32,
+    pub files: &'a [FileDescriptorInner],
+    pub names: &'a mut HashedNames,
+    pub file_names: &'a mut FileNames,
+    pub faults: &'a mut Vec<DescriptorErrorKind>,
 }
 
-impl NameVisitor {
-    ghost use Rattle.name_pass.specs.Steps.{entered, file_named, named};
-    ghost use Rattle.growing_pool.specs.Growing.{first_new, kept_in};
-    ghost use Rattle.name_pass.specs.Seen.{names_seen};
+impl NameVisitor<'_> {
+    ghost use Rattle.name_pass.specs.Steps.{entered, file_named};
+    ghost use Rattle.name_pass.specs.State.{first_new, records_of, state_of, Stays};
 
     /// Enters a name, which means something in a new file; where it clashes with a holder, that is
     /// a fault.
@@ -42,25 +44,19 @@ impl NameVisitor {
         &mut self,
         name: &str,
         file: u32,
-        path: &[i32],
+        path: Items<i32>,
         kind: DefinitionKind,
     ) -> Result<(), AllocError>
-        requires { first_new self.old.pool ≤ file }
-        ensures ok { OnOk result (names_seen self.new
-            ≡ entered (names_seen self.old)
-            (name.now, record { file = file; path = path.now; kind = kind })) }
-        ensures kept { kept_in self.new.pool ≡ kept_in self.old.pool }
+        requires { first_new self.old ≤ file }
+        ensures ok { OnOk result (state_of self.new ≡ entered (records_of self.old)
+            (state_of self.old) (name.now, record { file = file; path = path; kind = kind })) }
+        ensures stays { Stays self.old self.new }
     {
-        let definition = Definition {
-            file,
-            path: Items::from_slice(self.alloc, path)?,
-            kind,
+        let definition = Definition { file, path, kind };
+        let Some(holder) = self.names.get(name) else {
+            return self.names.insert(name, definition);
         };
-        let pool = &self.pool.inner;
-        let Some(holder) = pool.names.get(name) else {
-            return self.pool.insert_name(name, definition);
-        };
-        if let Some(fault) = clash(self.alloc, &pool.files, name, holder, &definition)? {
+        if let Some(fault) = clash(self.alloc, self.files, name, holder, &definition)? {
             self.faults.push(fault)?;
         }
         Ok(())
@@ -68,10 +64,10 @@ impl NameVisitor {
 
     /// Enters a package and those around it, from the outermost in.
     fn enter_packages(&mut self, file: u32, name: &str) -> Result<(), AllocError>
-        requires { first_new self.old.pool ≤ file }
-        ensures ok { OnOk result (names_seen self.new
-            ≡ fold entered (names_seen self.old) (map (package_entry file) (packages name.now))) }
-        ensures kept { kept_in self.new.pool ≡ kept_in self.old.pool }
+        requires { first_new self.old ≤ file }
+        ensures ok { OnOk result (state_of self.new ≡ fold (entered (records_of self.old))
+            (state_of self.old) (map (package_entry file) (packages name.now))) }
+        ensures stays { Stays self.old self.new }
     {
         let bytes = name.as_bytes();
         for (end, byte) in bytes.iter().enumerate() {
@@ -86,23 +82,24 @@ impl NameVisitor {
     }
 
     fn enter_package(&mut self, file: u32, name: &str) -> Result<(), AllocError>
-        requires { first_new self.old.pool ≤ file }
-        ensures ok { OnOk result (names_seen self.new
-            ≡ entered (names_seen self.old) (package_entry file name.now)) }
-        ensures kept { kept_in self.new.pool ≡ kept_in self.old.pool }
+        requires { first_new self.old ≤ file }
+        ensures ok { OnOk result (state_of self.new ≡ entered (records_of self.old)
+            (state_of self.old) (package_entry file name.now)) }
+        ensures stays { Stays self.old self.new }
     {
-        self.enter(name, file, &[tag::file::PACKAGE], DefinitionKind::Package)
+        let path = Items::from_slice(self.alloc, &[tag::file::PACKAGE])?;
+        self.enter(name, file, path, DefinitionKind::Package)
     }
 
     /// Enters the name of a new file; where a file has it, that is a fault.
     fn name_file(&mut self, name: &str, file: u32) -> Result<(), AllocError>
-        requires { first_new self.old.pool ≤ file }
-        ensures ok { OnOk result (names_seen self.new
-            ≡ file_named (names_seen self.old) name.now file) }
-        ensures kept { kept_in self.new.pool ≡ kept_in self.old.pool }
+        requires { first_new self.old ≤ file }
+        ensures ok { OnOk result (state_of self.new
+            ≡ file_named (state_of self.old) name.now file) }
+        ensures stays { Stays self.old self.new }
     {
-        if self.pool.inner.file_names.get(name).is_none() {
-            return self.pool.insert_file_name(name, file);
+        if self.file_names.get(name).is_none() {
+            return self.file_names.insert(name, file);
         }
         let name = Text::from_str(self.alloc, name)?;
         self.faults
@@ -118,31 +115,33 @@ impl NameVisitor {
         path: &[i32],
         kind: DefinitionKind,
     ) -> Result<(), AllocError>
-        requires { first_new self.old.pool ≤ file }
-        ensures ok { OnOk result (names_seen self.new
-            ≡ entered (names_seen self.old)
+        requires { first_new self.old ≤ file }
+        ensures ok { OnOk result (state_of self.new
+            ≡ entered (records_of self.old) (state_of self.old)
             (full_name.now, record { file = file; path = path.now ++ NAME ∷ []; kind = kind })) }
-        ensures kept { kept_in self.new.pool ≡ kept_in self.old.pool }
+        ensures stays { Stays self.old self.new }
     {
-        let mut name_path = Vec::from_slice(self.alloc, path)?;
+        let mut name_path = Vec::with_capacity(self.alloc, path.len() + 1)?;
+        name_path.extend_from_slice(path)?;
         name_path.push(tag::message::NAME)?;
-        self.enter(full_name, file, &name_path, kind)
+        self.enter(full_name, file, Items::from_vec(name_path), kind)
     }
 }
 
-impl Visitor for NameVisitor {
+impl Visitor for NameVisitor<'_> {
     ghost use Rattle.std.specs.List.{fold};
-    ghost use Rattle.growing_pool.specs.Growing.{kept_in};
-    ghost use Rattle.name_pass.specs.Steps.{CanBeEntered, front-entered, named, names_progress};
-    ghost use Rattle.name_pass.specs.Seen.{names_seen};
+    ghost use Rattle.name_pass.specs.Steps.{CanBeEntered, front-entered, name_progress, name_step};
+    ghost use Rattle.name_pass.specs.State.{borrows_of, first_new, kept_of, records_of, state_of};
 
-    ghost after = { λ v ds. names_progress (fold named (names_seen v) ds) };
+    ghost after = { λ v ds. name_progress (fold (name_step (records_of v)) (state_of v) ds) };
 
-    ghost ready = { λ v ds. CanBeEntered (kept_in v.pool) ds };
+    ghost ready = { λ v ds. CanBeEntered (first_new v) ds };
 
-    ghost kept = { λ v. kept_in v.pool };
+    ghost kept = { kept_of };
 
-    ghost front_ready = { λ v ds es. front-entered (kept_in v.pool) ds es };
+    ghost borrows = { borrows_of };
+
+    ghost front_ready = { λ v ds es. front-entered (first_new v) ds es };
 
     fn visit_file(
         &mut self,
@@ -150,9 +149,7 @@ impl Visitor for NameVisitor {
         index: u32,
         file: &FileDescriptorProto,
     ) -> Result<(), AllocError> {
-        let pool = &self.pool;
-        let files = &pool.inner.files;
-        check_syntax(self.alloc, files, index, file, &mut self.faults)?;
+        check_syntax(self.alloc, self.files, index, file, self.faults)?;
         self.name_file(file.name(), index)?;
         self.enter_packages(index, file.package())
     }
@@ -167,9 +164,7 @@ impl Visitor for NameVisitor {
         message: &DescriptorProto,
     ) -> Result<(), AllocError> {
         self.enter_own(full_name, file, path, DefinitionKind::Message(index))?;
-        let pool = &self.pool;
-        let files = &pool.inner.files;
-        check_camel_case_names(self.alloc, files, file, path, message, &mut self.faults)
+        check_camel_case_names(self.alloc, self.files, file, path, message, self.faults)
     }
 
     fn visit_field(
@@ -229,9 +224,7 @@ impl Visitor for NameVisitor {
         enumeration: &EnumDescriptorProto,
     ) -> Result<(), AllocError> {
         self.enter_own(full_name, file, path, DefinitionKind::Enum(index))?;
-        let pool = &self.pool;
-        let files = &pool.inner.files;
-        check_enum_values(self.alloc, files, file, path, enumeration, &mut self.faults)
+        check_enum_values(self.alloc, self.files, file, path, enumeration, self.faults)
     }
 
     fn visit_enum_value(

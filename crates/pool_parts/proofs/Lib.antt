@@ -3,3 +3,4 @@ pub mod Dots
 pub mod Fronts
 pub mod Outward
 pub mod Named
+pub mod Wanted

@@ -105,7 +105,7 @@ impl FileDescriptorProto {
     ///
     /// # Errors
     /// `AllocError` where memory was refused.
-    pub fn with_parts(
+    fn with_parts(
         &self,
         alloc: Global,
         message_type: Items<DescriptorProto>,

@@ -88,7 +88,7 @@ impl DescriptorProto {
     ///
     /// # Errors
     /// `AllocError` where memory was refused.
-    pub fn with_parts(
+    fn with_parts(
         &self,
         alloc: Global,
         field: Items<FieldDescriptorProto>,

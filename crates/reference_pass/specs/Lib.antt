@@ -1,3 +1,4 @@
 pub mod Against
 pub mod Steps
-pub mod Seen
+pub mod State
+pub mod Linking

@@ -2,13 +2,11 @@ ghost use Rattle.std.specs.Prelude.{map};
 ghost use Rattle.link_rules.specs.NamesBegin.{NamesBegin};
 ghost use Rattle.link_rules.specs.Short.{ShortFiles};
 
-use crate::held::{put_message, setting_of};
-use enum_rules::read_enum;
-use growing_pool::GrowingPool;
-use link_rules::{read_extension, read_file, read_message, read_service};
+use crate::items::NewItems;
+use crate::reading::{check_imports, read_enum, read_extension, read_message, read_service};
+use linked_records::Setting;
 use places::Place;
 use pool_faults::DescriptorErrorKind;
-use pool_types::FileDescriptorInner;
 use proto_files::{DescriptorProto, FileDescriptorProto, OneofDescriptorProto};
 use proto_records::Visitor;
 use proto_types::{
@@ -18,33 +16,38 @@ use proto_types::{
 use std::alloc::{AllocError, Global};
 
 /// The second pass: it reads a batch against a pool whose files and names are those of the batch as
-/// well, puts the items of messages, enums, services and extensions into the pool and makes those of
-/// files, and gathers the faults of imports, of fields, of extensions, of values and of references. A
-/// message is read with its oneofs and fields, an enum with its values, and a service with its
-/// methods. The full name of each declaration that it is shown ends with the declared name, and its
-/// lists are short enough for a pool, as are those of all files that it is read against.
+/// well, makes the items of messages, enums, services and extensions, and gathers the faults of
+/// imports, of fields, of extensions, of values and of references. A message is read with its oneofs
+/// and fields, an enum with its values, and a service with its methods. The full name of each
+/// declaration that it is shown ends with the declared name, and its lists are short enough for a
+/// pool, as are those of all files that it is read against.
 #[derive(Drop)]
-pub struct ResolveVisitor {
+pub struct ResolveVisitor<'a> {
     pub alloc: Global,
-    pub pool: GrowingPool,
-    pub files: Vec<FileDescriptorInner>,
+    pub setting: Setting<'a>,
+    pub items: NewItems,
     pub faults: Vec<DescriptorErrorKind>,
-    ghost names_begin: { NamesBegin pool.inner.messages.items },
-    ghost short: { ShortFiles (map (λ f. f.raw) pool.inner.files.items) },
+    ghost names_begin: { NamesBegin items.messages.items },
+    ghost short: { ShortFiles (map (λ f. f.raw) setting.files.now) },
 }
 
-impl Visitor for ResolveVisitor {
+impl Visitor for ResolveVisitor<'_> {
     ghost use Rattle.std.specs.List.{fold};
+    ghost use Rattle.std.specs.Prelude.{[]};
+    ghost use Rattle.pool_types.specs.Contents.{no_contents};
     ghost use Rattle.proto_records.specs.FullNames.{CanBeRead, front-read};
-    ghost use Rattle.growing_pool.specs.Growing.{kept_in};
-    ghost use Rattle.reference_pass.specs.Steps.{referred, references_progress};
-    ghost use Rattle.reference_pass.specs.Seen.{references_seen};
+    ghost use Rattle.linked_records.specs.SettingCode.{setting_in};
+    ghost use Rattle.reference_pass.specs.Steps.{reference_progress, reference_step};
+    ghost use Rattle.reference_pass.specs.State.{state_of};
 
-    ghost after = { λ v ds. references_progress (fold referred (references_seen v) ds) };
+    ghost after = { λ v ds.
+        reference_progress (fold (reference_step (setting_in v.setting)) (state_of v) ds) };
 
     ghost ready = { λ _ ds. CanBeRead ds };
 
-    ghost kept = { λ v. kept_in v.pool };
+    ghost kept = { λ _. no_contents };
+
+    ghost borrows = { λ _. [] };
 
     ghost front_ready = { λ _ ds es. front-read ds es };
 
@@ -54,11 +57,7 @@ impl Visitor for ResolveVisitor {
         index: u32,
         file: &FileDescriptorProto,
     ) -> Result<(), AllocError> {
-        let pool = &self.pool;
-        let setting = setting_of(&pool.inner);
-        let item = read_file(self.alloc, setting, index, file, &mut self.faults)?;
-        self.files.push(item)?;
-        Ok(())
+        check_imports(self.alloc, self.setting, index, file, &mut self.faults)
     }
 
     fn visit_message(
@@ -77,10 +76,8 @@ impl Visitor for ResolveVisitor {
             path,
             full_name,
         };
-        let pool = &self.pool;
-        let setting = setting_of(&pool.inner);
-        let item = read_message(self.alloc, setting, place, message, &mut self.faults)?;
-        put_message(&mut self.pool, item)
+        let item = read_message(self.alloc, self.setting, place, message, &mut self.faults)?;
+        self.items.push_message(item)
     }
 
     fn visit_field(
@@ -122,10 +119,8 @@ impl Visitor for ResolveVisitor {
             path,
             full_name,
         };
-        let pool = &self.pool;
-        let setting = setting_of(&pool.inner);
-        let item = read_service(self.alloc, setting, place, service, &mut self.faults)?;
-        self.pool.inner.services.push(item)?;
+        let item = read_service(self.alloc, self.setting, place, service, &mut self.faults)?;
+        self.items.services.push(item)?;
         Ok(())
     }
 
@@ -157,10 +152,9 @@ impl Visitor for ResolveVisitor {
             path,
             full_name,
         };
-        let pool = &self.pool;
-        let files = setting_of(&pool.inner).files;
+        let files = self.setting.files;
         let item = read_enum(self.alloc, files, place, enumeration, &mut self.faults)?;
-        self.pool.inner.enums.push(item)?;
+        self.items.enums.push(item)?;
         Ok(())
     }
 
@@ -192,10 +186,8 @@ impl Visitor for ResolveVisitor {
             path,
             full_name,
         };
-        let pool = &self.pool;
-        let setting = setting_of(&pool.inner);
-        let item = read_extension(self.alloc, setting, place, extension, &mut self.faults)?;
-        self.pool.inner.extensions.push(item)?;
+        let item = read_extension(self.alloc, self.setting, place, extension, &mut self.faults)?;
+        self.items.extensions.push(item)?;
         Ok(())
     }
 }

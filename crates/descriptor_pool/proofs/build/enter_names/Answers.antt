@@ -1,18 +1,31 @@
-use Rattle.proto_records.proofs.Listings.{on-ok}
+use Rattle.std.proofs.Common.{map, ap, ◌∙◌}
+use Rattle.std.specs.List.{fold}
+use Rattle.pool_types.specs.Contents.{files_of}
 use Rattle.proto_records.specs.Declarations.{declarations}
-use Rattle.descriptor_pool.proofs.Passed.{names_once_shown, verdict-tells, passed-well}
+use Rattle.proto_records.proofs.Listings.{on-ok}
+use Rattle.pool_inner.specs.Held.{contents_in}
+use Rattle.name_pass.specs.Steps.{NameState, name_step, state_at}
+use Rattle.growing_pool.specs.Growing.{new_records, records_from}
+use Rattle.descriptor_pool.proofs.NamesFold.{fold-names}
+use Rattle.descriptor_pool.proofs.Passed.{refuse-tells}
 use Rattle.descriptor_pool.proofs.build.enter_names.Goals as goal
 
 pub returns-clause-faults : goal.returns-clause-faults
 returns-clause-faults c =
-    let new = c.show_names-shown.new.visitor in
-    let ds = declarations c.args.base c.args.new.now in
-    let passed = names_once_shown c.args.pool c.new.result.items new ds c.show_names-shown.result c.show_names-shown.ensures.ok c.new.ensures.items in
-    verdict-tells c.show_names-shown.result new.faults.items _ c.verdict.result c.verdict.ensures.ok c.verdict.ensures.err (on-ok c.show_names-shown.result (λ p. p.faults_are) passed)
+    let g = c.args.pool.now in
+    let p = contents_in g.inner in
+    let files = c.deref.ensures.value in
+    let is = c.in_ok-show_names.ensures.ok
+    ∙ (λ i. fold (name_step (map (λ f. f.raw) (files i))) (state_at p.names p.file_names (c.new-faults.ensures.items i)) (declarations g.base (records_from g.base.files (files i))))
+    ∙ fold-names p (files_of p) (declarations g.base (new_records g)) in
+    refuse-tells c.refuse.result c.show_names.new.faults.items _ c.refuse.ensures.ok c.refuse.ensures.err (ap (λ (s : NameState). s.faults) is)
 
 pub returns-clause-entered : goal.returns-clause-entered
 returns-clause-entered c =
-    let new = c.show_names-shown.new.visitor in
-    let ds = declarations c.args.base c.args.new.now in
-    let passed = names_once_shown c.args.pool c.new.result.items new ds c.show_names-shown.result c.show_names-shown.ensures.ok c.new.ensures.items in
-    passed-well c.show_names-shown.result c.verdict.result _ _ c.verdict.ensures.ok (on-ok c.show_names-shown.result (λ p. p.contents_are) passed)
+    let g = c.args.pool.now in
+    let p = contents_in g.inner in
+    let files = c.deref.ensures.value in
+    let is = c.in_ok-show_names.ensures.ok
+    ∙ (λ i. fold (name_step (map (λ f. f.raw) (files i))) (state_at p.names p.file_names (c.new-faults.ensures.items i)) (declarations g.base (records_from g.base.files (files i))))
+    ∙ fold-names p (files_of p) (declarations g.base (new_records g)) in
+    on-ok c.refuse.result (λ none. λ i. record p { names = ap (λ (s : NameState). s.names) is i; file_names = ap (λ (s : NameState). s.file_names) is i }) c.refuse.ensures.ok

@@ -14,21 +14,21 @@ use Rattle.descriptor_pool.proofs.build.link.Goals.{then-is_err, else-is_err}
 
 pub returns-clause-faults : goal.returns-clause-faults
 returns-clause-faults c =
-    let Tells : DescriptorPoolInner → Type 0 = λ q. TellsAll c.link_behind-growing.result.1 (faults_behind (contents_in q) c.args.new.now) in
-    subst Tells (c.new-2.ensures.inner ∙ c.replace-before.ensures.value) c.link_behind-growing.ensures.faults
+    let Tells : DescriptorPoolInner → Type 0 = λ q. TellsAll c.link_new-linked.result (faults_behind (contents_in q) c.args.new.items) in
+    subst Tells (c.new-growing.ensures.inner ∙ c.replace-before.ensures.value) c.link_new-linked.ensures.faults
 
 pub returns-clause-names : goal.returns-clause-names
 returns-clause-names c =
-    let linked = c.link_behind-growing in
+    let linked = c.link_new-linked in
     elim c.if-is_err.branch [
       | then-is_err w ↦
-          let same = ap (λ (g : GrowingPool). contents_in g.inner) w.growing-is ∙ w.rollback.ensures ∙ after-err linked.result.1 w.if-is_err.ensures.value linked.ensures.kept
-          ∙ c.new-2.ensures.kept ∙ ap contents_in c.replace-before.ensures.value in
+          let same = ap (λ (g : GrowingPool). contents_in g.inner) w.growing-is ∙ w.rollback.ensures ∙ after-err linked.result w.if-is_err.ensures.value linked.ensures.kept
+          ∙ c.new-growing.ensures.kept ∙ ap contents_in c.replace-before.ensures.value in
           let Begin : Contents → Type 0 = λ q. NamesBegin q.messages in
           subst Begin (sym same) c.requires.names
       | else-is_err w ↦
           let Begin : GrowingPool → Type 0 = λ g. NamesBegin g.inner.messages.items in
-          subst Begin (sym w.growing-is) (after-ok linked.result.1 w.if-is_err.ensures.value linked.ensures.names)
+          subst Begin (sym w.growing-is) (after-ok linked.result w.if-is_err.ensures.value linked.ensures.names)
     ]
 
 no-ok : {U E : Type 0} (r : Result U E) (P : Type 0) → true ≡ is_err r → OnOk r P
@@ -37,11 +37,11 @@ no-ok (Err e) P failed = tt
 
 pub returns-clause-ok : goal.returns-clause-ok
 returns-clause-ok c =
-    let linked = c.link_behind-growing in
-    let start = ap contents_in (c.new-2.ensures.inner ∙ c.replace-before.ensures.value) in
+    let linked = c.link_new-linked in
+    let start = ap contents_in (c.new-growing.ensures.inner ∙ c.replace-before.ensures.value) in
     elim c.if-is_err.branch [
-      | then-is_err w ↦ no-ok linked.result.1 _ w.if-is_err.ensures.value
+      | then-is_err w ↦ no-ok linked.result _ w.if-is_err.ensures.value
       | else-is_err w ↦
           let same = ap (λ (g : GrowingPool). contents_in g.inner) w.growing-is in
-          on-ok linked.result.1 (λ is. same ∙ is ∙ ap (λ p. linked_behind p c.args.new.now) start) linked.ensures.ok
+          on-ok linked.result (λ is. same ∙ is ∙ ap (λ p. linked_behind p c.args.new.items) start) linked.ensures.ok
     ]

@@ -1,58 +1,50 @@
-use Rattle.std.proofs.Common.{◌<◌, ◌^◌, length, ap, subst, sym, ◌∙◌, arith}
+use Rattle.std.proofs.Common.{◌++◌, length, ap, subst, sym, ◌∙◌, arith}
+use Rattle.std.proofs.lemmas.List.Elements.{All-append}
 use Rattle.pool_types.specs.Contents.{Contents}
-use Rattle.link_rules.specs.NamesBegin.{NamesBegin}
+use Rattle.link_rules.specs.NamesBegin.{MessageNamesBegin, NamesBegin}
 use Rattle.proto_records.specs.declared.counts.Counts.{Counts}
 use Rattle.proto_records.specs.Counts.{counted}
 use Rattle.proto_records.specs.Declarations.{declarations}
-use Rattle.proto_records.proofs.Listings.{on-ok}
 use Rattle.proto_records.proofs.Room.{room-fits}
-use Rattle.descriptor_pool.specs.Behind.{with_items}
 use Rattle.growing_pool.specs.Extended.{with_extended}
-use Rattle.growing_pool.specs.Growing.{before_items, first_extension}
-use Rattle.pool_inner.specs.Held.{contents_in}
+use Rattle.growing_pool.specs.Growing.{before_items, first_extension, new_records}
 use Rattle.reference_pass.specs.Against.{setting_with}
+use Rattle.descriptor_pool.specs.Behind.{with_items}
 use Rattle.descriptor_pool.proofs.Declared.{counts-with}
 use Rattle.descriptor_pool.proofs.Listed.{names-extended}
-use Rattle.descriptor_pool.proofs.Passed.{ReferencesPassed, passed-well, references_once_shown, verdict-tells, put-tells, put-well}
+use Rattle.descriptor_pool.proofs.MadeItems.{made-is}
 use Rattle.descriptor_pool.proofs.build.make_items.Goals as goal
 
 -- there are no more extensions than fit
-pub put_linked-linked-requires : goal.put_linked-linked-requires
-put_linked-linked-requires c =
-    let old = c.args.pool in
-    let base = c.args.base in
-    let new = c.args.new.now in
-    let shown = c.show_references-shown in
-    let passed = references_once_shown old c.new.result.items c.new-2.result.items shown.new.visitor base new shown.result shown.ensures.ok c.new.ensures.items c.new-2.ensures.items in
-    let before = ap (λ (n : Counts). counted n (declarations base new)) (sym c.requires.before) in
-    let room = (room-fits base new c.requires.counts).within.extensions in
-    let many = counts-with (before_items old) (setting_with old.inner) (declarations base new) ∙ before in
-    let extensions = ap (λ (n : Counts). n.extensions) many in
-    let few : (p : ReferencesPassed shown.new.visitor old base new) → length shown.new.visitor.pool.inner.extensions.items < 2 ^ 32 =
-    λ p. let is = ap (λ (x : Contents). length x.extensions) p.contents_are in omega (arith, is, extensions, room) in
-    record { few = passed-well shown.result c.verdict.result _ _ c.verdict.ensures.ok (on-ok shown.result few passed) }
-
-pub returns-clause-faults : goal.returns-clause-faults
-returns-clause-faults c =
-    let shown = c.show_references-shown in
-    let passed = references_once_shown c.args.pool c.new.result.items c.new-2.result.items shown.new.visitor c.args.base c.args.new.now shown.result shown.ensures.ok c.new.ensures.items c.new-2.ensures.items in
-    put-tells c.verdict.result c.put_linked-linked.result _ _ c.put_linked-linked.ensures.ok c.put_linked-linked.ensures.err
-    (verdict-tells shown.result shown.new.visitor.faults.items _ c.verdict.result c.verdict.ensures.ok c.verdict.ensures.err (on-ok shown.result (λ p. p.faults_are) passed))
+pub extend_messages-requires : goal.extend_messages-requires
+extend_messages-requires c =
+    let p = c.args.pool.now in
+    let ds = declarations p.base (new_records p) in
+    let is = made-is p c.put_items.new.pool c.link_files.new.pool c.in_ok-items.items c.in_ok-items.ensures.items c.in_ok-put_items.ensures.ok c.in_ok-put_items.ensures.kept
+    c.requires.imports c.requires.items c.in_ok-link_files.ensures.ok in
+    let before = ap (λ (n : Counts). counted n ds) (sym c.requires.before) in
+    let room = (room-fits p.base (new_records p) c.requires.counts).within.extensions in
+    let many = ap (λ (n : Counts). n.extensions) (counts-with (before_items p) (setting_with p.inner) ds ∙ before) in
+    let extensions = ap (λ (x : Contents). length x.extensions) is in
+    record { few = omega (arith, extensions, many, room) }
 
 pub returns-clause-made : goal.returns-clause-made
 returns-clause-made c =
-    let old = c.args.pool in
-    let shown = c.show_references-shown in
-    let seen = shown.new.visitor.pool in
-    let made = with_items (before_items old) (setting_with old.inner) (declarations c.args.base c.args.new.now) in
-    let first = ap (λ (x : Contents). length x.extensions) shown.ensures.kept in
-    let passed = references_once_shown old c.new.result.items c.new-2.result.items shown.new.visitor c.args.base c.args.new.now shown.result shown.ensures.ok c.new.ensures.items c.new-2.ensures.items in
-    on-ok c.put_linked-linked.result (λ x. x.0 ∙ ap (with_extended (first_extension seen)) x.1 ∙ ap (λ n. with_extended n made) first)
-    (put-well shown.result c.verdict.result c.put_linked-linked.result _ _ _ c.put_linked-linked.ensures.ok c.verdict.ensures.ok (on-ok shown.result (λ p. p.contents_are) passed))
+    let p = c.args.pool.now in
+    let is = made-is p c.put_items.new.pool c.link_files.new.pool c.in_ok-items.items c.in_ok-items.ensures.items c.in_ok-put_items.ensures.ok c.in_ok-put_items.ensures.kept
+    c.requires.imports c.requires.items c.in_ok-link_files.ensures.ok in
+    let first = ap (λ (x : Contents). length x.extensions) (c.in_ok-link_files.ensures.kept ∙ c.in_ok-put_items.ensures.kept) in
+    c.in_ok-extend_messages.ensures.ok ∙ (λ i. with_extended (first i) (is i))
 
--- extensions leave names as they are
+-- the names of old messages begin where a character begins, and so do those of new ones
 pub returns-clause-names : goal.returns-clause-names
 returns-clause-names c =
-    let seen = c.show_references-shown.new.visitor.pool in
-    on-ok c.put_linked-linked.result (λ x. subst (λ (p : Contents). NamesBegin p.messages) (sym x.1) (names-extended (first_extension seen) (contents_in seen.inner) c.show_references-shown.new.visitor.names_begin))
-    c.put_linked-linked.ensures.ok
+    let p = c.args.pool.now in
+    let items = c.in_ok-items.items in
+    let is = made-is p c.put_items.new.pool c.link_files.new.pool items c.in_ok-items.ensures.items c.in_ok-put_items.ensures.ok c.in_ok-put_items.ensures.kept
+    c.requires.imports c.requires.items c.in_ok-link_files.ensures.ok in
+    let first = ap (λ (x : Contents). length x.extensions) (c.in_ok-link_files.ensures.kept ∙ c.in_ok-put_items.ensures.kept) in
+    let made = c.in_ok-extend_messages.ensures.ok ∙ (λ i. with_extended (first i) (is i)) in
+    let both = All-append MessageNamesBegin p.inner.messages.items items.messages.items c.requires.names c.in_ok-items.ensures.names in
+    let begin = subst (λ ms. NamesBegin (p.inner.messages.items ++ ms)) c.in_ok-items.ensures.items.messages both in
+    subst (λ (x : Contents). NamesBegin x.messages) (sym made) (names-extended (first_extension p) (with_items (before_items p) (setting_with p.inner) (declarations p.base (new_records p))) begin)

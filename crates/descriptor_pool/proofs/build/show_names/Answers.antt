@@ -1,42 +1,45 @@
-use Rattle.std.proofs.Common.{[], ap, ◌∙◌, subst, sym, refl}
-use Rattle.pool_types.specs.Contents.{Contents}
+use Rattle.std.proofs.Common.{◌-◌, List, length, map, take, drop, refl, ap, sym, subst, ◌∙◌}
+use Rattle.std.proofs.lemmas.List.{length-take-le}
+use Rattle.std.proofs.lemmas.Result.{on_ok_weaker}
+use Rattle.std.specs.List.{fold}
+use Rattle.proto_files.specs.declared.file.FileDescriptorProto.{FileDescriptorProto}
 use Rattle.proto_records.specs.Declarations.{declarations}
-use Rattle.proto_records.specs.Progress.{Progress}
-use Rattle.proto_records.proofs.Listings.{on-ok}
-use Rattle.growing_pool.specs.Growing.{kept_in}
-use Rattle.name_pass.specs.Steps.{CanBeEntered, names_progress}
-use Rattle.name_pass.specs.Seen.{names_seen}
+use Rattle.name_pass.specs.Steps.{CanBeEntered, name_step, state_at}
+use Rattle.growing_pool.specs.Growing.{records_from}
+use Rattle.descriptor_pool.proofs.Bases.{rest-records}
 use Rattle.descriptor_pool.proofs.Files.{declarations-entered}
-use borrow.Pointer.Hide.{carried_sameᵐ}
-use borrow.Rule.Reborrow.{re_n}
-use mir.Syntax.{Dict}
-use Rattle.descriptor_pool.proofs.build.show_names.OwnLists.{own-1, at-1-1, entry-1-1, same-1-1}
-use Rattle.descriptor_pool.proofs.build.show_names.Object-1 as object
+use Rattle.descriptor_pool.proofs.Passed.{names-end, names-stay, file-names-stay}
 use Rattle.descriptor_pool.proofs.build.show_names.Goals as goal
 
--- the visitor object is the visitor
 pub returns-clause-ok : goal.returns-clause-ok
 returns-clause-ok c =
-    let last = c.visitor-2-1.given.1 refl in
-    let v = c.visitor-1.given.0 in
-    let ds = declarations c.args.base c.args.new.now in
-    let there = carried_sameᵐ object.Members Dict entry-1-1 (own-1.entry at-1-1) same-1-1 Progress (λ j r. j.1.after r.now []) v in
-    let here = ap (λ z. (own-1.entry z.now.0).1.after z.now.1 []) c.visitor-1.given.1 in
-    let old = carried_sameᵐ object.Members Dict entry-1-1 (own-1.entry at-1-1) same-1-1 Progress (λ j r. j.1.after r.now ds) (re_n c.visit-arg-1.given c.args.visitor) in
-    on-ok c.visit.result (λ s. ap (λ w. names_progress (names_seen w)) last ∙ sym there ∙ here ∙ s ∙ old) c.visit.ensures.after
+    let a = c.args in
+    let files = a.files.now in
+    let fs = map (λ f. f.raw) (take (length files - a.base.files) (drop a.base.files files)) in
+    let state = state_at a.names.now a.file_names.now a.faults.now.items in
+    let rest = rest-records a.base.files files files refl in
+    let end = names-end c.walk.new.visitor c.walk.ensures.borrows c.names-1.given.0 c.names-1.given.1 c.file_names-1.given.0 c.file_names-1.given.1 c.faults-1.given.0 c.faults-1.given.1
+    c.walk.result (map (λ f. f.raw) files) state (declarations a.base fs) _ _ _ refl c.walk.ensures.ok in
+    on_ok_weaker c.walk.result (λ is. is ∙ ap (λ gs. fold (name_step (map (λ f. f.raw) files)) state (declarations a.base gs)) rest) end
 
-pub returns-clause-kept : goal.returns-clause-kept
-returns-clause-kept c =
-    let last = c.visitor-2-1.given.1 refl in
-    let v = c.visitor-1.given.0 in
-    let there = carried_sameᵐ object.Members Dict entry-1-1 (own-1.entry at-1-1) same-1-1 Contents (λ j r. j.1.kept r.now) v in
-    let here = ap (λ z. (own-1.entry z.now.0).1.kept z.now.1) c.visitor-1.given.1 in
-    let old = carried_sameᵐ object.Members Dict entry-1-1 (own-1.entry at-1-1) same-1-1 Contents (λ j r. j.1.kept r.now) (re_n c.visit-arg-1.given c.args.visitor) in
-    ap (λ w. kept_in w.pool) last ∙ sym there ∙ here ∙ c.visit.ensures.kept ∙ old
+pub returns-clause-names : goal.returns-clause-names
+returns-clause-names c =
+    let a = c.args in
+    names-stay c.walk.new.visitor c.walk.ensures.borrows c.names-1.given.0 c.names-1.given.1 c.file_names-1.given.0 c.file_names-1.given.1
+    a.base.files (take a.base.files a.files.now) a.names.now a.file_names.now (length-take-le a.base.files a.files.now c.requires.here) c.walk.ensures.kept
 
--- the files that come are behind those that a roll-back leaves
-pub visit-requires-clause-ready : goal.visit-requires-clause-ready
-visit-requires-clause-ready c =
-    let ds = declarations c.args.base c.args.new.now in
-    let same = carried_sameᵐ object.Members Dict entry-1-1 (own-1.entry at-1-1) same-1-1 Contents (λ j r. j.1.kept r.now) (re_n c.visit-arg-1.given c.args.visitor) in
-    subst (λ p. CanBeEntered p ds) (sym same) (declarations-entered c.args.base c.args.new.now _ c.requires.from c.requires.counts)
+pub returns-clause-file_names : goal.returns-clause-file_names
+returns-clause-file_names c =
+    let a = c.args in
+    file-names-stay c.walk.new.visitor c.walk.ensures.borrows c.names-1.given.0 c.names-1.given.1 c.file_names-1.given.0 c.file_names-1.given.1
+    a.base.files (take a.base.files a.files.now) a.names.now a.file_names.now (length-take-le a.base.files a.files.now c.requires.here) c.walk.ensures.kept
+
+-- the new files are behind those that a roll-back leaves
+pub walk-requires-clause-ready : goal.walk-requires-clause-ready
+walk-requires-clause-ready c =
+    let a = c.args in
+    let files = a.files.now in
+    let rest = rest-records a.base.files files files refl in
+    let first = length-take-le a.base.files files c.requires.here in
+    subst (λ (fs : List FileDescriptorProto). CanBeEntered (length (take a.base.files files)) (declarations a.base fs)) (sym rest)
+    (declarations-entered a.base (records_from a.base.files files) _ first c.requires.counts)

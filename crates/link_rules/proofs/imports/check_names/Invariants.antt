@@ -1,8 +1,8 @@
-use Rattle.std.proofs.Common.{◌≡◌, ◌++◌, take}
+use Rattle.std.proofs.Common.{take}
 use Rattle.link_rules.specs.Imports.{missing_files}
-use Rattle.linked_records.specs.SettingCode.{setting_in}
+use Rattle.link_rules.specs.Reading.{Reads, setting_of}
 use Rattle.link_rules.proofs.imports.check_names.Given as goal
 
 -- what the imports so far break is told
 abbrev pub invariant-loop-position : goal.invariant-loop-position
-invariant-loop-position l = l.faults.items ≡ l.initial.faults.items ++ missing_files (setting_in l.setting) l.index (take l.position l.imports)
+invariant-loop-position l = Reads l.initial.reading l.reading (missing_files (setting_of l.initial.reading) l.index (take l.position l.imports))

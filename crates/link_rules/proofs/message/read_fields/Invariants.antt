@@ -1,22 +1,23 @@
-use Rattle.std.proofs.Common.{◌≡◌, ◌++◌, take}
+use Rattle.std.proofs.Common.{◌≡◌, take}
 use Rattle.std.specs.List.{All}
 use Rattle.proto_files.specs.declared.message.DescriptorProto.{out-DescriptorProto}
 use Rattle.field_rules.specs.MapsOf.{AreMapsOf}
 use Rattle.link_rules.specs.Broken.{faults_of_fields}
 use Rattle.link_rules.specs.Items.{field_items}
+use Rattle.link_rules.specs.Reading.{Reads, setting_of}
 use Rattle.places.specs.NamesBegin.{BeginsAtBoundary}
 use Rattle.places.specs.Places.{inside_of, message_at}
-use Rattle.linked_records.specs.SettingCode.{setting_in}
 use Rattle.link_rules.proofs.message.read_fields.Given as goal
 
 -- the fields so far are read, and entered
 abbrev pub invariant-loop-position : goal.invariant-loop-position
 invariant-loop-position l =
-    let s = setting_in l.setting in
-    let so_far = take l.position (out-DescriptorProto l.message).field in
+    let s = setting_of l.initial.reading in
+    let m = l.owner.message.now in
+    let so_far = take l.position (out-DescriptorProto m).field in
     record {
-      items : l.items.items ≡ field_items s (out-DescriptorProto l.message).oneof_decl (inside_of l.place) so_far;
+      items : l.items.items ≡ field_items s (out-DescriptorProto m).oneof_decl (inside_of l.owner.place) so_far;
       begin : All (λ f. BeginsAtBoundary f.id) l.items.items;
       maps : AreMapsOf l.maps so_far;
-      faults : l.faults.items ≡ l.initial.faults.items ++ faults_of_fields s (message_at l.place l.message, l.message) so_far;
+      faults : Reads l.initial.reading l.reading (faults_of_fields s (message_at l.owner.place m, m) so_far);
     }

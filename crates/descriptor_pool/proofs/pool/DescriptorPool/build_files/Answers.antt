@@ -50,8 +50,8 @@ invariant_of-self c =
     let ok : IsOk (counts_with c.counts-base.result c.deref.result.now) = rw (← c.with_files.ensures, c.in_default.is) refl in
     let fits = fits_of p c.counts-base.result c.args.files.items c.deref.result.now base_is (c.deref.ensures.value ∙ kept) ok in
     let Behind : List FileDescriptorProto → Type 0 = λ new. IsBehind p new c.link.result (contents_in c.link.new.pool) in
-    let behind : Behind c.deref-2.result.now = record { ok = c.link.ensures.ok; told = c.link.ensures.faults; err = c.link.ensures.err; names = c.link.ensures.names } in
-    pool_behind p c.args.files.items fits c.self.invariant c.link.result (contents_in c.link.new.pool) (subst Behind (c.deref-2.ensures.value ∙ kept) behind)
+    let behind : Behind c.keep_new.new.batch.items = record { ok = c.link.ensures.ok; told = c.link.ensures.faults; err = c.link.ensures.err; names = c.link.ensures.names } in
+    pool_behind p c.args.files.items fits c.self.invariant c.link.result (contents_in c.link.new.pool) (subst Behind kept behind)
 
 pub link-requires-clause-before : goal.link-requires-clause-before
 link-requires-clause-before c = names_lie (contents_in c.self.inside.inner) c.self.invariant
@@ -65,8 +65,8 @@ link-requires-clause-short c =
     let p = contents_in c.self.inside.inner in
     let base_is = c.counts-base.ensures ∙ ap counts_in (sym c.self.view_is) in
     let ok : IsOk (counts_with c.counts-base.result c.deref.result.now) = rw (← c.with_files.ensures, c.in_default.is) refl in
-    let new = c.deref.ensures.value ∙ sym c.deref-2.ensures.value in
-    short-behind p c.self.invariant c.deref-2.result.now (subst IsOk (λ i. counts_with (base_is i) (new i)) ok)
+    let new = c.deref.ensures.value in
+    short-behind p c.self.invariant c.keep_new.new.batch.items (subst IsOk (λ i. counts_with (base_is i) (new i)) ok)
 
 pub returns-clause-outcome : goal.returns-clause-outcome
 returns-clause-outcome c =
@@ -76,9 +76,9 @@ returns-clause-outcome c =
     let ok : IsOk (counts_with c.counts-base.result c.deref.result.now) = rw (← c.with_files.ensures, c.in_default.is) refl in
     let fits = fits_of p c.counts-base.result c.args.files.items c.deref.result.now base_is (c.deref.ensures.value ∙ kept) ok in
     let Behind : List FileDescriptorProto → Type 0 = λ new. IsBehind p new c.link.result (contents_in c.link.new.pool) in
-    let behind : Behind c.deref-2.result.now = record { ok = c.link.ensures.ok; told = c.link.ensures.faults; err = c.link.ensures.err; names = c.link.ensures.names } in
+    let behind : Behind c.keep_new.new.batch.items = record { ok = c.link.ensures.ok; told = c.link.ensures.faults; err = c.link.ensures.err; names = c.link.ensures.names } in
     let P : Contents → Type 0 = λ old. Outcome old c.args.files.items c.link.result (contents_in c.link.new.pool) in
-    subst P c.self.view_is (outcome_behind p c.args.files.items fits c.link.result (contents_in c.link.new.pool) (subst Behind (c.deref-2.ensures.value ∙ kept) behind))
+    subst P c.self.view_is (outcome_behind p c.args.files.items fits c.link.result (contents_in c.link.new.pool) (subst Behind kept behind))
 
 pub returns-clause-nothing_new : goal.returns-clause-nothing_new
 returns-clause-nothing_new c = λ nothing.

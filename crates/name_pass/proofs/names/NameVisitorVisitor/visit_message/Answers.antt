@@ -1,23 +1,20 @@
-use Rattle.std.proofs.Common.{List}
-use Rattle.pool_faults.specs.declared.fault.DescriptorErrorKind.{DescriptorErrorKind}
-use Rattle.proto_files.specs.declared.file.FileDescriptorProto.{FileDescriptorProto}
+use Rattle.std.proofs.Common.{List, ◌++◌, map, refl, ap, ◌∙◌}
 use Rattle.std.proofs.lemmas.Result.{on_ok_weaker}
+use Rattle.pool_types.specs.declared.contents.file.FileDescriptorInner.{FileDescriptorInner}
 use Rattle.proto_records.specs.Protos.{of_message}
 use Rattle.proto_records.specs.Shown.{Shown, shown_as}
 use Rattle.syntax_rules.specs.CamelCase.{message_own_faults}
-use Rattle.name_pass.specs.Entered.{own_entry}
-use Rattle.name_pass.specs.Seen.{names_seen}
-use Rattle.name_pass.specs.Steps.{entered}
-use Rattle.name_pass.proofs.Showing.{shown, with-own}
+use Rattle.name_pass.specs.State.{records_of}
+use Rattle.name_pass.proofs.Showing.{shown-own}
 use Rattle.name_pass.proofs.names.NameVisitorVisitor.visit_message.Goals as goal
 
 -- its name is entered, and what it breaks by itself is told
 pub returns-clause-ok : goal.returns-clause-ok
 returns-clause-ok c =
     let d : Shown = shown_as c.args.path.now c.args.full_name.now c.args.file c.args._parent c.args.index (of_message c.args.message.now) in
-    let old = names_seen c.args.self.now in
-    let here = names_seen c.enter_own.new.self in
-    let faults = c.check_camel_case_names.new.faults.items in
-    let own : List FileDescriptorProto → List DescriptorErrorKind = λ files. message_own_faults files c.args.file c.args.path.now c.args.message.now in
-    let is = with-own own here (entered old (own_entry d)) c.deref.result.now faults c.in_ok-enter_own.ensures.ok c.deref.ensures.value in
-    on_ok_weaker c.check_camel_case_names.result (λ told. shown old (record here { faults = faults }) d c.enter_own.ensures.kept c.requires (is told)) c.check_camel_case_names.ensures
+    let here = c.enter_own.new.self in
+    let stays = c.enter_own.ensures.stays in
+    let more = ap (λ (fs : List FileDescriptorInner). here.faults.now.items ++ message_own_faults (map (λ f. f.raw) fs) c.args.file c.args.path.now c.args.message.now) stays.files in
+    on_ok_weaker c.check_camel_case_names.result (λ told. shown-own c.args.self.now here d stays c.requires c.check_camel_case_names.new.faults
+    (message_own_faults (records_of c.args.self.now) c.args.file c.args.path.now c.args.message.now)
+    c.in_ok-enter_own.ensures.ok (told ∙ more) (λ state. refl)) c.check_camel_case_names.ensures

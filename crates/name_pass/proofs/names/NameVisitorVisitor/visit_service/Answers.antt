@@ -2,7 +2,6 @@ use Rattle.std.proofs.Common.{None}
 use Rattle.std.proofs.lemmas.Result.{on_ok_weaker}
 use Rattle.proto_records.specs.Protos.{of_service}
 use Rattle.proto_records.specs.Shown.{Shown, shown_as}
-use Rattle.name_pass.specs.Seen.{names_seen}
 use Rattle.name_pass.proofs.Showing.{shown}
 use Rattle.name_pass.proofs.names.NameVisitorVisitor.visit_service.Goals as goal
 
@@ -10,4 +9,4 @@ use Rattle.name_pass.proofs.names.NameVisitorVisitor.visit_service.Goals as goal
 pub returns-clause-ok : goal.returns-clause-ok
 returns-clause-ok c =
     let d : Shown = shown_as c.args.path.now c.args.full_name.now c.args.file None c.args.index (of_service c.args._service.now) in
-    on_ok_weaker c.enter_own.result (shown (names_seen c.args.self.now) (names_seen c.enter_own.new.self) d c.enter_own.ensures.kept c.requires) c.enter_own.ensures.ok
+    on_ok_weaker c.enter_own.result (shown c.args.self.now c.enter_own.new.self d c.enter_own.ensures.stays c.requires) c.enter_own.ensures.ok

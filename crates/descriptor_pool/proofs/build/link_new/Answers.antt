@@ -1,0 +1,86 @@
+use Rattle.std.proofs.Common.{subst, sym, ◌∙◌, rules}
+use Rattle.descriptor_pool.specs.Behind.{names_behind, references_behind}
+use Rattle.descriptor_pool.specs.Tells.{TellsAll, TellsFaults}
+use Rattle.pool_inner.specs.Held.{contents_in}
+use Rattle.descriptor_pool.proofs.Passed.{ok-is, tells-err}
+use Rattle.descriptor_pool.proofs.Stages.{before-seen, begin-seen, counts-added, counts-seen, few-files, imports-seen, items-seen, made-seen, names-told, places-lie, references-told, short-seen, told-first, told-second}
+use Rattle.descriptor_pool.proofs.build.link_new.Goals as goal
+
+-- what is new fits
+pub enter_names-requires : goal.enter_names-requires
+enter_names-requires c =
+    counts-added c.args.pool.now c.add_files.new.self c.add_files.new.self c.args.new.items c.requires.base c.requires.whole c.in_ok-add_files.ensures.ok c.add_files.ensures.kept c.requires.counts
+
+-- the first pass is refused with its faults
+pub returns-in_err-enter_names-clause-faults : goal.returns-in_err-enter_names-clause-faults
+returns-in_err-enter_names-clause-faults c =
+    let old = c.args.pool.now in
+    let new = c.args.new.items in
+    let e = c.in_err-enter_names.field-0.0 in
+    let told = names-told old c.add_files.new.self c.enter_names.new.pool new c.requires.base c.requires.whole c.in_ok-add_files.ensures.ok c.add_files.ensures.kept in
+    tells-err _ e _ (search rules)
+    (told-first e (names_behind (contents_in old.inner) new) (references_behind (contents_in old.inner) new) (subst (TellsFaults e) told c.in_err-enter_names.ensures.faults))
+
+-- there are no more files than fit
+pub see_files-requires-clause-few : goal.see_files-requires-clause-few
+see_files-requires-clause-few c =
+    few-files c.args.pool.now c.add_files.new.self c.enter_names.new.pool c.args.new.items c.requires.base c.requires.whole c.in_ok-add_files.ensures.ok c.add_files.ensures.kept
+    c.in_ok-enter_names.ensures.entered c.enter_names.ensures.kept c.requires.counts
+
+-- the names of files mean some of these
+pub see_files-requires-clause-places : goal.see_files-requires-clause-places
+see_files-requires-clause-places c =
+    places-lie c.args.pool.now c.add_files.new.self c.enter_names.new.pool c.args.new.items c.requires.base c.requires.whole c.in_ok-add_files.ensures.ok c.add_files.ensures.kept
+    c.in_ok-enter_names.ensures.entered c.enter_names.ensures.kept c.requires.before.1
+
+-- what is new still fits
+pub make_items-requires-clause-counts : goal.make_items-requires-clause-counts
+make_items-requires-clause-counts c =
+    counts-seen c.args.pool.now c.add_files.new.self c.enter_names.new.pool c.args.new.items c.requires.base c.requires.whole c.in_ok-add_files.ensures.ok c.add_files.ensures.kept
+    c.in_ok-enter_names.ensures.entered c.enter_names.ensures.kept c.see_files.new.self c.in_ok-see_files.ensures.ok c.see_files.ensures.kept c.requires.counts
+
+-- nothing but files and names came by now
+pub make_items-requires-clause-before : goal.make_items-requires-clause-before
+make_items-requires-clause-before c =
+    before-seen c.args.pool.now c.add_files.new.self c.enter_names.new.pool c.args.new.items c.requires.base c.requires.whole c.in_ok-add_files.ensures.ok c.add_files.ensures.kept
+    c.in_ok-enter_names.ensures.entered c.enter_names.ensures.kept c.see_files.new.self c.in_ok-see_files.ensures.ok c.see_files.ensures.kept
+
+-- the names of messages begin where they began
+pub make_items-requires-clause-names : goal.make_items-requires-clause-names
+make_items-requires-clause-names c =
+    begin-seen c.args.pool.now c.add_files.new.self c.enter_names.new.pool c.args.new.items c.requires.base c.requires.whole c.in_ok-add_files.ensures.ok c.add_files.ensures.kept
+    c.in_ok-enter_names.ensures.entered c.enter_names.ensures.kept c.see_files.new.self c.in_ok-see_files.ensures.ok c.see_files.ensures.kept c.requires.names
+
+-- no list of the files is too long
+pub make_items-requires-clause-short : goal.make_items-requires-clause-short
+make_items-requires-clause-short c =
+    short-seen c.args.pool.now c.add_files.new.self c.enter_names.new.pool c.args.new.items c.requires.base c.requires.whole c.in_ok-add_files.ensures.ok c.add_files.ensures.kept
+    c.in_ok-enter_names.ensures.entered c.enter_names.ensures.kept c.see_files.new.self c.in_ok-see_files.ensures.ok c.see_files.ensures.kept c.requires.short
+
+-- each new file has its syntax and its imports
+pub make_items-requires-clause-imports : goal.make_items-requires-clause-imports
+make_items-requires-clause-imports c =
+    imports-seen c.args.pool.now c.add_files.new.self c.enter_names.new.pool c.args.new.items c.requires.base c.requires.whole c.in_ok-add_files.ensures.ok c.add_files.ensures.kept
+    c.in_ok-enter_names.ensures.entered c.enter_names.ensures.kept c.see_files.new.self c.in_ok-see_files.ensures.ok c.see_files.ensures.kept
+
+-- the items will be those of what is declared
+pub make_items-requires-clause-items : goal.make_items-requires-clause-items
+make_items-requires-clause-items c =
+    items-seen c.args.pool.now c.add_files.new.self c.enter_names.new.pool c.args.new.items c.requires.base c.requires.whole c.in_ok-add_files.ensures.ok c.add_files.ensures.kept
+    c.in_ok-enter_names.ensures.entered c.enter_names.ensures.kept c.see_files.new.self c.in_ok-see_files.ensures.ok c.see_files.ensures.kept c.requires.made c.requires.counts
+
+pub returns-clause-ok : goal.returns-clause-ok
+returns-clause-ok c =
+    let made = made-seen c.args.pool.now c.add_files.new.self c.enter_names.new.pool c.args.new.items c.requires.base c.requires.whole c.in_ok-add_files.ensures.ok c.add_files.ensures.kept
+    c.in_ok-enter_names.ensures.entered c.enter_names.ensures.kept c.see_files.new.self c.in_ok-see_files.ensures.ok c.see_files.ensures.kept in
+    ok-is c.make_items.result _ _ _ made c.make_items.ensures.made
+
+pub returns-clause-faults : goal.returns-clause-faults
+returns-clause-faults c =
+    let p = contents_in c.args.pool.now.inner in
+    let new = c.args.new.items in
+    let first = names-told c.args.pool.now c.add_files.new.self c.enter_names.new.pool c.args.new.items c.requires.base c.requires.whole c.in_ok-add_files.ensures.ok c.add_files.ensures.kept in
+    let second = references-told c.args.pool.now c.add_files.new.self c.enter_names.new.pool c.args.new.items c.requires.base c.requires.whole c.in_ok-add_files.ensures.ok c.add_files.ensures.kept
+    c.in_ok-enter_names.ensures.entered c.enter_names.ensures.kept c.see_files.new.self c.in_ok-see_files.ensures.ok c.see_files.ensures.kept in
+    told-second c.make_items.result (names_behind p new) (references_behind p new) (sym first ∙ c.in_ok-enter_names.ensures.faults)
+    (subst (TellsAll c.make_items.result) second c.make_items.ensures.faults)

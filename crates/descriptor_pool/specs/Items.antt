@@ -1,0 +1,49 @@
+-- The items that the second pass makes of declarations, and files that are linked by them.
+use Rattle.std.specs.Prelude.{◌≡◌, List, ◌++◌, map, take, drop}
+use Rattle.std.specs.FinMap as finite
+use Rattle.std.specs.List.{filter_map}
+use Rattle.pool_types.specs.Contents.{Contents}
+use Rattle.pool_types.specs.declared.contents.file.FileDescriptorInner.{FileDescriptorInner}
+use Rattle.places.specs.Each.{each}
+use Rattle.proto_records.specs.Declarations.{declarations}
+use Rattle.syntax_rules.specs.Syntaxes.{syntax_of}
+use Rattle.pool_inner.specs.Held.{contents_in}
+use Rattle.growing_pool.specs.declared.growing.GrowingPool.{GrowingPool}
+use Rattle.growing_pool.specs.Growing.{new_records}
+use Rattle.reference_pass.specs.Linking.{ItemsAre, linked_item, lists_in}
+use Rattle.proto_records.specs.Protos.{as_message, as_enum, as_service, as_extension}
+use Rattle.proto_records.specs.Shown.{Shown, of_kind}
+use Rattle.enum_rules.specs.Items.{enum_item}
+use Rattle.link_rules.specs.Items.{message_item, service_item, extension_item}
+use Rattle.linked_records.specs.Setting.{Setting}
+use Rattle.reference_pass.specs.declared.items.NewItems.{NewItems}
+
+-- these are the items of declarations
+pub record HasItems (items : NewItems) (s : Setting) (ds : List Shown) : Type 0 where
+  pub messages : items.messages.items ≡ map (λ e. message_item s e.0 e.1) (of_kind as_message ds)
+  pub enums : items.enums.items ≡ map (λ e. enum_item e.0 e.1) (of_kind as_enum ds)
+  pub services : items.services.items ≡ map (λ e. service_item s e.0 e.1) (of_kind as_service ds)
+  pub extensions : items.extensions.items ≡ map (λ e. extension_item s e.0 e.1) (of_kind as_extension ds)
+
+-- a pool with new items behind its own
+abbrev pub with_new_items : Contents → NewItems → Contents
+with_new_items p items = record p {
+  messages = p.messages ++ items.messages.items;
+  enums = p.enums ++ items.enums.items;
+  services = p.services ++ items.services.items;
+  extensions = p.extensions ++ items.extensions.items;
+}
+
+-- a new file has its syntax and the files that it imports
+pub record HasImports (s : Setting) (f : FileDescriptorInner) : Type 0 where
+  pub syntax : f.syntax ≡ syntax_of f.raw
+  pub imports : f.dependencies ≡ filter_map (finite.get s.file_names) f.raw.dependency
+
+-- all files, where the records of those that came are linked
+abbrev pub with_linked : Setting → GrowingPool → List FileDescriptorInner
+with_linked s p = take p.base.files p.inner.files.items ++ each (linked_item s) p.base.files (drop p.base.files p.inner.files.items)
+
+-- the files that came are linked, where the items are those of what they declare
+pub record LinksNew (old new : GrowingPool) : Type 0 where
+  pub by : (s : Setting) → ItemsAre s (lists_in (contents_in old.inner)) (declarations old.base (new_records old))
+      → contents_in new.inner ≡ record (contents_in old.inner) { files = with_linked s old }

@@ -1,0 +1,9 @@
+-- New files before they are linked.
+use Rattle.std.specs.Prelude.{[]}
+use Rattle.pool_types.specs.declared.contents.file.FileDescriptorInner.{FileDescriptorInner}
+use Rattle.proto_files.specs.declared.file.FileDescriptorProto.{FileDescriptorProto}
+use Rattle.syntax_rules.specs.Syntaxes.{syntax_of}
+
+-- a file as it is, of which nothing but its syntax is known
+abbrev pub unlinked : FileDescriptorProto → FileDescriptorInner
+unlinked f = record { syntax = syntax_of f; raw = f; dependencies = []; transitive_dependencies = record { keys = [] } }

@@ -1,0 +1,44 @@
+use Rattle.std.proofs.Common.{◌≡◌, ◌++◌, ◌∷◌, [], ap, ◌∙◌}
+use Rattle.std.specs.Option.{option_and_then, option_map_or}
+use Rattle.proto_types.specs.declared.tag.field.TheConstants.{TYPE_NAME}
+use Rattle.proto_types.specs.Lists.{listed}
+use Rattle.proto_records.specs.Protos.{of_field}
+use Rattle.proto_records.specs.Shown.{Shown}
+use Rattle.pool_parts.specs.declared.filter.ResolveNameFilter.TheVariants.{FieldType}
+use Rattle.pool_parts.specs.Kinds.{named_kind}
+use Rattle.pool_parts.specs.References.{reference_fault}
+use Rattle.pool_parts.specs.Resolution.{kind_found, resolution_in}
+use Rattle.places.specs.Places.{shown_at}
+use Rattle.default_rules.specs.Defaults.{default_faults}
+use Rattle.linked_records.specs.Setting.{meaning}
+use Rattle.link_rules.specs.Defaults.{default_by, enum_found}
+use Rattle.link_rules.specs.FieldTypes.{type_meaning}
+use Rattle.link_rules.specs.Reading.{setting_of}
+use Rattle.link_rules.proofs.Readings.{reads-as, reads-two, same-setting}
+use Rattle.link_rules.proofs.types.named_type.Goals as goal
+
+-- the default is read with the meaning that gave the kind
+pub returns-clause-default : goal.returns-clause-default
+returns-clause-default c =
+    let s = setting_of c.args.reading.now in
+    let f = c.args.field.now in
+    let d : Shown = shown_at c.args.place (of_field f) in
+    let same = same-setting c.in_ok-meaning.ensures.faults in
+    let means : resolution_in c.in_ok-meaning.meaning ≡ type_meaning s d f = c.in_ok-meaning.ensures.meaning ∙ ap (meaning s d.file d.full_name FieldType) c.type_name.ensures in
+    let kind = c.meant_kind-kind.ensures ∙ (λ j. option_and_then (named_kind (c.field_type.ensures j)) (kind_found (means j))) in
+    c.in_ok-default.ensures.value ∙ (λ j. default_by (kind j) (enum_found (same j) (means j)) f.default_value)
+
+-- the type is judged first, and then the default
+pub returns-clause-faults : goal.returns-clause-faults
+returns-clause-faults c =
+    let s = setting_of c.args.reading.now in
+    let f = c.args.field.now in
+    let d : Shown = shown_at c.args.place (of_field f) in
+    let same = same-setting c.in_ok-meaning.ensures.faults in
+    let means : resolution_in c.in_ok-meaning.meaning ≡ type_meaning s d f = c.in_ok-meaning.ensures.meaning ∙ ap (meaning s d.file d.full_name FieldType) c.type_name.ensures in
+    let kind = c.meant_kind-kind.ensures ∙ (λ j. option_and_then (named_kind (c.field_type.ensures j)) (kind_found (means j))) in
+    reads-two
+    (reads-as (ap (λ written. listed (reference_fault s.files written d.file (d.path ++ TYPE_NAME ∷ []) (meaning s d.file d.full_name FieldType written))) c.type_name.ensures)
+    c.in_ok-meaning.ensures.faults)
+    (reads-as (λ j. option_map_or (λ k. default_faults (same j).files d.file d.path k (enum_found (same j) (means j)) f.default_value) (kind j) [])
+    c.in_ok-default.ensures.faults)

@@ -1,0 +1,128 @@
+ghost use Rattle.std.specs.Prelude.{◌≡◌, ◌++◌, ◌∷◌, [], IfOk, OnOk};
+ghost use Rattle.proto_types.specs.Lists.{listed};
+ghost use Rattle.pool_parts.specs.References.{reference_fault};
+ghost use Rattle.pool_parts.specs.Resolution.{resolution_in};
+ghost use Rattle.linked_records.specs.Setting.{meaning};
+ghost use Rattle.linked_records.specs.SettingCode.{setting_in};
+ghost use Rattle.places.specs.Tells.{Tells, named_files};
+
+use linked_records::Setting;
+use name_tables::{FileNames, HashedNames};
+use places::{Findings, Place};
+use pool_parts::{ResolveNameFilter, ResolveNameResult};
+use std::alloc::AllocError;
+
+/// What declarations are read with: the files that labels name, the faults that are found, and what
+/// names mean.
+#[derive(Drop)]
+pub struct Reading<'a> {
+    pub findings: Findings<'a>,
+    pub names: &'a HashedNames,
+    pub file_names: &'a FileNames,
+}
+
+impl<'a> Reading<'a> {
+    ghost use Rattle.link_rules.specs.Reading.{Reads, setting_of};
+
+    /// What declarations are read against.
+    pub(crate) fn setting(&self) -> Setting<'a>
+        ensures { setting_in result ≡ setting_of self.now }
+    {
+        Setting {
+            files: self.findings.files,
+            names: self.names,
+            file_names: self.file_names,
+        }
+    }
+
+    /// What a name means that a declaration writes.
+    ///
+    /// # Errors
+    /// `AllocError` where memory was refused.
+    pub fn resolve(
+        &self,
+        place: Place,
+        filter: ResolveNameFilter,
+        written: &str,
+    ) -> Result<ResolveNameResult<'a>, AllocError>
+        ensures { IfOk result (λ r. resolution_in r
+            ≡ meaning (setting_of self.now) place.entry.file place.entry.full_name.now
+            filter written.now) }
+    {
+        let alloc = self.findings.alloc;
+        self.setting()
+            .meaning(alloc, place.file, place.full_name, filter, written)
+    }
+
+    /// The same of the part of a declaration with a tag. Where it isn't found, that is appended to
+    /// `faults`.
+    ///
+    /// # Errors
+    /// `AllocError` where memory was refused.
+    pub fn resolve_checked(
+        &mut self,
+        place: Place,
+        tag: i32,
+        filter: ResolveNameFilter,
+        written: &str,
+    ) -> Result<ResolveNameResult<'a>, AllocError>
+        ensures meaning { IfOk result (λ r. resolution_in r
+            ≡ meaning (setting_of self.old) place.entry.file place.entry.full_name.now
+            filter written.now) }
+        ensures faults { OnOk result (Reads self.old self.new
+            (listed (reference_fault (setting_of self.old).files written.now place.entry.file
+            (place.entry.path.now ++ tag ∷ []) (meaning (setting_of self.old)
+            place.entry.file place.entry.full_name.now filter written.now)))) }
+    {
+        let meaning = self.resolve(place, filter, written)?;
+        check_found(&mut self.findings, place, tag, written, &meaning)?;
+        Ok(meaning)
+    }
+
+    /// What the part of a declaration with a tag means, which names a message. Where it names none,
+    /// that is appended to `faults`.
+    ///
+    /// # Errors
+    /// `AllocError` where memory was refused.
+    pub fn resolve_message(
+        &mut self,
+        place: Place,
+        tag: i32,
+        written: &str,
+    ) -> Result<ResolveNameResult<'a>, AllocError>
+        ensures meaning { IfOk result (λ r. resolution_in r
+            ≡ meaning (setting_of self.old) place.entry.file place.entry.full_name.now
+            ResolveNameFilter.Message written.now) }
+        ensures faults { OnOk result (Reads self.old self.new
+            (listed (reference_fault (setting_of self.old).files written.now place.entry.file
+            (place.entry.path.now ++ tag ∷ []) (meaning (setting_of self.old)
+            place.entry.file place.entry.full_name.now ResolveNameFilter.Message written.now)))) }
+    {
+        self.resolve_checked(place, tag, ResolveNameFilter::Message, written)
+    }
+}
+
+/// Appends to `faults` that of a reference, in the part of a declaration with a tag, which isn't
+/// found.
+fn check_found(
+    findings: &mut Findings,
+    place: Place,
+    tag: i32,
+    written: &str,
+    meaning: &ResolveNameResult,
+) -> Result<(), AllocError>
+    ensures { OnOk result (Tells findings.old findings.new
+        (listed (reference_fault (named_files findings.old) written.now place.entry.file
+        (place.entry.path.now ++ tag ∷ []) (resolution_in meaning.now)))) }
+{
+    if meaning.is_found() {
+        return Ok(());
+    }
+    let (alloc, files) = (findings.alloc, findings.files);
+    let mut path = Vec::from_slice(alloc, place.path)?;
+    path.push(tag)?;
+    if let Some(fault) = meaning.fault(alloc, written, files, place.file, &path)? {
+        findings.push(fault)?;
+    }
+    Ok(())
+}

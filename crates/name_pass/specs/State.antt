@@ -1,0 +1,35 @@
+-- What the first pass holds, as its definitions have it.
+use Rattle.std.specs.Prelude.{◌≡◌, ℕ, List, [], ◌∷◌, length, map, take}
+use Rattle.name_tables.specs.NameTables.{file_names_before, without_files_from}
+use Rattle.pool_types.specs.Contents.{Contents, no_contents}
+use Rattle.proto_files.specs.declared.file.FileDescriptorProto.{FileDescriptorProto}
+use Rattle.name_pass.specs.declared.names.NameVisitor.{NameVisitor}
+use Rattle.name_pass.specs.Steps.{NameState}
+
+abbrev pub state_of : NameVisitor → NameState
+state_of v = record { names = v.names.now; file_names = v.file_names.now; faults = v.faults.now.items }
+
+-- the records that labels name
+abbrev pub records_of : NameVisitor → List FileDescriptorProto
+records_of v = map (λ f. f.raw) v.files.now
+
+-- the index of the first new file
+abbrev pub first_new : NameVisitor → ℕ
+first_new v = length (take v.first v.files.now)
+
+-- what a roll-back leaves of files and names
+abbrev pub kept_of : NameVisitor → Contents
+kept_of v = record no_contents {
+  files = take v.first v.files.now;
+  names = without_files_from (first_new v) v.names.now;
+  file_names = file_names_before (first_new v) v.file_names.now;
+}
+
+abbrev pub borrows_of : NameVisitor → List ℕ
+borrows_of v = v.names.ghost_name ∷ v.file_names.ghost_name ∷ v.faults.ghost_name ∷ []
+
+-- nothing changes but names and faults, and what a roll-back leaves stays
+pub record Stays (old new : NameVisitor) : Type 0 where
+  pub files : new.files.now ≡ old.files.now
+  pub kept : kept_of new ≡ kept_of old
+  pub borrows : borrows_of new ≡ borrows_of old

@@ -1,0 +1,10 @@
+use Rattle.std.proofs.Common.{subst, sym}
+use Rattle.std.proofs.lemmas.List.Elements.{All-push}
+use Rattle.std.specs.List.{All}
+use Rattle.link_rules.specs.NamesBegin.{MessageNamesBegin}
+use Rattle.reference_pass.proofs.items.NewItems.push_message.Goals as goal
+
+-- the names of one more message begin where a character begins
+pub returns-clause-names : goal.returns-clause-names
+returns-clause-names c = λ old own.
+    subst (All MessageNamesBegin) (sym c.in_ok-push.ensures.items) (All-push MessageNamesBegin c.args.self.now.messages.items c.args.message old own)

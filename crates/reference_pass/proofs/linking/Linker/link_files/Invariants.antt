@@ -1,0 +1,7 @@
+use Rattle.reference_pass.specs.Linking.{lists_of}
+use Rattle.reference_pass.proofs.ByItems.{FilesSoFar}
+use Rattle.reference_pass.proofs.linking.Linker.link_files.Given as goal
+
+-- those before the index are linked, and the others are as they were
+abbrev pub invariant-loop-index : goal.invariant-loop-index
+invariant-loop-index l = FilesSoFar (lists_of l.self) l.fn.next l.next l.fn.files l.index l.files
