@@ -62,6 +62,7 @@ impl GrowingPool {
             { files = self.old.inner.files.items ++ map unlinked new.items }) }
         ensures kept { kept_in self.new ≡ kept_in self.old }
     {
+        self.inner.files.reserve(new.len())?;
         for file in new {
             self.inner.files.push(unlinked(alloc, file))?;
         }
