@@ -1,4 +1,4 @@
-ghost use Rattle.std.specs.Prelude.{◌≡◌, IfOk};
+ghost use Rattle.std.specs.Prelude.{◌≡◌, ◌≤ℤ◌, pos, IfOk};
 ghost use Rattle.proto_types.specs.Readers.{text_of, number_of, flag_of, label_of, type_of};
 ghost use Rattle.proto_types.specs.Empty.{no_field};
 
@@ -25,35 +25,78 @@ pub struct FieldDescriptorProto {
     pub proto3_optional: Option<bool>,
 }
 
-/// How often a field stands in a message.
+/// How often a field stands in a message, by descriptor.proto's numbers.
 #[derive(Clone, Copy, PartialEq, Debug)]
 pub enum FieldLabel {
-    Optional,
-    Required,
-    Repeated,
+    Optional = 1,
+    Required = 2,
+    Repeated = 3,
 }
 
-/// The type of a field as it is written.
+/// The type of a field as it is written, by descriptor.proto's numbers.
 #[derive(Clone, Copy, PartialEq, Debug)]
 pub enum FieldType {
-    Double,
-    Float,
-    Int64,
-    Uint64,
-    Int32,
-    Fixed64,
-    Fixed32,
-    Bool,
-    String,
-    Group,
-    Message,
-    Bytes,
-    Uint32,
-    Enum,
-    Sfixed32,
-    Sfixed64,
-    Sint32,
-    Sint64,
+    Double = 1,
+    Float = 2,
+    Int64 = 3,
+    Uint64 = 4,
+    Int32 = 5,
+    Fixed64 = 6,
+    Fixed32 = 7,
+    Bool = 8,
+    String = 9,
+    Group = 10,
+    Message = 11,
+    Bytes = 12,
+    Uint32 = 13,
+    Enum = 14,
+    Sfixed32 = 15,
+    Sfixed64 = 16,
+    Sint32 = 17,
+    Sint64 = 18,
+}
+
+impl FieldLabel {
+    ghost use Rattle.std.specs.Prelude.{Some};
+
+    /// The label's number in descriptor.proto, from 1 to 3, which a field's record has.
+    pub fn number(self) -> i32
+        ensures reads { label_of (Some result) ≡ self }
+        ensures known { (pos 1 ≤ℤ result) × (result ≤ℤ pos 3) }
+    {
+        self as i32
+    }
+}
+
+impl FieldType {
+    ghost use Rattle.std.specs.Prelude.{Some};
+
+    /// The type's number in descriptor.proto, from 1 to 18, which a field's record has.
+    pub fn number(self) -> i32
+        ensures reads { type_of (Some result) ≡ self }
+        ensures known { (pos 1 ≤ℤ result) × (result ≤ℤ pos 18) }
+    {
+        match self {
+            FieldType::Double => 1,
+            FieldType::Float => 2,
+            FieldType::Int64 => 3,
+            FieldType::Uint64 => 4,
+            FieldType::Int32 => 5,
+            FieldType::Fixed64 => 6,
+            FieldType::Fixed32 => 7,
+            FieldType::Bool => 8,
+            FieldType::String => 9,
+            FieldType::Group => 10,
+            FieldType::Message => 11,
+            FieldType::Bytes => 12,
+            FieldType::Uint32 => 13,
+            FieldType::Enum => 14,
+            FieldType::Sfixed32 => 15,
+            FieldType::Sfixed64 => 16,
+            FieldType::Sint32 => 17,
+            FieldType::Sint64 => 18,
+        }
+    }
 }
 
 impl FieldDescriptorProto {
