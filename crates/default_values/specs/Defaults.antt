@@ -1,6 +1,5 @@
 -- Default values, as descriptor.proto's `default_value` writes them.
-use Rattle.std.specs.Prelude.{◌≡◌, ℕ, ℤ, unsigned_abs, Bool, true, false, List, codes, if◌then◌else◌}
-use Rattle.std.specs.Str.{bytes_eq}
+use Rattle.std.specs.Prelude.{◌≡◌, ℕ, ℤ, unsigned_abs, Bool, true, false, List}
 use Rattle.std.specs.Option.{option_map, ok_or}
 use Rattle.std.specs.Result.{result_map_both}
 use Rattle.std.specs.declared.result.Result.{Result}
@@ -14,6 +13,7 @@ use Rattle.default_values.specs.declared.faults.EscapeFault.TheVariants as escap
 use Rattle.default_values.specs.declared.faults.ValueFault.{ValueFault}
 use Rattle.default_values.specs.declared.faults.ValueFault.TheVariants as fault
 use Rattle.default_values.specs.WholeNumbers.{whole_signed, whole_unsigned}
+use Rattle.default_values.specs.TruthValues.{truth_value}
 use Rattle.default_values.specs.Escapes.{unescaped}
 
 -- a whole number of so many bits, with a sign
@@ -26,7 +26,7 @@ unsigned_in bits text = ok_or (option_map unsigned_abs (whole_unsigned bits text
 
 -- a truth value
 abbrev pub truth_in : List ℕ → Result Bool ValueFault
-truth_in text = if bytes_eq text (codes "true") then Ok true else (if bytes_eq text (codes "false") then Ok false else Err fault.Bool)
+truth_in text = ok_or (truth_value text) fault.Bool
 
 -- the fault of a value whose escapes are refused
 abbrev pub value_fault : EscapeFault → ValueFault

@@ -3,3 +3,4 @@ pub mod EscapeCode
 pub mod WholeNumbers
 pub mod Defaults
 pub mod Equality
+pub mod TruthValues

@@ -5,6 +5,7 @@ ghost use Rattle.default_values.specs.Defaults as spec;
 
 use crate::escapes::unescape_c_escape_string;
 use crate::faults::ValueFault;
+use crate::words::{parse_bool, parse_int32};
 use plain_values::{Items, Text};
 use pool_kinds::{DefaultValue, KindIndex};
 use std::alloc::Global;
@@ -54,7 +55,7 @@ pub fn parse_simple_value(
 fn int32(text: &str) -> Result<i32, ValueFault>
     ensures { result ≡ spec.signed_in 32 text.now }
 {
-    text.parse::<i32>().ok().ok_or(ValueFault::Number)
+    parse_int32(text).ok_or(ValueFault::Number)
 }
 
 /// A whole number of 64 bits with a sign.
@@ -82,9 +83,5 @@ fn uint64(text: &str) -> Result<u64, ValueFault>
 fn truth(text: &str) -> Result<bool, ValueFault>
     ensures { result ≡ spec.truth_in text.now }
 {
-    match text {
-        "true" => Ok(true),
-        "false" => Ok(false),
-        _ => Err(ValueFault::Bool),
-    }
+    parse_bool(text).ok_or(ValueFault::Bool)
 }

@@ -1,3 +1,4 @@
 pub mod Answers
 pub mod Session
 pub mod Code
+pub mod Obeyed

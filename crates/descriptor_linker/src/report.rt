@@ -1,13 +1,14 @@
 ghost use Rattle.std.specs.Prelude.{◌≡◌, ◌≢◌, true, false, None, IfOk, string_bytes};
-ghost use Rattle.std.specs.List.{fold};
 ghost use Rattle.link_script.specs.Script.Reading.{script};
-ghost use Rattle.descriptor_linker.specs.Report.Session.{new_session, report, step};
+ghost use Rattle.descriptor_linker.specs.Report.Code.{session_in};
+ghost use Rattle.descriptor_linker.specs.Report.Obeyed.{IsObeyed};
+ghost use Rattle.descriptor_linker.specs.Report.Session.{report};
 
 mod answers;
 mod relink;
 mod session;
 
-use link_script::{Script, Statement, read_script};
+use link_script::{ScriptError, ScriptReader};
 use script_answers::tell_fault;
 use session::Session;
 use std::alloc::{AllocError, Global};
@@ -26,25 +27,29 @@ pub fn report_of(alloc: Global, bytes: &[u8]) -> Result<Report, AllocError>
     ensures fault { IfOk result (λ r. (r.has_fault ≡ false → (script bytes.now).fault ≡ None)
         × (r.has_fault ≡ true → (script bytes.now).fault ≢ None)) }
 {
-    let Script { statements, fault } = read_script(alloc, bytes)?;
-    let mut text = told_by(alloc, statements.into_vec())?;
-    if let Some((line, fault)) = fault {
-        tell_fault(&mut text, line, fault)?;
-    }
-    Ok(Report {
-        text,
-        has_fault: fault.is_some(),
-    })
+    let mut session = Session::new(alloc);
+    let ended = obey(&mut session, &mut ScriptReader::new(alloc, bytes));
+    let mut text = session.told;
+    let has_fault = match ended {
+        Ok(()) => false,
+        Err(ScriptError::Fault(line, fault)) => {
+            tell_fault(&mut text, line, fault)?;
+            true
+        }
+        Err(ScriptError::OutOfMemory) => return Err(AllocError),
+    };
+    Ok(Report { text, has_fault })
 }
 
-/// What the commands among statements tell, in order.
-fn told_by(alloc: Global, statements: Vec<Statement>) -> Result<String, AllocError>
-    ensures { IfOk result (λ told. string_bytes told
-        ≡ (fold step new_session statements.items).told) }
+/// Does what the statements that are left of a script say, each as it is read.
+///
+/// # Errors
+/// `Fault` with the fault behind the statements, and `OutOfMemory` where memory was refused.
+fn obey(session: &mut Session, script: &mut ScriptReader<'_>) -> Result<(), ScriptError>
+    ensures { IsObeyed script.old (session_in session.old) result (session_in session.new) }
 {
-    let mut session = Session::new(alloc);
-    for statement in statements {
+    while let Some(statement) = script.next()? {
         session.step(statement)?;
     }
-    Ok(session.told)
+    Ok(())
 }

@@ -147,6 +147,16 @@ impl DescriptorPool {
         }
     }
 
+    /// The files of the pool, in the order of linking. What their linked records declare fits into a
+    /// pool, as `Counts::of` tells.
+    #[tactic(auto, using(crate::proofs::Sound::fits_again))]
+    pub fn files(&self) -> &[FileDescriptorInner]
+        ensures files { result.now ≡ self.now.files }
+        ensures fit { IsOk (counts_with no_counts (files_of self.now)) }
+    {
+        self.inner.files.as_slice()
+    }
+
     /// The linked records of the pool's files, in the order of linking. In them each reference that
     /// is resolved is a dot and the full name of its definition, which the pool has. What they
     /// declare fits into a pool, as `Counts::of` tells.

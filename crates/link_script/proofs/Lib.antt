@@ -1,6 +1,5 @@
 pub mod Rest
 pub mod NumberLists
 pub mod Words
-pub mod Numbers
 pub mod Reading
 pub mod LastStated

@@ -1,5 +1,5 @@
 -- What lines say, one after another.
-use Rattle.std.proofs.Common.{◌≡◌, ℕ, suc, Bool, true, false, cond, not, List, [], ◌∷◌, ◌++◌, refl, ap, sym, ◌∙◌, append_assoc, add-one, ◌+◌, Some, None, Result, Ok, Err}
+use Rattle.std.proofs.Common.{◌≡◌, ℕ, suc, Bool, true, false, cond, not, List, ◌∷◌, ◌++◌, refl, ap, sym, ◌∙◌, add-one, ◌+◌, Option, Some, None, is_some, Result, Ok, Err}
 use Rattle.std.specs.Str.{IsUtf8, is_utf8}
 use Rattle.std.proofs.lemmas.Str.{IsUtf8-from_is_utf8, is_utf8-from_IsUtf8}
 use Rattle.link_script.specs.declared.script.statement.Statement.{Statement}
@@ -9,6 +9,7 @@ use Rattle.link_script.specs.declared.script.statement.ScriptFault.TheVariants.{
 use Rattle.link_script.specs.Script.Words.{lines, words}
 use Rattle.link_script.specs.Script.Keywords.{Standing, standing_after}
 use Rattle.link_script.specs.Script.Answers.{after_line}
+use Rattle.link_script.specs.Script.Left.{IsNext}
 use Rattle.link_script.specs.Script.Reading as spec
 
 pub line_said-text : (here : Standing) (line text : List ℕ) → (text ≡ line) × IsUtf8 line → spec.of_words here text (words text) ≡ spec.line_said here line
@@ -27,14 +28,19 @@ line_said-broken here line h = ap (λ b. cond b (Err BadText) (spec.of_words her
 abbrev pub behind : List Statement → Script → Script
 behind before said = record said { statements = before ++ said.statements }
 
-abbrev Behind : Type 0
-Behind = Result (List Statement × Standing) ScriptFault
+abbrev After : Type 0
+After = Result (Option Statement × Standing) ScriptFault
 
-err-ok : (fault : ScriptFault) (p : List Statement × Standing) → (r : Behind) → r ≡ Err fault → r ≡ Ok p → ⊥
+err-ok : (fault : ScriptFault) (p : Option Statement × Standing) → (r : After) → r ≡ Err fault → r ≡ Ok p → ⊥
 err-ok fault p r e h = cc
 
-ok-ok : (p q : List Statement × Standing) → (r : Behind) → r ≡ Ok p → r ≡ Ok q → p ≡ q
+ok-ok : (p q : Option Statement × Standing) → (r : After) → r ≡ Ok p → r ≡ Ok q → p ≡ q
 ok-ok p q r e h = cc
+
+-- a script behind what a line says
+abbrev pub with_said : Option Statement → Script → Script
+with_said None said = said
+with_said (Some s) said = spec.after_statement s said
 
 -- what the lines from a line on say, by what that line says
 abbrev saying : ℕ → Standing → List (List ℕ) → spec.Line → Script
@@ -42,19 +48,26 @@ saying n here rest (Err fault) = spec.faulty n fault
 saying n here rest (Ok None) = spec.said_from (suc n) here rest
 saying n here rest (Ok (Some s)) = spec.after_statement s.1 (spec.said_from (suc n) (standing_after here s.0) rest)
 
-step : (n : ℕ) (before after : List Statement) (here opened : Standing) (rest : List (List ℕ)) (said : spec.Line)
-    → after_line said before here ≡ Ok (after, opened) → behind before (saying n here rest said) ≡ behind after (spec.said_from (suc n) opened rest)
-step n before after here opened rest (Err fault) h = absurd (err-ok fault _ _ refl h)
-step n before after here opened rest (Ok None) h = let e = ok-ok _ _ _ refl h in λ i. behind (e i).0 (spec.said_from (suc n) (e i).1 rest)
-step n before after here opened rest (Ok (Some s)) h =
-    let e = ok-ok _ _ _ refl h in
-    ap (λ ss. record (spec.said_from (suc n) (standing_after here s.0) rest) { statements = ss }) (sym (append_assoc before (s.1 ∷ []) (spec.said_from (suc n) (standing_after here s.0) rest).statements))
-    ∙ (λ i. behind (e i).0 (spec.said_from (suc n) (e i).1 rest))
+step : (n : ℕ) (here opened : Standing) (rest : List (List ℕ)) (said : Option Statement) (line : spec.Line)
+    → after_line line here ≡ Ok (said, opened) → saying n here rest line ≡ with_said said (spec.said_from (suc n) opened rest)
+step n here opened rest said (Err fault) h = absurd (err-ok fault _ _ refl h)
+step n here opened rest said (Ok None) h = let e = ok-ok _ _ _ refl h in λ i. with_said (e i).0 (spec.said_from (suc n) (e i).1 rest)
+step n here opened rest said (Ok (Some s)) h = let e = ok-ok _ _ _ refl h in λ i. with_said (e i).0 (spec.said_from (suc n) (e i).1 rest)
 
 -- a line that is read, and the lines behind it
-pub said_from-line : (n : ℕ) (before after : List Statement) (here opened : Standing) (left line rest : List ℕ) → lines left ≡ line ∷ lines rest
-    → after_line (spec.line_said here line) before here ≡ Ok (after, opened) → behind before (spec.said_from n here (lines left)) ≡ behind after (spec.said_from (n + 1) opened (lines rest))
-said_from-line n before after here opened left line rest first h =
-    ap (λ ls. behind before (spec.said_from n here ls)) first
-    ∙ step n before after here opened (lines rest) (spec.line_said here line) h
-    ∙ ap (λ k. behind after (spec.said_from k opened (lines rest))) (sym (add-one n))
+pub said_from-line : (n : ℕ) (here opened : Standing) (left line rest : List ℕ) (said : Option Statement) → lines left ≡ line ∷ lines rest
+    → after_line (spec.line_said here line) here ≡ Ok (said, opened) → spec.said_from n here (lines left) ≡ with_said said (spec.said_from (n + 1) opened (lines rest))
+said_from-line n here opened left line rest said first h =
+    ap (spec.said_from n here) first
+    ∙ step n here opened (lines rest) said (spec.line_said here line) h
+    ∙ ap (λ k. with_said said (spec.said_from k opened (lines rest))) (sym (add-one n))
+
+-- what is left behind a line that says a statement
+pub next-said : (old after : Script) (said : Option Statement) → is_some said ≡ true → old ≡ with_said said after → IsNext old (Ok said) after
+next-said old after (Some s) some is = is
+next-said old after None some is = absurd (cc)
+
+-- a line that says nothing leaves all that was left
+pub none-said : (old after : Script) (said : Option Statement) → is_some said ≡ false → old ≡ with_said said after → after ≡ old
+none-said old after (Some s) none is = absurd (cc)
+none-said old after None none is = sym is

@@ -3,4 +3,5 @@ pub mod Keywords
 pub mod Arguments
 pub mod Answers
 pub mod Reading
+pub mod Left
 pub mod Faults

@@ -5,4 +5,6 @@ mod building;
 mod script;
 
 pub use building::Open;
-pub use script::{Block, Keyword, Script, ScriptFault, Statement, read_script};
+pub use script::{
+    Block, Keyword, Script, ScriptError, ScriptFault, ScriptReader, Statement, read_script,
+};

@@ -11,5 +11,5 @@ mod statement;
 mod values;
 mod words;
 
-pub use reading::read_script;
-pub use statement::{Block, Keyword, Script, ScriptFault, Statement};
+pub use reading::{ScriptReader, read_script};
+pub use statement::{Block, Keyword, Script, ScriptError, ScriptFault, Statement};

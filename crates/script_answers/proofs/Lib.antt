@@ -1,1 +1,2 @@
 pub mod OneFits
+pub mod FileNamed

@@ -1,18 +1,20 @@
 //! What the commands of a script answer.
 
 ghost use Rattle.std.specs.Prelude.{◌≡◌, ◌++◌, IsOk, OnOk, map, string_bytes};
+ghost use Rattle.std.specs.List.{find};
 ghost use Rattle.std.specs.Option.{option_copied};
+ghost use Rattle.std.specs.Str.{bytes_eq};
+ghost use Rattle.proto_types.specs.Readers.{text_of};
 ghost use Rattle.proto_records.specs.Counts.{no_counts};
 ghost use Rattle.proto_records.specs.Fits.{counts_with};
 ghost use Rattle.record_references.specs.Code.{reference_of};
 ghost use Rattle.script_answers.specs.Answers as spec;
 
-use declaration_lists::list_declarations;
+use declaration_lists::Lister;
 use link_script::ScriptFault;
 use pool_faults::{DescriptorErrorKind, Labelled};
-use pool_types::{Definition, DefinitionKind};
-use proto_files::FileDescriptorProto;
-use proto_records::{CountKind, Counts, Declaration, DeclarationKind};
+use pool_types::{Definition, DefinitionKind, FileDescriptorInner};
+use proto_records::{CountKind, Counts, Declaration, DeclarationKind, walk};
 use record_references::{Reference, references};
 use std::alloc::{AllocError, Global};
 use std::fmt;
@@ -168,15 +170,16 @@ fn tell_declarations(told: &mut String, list: &[Declaration]) -> Result<(), Allo
     Ok(())
 }
 
-/// Tells what files declare, which must fit into a pool, as `Counts::of` tells.
+/// Tells what the linked records of files declare, which must fit into a pool, as `Counts::of`
+/// tells.
 pub fn tell_walk(
     alloc: Global,
     told: &mut String,
-    files: &[FileDescriptorProto],
+    files: &[FileDescriptorInner],
 ) -> Result<(), AllocError>
-    requires { IsOk (counts_with no_counts files.now) }
+    requires { IsOk (counts_with no_counts (map (λ f. f.raw) files.now)) }
     ensures { OnOk result (string_bytes told.new ≡ string_bytes told.old
-        ++ spec.walk_answer files.now) }
+        ++ spec.walk_answer (map (λ f. f.raw) files.now)) }
 {
     let base = Counts {
         files: 0,
@@ -185,14 +188,17 @@ pub fn tell_walk(
         services: 0,
         extensions: 0,
     };
-    tell_declarations(told, &list_declarations(alloc, base, files)?)
+    let mut lister = Lister::new(alloc);
+    walk(alloc, base, files, &mut lister)?;
+    tell_declarations(told, lister.declarations())
 }
 
 /// The first file with a name.
-fn file_named<'a>(files: &'a [FileDescriptorProto], name: &str) -> Option<&'a FileDescriptorProto>
-    ensures { option_copied result ≡ spec.file_named files.now name.now }
+fn file_named<'a>(files: &'a [FileDescriptorInner], name: &str) -> Option<&'a FileDescriptorInner>
+    ensures { option_copied result
+        ≡ find (λ f. bytes_eq (text_of f.raw.name) name.now) files.now }
 {
-    files.iter().find(|file| file.name() == name)
+    files.iter().find(|file| file.raw.name() == name)
 }
 
 /// Tells a reference: the declaration that refers, the part of its record, and the text there.
@@ -219,22 +225,22 @@ fn tell_references(told: &mut String, list: &[Reference]) -> Result<(), AllocErr
     Ok(())
 }
 
-/// Tells to what the first file with a name refers. What the files declare must fit into a pool, as
-/// `Counts::of` tells.
+/// Tells to what the linked record of the first file with a name refers. What the records declare
+/// must fit into a pool, as `Counts::of` tells.
 pub fn tell_refs(
     alloc: Global,
     told: &mut String,
-    files: &[FileDescriptorProto],
+    files: &[FileDescriptorInner],
     name: &str,
 ) -> Result<(), AllocError>
-    requires { IsOk (counts_with no_counts files.now) }
+    requires { IsOk (counts_with no_counts (map (λ f. f.raw) files.now)) }
     ensures { OnOk result (string_bytes told.new ≡ string_bytes told.old
-        ++ spec.refs_answer files.now name.now) }
+        ++ spec.refs_answer (map (λ f. f.raw) files.now) name.now) }
 {
     let Some(file) = file_named(files, name) else {
         return tell_none(told);
     };
-    tell_references(told, &references(alloc, file)?)
+    tell_references(told, &references(alloc, &file.raw)?)
 }
 
 /// Tells the fault of a script, and its line.

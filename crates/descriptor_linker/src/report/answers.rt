@@ -46,7 +46,7 @@ pub(super) fn tell_walk(
     ensures { OnOk result (string_bytes told.new ≡ string_bytes told.old
         ++ walk_answer (files_of pool.now)) }
 {
-    script_answers::tell_walk(alloc, told, &pool.linked_files()?)
+    script_answers::tell_walk(alloc, told, pool.files())
 }
 
 /// Tells to what a pool's file with a name refers.
@@ -59,5 +59,5 @@ pub(super) fn tell_refs(
     ensures { OnOk result (string_bytes told.new ≡ string_bytes told.old
         ++ refs_answer (files_of pool.now) name.now) }
 {
-    script_answers::tell_refs(alloc, told, &pool.linked_files()?, name)
+    script_answers::tell_refs(alloc, told, pool.files(), name)
 }

@@ -1,5 +1,5 @@
 -- What the parts of the reader answer, where memory may be refused at any point.
-use Rattle.std.specs.Prelude.{◌≡◌, ℕ, List, [], ◌∷◌, ◌++◌, reverse}
+use Rattle.std.specs.Prelude.{◌≡◌, ℕ, List, reverse}
 use Rattle.std.specs.declared.option.Option.{Option}
 use Rattle.std.specs.declared.option.Option.TheVariants.{None, Some}
 use Rattle.std.specs.declared.result.Result.{Result}
@@ -22,20 +22,20 @@ IsAnswer meant (Ok x) = meant ≡ Ok x
 IsAnswer meant (Err (Fault fault)) = meant ≡ Err fault
 IsAnswer meant (Err OutOfMemory) = Unit {0}
 
--- the statements so far and what stands before the next, behind what a line says
-abbrev pub after_line : Line → List Statement → Standing → Result (List Statement × Standing) ScriptFault
-after_line (Err fault) statements here = Err fault
-after_line (Ok None) statements here = Ok (statements, here)
-after_line (Ok (Some s)) statements here = Ok (statements ++ s.1 ∷ [], standing_after here s.0)
+-- the statement that a line says, if it says one, and what stands before the next line
+abbrev pub after_line : Line → Standing → Result (Option Statement × Standing) ScriptFault
+after_line (Err fault) here = Err fault
+after_line (Ok None) here = Ok (None, here)
+after_line (Ok (Some s)) here = Ok (Some s.1, standing_after here s.0)
 
 -- what the code has of what stands before a statement, the innermost block last
 abbrev pub standing_in : Code → Standing
 standing_in h = record { blocks = reverse h.blocks.items; more = h.more }
 
--- the line's fault, behind which a fact holds, unless memory was refused
+-- the line's fault, unless memory was refused; a fact holds behind either
 abbrev pub IsFaultOf : Line → Type 0 → LineError → Type 0
 IsFaultOf said kept (Fault fault) = (said ≡ Err fault) × kept
-IsFaultOf said kept OutOfMemory = Unit {0}
+IsFaultOf said kept OutOfMemory = kept
 
 -- the words that are left to be read
 abbrev pub words_left : Words → List (List ℕ)

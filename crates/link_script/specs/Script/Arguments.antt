@@ -1,14 +1,14 @@
 -- The words behind a keyword, and what they say.
-use Rattle.std.specs.Prelude.{ℕ, ℤ, pos, neg_ℤ, ◌+◌, ◌-◌, ◌^◌, ◌==◌, ◌&&◌, Bool, true, false, List, [], ◌∷◌, codes, int_le, if◌then◌else◌}
-use Rattle.std.specs.Char.{is_digit}
-use Rattle.std.specs.List.{position_from, list_all, slice_split}
+use Rattle.std.specs.Prelude.{ℕ, ℤ, pos, ◌+◌, ◌==◌, Bool, List, [], ◌∷◌, codes, if◌then◌else◌}
+use Rattle.std.specs.List.{position_from, slice_split}
 use Rattle.std.specs.Str.{bytes_eq}
-use Rattle.std.specs.Str.Parse.{digits_value}
-use Rattle.std.specs.Option.{option_map, option_and_then, option_or}
+use Rattle.std.specs.Option.{option_map, option_or, ok_or}
 use Rattle.std.specs.declared.option.Option.{Option}
 use Rattle.std.specs.declared.option.Option.TheVariants.{None, Some}
 use Rattle.std.specs.declared.result.Result.{Result}
 use Rattle.std.specs.declared.result.Result.TheVariants.{Ok, Err}
+use Rattle.default_values.specs.TruthValues.{truth_value}
+use Rattle.default_values.specs.WholeNumbers.{whole_signed}
 use Rattle.proto_types.specs.Readers.{text_of}
 use Rattle.proto_types.specs.Empty.{no_field, no_value, no_method, no_location}
 use Rattle.proto_types.specs.declared.records.field.FieldDescriptorProto.{FieldDescriptorProto}
@@ -26,26 +26,6 @@ is_absent text = bytes_eq text (codes "~")
 abbrev pub text_in : List ℕ → Option (List ℕ)
 text_in text = if is_absent text then None else (if bytes_eq text (codes "''") then Some [] else Some text)
 
--- one or more decimal digits
-abbrev pub digits : List ℕ → Option ℕ
-digits [] = None
-digits (c ∷ cs) = if list_all (λ d. is_digit d 10) (c ∷ cs) then Some (digits_value 10 (c ∷ cs)) else None
-
--- digits behind an optional plus or minus
-abbrev pub signed_digits : List ℕ → Option ℤ
-signed_digits [] = None
-signed_digits (c ∷ cs) =
-    if c == 43 then option_map pos (digits cs)
-    else (if c == 45 then option_map (λ n. neg_ℤ (pos n)) (digits cs)
-    else option_map pos (digits (c ∷ cs)))
-
-abbrev pub if_int32 : ℤ → Option ℤ
-if_int32 n = if int_le (neg_ℤ (pos (2 ^ 31))) n && int_le n (pos (2 ^ 31 - 1)) then Some n else None
-
--- a whole number of 32 bits with a sign
-abbrev pub int32_in : List ℕ → Option ℤ
-int32_in text = option_and_then if_int32 (signed_digits text)
-
 -- names for the numbers from 1 on (descriptor.proto's labels and types)
 abbrev pub labels : List (List ℕ)
 labels = codes "optional" ∷ codes "required" ∷ codes "repeated" ∷ []
@@ -57,7 +37,7 @@ types =
 
 -- a name, or else a number
 abbrev pub named_in : List (List ℕ) → List ℕ → Option ℤ
-named_in names text = option_or (option_map (λ n. pos (n + 1)) (position_from (bytes_eq text) 0 names)) (int32_in text)
+named_in names text = option_or (option_map (λ n. pos (n + 1)) (position_from (bytes_eq text) 0 names)) (whole_signed 32 text)
 
 abbrev given_or : ScriptFault → Option ℤ → Result (Option ℤ) ScriptFault
 given_or fault (Some n) = Ok (Some n)
@@ -65,7 +45,7 @@ given_or fault None = Err fault
 
 -- a number, which may be absent
 abbrev pub number_in : List ℕ → Result (Option ℤ) ScriptFault
-number_in text = if is_absent text then Ok None else given_or BadNumber (int32_in text)
+number_in text = if is_absent text then Ok None else given_or BadNumber (whole_signed 32 text)
 
 -- a label or a type, which may be absent
 abbrev pub named_or_bad : List (List ℕ) → List ℕ → Result (Option ℤ) ScriptFault
@@ -86,7 +66,7 @@ number_or_bad None = Err BadNumber
 
 -- a number that may not be absent
 abbrev pub given_number_in : List ℕ → Result ℤ ScriptFault
-given_number_in text = number_or_bad (int32_in text)
+given_number_in text = number_or_bad (whole_signed 32 text)
 
 -- numbers in a row, or the first fault
 abbrev pub each_number : List (List ℕ) → Result (List ℤ) ScriptFault
@@ -98,7 +78,7 @@ abbrev pub numbers_in : List ℕ → Result (List ℤ) ScriptFault
 numbers_in text = if bytes_eq text (codes "''") then Ok [] else each_number (slice_split (λ c. c == 44) text)
 
 abbrev pub truth_in : List ℕ → Result Bool ScriptFault
-truth_in text = if bytes_eq text (codes "true") then Ok true else (if bytes_eq text (codes "false") then Ok false else Err BadWord)
+truth_in text = ok_or (truth_value text) BadWord
 
 -- a field or an extension, of its name, number, label, type and type name: the leftmost fault is told
 abbrev pub typed_in : List ℕ → List ℕ → List ℕ → List ℕ → List ℕ → Result FieldDescriptorProto ScriptFault

@@ -44,7 +44,12 @@ fn of_words(alloc: Global, keyword: Keyword, mut words: Words<'_>) -> Result<Sta
         return of_two(alloc, keyword, first, second);
     };
     let Some(fourth) = words.next() else {
-        return of_three(alloc, keyword, first, second, third);
+        let names = MethodWords {
+            name: first,
+            input: second,
+            output: third,
+        };
+        return of_three(alloc, keyword, names);
     };
     let Some(fifth) = words.next() else {
         return Err(LineError::Fault(ScriptFault::WrongCount));
@@ -55,7 +60,15 @@ fn of_words(alloc: Global, keyword: Keyword, mut words: Words<'_>) -> Result<Sta
     if words.next().is_some() {
         return Err(LineError::Fault(ScriptFault::WrongCount));
     }
-    of_six(alloc, keyword, first, second, third, fourth, fifth, sixth)
+    let field = FieldWords {
+        name: first,
+        number: second,
+        label: third,
+        type_: fourth,
+        type_name: fifth,
+        last: sixth,
+    };
+    of_six(alloc, keyword, field)
 }
 
 fn of_none(keyword: Keyword) -> Result<Statement, LineError>
@@ -131,48 +144,54 @@ fn of_two(
     }
 }
 
-fn of_three(
-    alloc: Global,
-    keyword: Keyword,
-    name: &str,
-    input: &str,
-    output: &str,
-) -> Result<Statement, LineError>
-    ensures { IsAnswer (spec.of_three keyword name.now input.now output.now) result }
+/// The words of a method.
+#[derive(Clone, Copy)]
+struct MethodWords<'a> {
+    name: &'a str,
+    input: &'a str,
+    output: &'a str,
+}
+
+fn of_three(alloc: Global, keyword: Keyword, words: MethodWords<'_>) -> Result<Statement, LineError>
+    ensures { IsAnswer (spec.of_three keyword words.entry.name.now words.entry.input.now
+        words.entry.output.now) result }
 {
     match keyword {
         Keyword::Method => Ok(Statement::Method(MethodDescriptorProto {
-            name: text(alloc, name)?,
-            input_type: text(alloc, input)?,
-            output_type: text(alloc, output)?,
+            name: text(alloc, words.name)?,
+            input_type: text(alloc, words.input)?,
+            output_type: text(alloc, words.output)?,
             ..MethodDescriptorProto::empty(alloc)
         })),
         _ => Err(LineError::Fault(ScriptFault::WrongCount)),
     }
 }
 
-fn of_six(
-    alloc: Global,
-    keyword: Keyword,
-    name: &str,
-    number: &str,
-    label: &str,
-    type_: &str,
-    type_name: &str,
-    last: &str,
-) -> Result<Statement, LineError>
-    ensures { IsAnswer (spec.of_six keyword name.now number.now label.now type_.now
-        type_name.now last.now) result }
+/// The words of a field or an extension, of which the last is its oneof's index, or its extendee.
+#[derive(Clone, Copy)]
+struct FieldWords<'a> {
+    name: &'a str,
+    number: &'a str,
+    label: &'a str,
+    type_: &'a str,
+    type_name: &'a str,
+    last: &'a str,
+}
+
+fn of_six(alloc: Global, keyword: Keyword, words: FieldWords<'_>) -> Result<Statement, LineError>
+    ensures { IsAnswer (spec.of_six keyword words.entry.name.now words.entry.number.now
+        words.entry.label.now words.entry.type_.now words.entry.type_name.now
+        words.entry.last.now) result }
 {
     match keyword {
         Keyword::Field => {
-            let mut field = typed(alloc, name, number, label, type_, type_name)?;
-            field.oneof_index = number_of(last)?;
+            let mut field = typed(alloc, words)?;
+            field.oneof_index = number_of(words.last)?;
             Ok(Statement::Field(field))
         }
         Keyword::Extend => {
-            let mut field = typed(alloc, name, number, label, type_, type_name)?;
-            field.extendee = text(alloc, last)?;
+            let mut field = typed(alloc, words)?;
+            field.extendee = text(alloc, words.last)?;
             Ok(Statement::Extend(field))
         }
         _ => Err(LineError::Fault(ScriptFault::WrongCount)),
@@ -180,26 +199,19 @@ fn of_six(
 }
 
 /// What a field and an extension have in common; the leftmost fault is told.
-fn typed(
-    alloc: Global,
-    name: &str,
-    number: &str,
-    label: &str,
-    type_: &str,
-    type_name: &str,
-) -> Result<FieldDescriptorProto, LineError>
-    ensures { IsAnswer
-        (spec.typed_in name.now number.now label.now type_.now type_name.now) result }
+fn typed(alloc: Global, words: FieldWords<'_>) -> Result<FieldDescriptorProto, LineError>
+    ensures { IsAnswer (spec.typed_in words.entry.name.now words.entry.number.now
+        words.entry.label.now words.entry.type_.now words.entry.type_name.now) result }
 {
-    let number = number_of(number)?;
-    let label = label_of(label)?;
-    let type_ = type_of(type_)?;
+    let number = number_of(words.number)?;
+    let label = label_of(words.label)?;
+    let type_ = type_of(words.type_)?;
     Ok(FieldDescriptorProto {
-        name: text(alloc, name)?,
+        name: text(alloc, words.name)?,
         number,
         label,
         type_,
-        type_name: text(alloc, type_name)?,
+        type_name: text(alloc, words.type_name)?,
         ..FieldDescriptorProto::empty(alloc)
     })
 }

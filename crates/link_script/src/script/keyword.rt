@@ -1,6 +1,6 @@
 //! The words that begin statements, and where these stand.
 
-ghost use Rattle.std.specs.Prelude.{◌≡◌, map, reverse, OnOk};
+ghost use Rattle.std.specs.Prelude.{◌≡◌, map, reverse, OnOk, OnErr};
 ghost use Rattle.link_script.specs.Script.Keywords as spec;
 
 use super::statement::{Block, Keyword};
@@ -131,8 +131,9 @@ pub(super) fn may_say_more(keyword: Keyword) -> bool
 
 /// Opens or closes the block that a statement opens or closes.
 pub(super) fn open_or_close(blocks: &mut Vec<Block>, keyword: Keyword) -> Result<(), AllocError>
-    ensures { OnOk result (reverse blocks.new.items
+    ensures ok { OnOk result (reverse blocks.new.items
         ≡ spec.blocks_after (reverse blocks.old.items) keyword) }
+    ensures err { OnErr result (blocks.new.items ≡ blocks.old.items) }
 {
     match keyword {
         Keyword::File => blocks.push(Block::File)?,

@@ -1,9 +1,10 @@
 //! What stops a line from being read.
 
 ghost use Rattle.std.specs.Prelude.{◌≡◌};
+ghost use Rattle.link_script.specs.Script.Left.{error_in};
 ghost use Rattle.link_script.specs.declared.script.line_error.LineError.TheVariants as stop;
 
-use super::statement::ScriptFault;
+use super::statement::{ScriptError, ScriptFault};
 use std::alloc::AllocError;
 
 /// Why a line gave no statement.
@@ -13,6 +14,18 @@ pub(super) enum LineError {
     Fault(ScriptFault),
     /// Memory was refused.
     OutOfMemory,
+}
+
+impl LineError {
+    /// The same of a script, whose line has this number.
+    pub(super) fn in_line(self, number: u64) -> ScriptError
+        ensures { result ≡ error_in number self }
+    {
+        match self {
+            LineError::Fault(fault) => ScriptError::Fault(number, fault),
+            LineError::OutOfMemory => ScriptError::OutOfMemory,
+        }
+    }
 }
 
 impl From<ScriptFault> for LineError {

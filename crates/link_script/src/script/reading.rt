@@ -1,18 +1,85 @@
 //! Reading a script, line by line.
 
-ghost use Rattle.std.specs.Prelude.{◌≡◌, ℕ, List, ◌∷◌, IfOk, IfErr, OnOk};
+ghost use Rattle.std.specs.Prelude.{◌≡◌, ℕ, List, ◌∷◌, IfOk, IfErr};
 ghost use Rattle.link_script.specs.Script.Words as spec;
 ghost use Rattle.link_script.specs.Script.Reading.{script, line_said};
 ghost use Rattle.link_script.specs.Script.Answers.{IsBegun, IsFaultOf, after_line, standing_in, text_said};
+ghost use Rattle.link_script.specs.Script.Left.{IsNext};
 
 use super::arguments::statement;
 use super::keyword::keyword_of;
 use super::line_error::LineError;
 use super::standing::Standing;
-use super::statement::{Keyword, Script, ScriptFault, Statement};
+use super::statement::{Keyword, Script, ScriptError, ScriptFault, Statement};
 use super::words::{Words, first_line};
 use plain_values::Items;
 use std::alloc::{AllocError, Global};
+use std::marker::Model;
+
+/// Reads a script statement by statement. Contracts see it as what is left of the script: the
+/// statements to come, and the fault behind them.
+#[derive(Drop)]
+pub struct ScriptReader<'a> {
+    alloc: Global,
+    /// The lines that are left.
+    left: &'a [u8],
+    /// The number of the first of them, from 1.
+    number: u64,
+    /// What stands before it.
+    here: Standing,
+}
+
+impl<'a> Model for ScriptReader<'a> {
+    ghost use Rattle.link_script.specs.declared.script.statement.Script.{Script};
+
+    ghost Value = { Script };
+
+    ghost use Rattle.link_script.specs.Script.Left.{left_of, IsCounted};
+
+    ghost view = { left_of };
+
+    ghost invariant = { IsCounted };
+}
+
+impl<'a> ScriptReader<'a> {
+    /// A reader of a whole script, which takes no memory.
+    pub fn new(alloc: Global, bytes: &'a [u8]) -> ScriptReader<'a>
+        ensures { result ≡ script bytes.now }
+    {
+        ScriptReader {
+            alloc,
+            left: bytes,
+            number: 1,
+            here: Standing::new(alloc),
+        }
+    }
+
+    /// Reads the next statement, or none where the script ends without a fault.
+    ///
+    /// # Errors
+    /// `Fault` where the next line that says something has a fault, or where the script ends in an
+    /// open block, and `OutOfMemory` where memory was refused. The reader is then as it was.
+    pub fn next(&mut self) -> Result<Option<Statement>, ScriptError>
+        ensures { IsNext self.old result self.new }
+    {
+        while let Some((line, rest)) = first_line(self.left) {
+            match read_line(self.alloc, &mut self.here, line) {
+                Ok(said) => {
+                    self.left = rest;
+                    self.number += 1;
+                    if said.is_some() {
+                        return Ok(said);
+                    }
+                }
+                Err(error) => return Err(error.in_line(self.number)),
+            }
+        }
+        if self.here.is_open() {
+            return Err(ScriptError::Fault(self.number, ScriptFault::MissingEnd));
+        }
+        Ok(None)
+    }
+}
 
 /// Whether a line that begins with a word is a comment.
 fn begins_comment(word: &str) -> bool
@@ -42,66 +109,54 @@ fn keyword_in<'a>(
     Ok(Some((keyword, words)))
 }
 
-/// Reads a line of text: its statement is appended to the others.
-fn read_text(
-    alloc: Global,
-    statements: &mut Items<Statement>,
-    here: &mut Standing,
-    line: &str,
-) -> Result<(), LineError>
-    ensures ok { OnOk result (after_line (text_said (standing_in here.old) line.now) statements.old
-        (standing_in here.old) ≡ Ok (statements.new, standing_in here.new)) }
-    ensures err { IfErr result
-        (IsFaultOf (text_said (standing_in here.old) line.now) (statements.new ≡ statements.old)) }
+/// Reads a line of text: the statement that it says, if it says one.
+fn read_text(alloc: Global, here: &mut Standing, line: &str) -> Result<Option<Statement>, LineError>
+    ensures ok { IfOk result (λ said. after_line (text_said (standing_in here.old) line.now)
+        (standing_in here.old) ≡ Ok (said, standing_in here.new)) }
+    ensures err { IfErr result (IsFaultOf (text_said (standing_in here.old) line.now)
+        (standing_in here.new ≡ standing_in here.old)) }
 {
     let Some((keyword, words)) = keyword_in(here, line)? else {
-        return Ok(());
+        return Ok(None);
     };
-    statements.push(statement(alloc, line, keyword, words)?)?;
+    let said = statement(alloc, line, keyword, words)?;
     here.follow(keyword)?;
-    Ok(())
+    Ok(Some(said))
 }
 
-/// Reads a line: its statement is appended to the others.
+/// Reads a line: the statement that it says, if it says one.
 fn read_line(
     alloc: Global,
-    statements: &mut Items<Statement>,
     here: &mut Standing,
     line: &[u8],
-) -> Result<(), LineError>
-    ensures ok { OnOk result (after_line (line_said (standing_in here.old) line.now) statements.old
-        (standing_in here.old) ≡ Ok (statements.new, standing_in here.new)) }
-    ensures err { IfErr result
-        (IsFaultOf (line_said (standing_in here.old) line.now) (statements.new ≡ statements.old)) }
+) -> Result<Option<Statement>, LineError>
+    ensures ok { IfOk result (λ said. after_line (line_said (standing_in here.old) line.now)
+        (standing_in here.old) ≡ Ok (said, standing_in here.new)) }
+    ensures err { IfErr result (IsFaultOf (line_said (standing_in here.old) line.now)
+        (standing_in here.new ≡ standing_in here.old)) }
 {
     match std::str::from_utf8(line) {
-        Ok(text) => read_text(alloc, statements, here, text),
+        Ok(text) => read_text(alloc, here, text),
         Err(_) => Err(LineError::Fault(ScriptFault::BadText)),
     }
 }
 
 /// What the lines of a script say.
+///
+/// # Errors
+/// `AllocError` where memory was refused.
 pub fn read_script(alloc: Global, bytes: &[u8]) -> Result<Script, AllocError>
     ensures { IfOk result (λ s. s ≡ script bytes.now) }
 {
+    let mut reader = ScriptReader::new(alloc, bytes);
     let mut statements = Items::new(alloc);
-    let mut here = Standing::new(alloc);
-    let mut number = 1u64;
-    let mut left = bytes;
-    while let Some((line, rest)) = first_line(left) {
-        match read_line(alloc, &mut statements, &mut here, line) {
-            Ok(()) => number += 1,
-            Err(LineError::Fault(fault)) => {
-                let fault = Some((number, fault));
-                return Ok(Script { statements, fault });
-            }
-            Err(LineError::OutOfMemory) => return Err(AllocError),
+    let fault = loop {
+        match reader.next() {
+            Ok(Some(statement)) => statements.push(statement)?,
+            Ok(None) => break None,
+            Err(ScriptError::Fault(line, fault)) => break Some((line, fault)),
+            Err(ScriptError::OutOfMemory) => return Err(AllocError),
         }
-        left = rest;
-    }
-    let missing = (number, ScriptFault::MissingEnd);
-    Ok(Script {
-        statements,
-        fault: here.is_open().then_some(missing),
-    })
+    };
+    Ok(Script { statements, fault })
 }

@@ -12,7 +12,7 @@ pub(crate) struct Standing {
 }
 
 impl Standing {
-    ghost use Rattle.std.specs.Prelude.{◌≡◌, ◌≢◌, OnOk, [], true, false};
+    ghost use Rattle.std.specs.Prelude.{◌≡◌, ◌≢◌, OnOk, OnErr, [], true, false};
     ghost use Rattle.link_script.specs.Script.Answers.{standing_in};
     ghost use Rattle.link_script.specs.Script.Keywords as spec;
 
@@ -39,8 +39,9 @@ impl Standing {
 
     /// Goes behind a statement.
     pub(super) fn follow(&mut self, keyword: Keyword) -> Result<(), AllocError>
-        ensures { OnOk result (standing_in self.new
+        ensures ok { OnOk result (standing_in self.new
             ≡ spec.standing_after (standing_in self.old) keyword) }
+        ensures err { OnErr result (standing_in self.new ≡ standing_in self.old) }
     {
         open_or_close(&mut self.blocks, keyword)?;
         self.more = may_say_more(keyword);

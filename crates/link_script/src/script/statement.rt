@@ -2,6 +2,7 @@ use plain_values::{Items, Text};
 use proto_types::{
     EnumValueDescriptorProto, FieldDescriptorProto, Location, MethodDescriptorProto,
 };
+use std::alloc::AllocError;
 use std::fmt;
 
 /// The word that begins a statement.
@@ -112,6 +113,26 @@ impl fmt::Display for ScriptFault {
             ScriptFault::BadWord => "bad word",
             ScriptFault::MissingEnd => "missing end",
         })
+    }
+}
+
+/// Why no further statement of a script is told.
+#[derive(Clone, Copy, PartialEq)]
+pub enum ScriptError {
+    /// A line, whose number counts from 1, has a fault, or the script ends before it.
+    Fault(u64, ScriptFault),
+    /// Memory was refused.
+    OutOfMemory,
+}
+
+impl From<AllocError> for ScriptError {
+    ghost use Rattle.std.specs.Prelude.{◌≡◌};
+    ghost use Rattle.link_script.specs.declared.script.statement.ScriptError.TheVariants as stop;
+
+    ghost from_gives = { λ _ error. error ≡ stop.OutOfMemory };
+
+    fn from(_refused: AllocError) -> ScriptError {
+        ScriptError::OutOfMemory
     }
 }
 

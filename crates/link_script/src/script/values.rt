@@ -9,6 +9,7 @@ ghost use Rattle.link_script.specs.Script.Answers.{IsAnswer};
 use super::cuts::cut_at;
 use super::line_error::LineError;
 use super::statement::ScriptFault;
+use default_values::{parse_bool, parse_int32};
 use plain_values::{Items, Text};
 use std::alloc::{AllocError, Global};
 
@@ -41,13 +42,6 @@ pub(super) fn text(alloc: Global, word: &str) -> Result<Option<Text>, AllocError
     }
 }
 
-/// A whole number of 32 bits with a sign.
-pub(super) fn int32(word: &str) -> Option<i32>
-    ensures { result ≡ spec.int32_in word.now }
-{
-    word.parse::<i32>().ok()
-}
-
 /// A number, which may be missing.
 pub(super) fn number_of(word: &str) -> Result<Option<i32>, ScriptFault>
     ensures { result ≡ spec.number_in word.now }
@@ -70,7 +64,7 @@ fn named(names: &[&str], word: &str) -> Option<i32>
         }
         number += 1;
     }
-    int32(word)
+    parse_int32(word)
 }
 
 /// A name's number, which may be missing.
@@ -116,7 +110,7 @@ pub(super) fn given_text(alloc: Global, word: &str) -> Result<Text, LineError>
 pub(super) fn given_number(word: &str) -> Result<i32, ScriptFault>
     ensures { result ≡ spec.given_number_in word.now }
 {
-    int32(word).ok_or(ScriptFault::BadNumber)
+    parse_int32(word).ok_or(ScriptFault::BadNumber)
 }
 
 /// The numbers between commas.
@@ -149,9 +143,5 @@ pub(super) fn numbers(alloc: Global, word: &str) -> Result<Items<i32>, LineError
 pub(super) fn truth(word: &str) -> Result<bool, ScriptFault>
     ensures { result ≡ spec.truth_in word.now }
 {
-    match word {
-        "true" => Ok(true),
-        "false" => Ok(false),
-        _ => Err(ScriptFault::BadWord),
-    }
+    parse_bool(word).ok_or(ScriptFault::BadWord)
 }

@@ -1,6 +1,6 @@
 //! What each statement of a script says, and the faults of scripts.
 
-use link_script::{ScriptFault, Statement, read_script};
+use link_script::{ScriptError, ScriptFault, ScriptReader, Statement, read_script};
 use plain_values::Text;
 use proto_types::{
     EnumValueDescriptorProto, FieldDescriptorProto, Location, MethodDescriptorProto,
@@ -249,5 +249,18 @@ fn scripts_have_a_first_fault(rt: HostRuntime) -> Result<(), Fail> {
             "{words}"
         );
     }
+    Ok(())
+}
+
+#[test]
+fn statements_are_read_one_by_one(rt: HostRuntime) -> Result<(), Fail> {
+    let script = b"\n# a\nfile a\nend\nwhat\nlink";
+    let mut reader = ScriptReader::new(rt.alloc(), script);
+    assert!(rt; matches!(reader.next(), Ok(Some(Statement::File(_)))));
+    assert!(rt; matches!(reader.next(), Ok(Some(Statement::End))));
+    let fault = ScriptError::Fault(5, ScriptFault::UnknownWord);
+    // A fault stays where it is.
+    assert!(rt; matches!(reader.next(), Err(error) if error == fault));
+    assert!(rt; matches!(reader.next(), Err(error) if error == fault));
     Ok(())
 }

@@ -1,0 +1,24 @@
+//! Whole numbers and truth values, as they are written.
+
+ghost use Rattle.std.specs.Prelude.{◌≡◌};
+ghost use Rattle.default_values.specs.TruthValues.{truth_value};
+ghost use Rattle.default_values.specs.WholeNumbers.{whole_signed};
+
+/// The whole number of 32 bits with a sign that a text writes: one or more ASCII digits, behind an
+/// optional `+` or `-`. None where it writes none, or one out of range.
+pub fn parse_int32(text: &str) -> Option<i32>
+    ensures { result ≡ whole_signed 32 text.now }
+{
+    text.parse::<i32>().ok()
+}
+
+/// The truth value that a text writes, `true` or `false`. None where it is neither.
+pub fn parse_bool(text: &str) -> Option<bool>
+    ensures { result ≡ truth_value text.now }
+{
+    match text {
+        "true" => Some(true),
+        "false" => Some(false),
+        _ => None,
+    }
+}

@@ -1,6 +1,0 @@
-use Rattle.std.proofs.Common.{arith}
-use Rattle.std.proofs.lemmas.Grind.{common_steps}
-use Rattle.descriptor_linker.proofs.report.told_by.Goals as goal
-
-pub loop-statement-preserved : goal.loop-statement-preserved
-loop-statement-preserved c = grind (arith, common_steps)

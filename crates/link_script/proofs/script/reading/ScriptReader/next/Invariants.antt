@@ -1,0 +1,13 @@
+use Rattle.std.proofs.Common.{◌≡◌, length}
+use Rattle.link_script.specs.Script.Left.{left_of, IsCounted}
+use Rattle.link_script.proofs.script.reading.ScriptReader.next.Given as goal
+
+-- as much is left as before
+abbrev pub invariant-loop-line : goal.invariant-loop-line
+invariant-loop-line l = record {
+  counted : IsCounted l.self-inside;
+  same : left_of l.self-inside ≡ l.fn.self;
+}
+
+abbrev pub decreases-loop-line : goal.decreases-loop-line
+decreases-loop-line l = length l.self-inside.left.now
