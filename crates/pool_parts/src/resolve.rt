@@ -19,7 +19,7 @@ use plain_values::Text;
 use pool_faults::DescriptorErrorKind;
 use pool_types::{Definition, FileDescriptorInner};
 use proto_types::join;
-use source_labels::label_at;
+use source_labels::{Label, label_at};
 use std::alloc::{AllocError, Global};
 use std::collections::BTreeSet;
 
@@ -202,20 +202,25 @@ impl<'a> ResolveNameResult<'a> {
             ≡ reference_fault (map (λ f. f.raw) files.now) orig_name.now found_file path.now
             (resolution_in self.now)) }
     {
+        let reference = Reference {
+            alloc,
+            files,
+            orig_name,
+            file: found_file,
+            path,
+        };
         let fault = match self {
             ResolveNameResult::Found { .. } => return Ok(None),
             ResolveNameResult::InvalidType { name, def, filter } => {
-                invalid_type(alloc, name, def, *filter, files, found_file, path)?
+                reference.invalid_type(name.as_str(), def, *filter)?
             }
             ResolveNameResult::NotImported { name, .. } => {
-                name_not_found(alloc, name.as_str(), files, found_file, path)?
+                reference.name_not_found(name.as_str())?
             }
             ResolveNameResult::Shadowed { shadowed_name, .. } => {
-                name_shadowed(alloc, orig_name, shadowed_name, files, found_file, path)?
+                reference.name_shadowed(shadowed_name.as_str())?
             }
-            ResolveNameResult::NotFound => {
-                name_not_found(alloc, orig_name, files, found_file, path)?
-            }
+            ResolveNameResult::NotFound => reference.name_not_found(orig_name)?,
         };
         Ok(Some(fault))
     }
@@ -251,63 +256,66 @@ impl<'a> ResolveNameResult<'a> {
     }
 }
 
-/// The fault of a full name whose definition is not of a kind that is wanted, at a path of the
-/// file with an index.
-fn invalid_type(
+/// A reference as it is written, at a path of the file with an index.
+#[derive(Clone, Copy)]
+struct Reference<'a> {
     alloc: Global,
-    name: &Text,
-    def: &Definition,
-    filter: ResolveNameFilter,
-    files: &[FileDescriptorInner],
-    found_file: u32,
-    path: &[i32],
-) -> Result<DescriptorErrorKind, AllocError>
-    ensures { IfOk result (λ fault. fault ≡ InvalidType name.now (filter_text filter)
-        (label_in (map (λ f. f.raw) files.now) found_file path.now)
-        (label_in (map (λ f. f.raw) files.now) def.now.file def.now.path)) }
-{
-    Ok(DescriptorErrorKind::InvalidType {
-        name: name.clone(alloc)?,
-        expected: Text::from_string(format!(in alloc; "{filter}")?),
-        found: label_at(alloc, files, found_file, path)?,
-        defined: label_at(alloc, files, def.file, def.path.as_slice())?,
-    })
+    files: &'a [FileDescriptorInner],
+    orig_name: &'a str,
+    file: u32,
+    path: &'a [i32],
 }
 
-/// The fault of a name, as it is shown, that a file does not see or that nothing has, at a path
-/// of the file with an index.
-fn name_not_found(
-    alloc: Global,
-    name: &str,
-    files: &[FileDescriptorInner],
-    found_file: u32,
-    path: &[i32],
-) -> Result<DescriptorErrorKind, AllocError>
-    ensures { IfOk result (λ fault. fault ≡ NameNotFound name.now
-        (label_in (map (λ f. f.raw) files.now) found_file path.now)) }
-{
-    Ok(DescriptorErrorKind::NameNotFound {
-        name: Text::from_str(alloc, name)?,
-        found: label_at(alloc, files, found_file, path)?,
-    })
-}
+impl Reference<'_> {
+    /// The fault of a full name whose definition is not of a kind that is wanted.
+    fn invalid_type(
+        &self,
+        name: &str,
+        def: &Definition,
+        filter: ResolveNameFilter,
+    ) -> Result<DescriptorErrorKind, AllocError>
+        ensures { IfOk result (λ fault. fault ≡ InvalidType name.now (filter_text filter)
+            (label_in (map (λ f. f.raw) self.now.files.now) self.now.file self.now.path.now)
+            (label_in (map (λ f. f.raw) self.now.files.now) def.now.file def.now.path)) }
+    {
+        let alloc = self.alloc;
+        Ok(DescriptorErrorKind::InvalidType {
+            name: Text::from_str(alloc, name)?,
+            expected: Text::from_string(format!(in alloc; "{filter}")?),
+            found: self.label()?,
+            defined: label_at(alloc, self.files, def.file, def.path.as_slice())?,
+        })
+    }
 
-/// The fault of a name as it is written that resolves to a full name which isn't defined, at a
-/// path of the file with an index.
-fn name_shadowed(
-    alloc: Global,
-    orig_name: &str,
-    shadowed_name: &Text,
-    files: &[FileDescriptorInner],
-    found_file: u32,
-    path: &[i32],
-) -> Result<DescriptorErrorKind, AllocError>
-    ensures { IfOk result (λ fault. fault ≡ NameShadowed orig_name.now shadowed_name.now
-        (label_in (map (λ f. f.raw) files.now) found_file path.now)) }
-{
-    Ok(DescriptorErrorKind::NameShadowed {
-        name: Text::from_str(alloc, orig_name)?,
-        shadowed_name: shadowed_name.clone(alloc)?,
-        found: label_at(alloc, files, found_file, path)?,
-    })
+    /// The fault of a name, as it is shown, that the file does not see or that nothing has.
+    fn name_not_found(&self, name: &str) -> Result<DescriptorErrorKind, AllocError>
+        ensures { IfOk result (λ fault. fault ≡ NameNotFound name.now
+            (label_in (map (λ f. f.raw) self.now.files.now) self.now.file self.now.path.now)) }
+    {
+        Ok(DescriptorErrorKind::NameNotFound {
+            name: Text::from_str(self.alloc, name)?,
+            found: self.label()?,
+        })
+    }
+
+    /// The fault of a name that resolves to a full name which isn't defined.
+    fn name_shadowed(&self, shadowed_name: &str) -> Result<DescriptorErrorKind, AllocError>
+        ensures { IfOk result (λ fault. fault
+            ≡ NameShadowed self.now.orig_name.now shadowed_name.now
+            (label_in (map (λ f. f.raw) self.now.files.now) self.now.file self.now.path.now)) }
+    {
+        Ok(DescriptorErrorKind::NameShadowed {
+            name: Text::from_str(self.alloc, self.orig_name)?,
+            shadowed_name: Text::from_str(self.alloc, shadowed_name)?,
+            found: self.label()?,
+        })
+    }
+
+    /// The label of where it is written.
+    fn label(&self) -> Result<Label, AllocError>
+        ensures { IfOk result (λ label. label
+            ≡ label_in (map (λ f. f.raw) self.now.files.now) self.now.file self.now.path.now) }
+    {
+        label_at(self.alloc, self.files, self.file, self.path)
+    }
 }
