@@ -6,7 +6,6 @@ ghost use Rattle.std.specs.Ordering.{nat_cmp};
 ghost use Rattle.proto_types.specs.Names.{first_part};
 ghost use Rattle.pool_faults.specs.declared.fault.DescriptorErrorKind.TheVariants.{InvalidType, NameNotFound, NameShadowed};
 ghost use Rattle.pool_types.specs.DefinitionKinds.{is_parent};
-ghost use Rattle.source_labels.specs.Labels.{label_in};
 ghost use Rattle.pool_parts.specs.Kinds.{filter_text};
 ghost use Rattle.pool_parts.specs.Parents.{outer};
 ghost use Rattle.pool_parts.specs.Resolution.{resolution, resolution_in, look, simple, dotted, or_shadowed, is_found, is_not_found};
@@ -202,25 +201,25 @@ impl<'a> ResolveNameResult<'a> {
             ≡ reference_fault (map (λ f. f.raw) files.now) orig_name.now found_file path.now
             (resolution_in self.now)) }
     {
-        let reference = Reference {
-            alloc,
-            files,
-            orig_name,
-            file: found_file,
-            path,
-        };
         let fault = match self {
             ResolveNameResult::Found { .. } => return Ok(None),
             ResolveNameResult::InvalidType { name, def, filter } => {
-                reference.invalid_type(name.as_str(), def, *filter)?
+                let found = label_at(alloc, files, found_file, path)?;
+                let defined = label_at(alloc, files, def.file, def.path.as_slice())?;
+                invalid_type(alloc, name.as_str(), *filter, found, defined)?
             }
             ResolveNameResult::NotImported { name, .. } => {
-                reference.name_not_found(name.as_str())?
+                let found = label_at(alloc, files, found_file, path)?;
+                name_not_found(alloc, name.as_str(), found)?
             }
             ResolveNameResult::Shadowed { shadowed_name, .. } => {
-                reference.name_shadowed(shadowed_name.as_str())?
+                let found = label_at(alloc, files, found_file, path)?;
+                name_shadowed(alloc, orig_name, shadowed_name.as_str(), found)?
             }
-            ResolveNameResult::NotFound => reference.name_not_found(orig_name)?,
+            ResolveNameResult::NotFound => {
+                let found = label_at(alloc, files, found_file, path)?;
+                name_not_found(alloc, orig_name, found)?
+            }
         };
         Ok(Some(fault))
     }
@@ -256,66 +255,53 @@ impl<'a> ResolveNameResult<'a> {
     }
 }
 
-/// A reference as it is written, at a path of the file with an index.
-#[derive(Clone, Copy)]
-struct Reference<'a> {
+/// The fault of a full name whose definition is not of a kind that is wanted, with the labels of
+/// the reference and of the definition.
+fn invalid_type(
     alloc: Global,
-    files: &'a [FileDescriptorInner],
-    orig_name: &'a str,
-    file: u32,
-    path: &'a [i32],
+    name: &str,
+    filter: ResolveNameFilter,
+    found: Label,
+    defined: Label,
+) -> Result<DescriptorErrorKind, AllocError>
+    ensures { IfOk result (λ fault. fault
+        ≡ InvalidType name.now (filter_text filter) found defined) }
+{
+    Ok(DescriptorErrorKind::InvalidType {
+        name: Text::from_str(alloc, name)?,
+        expected: Text::from_string(format!(in alloc; "{filter}")?),
+        found,
+        defined,
+    })
 }
 
-impl Reference<'_> {
-    /// The fault of a full name whose definition is not of a kind that is wanted.
-    fn invalid_type(
-        &self,
-        name: &str,
-        def: &Definition,
-        filter: ResolveNameFilter,
-    ) -> Result<DescriptorErrorKind, AllocError>
-        ensures { IfOk result (λ fault. fault ≡ InvalidType name.now (filter_text filter)
-            (label_in (map (λ f. f.raw) self.now.files.now) self.now.file self.now.path.now)
-            (label_in (map (λ f. f.raw) self.now.files.now) def.now.file def.now.path)) }
-    {
-        let alloc = self.alloc;
-        Ok(DescriptorErrorKind::InvalidType {
-            name: Text::from_str(alloc, name)?,
-            expected: Text::from_string(format!(in alloc; "{filter}")?),
-            found: self.label()?,
-            defined: label_at(alloc, self.files, def.file, def.path.as_slice())?,
-        })
-    }
+/// The fault of a name, as it is shown, that a file does not see or that nothing has, with the
+/// label of the reference.
+fn name_not_found(
+    alloc: Global,
+    name: &str,
+    found: Label,
+) -> Result<DescriptorErrorKind, AllocError>
+    ensures { IfOk result (λ fault. fault ≡ NameNotFound name.now found) }
+{
+    let name = Text::from_str(alloc, name)?;
+    Ok(DescriptorErrorKind::NameNotFound { name, found })
+}
 
-    /// The fault of a name, as it is shown, that the file does not see or that nothing has.
-    fn name_not_found(&self, name: &str) -> Result<DescriptorErrorKind, AllocError>
-        ensures { IfOk result (λ fault. fault ≡ NameNotFound name.now
-            (label_in (map (λ f. f.raw) self.now.files.now) self.now.file self.now.path.now)) }
-    {
-        Ok(DescriptorErrorKind::NameNotFound {
-            name: Text::from_str(self.alloc, name)?,
-            found: self.label()?,
-        })
-    }
-
-    /// The fault of a name that resolves to a full name which isn't defined.
-    fn name_shadowed(&self, shadowed_name: &str) -> Result<DescriptorErrorKind, AllocError>
-        ensures { IfOk result (λ fault. fault
-            ≡ NameShadowed self.now.orig_name.now shadowed_name.now
-            (label_in (map (λ f. f.raw) self.now.files.now) self.now.file self.now.path.now)) }
-    {
-        Ok(DescriptorErrorKind::NameShadowed {
-            name: Text::from_str(self.alloc, self.orig_name)?,
-            shadowed_name: Text::from_str(self.alloc, shadowed_name)?,
-            found: self.label()?,
-        })
-    }
-
-    /// The label of where it is written.
-    fn label(&self) -> Result<Label, AllocError>
-        ensures { IfOk result (λ label. label
-            ≡ label_in (map (λ f. f.raw) self.now.files.now) self.now.file self.now.path.now) }
-    {
-        label_at(self.alloc, self.files, self.file, self.path)
-    }
+/// The fault of a name as it is written that resolves to a full name which isn't defined, with the
+/// label of the reference.
+fn name_shadowed(
+    alloc: Global,
+    orig_name: &str,
+    shadowed_name: &str,
+    found: Label,
+) -> Result<DescriptorErrorKind, AllocError>
+    ensures { IfOk result (λ fault. fault
+        ≡ NameShadowed orig_name.now shadowed_name.now found) }
+{
+    Ok(DescriptorErrorKind::NameShadowed {
+        name: Text::from_str(alloc, orig_name)?,
+        shadowed_name: Text::from_str(alloc, shadowed_name)?,
+        found,
+    })
 }
