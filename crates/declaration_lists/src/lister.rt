@@ -29,6 +29,16 @@ impl Model for Lister {
     ghost view = { λ l. l.list.items };
 }
 
+/// Where a declaration stands that is shown, and its full name.
+#[derive(Clone, Copy)]
+struct Site<'a> {
+    file: u32,
+    parent: Option<u32>,
+    index: u32,
+    path: &'a [i32],
+    full_name: &'a str,
+}
+
 impl Lister {
     /// A lister that was shown nothing, which takes no memory.
     pub fn new(alloc: Global) -> Lister
@@ -47,32 +57,25 @@ impl Lister {
         self.list.as_slice()
     }
 
-    fn add(
-        &mut self,
-        kind: DeclarationKind,
-        file: u32,
-        parent: Option<u32>,
-        index: u32,
-        path: &[i32],
-        full_name: &str,
-    ) -> Result<(), AllocError>
+    /// Keeps a declaration of a kind.
+    fn add(&mut self, kind: DeclarationKind, site: Site) -> Result<(), AllocError>
         ensures { OnOk result (self.new ≡ self.old
             ++ record {
               kind = kind;
-              file = file;
-              parent = parent;
-              index = index;
-              path = path.now;
-              full_name = full_name.now;
+              file = site.entry.file;
+              parent = site.entry.parent;
+              index = site.entry.index;
+              path = site.entry.path.now;
+              full_name = site.entry.full_name.now;
             } ∷ []) }
     {
-        let path = Items::from_slice(self.alloc, path)?;
-        let full_name = Text::from_str(self.alloc, full_name)?;
+        let path = Items::from_slice(self.alloc, site.path)?;
+        let full_name = Text::from_str(self.alloc, site.full_name)?;
         self.list.push(Declaration {
             kind,
-            file,
-            parent,
-            index,
+            file: site.file,
+            parent: site.parent,
+            index: site.index,
             path,
             full_name,
         })?;
@@ -102,7 +105,14 @@ impl Visitor for Lister {
         index: u32,
         file: &FileDescriptorProto,
     ) -> Result<(), AllocError> {
-        self.add(DeclarationKind::File, index, None, index, path, file.name())
+        let site = Site {
+            file: index,
+            parent: None,
+            index,
+            path,
+            full_name: file.name(),
+        };
+        self.add(DeclarationKind::File, site)
     }
 
     fn visit_message(
@@ -115,7 +125,14 @@ impl Visitor for Lister {
         _message: &DescriptorProto,
     ) -> Result<(), AllocError> {
         let kind = DeclarationKind::Message;
-        self.add(kind, file, parent, index, path, full_name)
+        let site = Site {
+            file,
+            parent,
+            index,
+            path,
+            full_name,
+        };
+        self.add(kind, site)
     }
 
     fn visit_field(
@@ -128,7 +145,14 @@ impl Visitor for Lister {
         _field: &FieldDescriptorProto,
     ) -> Result<(), AllocError> {
         let kind = DeclarationKind::Field;
-        self.add(kind, file, Some(parent), index, path, full_name)
+        let site = Site {
+            file,
+            parent: Some(parent),
+            index,
+            path,
+            full_name,
+        };
+        self.add(kind, site)
     }
 
     fn visit_oneof(
@@ -141,7 +165,14 @@ impl Visitor for Lister {
         _oneof: &OneofDescriptorProto,
     ) -> Result<(), AllocError> {
         let kind = DeclarationKind::Oneof;
-        self.add(kind, file, Some(parent), index, path, full_name)
+        let site = Site {
+            file,
+            parent: Some(parent),
+            index,
+            path,
+            full_name,
+        };
+        self.add(kind, site)
     }
 
     fn visit_service(
@@ -153,7 +184,14 @@ impl Visitor for Lister {
         _service: &ServiceDescriptorProto,
     ) -> Result<(), AllocError> {
         let kind = DeclarationKind::Service;
-        self.add(kind, file, None, index, path, full_name)
+        let site = Site {
+            file,
+            parent: None,
+            index,
+            path,
+            full_name,
+        };
+        self.add(kind, site)
     }
 
     fn visit_method(
@@ -166,7 +204,14 @@ impl Visitor for Lister {
         _method: &MethodDescriptorProto,
     ) -> Result<(), AllocError> {
         let kind = DeclarationKind::Method;
-        self.add(kind, file, Some(parent), index, path, full_name)
+        let site = Site {
+            file,
+            parent: Some(parent),
+            index,
+            path,
+            full_name,
+        };
+        self.add(kind, site)
     }
 
     fn visit_enum(
@@ -179,7 +224,14 @@ impl Visitor for Lister {
         _enumeration: &EnumDescriptorProto,
     ) -> Result<(), AllocError> {
         let kind = DeclarationKind::Enum;
-        self.add(kind, file, parent, index, path, full_name)
+        let site = Site {
+            file,
+            parent,
+            index,
+            path,
+            full_name,
+        };
+        self.add(kind, site)
     }
 
     fn visit_enum_value(
@@ -192,7 +244,14 @@ impl Visitor for Lister {
         _value: &EnumValueDescriptorProto,
     ) -> Result<(), AllocError> {
         let kind = DeclarationKind::EnumValue;
-        self.add(kind, file, Some(parent), index, path, full_name)
+        let site = Site {
+            file,
+            parent: Some(parent),
+            index,
+            path,
+            full_name,
+        };
+        self.add(kind, site)
     }
 
     fn visit_extension(
@@ -205,7 +264,14 @@ impl Visitor for Lister {
         _extension: &FieldDescriptorProto,
     ) -> Result<(), AllocError> {
         let kind = DeclarationKind::Extension;
-        self.add(kind, file, parent, index, path, full_name)
+        let site = Site {
+            file,
+            parent,
+            index,
+            path,
+            full_name,
+        };
+        self.add(kind, site)
     }
 }
 

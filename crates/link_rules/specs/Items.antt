@@ -3,6 +3,7 @@ use Rattle.std.specs.Prelude.{ℕ, List, [], ◌∷◌, ◌++◌, unwrap_or}
 use Rattle.std.specs.FinMap as finite
 use Rattle.std.specs.List.{filter_map}
 use Rattle.proto_types.specs.declared.tag.message.TheConstants as message
+use Rattle.pool_types.specs.declared.contents.definition.Identity.{Identity}
 use Rattle.pool_types.specs.declared.contents.extension.ExtensionDescriptorInner.{ExtensionDescriptorInner}
 use Rattle.pool_types.specs.declared.contents.field.FieldDescriptorInner.{FieldDescriptorInner}
 use Rattle.pool_types.specs.declared.contents.file.FileDescriptorInner.{FileDescriptorInner}
@@ -47,19 +48,22 @@ file_item s index f = record {
   transitive_dependencies = seen_by s index;
 }
 
--- a field whose type is of a kind, with a default value, among the oneofs of its message
-abbrev pub item_of_kind : Setting → List OneofDescriptorProto → Shown → FieldDescriptorProto → KindIndex → Option DefaultValue → FieldDescriptorInner
-item_of_kind s oneofs d f kind default = record {
-  id = identity d;
+-- a field with an identity, whose type is of a kind, with a default value, among the oneofs of its message
+abbrev pub item_at : Setting → List OneofDescriptorProto → Identity → FieldDescriptorProto → KindIndex → Option DefaultValue → FieldDescriptorInner
+item_at s oneofs id f kind default = record {
+  id = id;
   number = item_number (number_of f.number);
   json_name = f.json_name;
   kind = kind;
   oneof = oneof_of oneofs f;
-  is_packed = is_packed (is_proto3 (syntax_at s.files d.file)) kind f;
-  supports_presence = supports_presence (is_proto3 (syntax_at s.files d.file)) kind f;
+  is_packed = is_packed (is_proto3 (syntax_at s.files id.file)) kind f;
+  supports_presence = supports_presence (is_proto3 (syntax_at s.files id.file)) kind f;
   cardinality = cardinality_of (label_of f.label);
   default = default;
 }
+
+abbrev pub item_of_kind : Setting → List OneofDescriptorProto → Shown → FieldDescriptorProto → KindIndex → Option DefaultValue → FieldDescriptorInner
+item_of_kind s oneofs d f kind default = item_at s oneofs (identity d) f kind default
 
 -- a field; where its type has a fault, a number stands in for it
 abbrev pub field_item : Setting → List OneofDescriptorProto → Shown → FieldDescriptorProto → FieldDescriptorInner

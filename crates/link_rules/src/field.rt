@@ -1,45 +1,87 @@
-ghost use Rattle.std.specs.Prelude.{◌≡◌, true, IfOk, OnOk};
-ghost use Rattle.proto_types.specs.Readers.{text_of};
+ghost use Rattle.std.specs.Prelude.{◌≡◌, ◌<◌, true, IfOk, OnOk, length, get_or, unwrap_or};
+ghost use Rattle.pool_kinds.specs.declared.kinds.KindIndex.TheVariants.{Double};
+ghost use Rattle.proto_types.specs.Empty.{no_field};
 ghost use Rattle.proto_files.specs.declared.message.DescriptorProto.{out-DescriptorProto};
 ghost use Rattle.proto_records.specs.Counts.{lists_fit};
-ghost use Rattle.proto_records.specs.FullNames.{EndsWith};
 ghost use Rattle.proto_records.specs.Protos.{of_field, of_message};
 ghost use Rattle.link_rules.specs.Broken.{own_faults};
-ghost use Rattle.link_rules.specs.Items.{field_item, item_of_kind};
+ghost use Rattle.link_rules.specs.Defaults.{field_default};
+ghost use Rattle.link_rules.specs.FieldTypes.{field_kind};
+ghost use Rattle.link_rules.specs.Items.{field_item, item_at};
 ghost use Rattle.link_rules.specs.Reading.{Reads, setting_of};
 ghost use Rattle.places.specs.NamesBegin.{BeginsAtBoundary};
-ghost use Rattle.places.specs.Places.{message_at, shown_at};
+ghost use Rattle.places.specs.Places.{field_at, inside_of, message_at, shown_at};
 ghost use Rattle.syntax_rules.specs.Syntaxes.{is_proto3, syntax_at};
 
 use crate::reading::Reading;
 use crate::types::type_and_default;
 use field_rules::{check_oneof_index, is_packed, item_number, oneof_of, supports_presence};
 use number_rules::check_field_number;
-use places::{Owner, Place, identity};
+use places::{Owner, Place, identity_inside};
 use plain_values::duplicate_given;
 use pool_kinds::{DefaultValue, KindIndex, Syntax};
 use pool_parts::cardinality_of;
-use pool_types::FieldDescriptorInner;
+use pool_types::{FieldDescriptorInner, Identity};
 use proto_files::OneofDescriptorProto;
-use proto_types::FieldDescriptorProto;
+use proto_types::{FieldDescriptorProto, tag};
 use std::alloc::AllocError;
 use syntax_rules::syntax_at;
 
-/// The item of a field of a message. What the field breaks by itself is appended to `faults`: its
-/// number, its type, its default value, its oneof.
+/// The item of the field of a message with a position. What the field breaks by itself is appended
+/// to `faults`: its number, its type, its default value, its oneof.
 pub(crate) fn read_field(
+    reading: &mut Reading,
+    owner: Owner,
+    position: usize,
+) -> Result<FieldDescriptorInner, AllocError>
+    requires short { lists_fit (of_message owner.message.now) ≡ true }
+    requires there { position < length (out-DescriptorProto owner.message.now).field }
+    ensures item { IfOk result (λ item. item
+        ≡ field_item (setting_of reading.old)
+        (out-DescriptorProto owner.entry.message.now).oneof_decl
+        (field_at (inside_of owner.entry.place) position
+        (get_or (out-DescriptorProto owner.entry.message.now).field position no_field))
+        (get_or (out-DescriptorProto owner.entry.message.now).field position no_field)) }
+    ensures begins { IfOk result (λ item. BeginsAtBoundary item.id) }
+    ensures faults { OnOk result (Reads reading.old reading.new
+        (own_faults (setting_of reading.old)
+        (message_at owner.entry.place owner.entry.message.now, owner.entry.message.now)
+        (field_at (inside_of owner.entry.place) position
+        (get_or (out-DescriptorProto owner.entry.message.now).field position no_field))
+        (get_or (out-DescriptorProto owner.entry.message.now).field position no_field))) }
+{
+    let alloc = reading.findings.alloc;
+    let around = owner.place;
+    let field = &owner.message.field.as_slice()[position];
+    let id = identity_inside(alloc, around, tag::message::FIELD, position, field.name())?;
+    let place = Place {
+        file: around.file,
+        parent: Some(around.index),
+        index: position as u32,
+        path: id.path.as_slice(),
+        full_name: id.full_name.as_str(),
+    };
+    let (kind, default) = check_field(reading, owner, place, field)?;
+    let oneofs = owner.message.oneof_decl.as_slice();
+    item_at(reading, oneofs, id, field, kind, default)
+}
+
+/// The kind of the type of a field of a message and its default value, where one is given; where
+/// the type has a fault, a number stands in for it. What the field breaks by itself is appended to
+/// `faults`.
+fn check_field(
     reading: &mut Reading,
     owner: Owner,
     place: Place,
     field: &FieldDescriptorProto,
-) -> Result<FieldDescriptorInner, AllocError>
+) -> Result<(KindIndex, Option<DefaultValue>), AllocError>
     requires { lists_fit (of_message owner.message.now) ≡ true }
-    ensures item { IfOk result (λ item. item
-        ≡ field_item (setting_of reading.old)
-        (out-DescriptorProto owner.entry.message.now).oneof_decl
+    ensures kind { IfOk result (λ t. t.0
+        ≡ unwrap_or (field_kind (setting_of reading.old)
+        (shown_at place.entry (of_field field.now)) field.now) Double) }
+    ensures default { IfOk result (λ t. t.1
+        ≡ field_default (setting_of reading.old)
         (shown_at place.entry (of_field field.now)) field.now) }
-    ensures begins { IfOk result (λ item.
-        EndsWith place.entry.full_name.now (text_of field.now.name) → BeginsAtBoundary item.id) }
     ensures faults { OnOk result (Reads reading.old reading.new
         (own_faults (setting_of reading.old)
         (message_at owner.entry.place owner.entry.message.now, owner.entry.message.now)
@@ -49,29 +91,25 @@ pub(crate) fn read_field(
     check_field_number(&mut reading.findings, owner, place, field)?;
     let (kind, default) = type_and_default(reading, place, field)?;
     check_oneof_index(&mut reading.findings, oneofs, field)?;
-    let kind = kind.unwrap_or(KindIndex::Double);
-    item_of_kind(reading, oneofs, place, field, kind, default)
+    Ok((kind.unwrap_or(KindIndex::Double), default))
 }
 
-/// The item of a field whose type is of a kind, with a default value.
-fn item_of_kind(
+/// The item of a field with an identity, whose type is of a kind, with a default value.
+fn item_at(
     reading: &Reading,
     oneofs: &[OneofDescriptorProto],
-    place: Place,
+    id: Identity,
     field: &FieldDescriptorProto,
     kind: KindIndex,
     default: Option<DefaultValue>,
 ) -> Result<FieldDescriptorInner, AllocError>
-    ensures item { IfOk result (λ item. item
-        ≡ item_of_kind (setting_of reading.now) oneofs.now
-        (shown_at place.entry (of_field field.now)) field.now kind default) }
-    ensures begins { IfOk result (λ item.
-        EndsWith place.entry.full_name.now (text_of field.now.name) → BeginsAtBoundary item.id) }
+    ensures { IfOk result (λ item. item
+        ≡ item_at (setting_of reading.now) oneofs.now id field.now kind default) }
 {
     let alloc = reading.findings.alloc;
-    let is_proto3 = is_proto3(reading, place.file);
+    let is_proto3 = is_proto3(reading, id.file);
     Ok(FieldDescriptorInner {
-        id: identity(alloc, place, field.name())?,
+        id,
         number: item_number(field.number()),
         json_name: duplicate_given(alloc, &field.json_name)?,
         kind,

@@ -5,11 +5,9 @@ ghost use Rattle.proto_records.specs.Counts.{fits_list, lists_fit};
 ghost use Rattle.proto_records.specs.Protos.{of_file};
 ghost use Rattle.link_rules.specs.Imports.{missing_file, missing_files, index_fault, import_faults};
 ghost use Rattle.link_rules.specs.Reading.{Reads, setting_of};
-ghost use Rattle.linked_records.specs.SettingCode.{setting_in};
 ghost use Rattle.places.specs.Tells.{Tells};
 
 use crate::reading::Reading;
-use linked_records::Setting;
 use places::Findings;
 use plain_values::Text;
 use pool_faults::DescriptorErrorKind;

@@ -1,16 +1,15 @@
-ghost use Rattle.std.specs.Prelude.{◌≡◌, ◌<◌, true, [], IfOk, OnOk, length, get_or};
+ghost use Rattle.std.specs.Prelude.{◌≡◌, true, [], IfOk, OnOk};
 ghost use Rattle.std.specs.List.{All};
-ghost use Rattle.proto_types.specs.Empty.{no_field};
 ghost use Rattle.proto_files.specs.declared.message.DescriptorProto.{out-DescriptorProto};
 ghost use Rattle.proto_records.specs.Counts.{lists_fit};
 ghost use Rattle.proto_records.specs.FullNames.{EndsWithName};
 ghost use Rattle.proto_records.specs.Protos.{of_message};
 ghost use Rattle.field_rules.specs.MapsOf.{AreMapsOf};
-ghost use Rattle.link_rules.specs.Broken.{faults_of_fields, message_faults, own_faults};
-ghost use Rattle.link_rules.specs.Items.{field_item, field_items, message_item, oneof_items};
+ghost use Rattle.link_rules.specs.Broken.{faults_of_fields, message_faults};
+ghost use Rattle.link_rules.specs.Items.{field_items, message_item, oneof_items};
 ghost use Rattle.places.specs.NamesBegin.{BeginsAtBoundary};
 ghost use Rattle.link_rules.specs.NamesBegin.{MessageNamesBegin};
-ghost use Rattle.places.specs.Places.{field_at, inside_of, message_at};
+ghost use Rattle.places.specs.Places.{inside_of, message_at};
 ghost use Rattle.link_rules.specs.Reading.{Reads, setting_of};
 
 use crate::field::read_field;
@@ -20,8 +19,7 @@ use places::{Owner, Place, identity, identity_inside};
 use plain_values::Items;
 use pool_types::{FieldDescriptorInner, MessageDescriptorInner, OneofDescriptorInner};
 use proto_files::DescriptorProto;
-use proto_records::entry_path;
-use proto_types::{join, tag};
+use proto_types::tag;
 use std::alloc::{AllocError, Global};
 
 /// The item of a message, with its fields, its oneofs and its maps, before what extends it is known.
@@ -85,48 +83,10 @@ fn read_fields(
     let fields = owner.message.field.as_slice();
     let mut items = Vec::new(reading.findings.alloc);
     for position in 0..fields.len() {
-        items.push(read_field_at(reading, owner, position)?)?;
+        items.push(read_field(reading, owner, position)?)?;
         maps.insert(&mut reading.findings, owner, position)?;
     }
     Ok(items)
-}
-
-/// The item of the field of a message with a position. What the field breaks by itself is appended
-/// to `faults`.
-fn read_field_at(
-    reading: &mut Reading,
-    owner: Owner,
-    position: usize,
-) -> Result<FieldDescriptorInner, AllocError>
-    requires short { lists_fit (of_message owner.message.now) ≡ true }
-    requires there { position < length (out-DescriptorProto owner.message.now).field }
-    ensures item { IfOk result (λ item. item
-        ≡ field_item (setting_of reading.old)
-        (out-DescriptorProto owner.entry.message.now).oneof_decl
-        (field_at (inside_of owner.entry.place) position
-        (get_or (out-DescriptorProto owner.entry.message.now).field position no_field))
-        (get_or (out-DescriptorProto owner.entry.message.now).field position no_field)) }
-    ensures begins { IfOk result (λ item. BeginsAtBoundary item.id) }
-    ensures faults { OnOk result (Reads reading.old reading.new
-        (own_faults (setting_of reading.old)
-        (message_at owner.entry.place owner.entry.message.now, owner.entry.message.now)
-        (field_at (inside_of owner.entry.place) position
-        (get_or (out-DescriptorProto owner.entry.message.now).field position no_field))
-        (get_or (out-DescriptorProto owner.entry.message.now).field position no_field))) }
-{
-    let alloc = reading.findings.alloc;
-    let around = owner.place;
-    let field = &owner.message.field.as_slice()[position];
-    let path = entry_path(alloc, around.path, tag::message::FIELD, position)?;
-    let full_name = join(alloc, around.full_name, field.name())?;
-    let place = Place {
-        file: around.file,
-        parent: Some(around.index),
-        index: position as u32,
-        path: &path,
-        full_name: &full_name,
-    };
-    read_field(reading, owner, place, field)
 }
 
 /// The items of the oneofs of a message, each with the positions of its fields.

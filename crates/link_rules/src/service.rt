@@ -1,23 +1,22 @@
-ghost use Rattle.std.specs.Prelude.{◌≡◌, ◌++◌, [], ◌∷◌, true, IfOk, OnOk};
+ghost use Rattle.std.specs.Prelude.{◌≡◌, ◌<◌, ◌^◌, ◌++◌, [], ◌∷◌, true, IfOk, OnOk};
 ghost use Rattle.proto_types.specs.Lists.{listed};
 ghost use Rattle.proto_records.specs.Counts.{fits_list, lists_fit};
-ghost use Rattle.proto_records.specs.Protos.{of_method, of_service};
+ghost use Rattle.proto_records.specs.Protos.{of_service};
 ghost use Rattle.pool_parts.specs.References.{reference_fault};
 ghost use Rattle.link_rules.specs.Broken.{faults_of_methods, method_faults, service_faults};
 ghost use Rattle.link_rules.specs.Items.{service_item, method_item, method_items};
-ghost use Rattle.link_rules.specs.Messages.{message_found, message_index, or_missing};
-ghost use Rattle.places.specs.Places.{inside_of, service_at, shown_at};
+ghost use Rattle.link_rules.specs.Messages.{message_found, message_index, method_at, or_missing};
+ghost use Rattle.places.specs.Places.{inside_of, service_at};
 ghost use Rattle.linked_records.specs.Setting.{meaning};
 ghost use Rattle.link_rules.specs.Reading.{Reads, setting_of};
 
 use crate::reading::Reading;
 use crate::references::message_found;
-use places::{Place, identity};
+use places::{Place, identity, identity_inside};
 use plain_values::Items;
 use pool_parts::ResolveNameFilter;
 use pool_types::{MethodDescriptorInner, ServiceDescriptorInner};
-use proto_records::entry_path;
-use proto_types::{MethodDescriptorProto, ServiceDescriptorProto, join, tag};
+use proto_types::{MethodDescriptorProto, ServiceDescriptorProto, tag};
 use std::alloc::AllocError;
 
 /// The item of a service, with its methods. What these break is appended to `faults`, one method
@@ -56,42 +55,52 @@ fn read_methods(
     ensures faults { OnOk result (Reads reading.old reading.new
         (faults_of_methods (setting_of reading.old) (inside_of service.entry) methods.now)) }
 {
-    let alloc = reading.findings.alloc;
-    let mut items = Vec::new(alloc);
+    let mut items = Vec::new(reading.findings.alloc);
     for (position, method) in methods.iter().enumerate() {
-        let path = entry_path(alloc, service.path, tag::service::METHOD, position)?;
-        let full_name = join(alloc, service.full_name, method.name())?;
-        let place = Place {
-            file: service.file,
-            parent: Some(service.index),
-            index: position as u32,
-            path: &path,
-            full_name: &full_name,
-        };
-        items.push(read_method(reading, place, method)?)?;
+        items.push(read_method(reading, service, position, method)?)?;
     }
     Ok(items)
 }
 
-/// The item of a method. What the method breaks is appended to `faults`.
+/// The item of the method of a service with a position. What the method breaks is appended to
+/// `faults`.
 fn read_method(
     reading: &mut Reading,
-    place: Place,
+    service: Place,
+    position: usize,
     method: &MethodDescriptorProto,
 ) -> Result<MethodDescriptorInner, AllocError>
+    requires { position < 2 ^ 31 }
     ensures item { IfOk result (λ item. item
         ≡ method_item (setting_of reading.old)
-        (shown_at place.entry (of_method method.now)) method.now) }
+        (method_at (inside_of service.entry) position method.now) method.now) }
     ensures faults { OnOk result (Reads reading.old reading.new
         (method_faults (setting_of reading.old)
-        (shown_at place.entry (of_method method.now)) method.now)) }
+        (method_at (inside_of service.entry) position method.now) method.now)) }
 {
-    let (input, output) = (tag::method::INPUT_TYPE, tag::method::OUTPUT_TYPE);
-    Ok(MethodDescriptorInner {
-        id: identity(reading.findings.alloc, place, method.name())?,
-        input: message_index(reading, place, input, method.input_type())?,
-        output: message_index(reading, place, output, method.output_type())?,
-    })
+    let alloc = reading.findings.alloc;
+    let id = identity_inside(
+        alloc,
+        service,
+        tag::service::METHOD,
+        position,
+        method.name(),
+    )?;
+    let place = Place {
+        file: service.file,
+        parent: Some(service.index),
+        index: position as u32,
+        path: id.path.as_slice(),
+        full_name: id.full_name.as_str(),
+    };
+    let input = message_index(reading, place, tag::method::INPUT_TYPE, method.input_type())?;
+    let output = message_index(
+        reading,
+        place,
+        tag::method::OUTPUT_TYPE,
+        method.output_type(),
+    )?;
+    Ok(MethodDescriptorInner { id, input, output })
 }
 
 /// The index of the message that the part of a method with a tag names; where it names none, that

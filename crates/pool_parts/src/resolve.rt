@@ -6,7 +6,6 @@ ghost use Rattle.std.specs.Ordering.{nat_cmp};
 ghost use Rattle.proto_types.specs.Names.{first_part};
 ghost use Rattle.pool_faults.specs.declared.fault.DescriptorErrorKind.TheVariants.{InvalidType, NameNotFound, NameShadowed};
 ghost use Rattle.pool_types.specs.DefinitionKinds.{is_parent};
-ghost use Rattle.source_labels.specs.Labels.{label_in};
 ghost use Rattle.pool_parts.specs.Kinds.{filter_text};
 ghost use Rattle.pool_parts.specs.Parents.{outer};
 ghost use Rattle.pool_parts.specs.Resolution.{resolution, resolution_in, look, simple, dotted, or_shadowed, is_found, is_not_found};
@@ -19,7 +18,7 @@ use plain_values::Text;
 use pool_faults::DescriptorErrorKind;
 use pool_types::{Definition, FileDescriptorInner};
 use proto_types::join;
-use source_labels::label_at;
+use source_labels::{Label, label_at};
 use std::alloc::{AllocError, Global};
 use std::collections::BTreeSet;
 
@@ -205,16 +204,21 @@ impl<'a> ResolveNameResult<'a> {
         let fault = match self {
             ResolveNameResult::Found { .. } => return Ok(None),
             ResolveNameResult::InvalidType { name, def, filter } => {
-                invalid_type(alloc, name, def, *filter, files, found_file, path)?
+                let found = label_at(alloc, files, found_file, path)?;
+                let defined = label_at(alloc, files, def.file, def.path.as_slice())?;
+                invalid_type(alloc, name.as_str(), *filter, found, defined)?
             }
             ResolveNameResult::NotImported { name, .. } => {
-                name_not_found(alloc, name.as_str(), files, found_file, path)?
+                let found = label_at(alloc, files, found_file, path)?;
+                name_not_found(alloc, name.as_str(), found)?
             }
             ResolveNameResult::Shadowed { shadowed_name, .. } => {
-                name_shadowed(alloc, orig_name, shadowed_name, files, found_file, path)?
+                let found = label_at(alloc, files, found_file, path)?;
+                name_shadowed(alloc, orig_name, shadowed_name.as_str(), found)?
             }
             ResolveNameResult::NotFound => {
-                name_not_found(alloc, orig_name, files, found_file, path)?
+                let found = label_at(alloc, files, found_file, path)?;
+                name_not_found(alloc, orig_name, found)?
             }
         };
         Ok(Some(fault))
@@ -251,63 +255,53 @@ impl<'a> ResolveNameResult<'a> {
     }
 }
 
-/// The fault of a full name whose definition is not of a kind that is wanted, at a path of the
-/// file with an index.
+/// The fault of a full name whose definition is not of a kind that is wanted, with the labels of
+/// the reference and of the definition.
 fn invalid_type(
     alloc: Global,
-    name: &Text,
-    def: &Definition,
+    name: &str,
     filter: ResolveNameFilter,
-    files: &[FileDescriptorInner],
-    found_file: u32,
-    path: &[i32],
+    found: Label,
+    defined: Label,
 ) -> Result<DescriptorErrorKind, AllocError>
-    ensures { IfOk result (λ fault. fault ≡ InvalidType name.now (filter_text filter)
-        (label_in (map (λ f. f.raw) files.now) found_file path.now)
-        (label_in (map (λ f. f.raw) files.now) def.now.file def.now.path)) }
+    ensures { IfOk result (λ fault. fault
+        ≡ InvalidType name.now (filter_text filter) found defined) }
 {
     Ok(DescriptorErrorKind::InvalidType {
-        name: name.clone(alloc)?,
+        name: Text::from_str(alloc, name)?,
         expected: Text::from_string(format!(in alloc; "{filter}")?),
-        found: label_at(alloc, files, found_file, path)?,
-        defined: label_at(alloc, files, def.file, def.path.as_slice())?,
+        found,
+        defined,
     })
 }
 
-/// The fault of a name, as it is shown, that a file does not see or that nothing has, at a path
-/// of the file with an index.
+/// The fault of a name, as it is shown, that a file does not see or that nothing has, with the
+/// label of the reference.
 fn name_not_found(
     alloc: Global,
     name: &str,
-    files: &[FileDescriptorInner],
-    found_file: u32,
-    path: &[i32],
+    found: Label,
 ) -> Result<DescriptorErrorKind, AllocError>
-    ensures { IfOk result (λ fault. fault ≡ NameNotFound name.now
-        (label_in (map (λ f. f.raw) files.now) found_file path.now)) }
+    ensures { IfOk result (λ fault. fault ≡ NameNotFound name.now found) }
 {
-    Ok(DescriptorErrorKind::NameNotFound {
-        name: Text::from_str(alloc, name)?,
-        found: label_at(alloc, files, found_file, path)?,
-    })
+    let name = Text::from_str(alloc, name)?;
+    Ok(DescriptorErrorKind::NameNotFound { name, found })
 }
 
-/// The fault of a name as it is written that resolves to a full name which isn't defined, at a
-/// path of the file with an index.
+/// The fault of a name as it is written that resolves to a full name which isn't defined, with the
+/// label of the reference.
 fn name_shadowed(
     alloc: Global,
     orig_name: &str,
-    shadowed_name: &Text,
-    files: &[FileDescriptorInner],
-    found_file: u32,
-    path: &[i32],
+    shadowed_name: &str,
+    found: Label,
 ) -> Result<DescriptorErrorKind, AllocError>
-    ensures { IfOk result (λ fault. fault ≡ NameShadowed orig_name.now shadowed_name.now
-        (label_in (map (λ f. f.raw) files.now) found_file path.now)) }
+    ensures { IfOk result (λ fault. fault
+        ≡ NameShadowed orig_name.now shadowed_name.now found) }
 {
     Ok(DescriptorErrorKind::NameShadowed {
         name: Text::from_str(alloc, orig_name)?,
-        shadowed_name: shadowed_name.clone(alloc)?,
-        found: label_at(alloc, files, found_file, path)?,
+        shadowed_name: Text::from_str(alloc, shadowed_name)?,
+        found,
     })
 }

@@ -53,31 +53,32 @@ pub fn visit(
         ≡ after visitor.old (declarations base files.now)) }
     ensures kept { kept visitor.new ≡ kept visitor.old }
 {
-    let mut counts = base;
+    let mut cursor = Cursor::new(alloc, base);
     for file in files {
-        counts = visit_file(alloc, counts, file, visitor)?;
+        visit_file(&mut cursor, file, visitor)?;
     }
     Ok(())
 }
 
-/// Shows a visitor a file and what it declares, and answers the counts behind it.
-fn visit_file(
-    alloc: Global,
-    base: Counts,
-    file: &FileDescriptorProto,
+/// Shows a visitor the next file and what it declares, and counts all of it.
+fn visit_file<'a>(
+    cursor: &mut Cursor<'a>,
+    file: &'a FileDescriptorProto,
     visitor: &mut dyn Visitor,
-) -> Result<Counts, AllocError>
-    requires room { Room base (file_walk base file.now) }
-    requires ready { ready visitor.old (file_walk base file.now) }
+) -> Result<(), AllocError>
+    requires room { Room cursor.old.counts (file_walk cursor.old.counts file.now) }
+    requires ready { ready visitor.old (file_walk cursor.old.counts file.now) }
     ensures ok { OnOk result (HasSeen (after visitor.old) (ready visitor.old) (after visitor.new)
-        (ready visitor.new) (file_walk base file.now)) }
-    ensures counts { IfOk result (λ counts. counts ≡ counted base (file_walk base file.now)) }
+        (ready visitor.new) (file_walk cursor.old.counts file.now)) }
+    ensures counts { OnOk result (cursor.new.counts
+        ≡ counted cursor.old.counts (file_walk cursor.old.counts file.now)) }
     ensures kept { kept visitor.new ≡ kept visitor.old }
 {
-    show_file(base.files, file, visitor)?;
-    let mut cursor = Cursor::of_file(alloc, base, file)?;
-    visit_left(&mut cursor, visitor)?;
-    Ok(cursor.counts_with_file())
+    show_file(cursor.counts.files, file, visitor)?;
+    cursor.begin(file)?;
+    visit_left(cursor, visitor)?;
+    cursor.count_file();
+    Ok(())
 }
 
 /// Shows a visitor the declarations that are still to come.
@@ -117,9 +118,9 @@ pub fn walk<V: Visitor>(
     ensures kept { V.kept visitor.new ≡ V.kept visitor.old }
     ensures borrows { V.borrows visitor.new ≡ V.borrows visitor.old }
 {
-    let mut counts = base;
+    let mut cursor = Cursor::new(alloc, base);
     for file in files {
-        counts = walk_file(alloc, counts, &file.raw, visitor)?;
+        walk_file(&mut cursor, &file.raw, visitor)?;
     }
     Ok(())
 }
@@ -141,31 +142,32 @@ pub fn walk_files<V: Visitor>(
     ensures kept { V.kept visitor.new ≡ V.kept visitor.old }
     ensures borrows { V.borrows visitor.new ≡ V.borrows visitor.old }
 {
-    let mut counts = base;
+    let mut cursor = Cursor::new(alloc, base);
     for file in files {
-        counts = walk_file(alloc, counts, file, visitor)?;
+        walk_file(&mut cursor, file, visitor)?;
     }
     Ok(())
 }
 
-fn walk_file<V: Visitor>(
-    alloc: Global,
-    base: Counts,
-    file: &FileDescriptorProto,
+fn walk_file<'a, V: Visitor>(
+    cursor: &mut Cursor<'a>,
+    file: &'a FileDescriptorProto,
     visitor: &mut V,
-) -> Result<Counts, AllocError>
-    requires room { Room base (file_walk base file.now) }
-    requires ready { V.ready visitor.old (file_walk base file.now) }
+) -> Result<(), AllocError>
+    requires room { Room cursor.old.counts (file_walk cursor.old.counts file.now) }
+    requires ready { V.ready visitor.old (file_walk cursor.old.counts file.now) }
     ensures ok { OnOk result (HasSeen (V.after visitor.old) (V.ready visitor.old)
-        (V.after visitor.new) (V.ready visitor.new) (file_walk base file.now)) }
-    ensures counts { IfOk result (λ counts. counts ≡ counted base (file_walk base file.now)) }
+        (V.after visitor.new) (V.ready visitor.new) (file_walk cursor.old.counts file.now)) }
+    ensures counts { OnOk result (cursor.new.counts
+        ≡ counted cursor.old.counts (file_walk cursor.old.counts file.now)) }
     ensures kept { V.kept visitor.new ≡ V.kept visitor.old }
     ensures borrows { V.borrows visitor.new ≡ V.borrows visitor.old }
 {
-    visitor.visit_file(&[], base.files, file)?;
-    let mut cursor = Cursor::of_file(alloc, base, file)?;
-    walk_left(&mut cursor, visitor)?;
-    Ok(cursor.counts_with_file())
+    visitor.visit_file(&[], cursor.counts.files, file)?;
+    cursor.begin(file)?;
+    walk_left(cursor, visitor)?;
+    cursor.count_file();
+    Ok(())
 }
 
 /// Shows a visitor the declarations that are still to come, as `visit_left` does.

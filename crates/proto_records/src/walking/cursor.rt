@@ -1,4 +1,4 @@
-ghost use Rattle.std.specs.Prelude.{suc, ◌≡◌, ◌<◌, ◌+◌, ◌^◌, true, IfOk};
+ghost use Rattle.std.specs.Prelude.{suc, ◌≡◌, ◌<◌, ◌+◌, ◌^◌, true, IfOk, OnOk};
 ghost use Rattle.proto_records.specs.Counts.{lists_fit};
 ghost use Rattle.proto_records.specs.Cursor.{Advances, Begins, IsSound};
 ghost use Rattle.proto_records.specs.Protos.{of_file};
@@ -14,7 +14,8 @@ use std::alloc::{AllocError, Global};
 
 /// The declarations in a file that are still to come, and the counts before them.
 ///
-/// It has one path and one full name, those of the declaration that came last.
+/// It has one path and one full name, those of the declaration that came last, and goes through one
+/// file after another with them.
 #[derive(Drop)]
 pub(crate) struct Cursor<'a> {
     pub(crate) counts: Counts,
@@ -23,39 +24,38 @@ pub(crate) struct Cursor<'a> {
 }
 
 impl<'a> Cursor<'a> {
-    /// All that stands in a file, which is itself not counted.
-    pub(crate) fn of_file(
-        alloc: Global,
-        base: Counts,
-        file: &'a FileDescriptorProto,
-    ) -> Result<Cursor<'a>, AllocError>
-        requires short { lists_fit (of_file file.now) ≡ true }
-        requires room { Room base (within_file base.files base file.now) }
-        ensures { IfOk result (λ cursor.
-            Begins base (within_file base.files base file.now) cursor) }
+    /// Before any file, with the counts of a pool, which takes no memory.
+    pub(crate) fn new(alloc: Global, base: Counts) -> Cursor<'a>
+        ensures { result.counts ≡ base }
     {
-        let site = Site {
-            file: base.files,
-            path: Vec::new(alloc),
-            name: String::from_str(alloc, file.package())?,
-        };
-        let mut rows = Rows::new(alloc);
-        rows.push_file(file, site.depth())?;
-        Ok(Cursor {
+        Cursor {
             counts: base,
-            site,
-            rows,
-        })
+            site: Site::new(alloc),
+            rows: Rows::new(alloc),
+        }
     }
 
-    /// The counts after what came, and the file itself.
-    pub(crate) fn counts_with_file(&self) -> Counts
-        requires { self.now.counts.files + 1 < 2 ^ 32 }
-        ensures { result ≡ record self.now.counts { files = suc self.now.counts.files } }
+    /// Goes to all that stands in the next file, which is itself not counted. What was still to come
+    /// is left out.
+    pub(crate) fn begin(&mut self, file: &'a FileDescriptorProto) -> Result<(), AllocError>
+        requires short { lists_fit (of_file file.now) ≡ true }
+        requires room { Room self.old.counts
+            (within_file self.old.counts.files self.old.counts file.now) }
+        ensures { OnOk result (Begins self.old.counts
+            (within_file self.old.counts.files self.old.counts file.now) self.new) }
     {
-        let mut counts = self.counts;
-        counts.files += 1;
-        counts
+        self.site.begin(self.counts.files, file.package())?;
+        self.rows.clear();
+        self.rows.push_file(file, self.site.depth())
+    }
+
+    /// Counts the file that was gone through.
+    pub(crate) fn count_file(&mut self)
+        requires { self.old.counts.files + 1 < 2 ^ 32 }
+        ensures { self.new.counts
+            ≡ record self.old.counts { files = suc self.old.counts.files } }
+    {
+        self.counts.files += 1;
     }
 
     /// The next declaration, whose site is the cursor's then.

@@ -25,6 +25,13 @@ impl<'a> Rows<'a> {
         }
     }
 
+    /// Takes all lists off.
+    pub(crate) fn clear(&mut self)
+        ensures { lines self.new ≡ [] }
+    {
+        self.list.clear();
+    }
+
     /// Takes the next list off.
     pub(crate) fn pop(&mut self) -> Option<Row<'a>>
         ensures { MatchOption result ((lines self.old ≡ []) × (lines self.new ≡ []))

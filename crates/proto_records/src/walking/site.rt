@@ -1,4 +1,4 @@
-ghost use Rattle.std.specs.Prelude.{◌≡◌, ◌<◌, ◌^◌, IfOk, OnOk, length, take, string_bytes};
+ghost use Rattle.std.specs.Prelude.{◌≡◌, ◌<◌, ◌^◌, [], IfOk, OnOk, length, take, string_bytes};
 ghost use Rattle.std.specs.String.Boundary.{IsSplitPoint};
 ghost use Rattle.proto_types.specs.Names.{join};
 ghost use Rattle.proto_records.specs.Shown.{step};
@@ -16,6 +16,27 @@ pub(crate) struct Site {
 }
 
 impl Site {
+    /// The site of no file, which takes no memory.
+    pub(crate) fn new(alloc: Global) -> Site {
+        Site {
+            file: 0,
+            path: Vec::new(alloc),
+            name: String::new(alloc),
+        }
+    }
+
+    /// Goes to a file with an index, and a scope.
+    pub(crate) fn begin(&mut self, file: u32, scope: &str) -> Result<(), AllocError>
+        ensures file { OnOk result (self.new.file ≡ file) }
+        ensures path { OnOk result (self.new.path.items ≡ []) }
+        ensures name { OnOk result (string_bytes self.new.name ≡ scope.now) }
+    {
+        self.file = file;
+        self.path.clear();
+        self.name.clear();
+        self.name.push_str(scope)
+    }
+
     /// How long the path and the full name are.
     pub(crate) fn depth(&self) -> Depth
         ensures { result ≡ record { path = length self.now.path.items; scope = length (string_bytes self.now.name) } }

@@ -29,14 +29,14 @@ loop-position-preserved c =
     let below = subst (λ (xs : List FieldDescriptorProto). i < length xs) c.as_slice-fields.ensures c.loop-position-test.true in
     let is = found-again m.field i no_field in
     let so_far = c.loop-position.invariant.faults in
-    let own = c.in_ok-read_field_at.ensures.faults in
-    let item = c.in_ok-read_field_at.ensures.item ∙ ap (λ t. field_item t m.oneof_decl (field_at here i f) f) (same-setting so_far) in
+    let own = c.in_ok-read_field.ensures.faults in
+    let item = c.in_ok-read_field.ensures.item ∙ ap (λ t. field_item t m.oneof_decl (field_at here i f) f) (same-setting so_far) in
     let Begins : FieldDescriptorInner → Type 0 = λ g. BeginsAtBoundary g.id in
     record {
       items = c.in_ok-push.ensures.items ∙ (λ j. c.loop-position.invariant.items j ++ item j ∷ [])
           ∙ sym (each-next (λ n g. field_item s m.oneof_decl (field_at here n g) g) m.field i f below is);
       begin = subst (All Begins) (sym c.in_ok-push.ensures.items)
-          (All-push Begins c.loop-position.items.items c.in_ok-read_field_at.field-0 c.loop-position.invariant.begin c.in_ok-read_field_at.ensures.begins);
+          (All-push Begins c.loop-position.items.items c.in_ok-read_field.field-0 c.loop-position.invariant.begin c.in_ok-read_field.ensures.begins);
       maps = c.in_ok-insert.ensures.maps;
       faults = reads-next (λ t n g. field_faults t owner (field_at here n g) g) m.field i f below is so_far refl
           (reads-two own (reads-as (ap (λ t. again_faults t.files owner.0.file owner.0.path (take i m.field) i f) (same-setting own)) (reads-told c.in_ok-insert.ensures.faults)));

@@ -11,9 +11,9 @@ invariant-loop-file g l =
     let w = l.fn.visitor.now in
     let now = goal.Visitor-dyn g v in
     let was = goal.Visitor-dyn g w in
-    let rest = declarations l.counts (drop l.file-index l.files) in
+    let rest = declarations l.cursor.counts (drop l.file-index l.files) in
     record {
       left : Remains (was.after w.1) (was.ready w.1) (now.after v.1) (now.ready v.1) (declarations l.fn.base l.files) rest;
-      room : Room l.counts rest;
+      room : Room l.cursor.counts rest;
       kept : now.kept v.1 ≡ was.kept w.1;
     }

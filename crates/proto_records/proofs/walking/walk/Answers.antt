@@ -11,23 +11,25 @@ use Rattle.proto_records.proofs.Showing.{remains-all, remains-as, remains-fewer,
 use Rattle.proto_records.proofs.walking.walk.Goals as goal
 
 pub loop-file-init : goal.loop-file-init
-loop-file-init g c = record {
-  left = remains-all _ _ _;
-  room = room-fits c.args.base (map (λ (f : FileDescriptorInner). f.raw) c.args.files.now) c.requires.fits;
-  kept = refl;
-  borrows = refl;
-}
+loop-file-init g c =
+    let is = sym c.new-cursor.ensures in
+    record {
+      left = remains-as (ap (λ k. declarations k (map (λ (f : FileDescriptorInner). f.raw) c.args.files.now)) is) (remains-all _ _ _);
+      room = subst (λ k. Room k (declarations k (map (λ (f : FileDescriptorInner). f.raw) c.args.files.now))) is (room-fits c.args.base (map (λ (f : FileDescriptorInner). f.raw) c.args.files.now) c.requires.fits);
+      kept = refl;
+      borrows = refl;
+    }
 
 pub walk_file-requires : goal.walk_file-requires
 walk_file-requires g c =
     let L = c.loop-file in
     let f = c.file-item.result in
     let raws = map (λ (f : FileDescriptorInner). f.raw) in
-    let rest = declarations (counted L.counts (file_walk L.counts f.raw)) (raws (drop (L.file-index + 1) c.args.files.now)) in
-    let turn = ap (λ fs. declarations L.counts (raws fs)) (next c.args.files.now L.file-index f c.loop-file-test.true c.file-item.is) in
+    let rest = declarations (counted L.cursor.counts (file_walk L.cursor.counts f.raw)) (raws (drop (L.file-index + 1) c.args.files.now)) in
+    let turn = ap (λ fs. declarations L.cursor.counts (raws fs)) (next c.args.files.now L.file-index f c.loop-file-test.true c.file-item.is) in
     record {
-      room = room-front (file_walk L.counts f.raw) rest (subst (Room L.counts) turn L.invariant.room);
-      ready = ready-first (file_walk L.counts f.raw) rest (remains-as turn L.invariant.left) c.requires.ready (g.met.V.Visitor.front_ready L.visitor);
+      room = room-front (file_walk L.cursor.counts f.raw) rest (subst (Room L.cursor.counts) turn L.invariant.room);
+      ready = ready-first (file_walk L.cursor.counts f.raw) rest (remains-as turn L.invariant.left) c.requires.ready (g.met.V.Visitor.front_ready L.visitor);
     }
 
 pub loop-file-preserved : goal.loop-file-preserved
@@ -36,14 +38,14 @@ loop-file-preserved g c =
     let f = c.file-item.result in
     let raws = map (λ (f : FileDescriptorInner). f.raw) in
     let more = λ (k : Counts). declarations k (raws (drop (L.file-index + 1) c.args.files.now)) in
-    let after = counted L.counts (file_walk L.counts f.raw) in
-    let turn = ap (λ fs. declarations L.counts (raws fs)) (next c.args.files.now L.file-index f c.loop-file-test.true c.file-item.is) in
-    let same = sym c.in_ok-counts.ensures.counts in
+    let after = counted L.cursor.counts (file_walk L.cursor.counts f.raw) in
+    let turn = ap (λ fs. declarations L.cursor.counts (raws fs)) (next c.args.files.now L.file-index f c.loop-file-test.true c.file-item.is) in
+    let same = sym c.in_ok-walk_file.ensures.counts in
     record {
-      left = remains-as (ap more same) (remains-fewer (file_walk L.counts f.raw) (more after) (remains-as turn L.invariant.left) c.in_ok-counts.ensures.ok);
-      room = subst (λ k. Room k (more k)) same (room-back (file_walk L.counts f.raw) (more after) (subst (Room L.counts) turn L.invariant.room));
-      kept = c.in_ok-counts.ensures.kept ∙ L.invariant.kept;
-      borrows = c.in_ok-counts.ensures.borrows ∙ L.invariant.borrows;
+      left = remains-as (ap more same) (remains-fewer (file_walk L.cursor.counts f.raw) (more after) (remains-as turn L.invariant.left) c.in_ok-walk_file.ensures.ok);
+      room = subst (λ k. Room k (more k)) same (room-back (file_walk L.cursor.counts f.raw) (more after) (subst (Room L.cursor.counts) turn L.invariant.room));
+      kept = c.in_ok-walk_file.ensures.kept ∙ L.invariant.kept;
+      borrows = c.in_ok-walk_file.ensures.borrows ∙ L.invariant.borrows;
     }
 
 pub returns : goal.returns
@@ -51,7 +53,7 @@ returns g c =
     let L = c.loop-file in
     let raws = map (λ (f : FileDescriptorInner). f.raw) in
     record {
-      ok = remains-none (ap (λ fs. declarations L.counts (raws fs)) (drop_all L.file-index c.args.files.now c.loop-file-test.false)) L.invariant.left;
+      ok = remains-none (ap (λ fs. declarations L.cursor.counts (raws fs)) (drop_all L.file-index c.args.files.now c.loop-file-test.false)) L.invariant.left;
       kept = L.invariant.kept;
       borrows = L.invariant.borrows;
     }

@@ -12,10 +12,10 @@ invariant-loop-file g l =
     let w = l.fn.visitor in
     let V = g.V.Visitor in
     let all = map (λ (f : FileDescriptorInner). f.raw) l.files in
-    let rest = declarations l.counts (map (λ (f : FileDescriptorInner). f.raw) (drop l.file-index l.files)) in
+    let rest = declarations l.cursor.counts (map (λ (f : FileDescriptorInner). f.raw) (drop l.file-index l.files)) in
     record {
       left : Remains (V.after w) (V.ready w) (V.after v) (V.ready v) (declarations l.fn.base all) rest;
-      room : Room l.counts rest;
+      room : Room l.cursor.counts rest;
       kept : V.kept v ≡ V.kept w;
       borrows : V.borrows v ≡ V.borrows w;
     }

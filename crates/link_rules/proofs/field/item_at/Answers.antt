@@ -1,19 +1,17 @@
 use Rattle.std.proofs.Common.{rules, FitsSigned, w32, to_z-of_z, ap, ◌∙◌}
 use Rattle.field_rules.specs.Encoding.{is_packed, supports_presence}
 use Rattle.field_rules.specs.Numbers.{item_number}
-use Rattle.places.specs.Identities.{named_at}
 use Rattle.pool_parts.specs.Kinds.{cardinality_of}
-use Rattle.link_rules.proofs.field.item_of_kind.Goals as goal
+use Rattle.link_rules.proofs.field.item_at.Goals as goal
 
 -- each part of the item is as it is read
-pub returns-clause-item : goal.returns-clause-item
-returns-clause-item c =
+pub returns : goal.returns
+returns c =
     let f = c.args.field.now in
-    let place = c.args.place in
     let proto3 = c.is_proto3-is_proto3.ensures in
     let number : FitsSigned w32 c.number.result = search rules in
     λ i. record {
-      id = (c.in_ok-identity.ensures.id ∙ ap (named_at place.file place.path.now place.full_name.now) c.name.ensures) i;
+      id = c.args.id;
       number = (c.item_number.ensures ∙ ap item_number (to_z-of_z number ∙ c.number.ensures)) i;
       json_name = c.in_ok-duplicate_given.ensures i;
       kind = c.args.kind;
