@@ -58,6 +58,7 @@ from __future__ import annotations
 import argparse
 import json
 import os
+import re
 import shutil
 import subprocess
 import sys
@@ -102,6 +103,9 @@ FAULTY_PARTS = {
     "method": ("name", "input_type", "output_type"),
 }
 """The parts of each kind of element at which a fault can stand."""
+
+NUMBERED_PART = re.compile("(?P<file>.*):(?P<number>[0-9]{1,10}):1:", re.DOTALL)
+"""What stands before the text of a fault: the name of a file, and the number of a part."""
 
 REPOSITORY_PROGRAM = Path(__file__).resolve().parent.parent / "crates/protolink/out/protolink"
 
@@ -294,11 +298,11 @@ class Batch:
         """The fault of a line of the report: FILE:NUMBER:1: TEXT, FILE: TEXT, or TEXT alone. No
         name of a file has a space in a script, so the first space ends what stands before TEXT."""
         head, _, text = told.partition(" ")
-        name, _, number = head.removesuffix(":1:").rpartition(":")
-        if head.endswith(":1:") and number.isdigit() and 0 < int(number) <= len(self.places):
-            place = self.places[int(number) - 1]
-            if place.file == name:
-                return Fault(text, name, place)
+        numbered = NUMBERED_PART.fullmatch(head)
+        if numbered and 0 < int(numbered["number"]) <= len(self.places):
+            place = self.places[int(numbered["number"]) - 1]
+            if place.file == numbered["file"]:
+                return Fault(text, place.file, place)
         if head.endswith(":") and any(file.name == head[:-1] for file in self.files):
             return Fault(text, head[:-1])
         return Fault(told)
