@@ -1,197 +1,131 @@
 #!/usr/bin/env python3
-"""Writes the line script of a FileDescriptorSet: its files in their order, and then the commands.
+"""Writes the line script of descriptor sets: their files in order, and then the commands.
 
     protoc --include_imports --include_source_info --descriptor_set_out=schema.pb schema.proto
     python3 descriptors_to_script.py schema.pb > schema.script
+    python3 descriptors_to_script.py schema.pb --command link --command 'find p.M' > schema.script
 
 Needed are protoc and protobuf's Python package: protobuf-compiler and python3-protobuf on Debian.
-That package serves the system's own python3.
+That package serves the system's own Python, /usr/bin/python3.
+
+A file that is given twice is written once, as in sets that were concatenated, where both declare
+the same. Two different files of one name are both written, and the linker refuses them.
 
 Left out, since a script has no words for them: proto3_optional, reserved names, comments, whether
 a method streams, an edition, and all options but packed, and allow_alias where it is true. protoc
 gives a field with proto3_optional a oneof of its own, and that oneof is carried.
 
-What else a script cannot say is an error, and then nothing is written: a name that has a space or
-a line feed or is ~ or '' itself, a default value with a line feed, and a text that is not UTF-8.
+Left out with a warning: a default value that no statement can say, as one with a line feed. With
+--strict it is an error. What else a script cannot say is an error always: a name that has a space
+or a line feed or is ~ or '' itself, and a text that is not UTF-8.
+
+The exit status is 0 where the whole script was written, 1 where something is wrong, and 2 where
+the arguments are. Where something is wrong it is told on the standard error, and no script is
+written.
 """
+
+from __future__ import annotations
 
 import argparse
 import sys
 from collections.abc import Iterable, Iterator
-from dataclasses import dataclass
-from pathlib import Path
+from typing import TYPE_CHECKING
 
-from google.protobuf.descriptor_pb2 import FileDescriptorProto, FileDescriptorSet
-from google.protobuf.message import DecodeError, Message
+from descriptor_script import (
+    Element,
+    ScriptWriter,
+    ToolError,
+    distinct_files,
+    has_source,
+    printable,
+    read_files,
+    script_bytes,
+    source_locations,
+    unsayable,
+    warn,
+    write_output,
+)
 
-
-class Unsayable(Exception):
-    """A part of a record that a script cannot say."""
-
-
-@dataclass(frozen=True)
-class Node:
-    """A record, and the path that leads to it in its file, by the numbers of descriptor.proto."""
-
-    record: Message
-    path: tuple[int, ...] = ()
-
-    def has(self, part: str) -> bool:
-        """Whether the part is present."""
-        return self.record.HasField(part)
-
-    def path_of(self, part: str, *position: int) -> tuple[int, ...]:
-        """The path of a part of the record, or of what stands in that part at a position."""
-        return (*self.path, self.record.DESCRIPTOR.fields_by_name[part].number, *position)
-
-    def entries(self, part: str) -> Iterator["Node"]:
-        """The records of a list."""
-        for position, entry in enumerate(getattr(self.record, part)):
-            yield Node(entry, self.path_of(part, position))
-
-    def word(self, part: str) -> str:
-        """A text or a number as one word, which is `~` where it is absent."""
-        if not self.has(part):
-            return "~"
-        return said(getattr(self.record, part), self.path_of(part))
-
-    def constant(self, part: str) -> str:
-        """A label or a type by its name, as `int32` for TYPE_INT32; `~` where it is absent."""
-        if not self.has(part):
-            return "~"
-        constants = self.record.DESCRIPTOR.fields_by_name[part].enum_type.values_by_number
-        return constants[getattr(self.record, part)].name.split("_")[1].lower()
+if TYPE_CHECKING:
+    from google.protobuf.descriptor_pb2 import FileDescriptorProto
 
 
-def said(value: str | bytes | int, path: tuple[int, ...], breaks: str = " \n",
-         taken: tuple[str, ...] = ("~", "''")) -> str:
-    """A value as a script says it. It may have none of the characters that would break it, nor be
-    one of the words that are taken. A text that is not UTF-8 comes as bytes."""
-    text = str(value)
-    if isinstance(value, bytes) or text in taken or any(mark in text for mark in breaks):
-        raise Unsayable(f"{list(path)}: a script cannot say {value!r}")
-    return text or "''"
+def argument_parser() -> argparse.ArgumentParser:
+    """The arguments."""
+    parser = argparse.ArgumentParser(
+        description=__doc__,
+        formatter_class=argparse.RawDescriptionHelpFormatter,
+        allow_abbrev=False,
+    )
+    parser.add_argument(
+        "sets",
+        nargs="*",
+        default=["-"],
+        metavar="FILE",
+        help="a serialized FileDescriptorSet; - is the standard input (default: -)",
+    )
+    parser.add_argument(
+        "--command",
+        action="append",
+        dest="commands",
+        metavar="COMMAND",
+        help="a command behind the files, as link or 'find p.M'; may be repeated (default: link)",
+    )
+    parser.add_argument(
+        "--strict",
+        action="store_true",
+        help="a default value that no statement can say is an error",
+    )
+    return parser
 
 
-def numbers(values: Iterable[int]) -> str:
-    """A list of numbers as one word."""
-    return ",".join(map(str, values)) or "''"
+def warn_of_lost_positions(program: str, files: list[FileDescriptorProto]) -> None:
+    """Tells how many files do not say where their parts stand."""
+    lost = sum(not has_source(file) for file in files)
+    if lost:
+        warn(
+            program,
+            f"{lost} of {len(files)} files have no source info, so their faults will show no line"
+            " and no column: protoc --include_source_info gives it",
+        )
 
 
-def more_of_field(field: Node) -> Iterator[str]:
-    """What stands behind the line of a field or an extension."""
-    if field.has("json_name"):
-        yield f"json {field.word('json_name')}"
-    if field.record.options.HasField("packed"):
-        yield f"packed {str(field.record.options.packed).lower()}"
-    if field.has("default_value"):
-        path = field.path_of("default_value")
-        text = said(field.record.default_value, path, breaks="\n", taken=("''",))
-        yield f"default {text}"
+class ScriptOfSets:
+    """Makes the script of files, and tells what it leaves out."""
 
+    def __init__(self, program: str, strict: bool) -> None:
+        self.program = program
+        self.strict = strict
+        self.file_name = ""
 
-def fields(parent: Node, part: str, keyword: str, last: str, wordless: str) -> Iterator[str]:
-    """Fields or extensions. Their lines have a part that comes last, and no word for another."""
-    for field in parent.entries(part):
-        if field.has(wordless):
-            raise Unsayable(f"{list(field.path)}: a script cannot say the {wordless} of {keyword}")
-        kind = f"{field.constant('label')} {field.constant('type')} {field.word('type_name')}"
-        yield f"{keyword} {field.word('name')} {field.word('number')} {kind} {field.word(last)}"
-        yield from more_of_field(field)
+    def leave_out(self, field: Element) -> None:
+        """Leaves out a default value, with a warning; where nothing may be, raises."""
+        fault = unsayable(field, "default_value", field.record.default_value)
+        if self.strict:
+            raise fault
+        warn(self.program, printable(f"{self.file_name}: {fault}, so it is left out"))
 
-
-def extensions(parent: Node) -> Iterator[str]:
-    """The extensions that stand in a file or in a message."""
-    return fields(parent, "extension", "extend", "extendee", wordless="oneof_index")
-
-
-def ranges(parent: Node, part: str, keyword: str) -> Iterator[str]:
-    """The ranges of numbers of a message or an enum."""
-    for entry in parent.entries(part):
-        yield f"{keyword} {entry.word('start')} {entry.word('end')}"
-
-
-def enums(parent: Node) -> Iterator[str]:
-    """The enums that stand in a file or in a message."""
-    for enum in parent.entries("enum_type"):
-        yield f"enum {enum.word('name')}"
-        if enum.record.options.allow_alias:
-            yield "alias"
-        for value in enum.entries("value"):
-            yield f"value {value.word('name')} {value.word('number')}"
-        yield from ranges(enum, "reserved_range", "reserved")
-        yield "end"
-
-
-def messages(parent: Node, part: str) -> Iterator[str]:
-    """The messages that stand in a file or in a message, with all that stands in them."""
-    for message in parent.entries(part):
-        yield f"message {message.word('name')}"
-        for oneof in message.entries("oneof_decl"):
-            yield f"oneof {oneof.word('name')}"
-        yield from fields(message, "field", "field", "oneof_index", wordless="extendee")
-        yield from ranges(message, "reserved_range", "reserved")
-        yield from ranges(message, "extension_range", "extensions")
-        yield from messages(message, "nested_type")
-        yield from enums(message)
-        yield from extensions(message)
-        yield "end"
-
-
-def services(file: Node) -> Iterator[str]:
-    """The services of a file, with their methods."""
-    for service in file.entries("service"):
-        yield f"service {service.word('name')}"
-        for method in service.entries("method"):
-            yield " ".join(["method", *map(method.word, ("name", "input_type", "output_type"))])
-        yield "end"
-
-
-def file_lines(record: FileDescriptorProto) -> Iterator[str]:
-    """The lines of a file. Its locations come last, since there are many."""
-    file = Node(record)
-    yield f"file {file.word('name')}"
-    yield from (f"{part} {file.word(part)}" for part in ("package", "syntax") if file.has(part))
-    for position, name in enumerate(record.dependency):
-        yield f"import {said(name, file.path_of('dependency', position))}"
-    yield from (f"public {position}" for position in record.public_dependency)
-    yield from (f"weak {position}" for position in record.weak_dependency)
-    yield from messages(file, "message_type")
-    yield from enums(file)
-    yield from services(file)
-    yield from extensions(file)
-    for location in record.source_code_info.location:
-        yield f"at {numbers(location.path)} {numbers(location.span)}"
-    yield "end"
-
-
-def script(files: FileDescriptorSet, commands: list[str]) -> Iterator[str]:
-    """The lines of files, and then the commands."""
-    for file in files.file:
-        try:
-            yield from file_lines(file)
-        except Unsayable as fault:
-            raise Unsayable(f"{file.name} {fault}") from fault
-    yield from commands
+    def lines(self, files: Iterable[FileDescriptorProto], commands: list[str]) -> Iterator[str]:
+        """The lines of the files, and then the commands."""
+        writer = ScriptWriter(self.leave_out)
+        for file in files:
+            self.file_name = file.name
+            yield from writer.file(file, source_locations(file))
+        yield from commands
 
 
 def main() -> None:
     """Writes the script once the whole of it is made, or tells what is wrong with status 1."""
-    parser = argparse.ArgumentParser(usage="%(prog)s [-h] [FILE] [--commands COMMAND ...]",
-                                     description=__doc__,
-                                     formatter_class=argparse.RawDescriptionHelpFormatter)
-    parser.add_argument("set", nargs="?", default="-", metavar="FILE",
-                        help="a serialized FileDescriptorSet; - is the standard input (default: -)")
-    parser.add_argument("--commands", nargs="*", default=["link"], metavar="COMMAND",
-                        help="the commands, as link 'find p.M' (default: link)")
-    asked = parser.parse_args()
+    parser = argument_parser()
+    asked = parser.parse_intermixed_args()
+    maker = ScriptOfSets(parser.prog, asked.strict)
     try:
-        given = sys.stdin.buffer.read() if asked.set == "-" else Path(asked.set).read_bytes()
-        lines = script(FileDescriptorSet.FromString(given), asked.commands)
-        made = "\n".join([*lines, ""]).encode()
-    except (OSError, DecodeError, UnicodeError, Unsayable) as fault:
+        files = distinct_files(file for name in asked.sets for file in read_files(name))
+        script = script_bytes(maker.lines(files, asked.commands or ["link"]))
+        warn_of_lost_positions(parser.prog, files)
+        write_output(script)
+    except ToolError as fault:
         sys.exit(f"{parser.prog}: {fault}")
-    sys.stdout.buffer.write(made)
 
 
 if __name__ == "__main__":

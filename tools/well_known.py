@@ -1,0 +1,221 @@
+#!/usr/bin/env python3
+"""Makes the stored run over protobuf's own files again: its script, or the report that it owes.
+
+    python3 well_known.py script > ../crates/well_known/stdin
+    python3 well_known.py report > ../crates/well_known/stdout
+    python3 well_known.py compare
+
+protoc describes the twelve files of protobuf that every installation has, with their locations.
+The script declares them, links them in one batch, and asks. The report is computed here from what
+protoc wrote, by going over its records: no linker is run. This is right for these files alone:
+they are known to break no rule, and protoc has written each type name as a full name.
+
+`compare` tells whether the two stored files are what is made, with status 1 where one is not. The
+files that are stored were made by protoc 3.21.12; with another version its files may differ.
+
+Needed are protoc, its include directory with google/protobuf/compiler/plugin.proto, and protobuf's
+Python package: protobuf-compiler, libprotoc-dev and python3-protobuf on Debian. That package
+serves the system's own Python, /usr/bin/python3.
+"""
+
+from __future__ import annotations
+
+import argparse
+import sys
+from collections import Counter
+from collections.abc import Iterator
+from pathlib import Path
+from typing import TYPE_CHECKING
+
+from descriptor_script import (
+    COUNTED_KINDS,
+    Element,
+    ScriptWriter,
+    ToolError,
+    compiled_files,
+    script_bytes,
+    source_locations,
+    unsayable,
+    write_output,
+)
+
+if TYPE_CHECKING:
+    from google.protobuf.descriptor_pb2 import FileDescriptorProto
+
+STORED = Path(__file__).resolve().parent.parent / "crates/well_known"
+
+FILES = (
+    "google/protobuf/any.proto",
+    "google/protobuf/api.proto",
+    "google/protobuf/compiler/plugin.proto",
+    "google/protobuf/descriptor.proto",
+    "google/protobuf/duration.proto",
+    "google/protobuf/empty.proto",
+    "google/protobuf/field_mask.proto",
+    "google/protobuf/source_context.proto",
+    "google/protobuf/struct.proto",
+    "google/protobuf/timestamp.proto",
+    "google/protobuf/type.proto",
+    "google/protobuf/wrappers.proto",
+)
+
+COMMANDS = (
+    "link",
+    "relink",
+    "find google",
+    "find google.protobuf",
+    "find google.protobuf.compiler",
+    "find .google.protobuf.Any",
+    "find google.protobuf.FileDescriptorProto.name",
+    "find google.protobuf.FieldDescriptorProto.Type",
+    "find google.protobuf.FieldDescriptorProto.TYPE_INT32",
+    "find google.protobuf.FieldDescriptorProto.Type.TYPE_INT32",
+    "find google.protobuf.NULL_VALUE",
+    "find google.protobuf.Value.kind",
+    "find google.protobuf.Struct.FieldsEntry.value",
+    "find google.protobuf.compiler.CodeGeneratorResponse.File.insertion_point",
+    "find google.protobuf.Missing",
+    "refs google/protobuf/descriptor.proto",
+    "refs google/protobuf/compiler/plugin.proto",
+    "refs google/protobuf/struct.proto",
+    "refs google/protobuf/api.proto",
+    "refs google/protobuf/empty.proto",
+    "refs missing.proto",
+    "walk",
+)
+
+REFERENCES = {
+    "field": ("type_name",),
+    "extension": ("extendee", "type_name"),
+    "method": ("input_type", "output_type"),
+}
+"""The parts of each kind of element that refer, in the order in which they are told."""
+
+NUMBERED = ("file", "message", "enum", "service", "extension")
+"""The kinds that are numbered in the order of the walk. Others have their place in their list."""
+
+
+class Report:
+    """The answers to the commands of the script."""
+
+    def __init__(self, files: list[FileDescriptorProto]) -> None:
+        self.files = {file.name: Element.of_file(file) for file in files}
+        self.declared: Counter[str] = Counter()
+        self.definitions: dict[str, str] = {}
+        self.walked: list[str] = []
+        for name, file in self.files.items():
+            self._enter_packages(name, file)
+            self._number("file", name, file)
+            self._enter_declarations(name, file)
+
+    def _enter_packages(self, file_name: str, file: Element) -> None:
+        """Enters the package of a file, and the packages around it."""
+        parts = file.full_name.split(".")
+        for length in range(1, len(parts) + 1):
+            package = ".".join(parts[:length])
+            path = list(file.path_of("package"))
+            self.definitions.setdefault(package, f"package {file_name} {path}")
+
+    def _enter_declarations(self, file_name: str, parent: Element, holder: int = 0) -> None:
+        """Enters all that a file, a message, an enum or a service declares. The holder is the
+        number of what it is declared in, which look-ups answer of what has no number."""
+        for element in parent.own_declarations():
+            number = self._number(element.kind, element.full_name, element)
+            told = number if element.kind in NUMBERED else holder
+            path = list(element.path_of("name"))
+            self.definitions[element.full_name] = f"{element.kind} {told} {file_name} {path}"
+            self._enter_declarations(file_name, element, number)
+
+    def _number(self, kind: str, name: str, element: Element) -> int:
+        """Walks over an element, and answers its number."""
+        number = self.declared[kind] if kind in NUMBERED else element.path[-1]
+        self.declared[kind] += 1
+        self.walked.append(f"{kind} {number} {name} {list(element.path)}")
+        return number
+
+    def answer(self, command: str) -> Iterator[str]:
+        """The lines that answer a command."""
+        word, _, name = command.partition(" ")
+        if word == "link":
+            yield " ".join(["ok", *(str(self.declared[kind[:-1]]) for kind in COUNTED_KINDS)])
+        elif word == "relink":
+            yield "same"
+        elif word == "find":
+            yield self.definitions.get(name[1:] if name.startswith(".") else name, "none")
+        elif word == "refs":
+            yield from self._references(name)
+        else:
+            yield f"walk {len(self.walked)}"
+            yield from self.walked
+
+    def _references(self, name: str) -> Iterator[str]:
+        """To what the file of a name refers."""
+        if name not in self.files:
+            yield "none"
+            return
+        told = [
+            f"{element.full_name} {part} {getattr(element.record, part)}"
+            for element in self.files[name].declarations()
+            for part in REFERENCES.get(element.kind, ())
+            if element.has(part)
+        ]
+        yield f"refs {len(told)}"
+        yield from told
+
+
+def refuse_default(field: Element) -> None:
+    """Raises, since none of these files has a default value that no statement can say."""
+    raise unsayable(field, "default_value", field.record.default_value)
+
+
+def script_lines(files: list[FileDescriptorProto]) -> Iterator[str]:
+    """The script."""
+    writer = ScriptWriter(refuse_default)
+    for file in files:
+        yield from writer.file(file, source_locations(file))
+    yield from COMMANDS
+
+
+def report_lines(files: list[FileDescriptorProto]) -> Iterator[str]:
+    """The report that the script owes."""
+    report = Report(files)
+    for command in COMMANDS:
+        yield from report.answer(command)
+
+
+def compare(made: dict[str, bytes]) -> bool:
+    """Tells of each stored file whether it is what was made, and answers whether both are."""
+    same = {name: (STORED / name).read_bytes() == data for name, data in made.items()}
+    for name, is_same in same.items():
+        print(f"crates/well_known/{name}: {'the same' if is_same else 'different'}")
+    return all(same.values())
+
+
+def main() -> None:
+    """Writes what is asked for, or tells what is wrong with status 2."""
+    parser = argparse.ArgumentParser(
+        description=__doc__, formatter_class=argparse.RawDescriptionHelpFormatter
+    )
+    parser.add_argument("what", choices=("script", "report", "compare"))
+    parser.add_argument(
+        "-I",
+        action="append",
+        default=[],
+        dest="directories",
+        metavar="DIR",
+        help="a directory in which protoc looks for the files (default: its own)",
+    )
+    asked = parser.parse_args()
+    try:
+        files = compiled_files(list(FILES), asked.directories)
+        script, report = script_bytes(script_lines(files)), script_bytes(report_lines(files))
+        if asked.what == "compare":
+            sys.exit(0 if compare({"stdin": script, "stdout": report}) else 1)
+        write_output(script if asked.what == "script" else report)
+    except (ToolError, OSError) as fault:
+        print(f"{parser.prog}: {fault}", file=sys.stderr)
+        sys.exit(2)
+
+
+if __name__ == "__main__":
+    main()
