@@ -4,6 +4,7 @@ ghost use Rattle.proto_files.specs.declared.message.DescriptorProto.{out-Descrip
 ghost use Rattle.proto_records.specs.Counts.{lists_fit};
 ghost use Rattle.proto_records.specs.FullNames.{EndsWith};
 ghost use Rattle.proto_records.specs.Protos.{of_field, of_message};
+ghost use Rattle.number_rules.specs.Bounds.{AreRangesOf};
 ghost use Rattle.link_rules.specs.Broken.{own_faults};
 ghost use Rattle.link_rules.specs.Items.{field_item, item_of_kind};
 ghost use Rattle.link_rules.specs.Reading.{Reads, setting_of};
@@ -14,7 +15,7 @@ ghost use Rattle.syntax_rules.specs.Syntaxes.{is_proto3, syntax_at};
 use crate::reading::Reading;
 use crate::types::type_and_default;
 use field_rules::{check_oneof_index, is_packed, item_number, oneof_of, supports_presence};
-use number_rules::check_field_number;
+use number_rules::{MessageRanges, check_field_number};
 use places::{Owner, Place, identity};
 use plain_values::duplicate_given;
 use pool_kinds::{DefaultValue, KindIndex, Syntax};
@@ -30,10 +31,12 @@ use syntax_rules::syntax_at;
 pub(crate) fn read_field(
     reading: &mut Reading,
     owner: Owner,
+    ranges: &MessageRanges,
     place: Place,
     field: &FieldDescriptorProto,
 ) -> Result<FieldDescriptorInner, AllocError>
-    requires { lists_fit (of_message owner.message.now) ≡ true }
+    requires short { lists_fit (of_message owner.message.now) ≡ true }
+    requires ranges { AreRangesOf ranges.now owner.message.now }
     ensures item { IfOk result (λ item. item
         ≡ field_item (setting_of reading.old)
         (out-DescriptorProto owner.entry.message.now).oneof_decl
@@ -46,7 +49,7 @@ pub(crate) fn read_field(
         (shown_at place.entry (of_field field.now)) field.now)) }
 {
     let oneofs = owner.message.oneof_decl.as_slice();
-    check_field_number(&mut reading.findings, owner, place, field)?;
+    check_field_number(&mut reading.findings, owner, ranges, place, field)?;
     let (kind, default) = type_and_default(reading, place, field)?;
     check_oneof_index(&mut reading.findings, oneofs, field)?;
     let kind = kind.unwrap_or(KindIndex::Double);
