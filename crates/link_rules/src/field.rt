@@ -4,6 +4,7 @@ ghost use Rattle.proto_types.specs.Empty.{no_field};
 ghost use Rattle.proto_files.specs.declared.message.DescriptorProto.{out-DescriptorProto};
 ghost use Rattle.proto_records.specs.Counts.{lists_fit};
 ghost use Rattle.proto_records.specs.Protos.{of_field, of_message};
+ghost use Rattle.number_rules.specs.Bounds.{AreRangesOf};
 ghost use Rattle.link_rules.specs.Broken.{own_faults};
 ghost use Rattle.link_rules.specs.Defaults.{field_default};
 ghost use Rattle.link_rules.specs.FieldTypes.{field_kind};
@@ -16,7 +17,7 @@ ghost use Rattle.syntax_rules.specs.Syntaxes.{is_proto3, syntax_at};
 use crate::reading::Reading;
 use crate::types::type_and_default;
 use field_rules::{check_oneof_index, is_packed, item_number, oneof_of, supports_presence};
-use number_rules::check_field_number;
+use number_rules::{MessageRanges, check_field_number};
 use places::{Owner, Place, identity_inside};
 use plain_values::duplicate_given;
 use pool_kinds::{DefaultValue, KindIndex, Syntax};
@@ -32,9 +33,11 @@ use syntax_rules::syntax_at;
 pub(crate) fn read_field(
     reading: &mut Reading,
     owner: Owner,
+    ranges: &MessageRanges,
     position: usize,
 ) -> Result<FieldDescriptorInner, AllocError>
     requires short { lists_fit (of_message owner.message.now) ≡ true }
+    requires ranges { AreRangesOf ranges.now owner.message.now }
     requires there { position < length (out-DescriptorProto owner.message.now).field }
     ensures item { IfOk result (λ item. item
         ≡ field_item (setting_of reading.old)
@@ -61,7 +64,7 @@ pub(crate) fn read_field(
         path: id.path.as_slice(),
         full_name: id.full_name.as_str(),
     };
-    let (kind, default) = check_field(reading, owner, place, field)?;
+    let (kind, default) = check_field(reading, owner, ranges, place, field)?;
     let oneofs = owner.message.oneof_decl.as_slice();
     item_at(reading, oneofs, id, field, kind, default)
 }
@@ -72,10 +75,12 @@ pub(crate) fn read_field(
 fn check_field(
     reading: &mut Reading,
     owner: Owner,
+    ranges: &MessageRanges,
     place: Place,
     field: &FieldDescriptorProto,
 ) -> Result<(KindIndex, Option<DefaultValue>), AllocError>
-    requires { lists_fit (of_message owner.message.now) ≡ true }
+    requires short { lists_fit (of_message owner.message.now) ≡ true }
+    requires ranges { AreRangesOf ranges.now owner.message.now }
     ensures kind { IfOk result (λ t. t.0
         ≡ unwrap_or (field_kind (setting_of reading.old)
         (shown_at place.entry (of_field field.now)) field.now) Double) }
@@ -88,7 +93,7 @@ fn check_field(
         (shown_at place.entry (of_field field.now)) field.now)) }
 {
     let oneofs = owner.message.oneof_decl.as_slice();
-    check_field_number(&mut reading.findings, owner, place, field)?;
+    check_field_number(&mut reading.findings, owner, ranges, place, field)?;
     let (kind, default) = type_and_default(reading, place, field)?;
     check_oneof_index(&mut reading.findings, oneofs, field)?;
     Ok((kind.unwrap_or(KindIndex::Double), default))

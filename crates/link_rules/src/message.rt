@@ -5,6 +5,7 @@ ghost use Rattle.proto_records.specs.Counts.{lists_fit};
 ghost use Rattle.proto_records.specs.FullNames.{EndsWithName};
 ghost use Rattle.proto_records.specs.Protos.{of_message};
 ghost use Rattle.field_rules.specs.MapsOf.{AreMapsOf};
+ghost use Rattle.number_rules.specs.Bounds.{AreRangesOf};
 ghost use Rattle.link_rules.specs.Broken.{faults_of_fields, message_faults};
 ghost use Rattle.link_rules.specs.Items.{field_items, message_item, oneof_items};
 ghost use Rattle.places.specs.NamesBegin.{BeginsAtBoundary};
@@ -15,6 +16,7 @@ ghost use Rattle.link_rules.specs.Reading.{Reads, setting_of};
 use crate::field::read_field;
 use crate::reading::Reading;
 use field_rules::{FieldMaps, members};
+use number_rules::MessageRanges;
 use places::{Owner, Place, identity, identity_inside};
 use plain_values::Items;
 use pool_types::{FieldDescriptorInner, MessageDescriptorInner, OneofDescriptorInner};
@@ -46,7 +48,8 @@ pub fn read_message(
     let alloc = reading.findings.alloc;
     let id = identity(alloc, place, message.name())?;
     let mut maps = FieldMaps::new(alloc);
-    let fields = read_fields(reading, Owner { place, message }, &mut maps)?;
+    let ranges = MessageRanges::new(alloc, message)?;
+    let fields = read_fields(reading, Owner { place, message }, &ranges, &mut maps)?;
     let oneofs = read_oneofs(alloc, place, message)?;
     Ok(MessageDescriptorInner {
         id,
@@ -64,9 +67,11 @@ pub fn read_message(
 fn read_fields(
     reading: &mut Reading,
     owner: Owner,
+    ranges: &MessageRanges,
     maps: &mut FieldMaps,
 ) -> Result<Vec<FieldDescriptorInner>, AllocError>
     requires short { lists_fit (of_message owner.message.now) ≡ true }
+    requires ranges { AreRangesOf ranges.now owner.message.now }
     requires maps { AreMapsOf maps.old [] }
     ensures items { IfOk result (λ items. items.items
         ≡ field_items (setting_of reading.old)
@@ -83,7 +88,7 @@ fn read_fields(
     let fields = owner.message.field.as_slice();
     let mut items = Vec::new(reading.findings.alloc);
     for position in 0..fields.len() {
-        items.push(read_field(reading, owner, position)?)?;
+        items.push(read_field(reading, owner, ranges, position)?)?;
         maps.insert(&mut reading.findings, owner, position)?;
     }
     Ok(items)

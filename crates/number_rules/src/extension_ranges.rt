@@ -1,15 +1,17 @@
-ghost use Rattle.std.specs.Prelude.{◌≡◌, ◌<◌, ◌^◌, true, length, position, is_some};
+ghost use Rattle.std.specs.Prelude.{◌≡◌, ◌<◌, ◌^◌, true, length, is_some};
 ghost use Rattle.std.specs.Prelude.{if◌then◌else◌, IfOk, IfSome, OnOk};
-ghost use Rattle.std.specs.List.{list_any};
+ghost use Rattle.std.specs.List.{list_any, position_from};
 ghost use Rattle.proto_files.specs.declared.message.DescriptorProto.{out-DescriptorProto};
 ghost use Rattle.proto_records.specs.Counts.{fits_list};
 ghost use Rattle.proto_types.specs.Readers.{number_of};
 ghost use Rattle.places.specs.Tells.{Tells, named_files};
 ghost use Rattle.number_rules.specs.At.{any_at};
+ghost use Rattle.number_rules.specs.Bounds.{extension_bounds};
 ghost use Rattle.number_rules.specs.Numbers.{extension_range_fault, extension_range_faults};
 ghost use Rattle.number_rules.specs.Numbers.{outside_faults};
 ghost use Rattle.number_rules.specs.Ranges.{extends};
 
+use number_ranges::NumberRanges;
 use places::{Findings, Owner, Place};
 use plain_values::Text;
 use pool_faults::DescriptorErrorKind;
@@ -22,10 +24,13 @@ use std::alloc::AllocError;
 pub(crate) fn check_left_to_extensions(
     findings: &mut Findings,
     owner: Owner,
+    ranges: &NumberRanges,
     place: Place,
     field: &FieldDescriptorProto,
 ) -> Result<(), AllocError>
-    requires { fits_list (out-DescriptorProto owner.message.now).extension_range ≡ true }
+    requires fits { fits_list (out-DescriptorProto owner.message.now).extension_range ≡ true }
+    requires ranges { ranges.now
+        ≡ extension_bounds (out-DescriptorProto owner.message.now).extension_range }
     ensures { OnOk result (Tells findings.old findings.new (if is_some field.now.extendee
         then outside_faults (named_files findings.old) (any_at place.entry)
         (number_of field.now.number) (any_at owner.entry.place)
@@ -35,26 +40,31 @@ pub(crate) fn check_left_to_extensions(
         (out-DescriptorProto owner.entry.message.now).extension_range)) }
 {
     let number = field.number();
+    let holder = ranges.first_from(0, number);
     if field.extendee.is_some() {
-        check_outside(findings, owner, place, number)
+        check_outside(findings, owner, place, number, holder.is_some())
     } else {
-        check_inside(findings, owner, place, number)
+        check_inside(findings, owner, holder, place, number)
     }
 }
 
-/// Appends to `faults` that of a number that no extension range of a message holds.
+/// Appends to `faults` that of a number that no extension range of a message holds, by whether one
+/// does.
 pub(crate) fn check_outside(
     findings: &mut Findings,
     owner: Owner,
     place: Place,
     number: i32,
+    is_inside: bool,
 ) -> Result<(), AllocError>
+    requires { is_inside ≡ list_any (extends number)
+        (out-DescriptorProto owner.message.now).extension_range }
     ensures { OnOk result (Tells findings.old findings.new
         (outside_faults (named_files findings.old) (any_at place.entry) number
         (any_at owner.entry.place)
         (out-DescriptorProto owner.entry.message.now).extension_range)) }
 {
-    if !any_extends(owner.message.extension_range.as_slice(), number) {
+    if !is_inside {
         let message = Text::from_str(findings.alloc, owner.place.full_name)?;
         let found = findings.part_label(place, tag::field::NUMBER)?;
         findings.push(DescriptorErrorKind::ExtensionNumberOutOfRange {
@@ -66,22 +76,30 @@ pub(crate) fn check_outside(
     Ok(())
 }
 
-/// Appends to `faults` that of the first extension range of a message that holds the number.
+/// Appends to `faults` that of the first extension range of a message that holds the number, if one
+/// does.
 fn check_inside(
     findings: &mut Findings,
     owner: Owner,
+    holder: Option<usize>,
     place: Place,
     number: i32,
 ) -> Result<(), AllocError>
-    requires { fits_list (out-DescriptorProto owner.message.now).extension_range ≡ true }
+    requires fits { fits_list (out-DescriptorProto owner.message.now).extension_range ≡ true }
+    requires holder { holder ≡ position_from (extends number) 0
+        (out-DescriptorProto owner.message.now).extension_range }
+    requires there { IfSome holder (λ found. found
+        < length (out-DescriptorProto owner.message.now).extension_range) }
     ensures { OnOk result (Tells findings.old findings.new
         (extension_range_faults (named_files findings.old) (any_at place.entry) number
         (any_at owner.entry.place)
         (out-DescriptorProto owner.entry.message.now).extension_range)) }
 {
-    let ranges = owner.message.extension_range.as_slice();
-    if let Some(position) = first_that_extends(ranges, number) {
-        let entry = (position, &ranges[position]);
+    if let Some(position) = holder {
+        let entry = (
+            position,
+            &owner.message.extension_range.as_slice()[position],
+        );
         let fault = extension_range_fault(findings, owner.place, entry, place, number)?;
         findings.push(fault)?;
     }
@@ -112,18 +130,10 @@ fn extension_range_fault(
 }
 
 /// Whether one of the extension ranges holds a number.
-fn any_extends(ranges: &[ExtensionRange], number: i32) -> bool
+pub(crate) fn any_extends(ranges: &[ExtensionRange], number: i32) -> bool
     ensures { result ≡ list_any (extends number) ranges.now }
 {
     ranges.iter().any(|range| extends(range, number))
-}
-
-/// The position of the first extension range that holds a number.
-fn first_that_extends(ranges: &[ExtensionRange], number: i32) -> Option<usize>
-    ensures first { result ≡ position (extends number) ranges.now }
-    ensures there { IfSome result (λ found. found < length ranges.now) }
-{
-    ranges.iter().position(|range| extends(range, number))
 }
 
 /// Whether an extension range holds a number.

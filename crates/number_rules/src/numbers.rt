@@ -3,10 +3,12 @@ ghost use Rattle.proto_records.specs.Counts.{lists_fit};
 ghost use Rattle.proto_records.specs.Protos.{of_message, of_field, of_extension};
 ghost use Rattle.places.specs.Places.{message_at, shown_at};
 ghost use Rattle.places.specs.Tells.{Tells, named_files};
+ghost use Rattle.number_rules.specs.Bounds.{AreRangesOf};
 ghost use Rattle.number_rules.specs.Numbers.{field_number_faults, extension_number_faults};
 
-use crate::extension_ranges::{check_left_to_extensions, check_outside};
-use crate::reserved::{check_reserved_ranges, check_valid};
+use crate::extension_ranges::{any_extends, check_left_to_extensions, check_outside};
+use crate::message_ranges::MessageRanges;
+use crate::reserved::{check_reserved_by, check_reserved_ranges, check_valid};
 use places::{Findings, Owner, Place};
 use proto_types::FieldDescriptorProto;
 use std::alloc::AllocError;
@@ -15,17 +17,19 @@ use std::alloc::AllocError;
 /// (descriptor.proto on `number`, `reserved_range` and `extension_range`, and the protobuf language
 /// rules on field numbers): that no field may have it, each reserved range of the message that
 /// holds it, and then the first extension range that does; or, of a field that has an extendee,
-/// even an empty one, that none does.
+/// even an empty one, that none does. The ranges are those of the message.
 ///
 /// # Errors
 /// `AllocError` where memory was refused.
 pub fn check_field_number(
     findings: &mut Findings,
     owner: Owner,
+    ranges: &MessageRanges,
     place: Place,
     field: &FieldDescriptorProto,
 ) -> Result<(), AllocError>
-    requires { lists_fit (of_message owner.message.now) ≡ true }
+    requires short { lists_fit (of_message owner.message.now) ≡ true }
+    requires ranges { AreRangesOf ranges.now owner.message.now }
     ensures { OnOk result (Tells findings.old findings.new
         (field_number_faults (named_files findings.old)
         (message_at owner.entry.place owner.entry.message.now) owner.entry.message.now
@@ -33,8 +37,8 @@ pub fn check_field_number(
 {
     let number = field.number();
     check_valid(findings, place, number)?;
-    check_reserved_ranges(findings, owner, place, number)?;
-    check_left_to_extensions(findings, owner, place, field)
+    check_reserved_by(findings, owner, &ranges.reserved, place, number)?;
+    check_left_to_extensions(findings, owner, &ranges.extension, place, field)
 }
 
 /// Appends to `faults` what the number of an extension breaks, by the record of the message that it
@@ -58,5 +62,6 @@ pub fn check_extension_number(
     let number = extension.number();
     check_valid(findings, place, number)?;
     check_reserved_ranges(findings, owner, place, number)?;
-    check_outside(findings, owner, place, number)
+    let is_inside = any_extends(owner.message.extension_range.as_slice(), number);
+    check_outside(findings, owner, place, number, is_inside)
 }

@@ -3,10 +3,12 @@ ghost use Rattle.proto_files.specs.declared.message.DescriptorProto.{out-Descrip
 ghost use Rattle.proto_records.specs.Counts.{fits_list};
 ghost use Rattle.places.specs.Tells.{Tells, named_files};
 ghost use Rattle.number_rules.specs.At.{any_at};
+ghost use Rattle.number_rules.specs.Bounds.{reserved_bounds};
 ghost use Rattle.number_rules.specs.Numbers.{invalid_faults, reserved_fault, reserved_faults};
 ghost use Rattle.number_rules.specs.Ranges.{reserves};
 
 use crate::field_number::is_valid_number;
+use number_ranges::NumberRanges;
 use places::{Findings, Owner, Place};
 use pool_faults::DescriptorErrorKind;
 use proto_files::ReservedRange;
@@ -45,6 +47,33 @@ pub(crate) fn check_reserved_ranges(
     for (position, range) in owner.message.reserved_range.as_slice().iter().enumerate() {
         let entry = (position, range);
         check_reserved_range(findings, owner.place, entry, place, number)?;
+    }
+    Ok(())
+}
+
+/// The same as `check_reserved_ranges`, by the ranges in order: only those are looked at that hold the
+/// number.
+pub(crate) fn check_reserved_by(
+    findings: &mut Findings,
+    owner: Owner,
+    ranges: &NumberRanges,
+    place: Place,
+    number: i32,
+) -> Result<(), AllocError>
+    requires fits { fits_list (out-DescriptorProto owner.message.now).reserved_range ≡ true }
+    requires ranges { ranges.now
+        ≡ reserved_bounds (out-DescriptorProto owner.message.now).reserved_range }
+    ensures { OnOk result (Tells findings.old findings.new
+        (reserved_faults (named_files findings.old) (any_at place.entry) number
+        (any_at owner.entry.place)
+        (out-DescriptorProto owner.entry.message.now).reserved_range)) }
+{
+    let list = owner.message.reserved_range.as_slice();
+    let mut from = 0;
+    while let Some(position) = ranges.first_from(from, number) {
+        let entry = (position, &list[position]);
+        check_reserved_range(findings, owner.place, entry, place, number)?;
+        from = position + 1;
     }
     Ok(())
 }

@@ -72,6 +72,37 @@ const FAULTS: &[(&str, &str, &str)] = &[
         [4, 0, 2, 0, 3] a.proto [4, 0, 5, 1]\n",
     ),
     (
+        "of many ranges that nest, overlap or end before they start, those that hold a number",
+        "file a.proto\nmessage M\nreserved 195 190\nreserved 180 185\nreserved 170 175\n\
+        reserved 160 165\nreserved 150 155\nreserved 140 145\nreserved 130 135\n\
+        reserved 120 125\nreserved 110 115\nreserved 100 105\nreserved 1 300\n\
+        reserved 80 85\nreserved 70 75\nreserved 60 65\nreserved 50 55\nreserved 40 45\n\
+        reserved 30 35\nreserved 20 25\nreserved 10 15\nreserved 0 5\nextensions 195 190\n\
+        extensions 180 185\nextensions 170 175\nextensions 160 165\nextensions 150 155\n\
+        extensions 140 145\nextensions 130 135\nextensions 120 125\nextensions 110 115\n\
+        extensions 100 105\nextensions 1 300\nextensions 80 85\nextensions 70 75\n\
+        extensions 60 65\nextensions 50 55\nextensions 40 45\nextensions 30 35\n\
+        extensions 20 25\nextensions 10 15\nextensions 0 5\nfield f 102 optional int32 ~ ~\n\
+        field g 22 optional int32 ~ ~\nfield h 300 optional int32 ~ ~\n\
+        field i 192 optional int32 ~ ~\nend\nend\n",
+        "a.proto: field number '102' conflicts with reserved range '100 to 104' \
+        [4, 0, 2, 0, 3] a.proto [4, 0, 9, 9]\n\
+        a.proto: field number '102' conflicts with reserved range '1 to 299' \
+        [4, 0, 2, 0, 3] a.proto [4, 0, 9, 10]\n\
+        a.proto: field number '102' conflicts with extension range '100 to 104' \
+        [4, 0, 2, 0, 3] a.proto [4, 0, 5, 9]\n\
+        a.proto: field number '22' conflicts with reserved range '1 to 299' \
+        [4, 0, 2, 1, 3] a.proto [4, 0, 9, 10]\n\
+        a.proto: field number '22' conflicts with reserved range '20 to 24' \
+        [4, 0, 2, 1, 3] a.proto [4, 0, 9, 17]\n\
+        a.proto: field number '22' conflicts with extension range '1 to 299' \
+        [4, 0, 2, 1, 3] a.proto [4, 0, 5, 10]\n\
+        a.proto: field number '192' conflicts with reserved range '1 to 299' \
+        [4, 0, 2, 3, 3] a.proto [4, 0, 9, 10]\n\
+        a.proto: field number '192' conflicts with extension range '1 to 299' \
+        [4, 0, 2, 3, 3] a.proto [4, 0, 5, 10]\n",
+    ),
+    (
         "a field in an extension range",
         "file a.proto\nmessage M\nextensions 5 8\nfield f 5 optional int32 ~ ~\nend\nend\n",
         "a.proto: field number '5' conflicts with extension range '5 to 7' \

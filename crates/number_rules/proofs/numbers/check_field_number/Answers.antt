@@ -21,8 +21,8 @@ returns c =
     let same : to_z w32 (of_z w32 c.number-number.result) ≡ n = grind (arith, to_z-of_z, c.number-number.ensures) in
     let first : Tells a c.check_valid.new.findings (invalid_faults (named_files a) d n) =
     tells-as (ap (invalid_faults (named_files a) d) same) c.in_ok-check_valid.ensures in
-    let second : Tells c.check_valid.new.findings c.check_reserved_ranges.new.findings (reserved_faults (named_files a) d n owner m.reserved_range) =
-    tells-as (λ j. reserved_faults (same-files first j) d (same j) owner m.reserved_range) c.in_ok-check_reserved_ranges.ensures in
+    let second : Tells c.check_valid.new.findings c.check_reserved_by.new.findings (reserved_faults (named_files a) d n owner m.reserved_range) =
+    tells-as (λ j. reserved_faults (same-files first j) d (same j) owner m.reserved_range) c.in_ok-check_reserved_by.ensures in
     let files = same-files (tells-two first second) in
     on-ok c.check_left_to_extensions.result (λ third.
     tells-three first second
