@@ -1,5 +1,5 @@
-//! The run of the linker over protobuf's own well-known files: `stdin` is their script, which
-//! `tools/descriptors_to_script.py` made of what `protoc` says of them, and `stdout` the report.
+//! The run of the linker over protobuf's own well-known files: `stdin` is their script, and `stdout`
+//! the report, as `tools/well_known.py` makes both of what `protoc` says of these files.
 #![tactic(auto)]
 
 use descriptor_linker::{Ending, ReaderInput, WriterOutput, run};
