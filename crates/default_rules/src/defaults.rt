@@ -7,7 +7,7 @@ use crate::faults::default_fault;
 use crate::meant::MeantEnum;
 use crate::values::value_of;
 use places::{Findings, Place};
-use plain_values::Text;
+use plain_data::Text;
 use pool_kinds::{DefaultValue, KindIndex};
 use std::alloc::AllocError;
 

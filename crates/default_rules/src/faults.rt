@@ -7,7 +7,7 @@ ghost use Rattle.places.specs.Tells.{named_files};
 
 use crate::meant::MeantEnum;
 use places::{Findings, Place};
-use plain_values::Text;
+use plain_data::Text;
 use pool_faults::DescriptorErrorKind;
 use pool_kinds::KindIndex;
 use proto_types::tag;

@@ -1,6 +1,6 @@
 -- `==` of faults tells whether two faults are one.
 use Rattle.std.proofs.Common.{rules}
-use Rattle.plain_values.specs.Exact.{Exact}
+use Rattle.plain_data.specs.Exact.{Exact}
 use Rattle.default_values.specs.contracts.faults.EscapeFaultPartialEq.TheImpl as escape_fault
 use Rattle.default_values.specs.contracts.faults.ValueFaultPartialEq.TheImpl as value_fault
 

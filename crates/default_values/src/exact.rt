@@ -1,7 +1,7 @@
 ghost use Rattle.default_values.specs.Equality.{escape_fault-exact, value_fault-exact};
 
 use crate::{EscapeFault, ValueFault};
-use plain_values::ExactEq;
+use plain_data::ExactEq;
 
 impl ExactEq for EscapeFault {
     ghost exact = { escape_fault-exact };

@@ -6,7 +6,7 @@ ghost use Rattle.default_values.specs.Defaults as spec;
 use crate::escapes::unescape_c_escape_string;
 use crate::faults::ValueFault;
 use crate::words::{parse_bool, parse_int32};
-use plain_values::{Items, Text};
+use plain_data::{Items, Text};
 use pool_kinds::{DefaultValue, KindIndex};
 use std::alloc::Global;
 

@@ -3,7 +3,7 @@ ghost use Rattle.std.specs.Option.{option_copied, option_map, option_and_then};
 ghost use Rattle.source_labels.specs.Labels.{label_line, label_column};
 ghost use Rattle.pool_faults.specs.Texts.{first_label};
 
-use plain_values::Items;
+use plain_data::Items;
 use pool_faults::{DescriptorErrorKind, Labelled};
 use source_labels::Label;
 use std::error::Error;

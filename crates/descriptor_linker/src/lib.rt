@@ -11,22 +11,14 @@ pub use descriptor_errors::DescriptorError;
 pub use descriptor_pool::{BuildError, DescriptorPool};
 pub use ending::Ending;
 pub use link_script::{Block, Keyword, Open, Script, ScriptFault, Statement, read_script};
-pub use plain_values::{Items, Text};
+pub use plain_data::{Items, Text};
 pub use pool_faults::DescriptorErrorKind;
-pub use pool_types::{
-    Cardinality, Definition, DefinitionKind, FieldDescriptorInner, FileDescriptor,
-    FileDescriptorInner, Identity, KindIndex, MessageDescriptor, MessageDescriptorInner,
-    OneofDescriptorInner, Syntax,
-};
+pub use pool_kinds::{Cardinality, FileDescriptor, KindIndex, MessageDescriptor, Syntax};
+pub use pool_types::{Definition, DefinitionKind, FieldDescriptorInner, FileDescriptorInner, Identity, MessageDescriptorInner, OneofDescriptorInner};
 pub use proto_files::{DescriptorProto, FileDescriptorProto};
 pub use proto_records::{CountKind, Counts};
-pub use proto_types::{
-    EnumDescriptorProto, EnumValueDescriptorProto, FieldDescriptorProto, Location,
-    MethodDescriptorProto, ServiceDescriptorProto,
-};
+pub use proto_types::{EnumDescriptorProto, EnumValueDescriptorProto, FieldDescriptorProto, Location, MethodDescriptorProto, ServiceDescriptorProto};
 pub use report::{Report, report_of};
 pub use runs::run;
-pub use script_devices::{
-    MemoryInput, MemoryOutput, ReaderInput, ReportOutput, ScriptInput, WriterOutput,
-};
+pub use script_devices::{MemoryInput, MemoryOutput, ReaderInput, ReportOutput, ScriptInput, WriterOutput};
 pub use source_labels::Label;

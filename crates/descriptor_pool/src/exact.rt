@@ -1,7 +1,7 @@
 ghost use Rattle.pool_inner.specs.Equality.{contents-exact};
 
 use crate::DescriptorPool;
-use plain_values::ExactEq;
+use plain_data::ExactEq;
 
 impl ExactEq for DescriptorPool {
     ghost exact = { contents-exact };

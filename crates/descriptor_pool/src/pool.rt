@@ -4,13 +4,8 @@ ghost use Rattle.std.specs.Option.{option_copied};
 use crate::build::link;
 use crate::error::BuildError;
 use pool_inner::DescriptorPoolInner;
-use pool_kinds::{
-    EnumDescriptor, ExtensionDescriptor, FileDescriptor, MessageDescriptor, ServiceDescriptor,
-};
-use pool_types::{
-    Definition, EnumDescriptorInner, ExtensionDescriptorInner, FileDescriptorInner,
-    MessageDescriptorInner, ServiceDescriptorInner,
-};
+use pool_kinds::{EnumDescriptor, ExtensionDescriptor, FileDescriptor, MessageDescriptor, ServiceDescriptor};
+use pool_types::{Definition, EnumDescriptorInner, ExtensionDescriptorInner, FileDescriptorInner, MessageDescriptorInner, ServiceDescriptorInner};
 use proto_files::FileDescriptorProto;
 use proto_records::Counts;
 use std::alloc::{AllocError, Global};

@@ -1,11 +1,10 @@
 -- Two ascending lists with the same elements are one list.
-use Rattle.std.proofs.Common.{◌≡◌, ℕ, ◌+◌, Bool, true, false, cond, List, [], ◌∷◌, refl, sym, ◌∙◌, ap, arith}
+use Rattle.std.proofs.Common.{◌≡◌, ℕ, ◌+◌, Bool, true, false, cond, List, [], ◌∷◌, refl, sym, ◌∙◌, ap, arith, ◌<◌, ◌≤◌, suc, length, get_or}
 use Rattle.std.proofs.lemmas.List.Sorted.{sorted_far}
 use Rattle.std.proofs.lemmas.List.Sums.{sum_by-cons}
 use Rattle.std.specs.Cmp.{IsStrictWeakOrder}
 use Rattle.std.specs.List.{sum_by}
 use Rattle.std.specs.List.Sorted.{IsSortedBy}
-use Rattle.std.proofs.Common.{◌<◌, ◌≤◌, suc, length, get_or}
 
 no-one : (b : Bool) (n : ℕ) → cond b 1 0 + n ≡ 0 → b ≡ false
 no-one true n e = absurd (omega (arith, e))

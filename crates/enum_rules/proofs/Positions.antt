@@ -4,7 +4,7 @@ use Rattle.std.proofs.lemmas.List.{map-append}
 use Rattle.std.proofs.lemmas.List.Sums.{fold-append}
 use Rattle.std.specs.FinMap as map
 use Rattle.std.specs.List.{enumerate_from}
-use Rattle.plain_maps.specs.Maps.{inserted}
+use Rattle.plain_data.specs.Maps.{inserted}
 use Rattle.places.specs.Each.{each}
 use Rattle.places.proofs.Each.{each-next}
 

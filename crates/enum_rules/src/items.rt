@@ -10,7 +10,7 @@ ghost use Rattle.enum_rules.specs.Values.{values_faults};
 use crate::tables::{value_names, value_numbers};
 use crate::values::{allows_alias, check_values};
 use places::{Findings, Place, identity, identity_beside};
-use plain_values::Items;
+use plain_data::Items;
 use pool_types::{EnumDescriptorInner, EnumValueDescriptorInner};
 use proto_types::{EnumDescriptorProto, tag};
 use std::alloc::{AllocError, Global};

@@ -1,11 +1,11 @@
 ghost use Rattle.std.specs.Prelude.{◌≡◌, true, IfOk, map};
 ghost use Rattle.std.specs.List.{enumerate_from};
-ghost use Rattle.plain_maps.specs.Maps.{inserted};
+ghost use Rattle.plain_data.specs.Maps.{inserted};
 ghost use Rattle.proto_records.specs.Counts.{fits_list};
 ghost use Rattle.proto_types.specs.Readers.{number_of};
 ghost use Rattle.enum_rules.specs.Items.{names_of, numbers_of};
 
-use plain_maps::TextMap;
+use plain_data::TextMap;
 use proto_types::EnumValueDescriptorProto;
 use std::alloc::{AllocError, Global};
 

@@ -4,7 +4,7 @@ use Rattle.std.specs.List.{filter_map, enumerate_from}
 use Rattle.std.specs.Option.{option_map}
 use Rattle.std.specs.declared.option.Option.{Option}
 use Rattle.std.specs.declared.option.Option.TheVariants.{Some}
-use Rattle.plain_maps.specs.Maps.{ByNumber, ByText, inserted}
+use Rattle.plain_data.specs.Maps.{ByNumber, ByText, inserted}
 use Rattle.proto_types.specs.declared.records.field.FieldDescriptorProto.{FieldDescriptorProto}
 use Rattle.proto_types.specs.Readers.{number_of, text_of}
 use Rattle.field_rules.specs.Numbers.{item_number}

@@ -1,5 +1,5 @@
-//! What a field breaks beside its number and its type, and what follows from its record: its oneof,
-//! how it is packed, whether a message tells that it is set, and the maps of its message.
+//! What a record breaks and makes without a look at names: numbers, oneofs, names of fields in
+//! JSON, enums, and default values.
 #![tactic(auto)]
 
 mod encoding;

@@ -13,8 +13,7 @@ ghost use Rattle.field_rules.specs.MapsOf.{AreMapsOf};
 ghost use Rattle.field_rules.specs.Numbers.{item_number};
 
 use places::{Findings, Owner, Place};
-use plain_maps::{NumberMap, TextMap};
-use plain_values::Text;
+use plain_data::{NumberMap, Text, TextMap};
 use pool_faults::DescriptorErrorKind;
 use proto_types::{FieldDescriptorProto, tag};
 use std::alloc::{AllocError, Global};

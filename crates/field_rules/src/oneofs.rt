@@ -5,7 +5,7 @@ ghost use Rattle.places.specs.Tells.{Tells};
 ghost use Rattle.field_rules.specs.Oneofs.{oneof_faults, oneof_of, members};
 
 use places::Findings;
-use plain_values::Items;
+use plain_data::Items;
 use pool_faults::DescriptorErrorKind;
 use proto_files::OneofDescriptorProto;
 use proto_types::FieldDescriptorProto;

@@ -3,7 +3,7 @@ ghost use Rattle.std.specs.FinMap as finite;
 ghost use Rattle.std.specs.List.{filter_map};
 
 use name_tables::FileNames;
-use plain_values::{Items, Text};
+use plain_data::{Items, Text};
 use std::alloc::{AllocError, Global};
 
 /// The indexes of the files that imports name, in order; what names no file has none.

@@ -8,7 +8,7 @@ ghost use Rattle.proto_types.specs.Lists.{at};
 ghost use Rattle.file_visibility.specs.Visibility.{Sees, seen_from};
 
 use name_tables::FileNames;
-use plain_values::Text;
+use plain_data::Text;
 use pool_types::FileDescriptorInner;
 use proto_files::FileDescriptorProto;
 use std::alloc::{AllocError, Global};

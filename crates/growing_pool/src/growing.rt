@@ -5,7 +5,7 @@ ghost use Rattle.growing_pool.specs.Unlinked.{unlinked};
 
 use file_visibility::{imported_files, visible_from};
 use name_tables::NameTable;
-use plain_values::Items;
+use plain_data::Items;
 use pool_inner::DescriptorPoolInner;
 use pool_types::{FileDescriptorInner, MessageDescriptorInner};
 use proto_files::FileDescriptorProto;

@@ -17,7 +17,7 @@ use crate::types::type_and_default;
 use field_rules::{is_packed, item_number};
 use number_rules::check_extension_number;
 use places::{Owner, Place, identity};
-use plain_values::Text;
+use plain_data::Text;
 use pool_kinds::KindIndex;
 use pool_parts::{ResolveNameResult, cardinality_of};
 use pool_types::ExtensionDescriptorInner;

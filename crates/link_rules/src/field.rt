@@ -19,7 +19,7 @@ use crate::types::type_and_default;
 use field_rules::{check_oneof_index, is_packed, item_number, oneof_of, supports_presence};
 use number_rules::{MessageRanges, check_field_number};
 use places::{Owner, Place, identity_inside};
-use plain_values::duplicate_given;
+use plain_data::duplicate_given;
 use pool_kinds::{DefaultValue, KindIndex, Syntax};
 use pool_parts::cardinality_of;
 use pool_types::{FieldDescriptorInner, Identity};

@@ -9,7 +9,7 @@ ghost use Rattle.places.specs.Tells.{Tells};
 
 use crate::reading::Reading;
 use places::Findings;
-use plain_values::Text;
+use plain_data::Text;
 use pool_faults::DescriptorErrorKind;
 use proto_files::FileDescriptorProto;
 use proto_records::entry_path;

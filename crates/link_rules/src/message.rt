@@ -18,7 +18,7 @@ use crate::reading::Reading;
 use field_rules::{FieldMaps, members};
 use number_rules::MessageRanges;
 use places::{Owner, Place, identity, identity_inside};
-use plain_values::Items;
+use plain_data::Items;
 use pool_types::{FieldDescriptorInner, MessageDescriptorInner, OneofDescriptorInner};
 use proto_files::DescriptorProto;
 use proto_types::tag;

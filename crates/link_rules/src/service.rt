@@ -13,7 +13,7 @@ ghost use Rattle.link_rules.specs.Reading.{Reads, setting_of};
 use crate::reading::Reading;
 use crate::references::message_found;
 use places::{Place, identity, identity_inside};
-use plain_values::Items;
+use plain_data::Items;
 use pool_parts::ResolveNameFilter;
 use pool_types::{MethodDescriptorInner, ServiceDescriptorInner};
 use proto_types::{MethodDescriptorProto, ServiceDescriptorProto, tag};

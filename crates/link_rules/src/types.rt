@@ -24,7 +24,7 @@ use crate::reading::Reading;
 use default_rules::{MeantEnum, read_default};
 use linked_records::Setting;
 use places::{Findings, Place};
-use plain_values::Text;
+use plain_data::Text;
 use pool_faults::DescriptorErrorKind;
 use pool_kinds::{DefaultValue, KindIndex};
 use pool_parts::{ResolveNameFilter, ResolveNameResult, named_kind, simple_kind};

@@ -6,14 +6,9 @@ ghost use Rattle.link_script.specs.declared.script.statement.Statement.TheVarian
 ghost use Rattle.link_script.specs.Building.{change_last, more_said, in_file, in_message, in_enum, in_service};
 
 use crate::script::Statement;
-use plain_values::{Items, Text};
-use proto_files::{
-    DescriptorProto, ExtensionRange, FileDescriptorProto, OneofDescriptorProto, ReservedRange,
-};
-use proto_types::{
-    EnumDescriptorProto, EnumOptions, EnumReservedRange, FieldDescriptorProto, FieldOptions,
-    Location, Options, ServiceDescriptorProto, SourceCodeInfo,
-};
+use plain_data::{Items, Text};
+use proto_files::{DescriptorProto, ExtensionRange, FileDescriptorProto, OneofDescriptorProto, ReservedRange};
+use proto_types::{EnumDescriptorProto, EnumOptions, EnumReservedRange, FieldDescriptorProto, FieldOptions, Location, Options, ServiceDescriptorProto, SourceCodeInfo};
 use std::alloc::{AllocError, Global};
 
 /// A record whose block is open.

@@ -5,6 +5,4 @@ mod building;
 mod script;
 
 pub use building::Open;
-pub use script::{
-    Block, Keyword, Script, ScriptError, ScriptFault, ScriptReader, Statement, read_script,
-};
+pub use script::{Block, Keyword, Script, ScriptError, ScriptFault, ScriptReader, Statement, read_script};

@@ -2,7 +2,7 @@
 use Rattle.std.proofs.Common.{◌≡◌, ◌<◌, ℕ, ◌+◌, suc, pos, false, if◌then◌else◌, Option, None, Some, unwrap_or, List, [], ◌∷◌, map, refl, ap, ◌∙◌}
 use Rattle.std.specs.List.{cons_option, enumerate_from, filter_map, flat_map}
 use Rattle.std.specs.Option.{option_map, option_map_or}
-use Rattle.plain_maps.specs.Maps.{inserted}
+use Rattle.plain_data.specs.Maps.{inserted}
 use Rattle.std.specs.Ordering.{int_eq}
 use Rattle.proto_types.specs.declared.records.field.FieldDescriptorProto.{FieldDescriptorProto}
 use Rattle.proto_types.specs.declared.tag.message.TheConstants as message

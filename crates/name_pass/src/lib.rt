@@ -1,4 +1,4 @@
-//! The first pass over the declarations of a batch.
+//! The first pass: the names of declarations, and what these break by themselves.
 #![tactic(auto)]
 
 mod checks;

@@ -8,16 +8,13 @@ ghost use Rattle.name_pass.specs.FirstPass.{holder_faults};
 
 use crate::checks::{check_camel_case_names, check_enum_values, check_syntax};
 use name_tables::{FileNames, HashedNames, NameTable};
-use plain_values::{Items, Text};
+use plain_data::{Items, Text};
 use pool_faults::DescriptorErrorKind;
-use pool_parts::label_at;
+use source_labels::label_at;
 use pool_types::{Definition, DefinitionKind, FileDescriptorInner};
 use proto_files::{DescriptorProto, FileDescriptorProto, OneofDescriptorProto};
 use proto_records::Visitor;
-use proto_types::{
-    EnumDescriptorProto, EnumValueDescriptorProto, FieldDescriptorProto, MethodDescriptorProto,
-    ServiceDescriptorProto, tag,
-};
+use proto_types::{EnumDescriptorProto, EnumValueDescriptorProto, FieldDescriptorProto, MethodDescriptorProto, ServiceDescriptorProto, tag};
 use std::alloc::{AllocError, Global};
 
 /// The first pass: it enters the names of declarations into the tables of a pool whose files are

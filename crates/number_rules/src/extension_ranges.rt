@@ -13,7 +13,7 @@ ghost use Rattle.number_rules.specs.Ranges.{extends};
 
 use number_ranges::NumberRanges;
 use places::{Findings, Owner, Place};
-use plain_values::Text;
+use plain_data::Text;
 use pool_faults::DescriptorErrorKind;
 use proto_files::ExtensionRange;
 use proto_types::{FieldDescriptorProto, tag};

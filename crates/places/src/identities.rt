@@ -7,7 +7,7 @@ ghost use Rattle.places.specs.NamesBegin.{BeginsAtBoundary};
 ghost use Rattle.places.specs.Places.{before_ending};
 
 use crate::Place;
-use plain_values::{Items, Text};
+use plain_data::{Items, Text};
 use pool_types::Identity;
 use proto_records::entry_path;
 use proto_types::join;

@@ -3,7 +3,7 @@ ghost use Rattle.std.specs.Fmt.{DisplaysOnOk};
 ghost use Rattle.std.specs.Option.{option_copied};
 ghost use Rattle.pool_faults.specs.Texts.{shown_label, name_fault_text, reference_fault_text, number_fault_text, range_text, out_of_range_text, between, line_text};
 
-use plain_values::Text;
+use plain_data::Text;
 use source_labels::Label;
 use std::error::Error;
 use std::fmt;

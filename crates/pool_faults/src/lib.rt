@@ -1,4 +1,5 @@
-//! The faults of a batch: their kinds, the label that each shows, and their texts.
+//! Labels, which say where something stands in the files of a pool and in their source; the faults
+//! of a batch, with the label and the text of each; and the error of a batch, which has them all.
 #![tactic(auto)]
 
 mod exact;

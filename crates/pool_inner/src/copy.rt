@@ -5,7 +5,7 @@ ghost use Rattle.pool_inner.specs.Held.{contents_in};
 
 use crate::inner::DescriptorPoolInner;
 use name_tables::NameTable;
-use plain_values::duplicates;
+use plain_data::duplicates;
 use std::alloc::{AllocError, Global};
 
 impl DescriptorPoolInner {

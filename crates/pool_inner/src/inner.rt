@@ -3,10 +3,7 @@ ghost use Rattle.pool_types.specs.Contents.{no_contents};
 ghost use Rattle.pool_inner.specs.Held.{contents_in};
 
 use name_tables::{FileNames, HashedNames};
-use pool_types::{
-    EnumDescriptorInner, ExtensionDescriptorInner, FileDescriptorInner, MessageDescriptorInner,
-    ServiceDescriptorInner,
-};
+use pool_types::{EnumDescriptorInner, ExtensionDescriptorInner, FileDescriptorInner, MessageDescriptorInner, ServiceDescriptorInner};
 use std::alloc::Global;
 
 /// What a pool holds: the items of each kind in the order of their indexes, what the names mean that

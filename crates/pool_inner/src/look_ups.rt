@@ -11,13 +11,8 @@ ghost use Rattle.pool_inner.specs.LookUps.{definition_named, without_dot};
 
 use crate::inner::DescriptorPoolInner;
 use name_tables::NameTable;
-use pool_kinds::{
-    EnumDescriptor, ExtensionDescriptor, FileDescriptor, MessageDescriptor, ServiceDescriptor,
-};
-use pool_types::{
-    Definition, EnumDescriptorInner, ExtensionDescriptorInner, FileDescriptorInner,
-    MessageDescriptorInner, ServiceDescriptorInner,
-};
+use pool_kinds::{EnumDescriptor, ExtensionDescriptor, FileDescriptor, MessageDescriptor, ServiceDescriptor};
+use pool_types::{Definition, EnumDescriptorInner, ExtensionDescriptorInner, FileDescriptorInner, MessageDescriptorInner, ServiceDescriptorInner};
 use proto_files::FileDescriptorProto;
 use std::alloc::{AllocError, Global};
 

@@ -1,7 +1,7 @@
 -- `==` of indexes, kinds and default values tells whether two values are one.
 use Rattle.std.proofs.Common.{rules}
 use Rattle.std.specs.Cmp.{unsigned_Decides}
-use Rattle.plain_values.specs.Exact.{Exact, ◌and◌, by-parts, text-exact}
+use Rattle.plain_data.specs.Exact.{Exact, ◌and◌, by-parts, text-exact}
 use Rattle.pool_kinds.specs.contracts.indexes.FileDescriptorPartialEq.TheImpl as file
 use Rattle.pool_kinds.specs.contracts.indexes.MessageDescriptorPartialEq.TheImpl as message
 use Rattle.pool_kinds.specs.contracts.indexes.EnumDescriptorPartialEq.TheImpl as enum

@@ -1,6 +1,6 @@
 ghost use Rattle.std.specs.Prelude.{◌≡◌, IfOk};
 
-use plain_values::{Duplicate, Items, Text};
+use plain_data::{Duplicate, Items, Text};
 use std::alloc::{AllocError, Global};
 
 /// The default value of a field.

@@ -8,8 +8,5 @@ mod indexes;
 mod kinds;
 
 pub use default_value::DefaultValue;
-pub use indexes::{
-    EnumDescriptor, EnumValueDescriptor, ExtensionDescriptor, FieldDescriptor, FileDescriptor,
-    MessageDescriptor, MethodDescriptor, OneofDescriptor, ServiceDescriptor,
-};
+pub use indexes::{EnumDescriptor, EnumValueDescriptor, ExtensionDescriptor, FieldDescriptor, FileDescriptor, MessageDescriptor, MethodDescriptor, OneofDescriptor, ServiceDescriptor};
 pub use kinds::{Cardinality, Kind, KindIndex, Syntax};

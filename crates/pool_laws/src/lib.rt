@@ -1,4 +1,4 @@
-//! The laws of pools: of relinking, of splitting, of what stays, and of names.
+//! The laws of pools, and those of files that are read in another setting, linked or as they are.
 #![tactic(auto)]
 
 mod laws;

@@ -8,18 +8,7 @@ mod kinds;
 mod parents;
 mod resolve;
 
-pub use file_visibility::visible_from;
 pub use filter::ResolveNameFilter;
 pub use kinds::{cardinality_of, named_kind, simple_kind};
-pub use name_tables::{FileNames, HashedNames, NameTable};
 pub use parents::{CandidateParents, parents_count};
-pub use pool_faults::DescriptorErrorKind;
-pub use pool_types::{
-    Cardinality, DefaultValue, Definition, DefinitionKind, EnumDescriptor, EnumDescriptorInner,
-    EnumValueDescriptor, EnumValueDescriptorInner, ExtensionDescriptor, ExtensionDescriptorInner,
-    FieldDescriptor, FieldDescriptorInner, FileDescriptor, FileDescriptorInner, Identity, Kind,
-    KindIndex, MessageDescriptor, MessageDescriptorInner, MethodDescriptor, MethodDescriptorInner,
-    OneofDescriptor, OneofDescriptorInner, ServiceDescriptor, ServiceDescriptorInner, Syntax,
-};
 pub use resolve::{ResolveNameResult, resolve_name};
-pub use source_labels::{Label, label_at};

@@ -14,7 +14,7 @@ ghost use Rattle.pool_parts.specs.References.{reference_fault};
 use crate::filter::ResolveNameFilter;
 use crate::parents::CandidateParents;
 use name_tables::NameTable;
-use plain_values::Text;
+use plain_data::Text;
 use pool_faults::DescriptorErrorKind;
 use pool_types::{Definition, FileDescriptorInner};
 use proto_types::join;

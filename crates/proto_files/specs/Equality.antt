@@ -3,7 +3,7 @@ use Rattle.std.proofs.Common.{◌≡◌, ℕ, ◌<◌, zero, suc, max, ◌&&◌,
 use Rattle.std.specs.Cmp.Lexicographic.{pointwise}
 use Rattle.std.proofs.lemmas.Bool.Decides.{Decides-and, Decides-like}
 use denote.Param.Weighed.{most}
-use Rattle.plain_values.specs.Exact.{Exact, ◌and◌, pair-decides, by-parts, given, items-exact, numbers-exact, texts-exact, given-text, given-number}
+use Rattle.plain_data.specs.Exact.{Exact, ◌and◌, pair-decides, by-parts, given, items-exact, numbers-exact, texts-exact, given-text, given-number}
 use Rattle.proto_types.specs.declared.records.options.Options.{Options}
 use Rattle.proto_files.specs.declared.message.DescriptorProto.{DescriptorProto, out-DescriptorProto, roll-DescriptorProto, roll-out-DescriptorProto, size-DescriptorProto, size_is-DescriptorProto}
 use Rattle.proto_types.specs.declared.records.options.Unread.{Unread}

@@ -1,10 +1,7 @@
 ghost use Rattle.proto_files.specs.Equality.{extension_range-exact, reserved_range-exact, oneof-exact, message-exact, file-exact, file_set-exact};
 
-use crate::{
-    DescriptorProto, ExtensionRange, FileDescriptorProto, FileDescriptorSet, OneofDescriptorProto,
-    ReservedRange,
-};
-use plain_values::ExactEq;
+use crate::{DescriptorProto, ExtensionRange, FileDescriptorProto, FileDescriptorSet, OneofDescriptorProto, ReservedRange};
+use plain_data::ExactEq;
 
 impl ExactEq for ExtensionRange {
     ghost exact = { extension_range-exact };

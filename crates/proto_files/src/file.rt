@@ -3,11 +3,8 @@ ghost use Rattle.proto_files.specs.Empty.{no_file, no_file_set};
 ghost use Rattle.proto_types.specs.Readers.{text_of};
 
 use crate::message::DescriptorProto;
-use plain_values::{Duplicate, Items, Text, duplicate_given};
-use proto_types::{
-    EnumDescriptorProto, FieldDescriptorProto, Options, ServiceDescriptorProto, SourceCodeInfo,
-    Unread, or_empty,
-};
+use plain_data::{Duplicate, Items, Text, duplicate_given};
+use proto_types::{EnumDescriptorProto, FieldDescriptorProto, Options, ServiceDescriptorProto, SourceCodeInfo, Unread, or_empty};
 use std::alloc::{AllocError, Global};
 
 /// The files of one description.

@@ -2,7 +2,7 @@ ghost use Rattle.std.specs.Prelude.{◌≡◌, IfOk};
 ghost use Rattle.proto_files.specs.Empty.{no_message, no_extension_range, no_reserved_range, no_oneof};
 ghost use Rattle.proto_types.specs.Readers.{text_of, number_of};
 
-use plain_values::{Duplicate, Items, Text, duplicate_given};
+use plain_data::{Duplicate, Items, Text, duplicate_given};
 use proto_types::{EnumDescriptorProto, FieldDescriptorProto, Options, Unread, or_empty};
 use std::alloc::{AllocError, Global};
 

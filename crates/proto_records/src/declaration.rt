@@ -1,4 +1,4 @@
-use plain_values::{Items, Text};
+use plain_data::{Items, Text};
 
 /// What kind of record declares something.
 #[derive(Clone, Copy, PartialEq, Debug)]

@@ -3,7 +3,7 @@ use Rattle.std.proofs.Common.{◌≡◌, ℕ, ◌<◌, zero, suc, max, Bool, ◌
 use Rattle.std.specs.Cmp.Lexicographic.{pointwise}
 use Rattle.std.specs.Option.{option_eq}
 use Rattle.std.proofs.lemmas.Bool.Decides.{Decides-and, Decides-like}
-use Rattle.plain_values.specs.Exact.{Exact, ◌and◌, pair-decides, by-parts, given, items-exact, text-exact, numbers-exact, texts-exact, given-text, given-number, given-flag}
+use Rattle.plain_data.specs.Exact.{Exact, ◌and◌, pair-decides, by-parts, given, items-exact, text-exact, numbers-exact, texts-exact, given-text, given-number, given-flag}
 use Rattle.proto_types.specs.declared.records.options.Options.{Options}
 use Rattle.proto_types.specs.declared.records.options.Unread.{Unread}
 use Rattle.proto_types.specs.declared.records.enumeration.EnumDescriptorProto.{EnumDescriptorProto}

@@ -1,7 +1,7 @@
 ghost use Rattle.std.specs.Prelude.{◌≡◌};
 ghost use Rattle.proto_types.specs.Readers.{text_of};
 
-use plain_values::Text;
+use plain_data::Text;
 
 /// A text that may be missing, read as the empty text where it is (descriptor.proto's default).
 pub fn or_empty(text: &Option<Text>) -> &str

@@ -9,10 +9,7 @@ ghost use Rattle.proto_records.specs.Protos.{as_message, as_enum, as_field, as_e
 mod record;
 
 use proto_files::{DescriptorProto, FileDescriptorProto, OneofDescriptorProto};
-use proto_types::{
-    EnumDescriptorProto, EnumValueDescriptorProto, FieldDescriptorProto, MethodDescriptorProto,
-    ServiceDescriptorProto,
-};
+use proto_types::{EnumDescriptorProto, EnumValueDescriptorProto, FieldDescriptorProto, MethodDescriptorProto, ServiceDescriptorProto};
 use record::Record;
 
 /// The message at a path, or none where no message stands there.

@@ -3,9 +3,7 @@
 ghost use Rattle.std.specs.Prelude.{◌≡◌, ◌++◌, ◌∷◌, [], OnOk};
 ghost use Rattle.link_rules.specs.NamesBegin.{MessageNamesBegin, NamesBegin};
 
-use pool_types::{
-    EnumDescriptorInner, ExtensionDescriptorInner, MessageDescriptorInner, ServiceDescriptorInner,
-};
+use pool_types::{EnumDescriptorInner, ExtensionDescriptorInner, MessageDescriptorInner, ServiceDescriptorInner};
 use std::alloc::{AllocError, Global};
 
 /// The items of new messages, enums, services and extensions, in the order of their indexes.

@@ -1,4 +1,5 @@
-//! The second pass over the declarations of a batch, and how its records are linked.
+//! The second pass: what declarations mean and break by their references and numbers, their items,
+//! and how their records are linked.
 #![tactic(auto)]
 
 mod items;

@@ -15,11 +15,9 @@ ghost use Rattle.linked_records.specs.Linked.{linking, linked_extension};
 ghost use Rattle.reference_pass.specs.Linking.{Links, LinksFields, LinksFile, LinksFiles, LinksMethods, lists_of};
 ghost use Rattle.reference_pass.specs.Linking.{enum_name, kind_name, kind_number, message_name, method_by, next_of, reference_by, typed_by};
 
-use plain_values::Text;
-use pool_types::{
-    EnumDescriptorInner, ExtensionDescriptorInner, FieldDescriptorInner, FileDescriptorInner,
-    KindIndex, MessageDescriptorInner, MethodDescriptorInner, ServiceDescriptorInner,
-};
+use plain_data::Text;
+use pool_types::{EnumDescriptorInner, ExtensionDescriptorInner, FieldDescriptorInner, FileDescriptorInner, MessageDescriptorInner, MethodDescriptorInner, ServiceDescriptorInner};
+use pool_kinds::KindIndex;
 use proto_files::{DescriptorProto, FileDescriptorProto};
 use proto_types::{FieldDescriptorProto, FieldType, MethodDescriptorProto, ServiceDescriptorProto};
 use std::alloc::{AllocError, Global};

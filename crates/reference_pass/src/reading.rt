@@ -18,10 +18,7 @@ use link_rules::Reading;
 use linked_records::Setting;
 use places::{Findings, Place};
 use pool_faults::DescriptorErrorKind;
-use pool_types::{
-    EnumDescriptorInner, ExtensionDescriptorInner, FileDescriptorInner, MessageDescriptorInner,
-    ServiceDescriptorInner,
-};
+use pool_types::{EnumDescriptorInner, ExtensionDescriptorInner, FileDescriptorInner, MessageDescriptorInner, ServiceDescriptorInner};
 use proto_files::{DescriptorProto, FileDescriptorProto};
 use proto_types::{EnumDescriptorProto, FieldDescriptorProto, ServiceDescriptorProto};
 use std::alloc::{AllocError, Global};

@@ -9,10 +9,7 @@ use places::Place;
 use pool_faults::DescriptorErrorKind;
 use proto_files::{DescriptorProto, FileDescriptorProto, OneofDescriptorProto};
 use proto_records::Visitor;
-use proto_types::{
-    EnumDescriptorProto, EnumValueDescriptorProto, FieldDescriptorProto, MethodDescriptorProto,
-    ServiceDescriptorProto,
-};
+use proto_types::{EnumDescriptorProto, EnumValueDescriptorProto, FieldDescriptorProto, MethodDescriptorProto, ServiceDescriptorProto};
 use std::alloc::{AllocError, Global};
 
 /// The second pass: it reads a batch against a pool whose files and names are those of the batch as

@@ -3,7 +3,4 @@
 
 mod answers;
 
-pub use answers::{
-    tell_counts, tell_definition, tell_fault, tell_none, tell_refs, tell_refused, tell_too_many,
-    tell_walk,
-};
+pub use answers::{tell_counts, tell_definition, tell_fault, tell_none, tell_refs, tell_refused, tell_too_many, tell_walk};

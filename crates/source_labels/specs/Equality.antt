@@ -1,6 +1,6 @@
 -- `==` of labels tells whether two are one.
 use Rattle.std.proofs.Common.{rules}
-use Rattle.plain_values.specs.Exact.{Exact, ◌and◌, by-parts, given, text-exact, numbers-exact}
+use Rattle.plain_data.specs.Exact.{Exact, ◌and◌, by-parts, given, text-exact, numbers-exact}
 use Rattle.source_labels.specs.contracts.label.LabelPartialEq.TheImpl as label
 
 pub label-exact : Exact label.ghosts.eq

@@ -2,7 +2,7 @@ ghost use Rattle.std.specs.Prelude.{◌≡◌, IfOk, map};
 ghost use Rattle.source_labels.specs.Labels.{label_in};
 
 use crate::label::Label;
-use plain_values::{Items, Text};
+use plain_data::{Items, Text};
 use pool_types::FileDescriptorInner;
 use std::alloc::{AllocError, Global};
 

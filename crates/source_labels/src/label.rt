@@ -4,7 +4,7 @@ ghost use Rattle.std.specs.Option.{option_copied};
 ghost use Rattle.std.specs.Ordering.{int_eq};
 ghost use Rattle.source_labels.specs.Labels.{label, label_in, label_line, label_column, natural, span_at, span_of};
 
-use plain_values::{Items, Text};
+use plain_data::{Items, Text};
 use pool_types::FileDescriptorInner;
 use proto_files::FileDescriptorProto;
 use proto_types::Location;

@@ -9,7 +9,7 @@ ghost use Rattle.syntax_rules.specs.CamelCase.{camel_case_key, name_path, camel_
 
 use crate::syntax::syntax_at;
 use places::Findings;
-use plain_values::Text;
+use plain_data::Text;
 use pool_faults::DescriptorErrorKind;
 use pool_kinds::Syntax;
 use proto_files::DescriptorProto;

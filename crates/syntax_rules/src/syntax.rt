@@ -4,7 +4,7 @@ ghost use Rattle.std.specs.Option.{option_copied};
 ghost use Rattle.syntax_rules.specs.Syntaxes.{known_syntax, syntax_of, syntax_at, syntax_faults};
 
 use places::Findings;
-use plain_values::Text;
+use plain_data::Text;
 use pool_faults::DescriptorErrorKind;
 use pool_kinds::Syntax;
 use pool_types::FileDescriptorInner;

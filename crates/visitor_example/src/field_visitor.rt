@@ -1,11 +1,13 @@
 ghost use Rattle.std.specs.Prelude.{◌≡◌, [], ◌++◌, length};
 ghost use Rattle.visitor_example.specs.Fields.{fields_in, longest_path};
 
-use proto_records::{
-    Declaration, DeclarationKind, DescriptorProto, EnumDescriptorProto, EnumValueDescriptorProto,
-    FieldDescriptorProto, FileDescriptorProto, Items, MethodDescriptorProto, OneofDescriptorProto,
-    ServiceDescriptorProto, Text, Visitor,
-};
+use proto_records::{Declaration, DeclarationKind, Visitor};
+
+use proto_files::{DescriptorProto, FileDescriptorProto, OneofDescriptorProto};
+
+use proto_types::{EnumDescriptorProto, EnumValueDescriptorProto, FieldDescriptorProto, MethodDescriptorProto, ServiceDescriptorProto};
+
+use plain_data::{Items, Text};
 use std::alloc::{AllocError, Global};
 use std::marker::Model;
 

@@ -9,7 +9,8 @@ ghost use Rattle.visitor_example.specs.Fields.{fields_in};
 mod field_visitor;
 
 pub use field_visitor::FieldVisitor;
-use proto_records::{Counts, FileDescriptorProto, visit};
+use proto_records::{Counts, visit};
+use proto_files::FileDescriptorProto;
 use std::alloc::{AllocError, Global};
 
 /// The fields of messages that files declare, in order, numbered on from the counts of a pool.

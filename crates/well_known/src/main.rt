@@ -2,7 +2,9 @@
 //! the report, as `tools/well_known.py` makes both of what `protoc` says of these files.
 #![tactic(auto)]
 
-use descriptor_linker::{Ending, ReaderInput, WriterOutput, run};
+use descriptor_linker::{Ending, run};
+
+use script_devices::{ReaderInput, WriterOutput};
 use std::process::ExitCode;
 
 fn main(rt: HostRuntime) -> ExitCode {

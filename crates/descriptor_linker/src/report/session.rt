@@ -4,8 +4,7 @@ ghost use Rattle.std.specs.Prelude.{◌≡◌, OnOk};
 ghost use Rattle.link_script.specs.declared.script.statement.Statement.TheVariants as say;
 ghost use Rattle.descriptor_linker.specs.Report.Session.{new_session, opening, stating, extends_after, step};
 
-use super::answers::{tell_found, tell_refs, tell_walk};
-use super::relink::tell_relink;
+use super::{answers::{tell_found, tell_refs, tell_walk}, relink::tell_relink};
 use descriptor_pool::{BuildError, DescriptorPool};
 use link_script::{Open, Statement};
 use proto_files::FileDescriptorProto;

@@ -1,5 +1,4 @@
-use super::keyword::{may_say_more, open_or_close, says_more, stands};
-use super::statement::{Block, Keyword};
+use super::{keyword::{may_say_more, open_or_close, says_more, stands}, statement::{Block, Keyword}};
 use std::alloc::{AllocError, Global};
 
 /// What stands before a statement.

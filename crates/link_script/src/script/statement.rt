@@ -1,7 +1,5 @@
-use plain_values::{Items, Text};
-use proto_types::{
-    EnumValueDescriptorProto, FieldDescriptorProto, Location, MethodDescriptorProto,
-};
+use plain_data::{Items, Text};
+use proto_types::{EnumValueDescriptorProto, FieldDescriptorProto, Location, MethodDescriptorProto};
 use std::alloc::AllocError;
 use std::fmt;
 

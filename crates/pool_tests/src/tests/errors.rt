@@ -3,7 +3,7 @@
 use super::rules::built;
 use descriptor_errors::DescriptorError;
 use descriptor_pool::BuildError;
-use plain_values::Text;
+use plain_data::Text;
 use pool_faults::{DescriptorErrorKind, Labelled};
 use proto_records::CountKind;
 use script_files::files_of;

@@ -1,11 +1,9 @@
 //! The items of extensions, and the lists of those that extend a message.
 
-use super::batches::pool_of;
-use super::values::tell_value;
+use super::{batches::pool_of, values::tell_value};
 use descriptor_pool::DescriptorPool;
-use pool_types::{
-    Cardinality, ExtensionDescriptor, ExtensionDescriptorInner, KindIndex, MessageDescriptor,
-};
+use pool_kinds::{Cardinality, ExtensionDescriptor, KindIndex, MessageDescriptor};
+use pool_types::ExtensionDescriptorInner;
 use std::alloc::{AllocError, Global};
 use std::fmt::Write;
 use std::process::Abort;

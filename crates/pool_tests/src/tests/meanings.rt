@@ -1,10 +1,11 @@
 //! What labels and references tell among the files and the names of a pool.
 
 use name_tables::{HashedNames, NameTable};
-use plain_values::Items;
+use plain_data::Items;
 use pool_faults::Labelled;
 use pool_parts::{CandidateParents, ResolveNameFilter, ResolveNameResult, resolve_name};
-use pool_types::{Definition, DefinitionKind, FileDescriptorInner, Syntax};
+use pool_types::{Definition, DefinitionKind, FileDescriptorInner};
+use pool_kinds::Syntax;
 use script_files::files_of;
 use source_labels::{Label, label_at};
 use std::alloc::{AllocError, Global};

@@ -1,7 +1,7 @@
 //! A table of names, by its trait alone.
 
 use name_tables::{FileNames, HashedNames, NameTable};
-use plain_values::Items;
+use plain_data::Items;
 use pool_types::{Definition, DefinitionKind};
 use std::alloc::{AllocError, Global};
 use std::process::Abort;

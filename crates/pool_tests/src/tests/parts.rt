@@ -1,13 +1,10 @@
 //! What items hold that follows from their records: maps, oneofs, default values, values, methods,
 //! encodings.
 
-use super::items::pool_of;
-use super::values::tell_value;
+use super::{items::pool_of, values::tell_value};
 use descriptor_pool::{BuildError, DescriptorPool};
-use pool_types::{
-    EnumDescriptor, EnumDescriptorInner, FieldDescriptorInner, MessageDescriptor,
-    MessageDescriptorInner, ServiceDescriptor, ServiceDescriptorInner,
-};
+use pool_kinds::{EnumDescriptor, MessageDescriptor, ServiceDescriptor};
+use pool_types::{EnumDescriptorInner, FieldDescriptorInner, MessageDescriptorInner, ServiceDescriptorInner};
 use proto_files::{DescriptorProto, FileDescriptorProto};
 use script_files::files_of;
 use std::alloc::{AllocError, Global};

@@ -3,7 +3,7 @@
 use super::extension_faults::{DEFAULT_FAULTS, EXTENSION_FAULTS};
 use descriptor_errors::DescriptorError;
 use descriptor_pool::{BuildError, DescriptorPool};
-use plain_values::Text;
+use plain_data::Text;
 use pool_faults::{DescriptorErrorKind, Labelled};
 use proto_files::FileDescriptorProto;
 use script_files::files_of;

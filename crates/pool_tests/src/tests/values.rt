@@ -1,8 +1,7 @@
 //! Default values as they are written, and maps of items.
 
 use default_values::{EscapeFault, ValueFault, parse_simple_value, unescape_c_escape_string};
-use plain_maps::{NumberMap, TextMap};
-use plain_values::Duplicate;
+use plain_data::{Duplicate, NumberMap, TextMap};
 use pool_kinds::{DefaultValue, KindIndex};
 use std::alloc::{AllocError, Global};
 use std::fmt::Write;

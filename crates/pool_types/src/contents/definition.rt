@@ -2,7 +2,7 @@ ghost use Rattle.std.specs.Prelude.{◌≡◌, IfOk, drop};
 ghost use Rattle.std.specs.Str.{IsCharBoundary};
 ghost use Rattle.pool_types.specs.DefinitionKinds.{is_parent};
 
-use plain_values::{Items, Text};
+use plain_data::{Items, Text};
 use pool_kinds::FileDescriptor;
 use std::alloc::{AllocError, Global};
 

@@ -1,8 +1,7 @@
 ghost use Rattle.std.specs.Prelude.{◌≡◌, IfOk};
 
 use super::definition::Identity;
-use plain_maps::TextMap;
-use plain_values::{Duplicate, Items};
+use plain_data::{Duplicate, Items, TextMap};
 use std::alloc::{AllocError, Global};
 
 /// An enum, with its values in the order of their positions.

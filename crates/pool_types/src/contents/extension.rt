@@ -1,7 +1,7 @@
 ghost use Rattle.std.specs.Prelude.{◌≡◌, IfOk};
 
 use super::definition::Identity;
-use plain_values::{Duplicate, Text, duplicate_given};
+use plain_data::{Duplicate, Text, duplicate_given};
 use pool_kinds::{Cardinality, DefaultValue, KindIndex};
 use std::alloc::{AllocError, Global};
 

@@ -1,6 +1,6 @@
 ghost use Rattle.std.specs.Prelude.{◌≡◌, IfOk};
 
-use plain_values::{Duplicate, Items};
+use plain_data::{Duplicate, Items};
 use pool_kinds::Syntax;
 use proto_files::FileDescriptorProto;
 use std::alloc::{AllocError, Global};

@@ -1,10 +1,7 @@
 ghost use Rattle.std.specs.Prelude.{◌≡◌, IfOk};
 
-use super::definition::Identity;
-use super::field::FieldDescriptorInner;
-use super::oneof::OneofDescriptorInner;
-use plain_maps::{NumberMap, TextMap};
-use plain_values::{Duplicate, Items};
+use super::{definition::Identity, field::FieldDescriptorInner, oneof::OneofDescriptorInner};
+use plain_data::{Duplicate, Items, NumberMap, TextMap};
 use std::alloc::{AllocError, Global};
 
 /// A message, with its fields and its oneofs in the order of their positions.

@@ -1,7 +1,7 @@
 ghost use Rattle.std.specs.Prelude.{◌≡◌, IfOk};
 
 use super::definition::Identity;
-use plain_values::{Duplicate, Items};
+use plain_data::{Duplicate, Items};
 use std::alloc::{AllocError, Global};
 
 /// A oneof of a message.

@@ -6,7 +6,7 @@ ghost use Rattle.proto_records.specs.Counts.{lists_fit, fits_list};
 ghost use Rattle.proto_records.specs.Protos.{of_file, of_message, of_enum, of_service};
 
 use super::{CountKind, Counts};
-use plain_values::Items;
+use plain_data::Items;
 use proto_files::{DescriptorProto, FileDescriptorProto};
 use proto_types::{EnumDescriptorProto, ServiceDescriptorProto};
 

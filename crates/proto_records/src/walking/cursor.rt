@@ -4,10 +4,7 @@ ghost use Rattle.proto_records.specs.Cursor.{Advances, Begins, IsSound};
 ghost use Rattle.proto_records.specs.Protos.{of_file};
 ghost use Rattle.proto_records.specs.Walking.{Room, within_file};
 
-use super::located::Located;
-use super::row::Row;
-use super::rows::Rows;
-use super::site::Site;
+use super::{located::Located, row::Row, rows::Rows, site::Site};
 use crate::counts::Counts;
 use proto_files::FileDescriptorProto;
 use std::alloc::{AllocError, Global};

@@ -3,8 +3,7 @@ ghost use Rattle.proto_records.specs.Progress.{HasSeen};
 ghost use Rattle.proto_records.specs.Shown.{file_shown};
 ghost use Rattle.proto_records.specs.Walking.{located};
 
-use super::part::Part;
-use super::site::Site;
+use super::{part::Part, site::Site};
 use crate::visitor::Visitor;
 use proto_files::FileDescriptorProto;
 use std::alloc::AllocError;

@@ -3,10 +3,7 @@ ghost use Rattle.proto_records.specs.Walking.{parent_in, parent_of, proto_of, pr
 
 use super::part::Part;
 use proto_files::{DescriptorProto, OneofDescriptorProto};
-use proto_types::{
-    EnumDescriptorProto, EnumValueDescriptorProto, FieldDescriptorProto, MethodDescriptorProto,
-    ServiceDescriptorProto,
-};
+use proto_types::{EnumDescriptorProto, EnumValueDescriptorProto, FieldDescriptorProto, MethodDescriptorProto, ServiceDescriptorProto};
 
 /// Records of one kind, behind the index of the message, enum or service around them.
 #[derive(Clone, Copy)]

@@ -1,8 +1,7 @@
 ghost use Rattle.std.specs.Prelude.{◌≡◌, ◌<◌, ◌+◌, ◌^◌};
 ghost use Rattle.proto_records.specs.Walking.{parent_in, parent_of};
 
-use super::part::Part;
-use super::records::Records;
+use super::{part::Part, records::Records};
 
 /// How long the path and the scope are in which a list stands.
 #[derive(Clone, Copy)]

@@ -2,9 +2,7 @@ ghost use Rattle.std.specs.Prelude.{◌≡◌, [], ◌∷◌, None, OnOk, MatchO
 ghost use Rattle.proto_records.specs.Walking.{parent_in, proto_of, protos_in};
 ghost use Rattle.proto_records.specs.Cursor.{file_lines, inner_lines, line, line_in, lines, message_lines, stacked, stacked_all};
 
-use super::part::Part;
-use super::records::Records;
-use super::row::{Depth, Place, Row};
+use super::{part::Part, records::Records, row::{Depth, Place, Row}};
 use proto_files::{DescriptorProto, FileDescriptorProto};
 use proto_types::tag;
 use std::alloc::{AllocError, Global};

@@ -4,7 +4,7 @@ ghost use Rattle.proto_types.specs.Empty.{no_field};
 
 use super::options::{FieldOptions, Options};
 use crate::text;
-use plain_values::{Duplicate, Text, duplicate_given};
+use plain_data::{Duplicate, Text, duplicate_given};
 use std::alloc::{AllocError, Global};
 
 /// A field of a message, or an extension.

@@ -1,7 +1,7 @@
 ghost use Rattle.std.specs.Prelude.{◌≡◌, IfOk};
 ghost use Rattle.proto_types.specs.Readers.{flag_of};
 
-use plain_values::{Duplicate, Items};
+use plain_data::{Duplicate, Items};
 use std::alloc::{AllocError, Global};
 use std::fmt;
 

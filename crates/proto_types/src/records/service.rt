@@ -4,7 +4,7 @@ ghost use Rattle.proto_types.specs.Readers.{text_of};
 
 use super::options::{Options, Unread};
 use crate::text;
-use plain_values::{Duplicate, Items, Text, duplicate_given};
+use plain_data::{Duplicate, Items, Text, duplicate_given};
 use std::alloc::{AllocError, Global};
 
 /// A service.

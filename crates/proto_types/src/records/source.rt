@@ -1,7 +1,7 @@
 ghost use Rattle.std.specs.Prelude.{◌≡◌, IfOk};
 ghost use Rattle.proto_types.specs.Empty.{no_source, no_location};
 
-use plain_values::{Duplicate, Items, Text, duplicate_given};
+use plain_data::{Duplicate, Items, Text, duplicate_given};
 use std::alloc::{AllocError, Global};
 
 /// Where the declarations of a file stand in its source.

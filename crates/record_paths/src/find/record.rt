@@ -3,13 +3,9 @@ ghost use Rattle.std.specs.Option.{option_copied};
 ghost use Rattle.proto_records.specs.Leads.{last_entry};
 ghost use Rattle.proto_types.specs.Lists.{at};
 
-use plain_values::Items;
+use plain_data::Items;
 use proto_files::{DescriptorProto, FileDescriptorProto, OneofDescriptorProto};
-use proto_types::tag::{enum_, file, message, service};
-use proto_types::{
-    EnumDescriptorProto, EnumValueDescriptorProto, FieldDescriptorProto, MethodDescriptorProto,
-    ServiceDescriptorProto,
-};
+use proto_types::{EnumDescriptorProto, EnumValueDescriptorProto, FieldDescriptorProto, MethodDescriptorProto, ServiceDescriptorProto, tag::{enum_, file, message, service}};
 
 /// A borrowed record that declares something.
 #[derive(Clone, Copy)]

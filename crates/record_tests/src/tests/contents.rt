@@ -1,14 +1,9 @@
 //! The data of a pool's contents.
 
 use super::copies::check_made;
-use plain_maps::{NumberMap, TextMap};
-use plain_values::{Items, Text, same};
-use pool_types::{
-    Cardinality, DefaultValue, Definition, DefinitionKind, EnumDescriptorInner,
-    EnumValueDescriptorInner, ExtensionDescriptorInner, FieldDescriptorInner, FileDescriptor,
-    Identity, KindIndex, MessageDescriptor, MessageDescriptorInner, MethodDescriptorInner,
-    OneofDescriptorInner, ServiceDescriptorInner,
-};
+use plain_data::{Items, NumberMap, Text, TextMap, same};
+use pool_kinds::{Cardinality, DefaultValue, FileDescriptor, KindIndex, MessageDescriptor};
+use pool_types::{Definition, DefinitionKind, EnumDescriptorInner, EnumValueDescriptorInner, ExtensionDescriptorInner, FieldDescriptorInner, Identity, MessageDescriptorInner, MethodDescriptorInner, OneofDescriptorInner, ServiceDescriptorInner};
 use std::alloc::{AllocError, Global};
 use std::process::Abort;
 use std::test::Fail;

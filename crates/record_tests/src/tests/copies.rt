@@ -1,8 +1,9 @@
 //! Copies of records, and what compares equal.
 
 use super::whole::{Record, WHOLE_SCRIPT, options};
-use plain_values::{Duplicate, ExactEq, Items, duplicate_given, same};
-use pool_types::{FileDescriptorInner, Syntax};
+use plain_data::{Duplicate, ExactEq, Items, duplicate_given, same};
+use pool_types::FileDescriptorInner;
+use pool_kinds::Syntax;
 use proto_files::{DescriptorProto, FileDescriptorProto, FileDescriptorSet};
 use proto_types::{EnumOptions, FieldOptions, Options, SourceCodeInfo, Unread};
 use script_files::files_of;

@@ -3,14 +3,8 @@
 use super::whole::WHOLE_SCRIPT;
 use proto_files::{DescriptorProto, FileDescriptorProto, OneofDescriptorProto};
 use proto_records::DeclarationKind;
-use proto_types::{
-    EnumDescriptorProto, EnumValueDescriptorProto, FieldDescriptorProto, MethodDescriptorProto,
-    ServiceDescriptorProto,
-};
-use record_paths::{
-    find_enum_proto, find_enum_value_proto, find_field_proto, find_message_proto,
-    find_method_proto, find_oneof_proto, find_service_proto,
-};
+use proto_types::{EnumDescriptorProto, EnumValueDescriptorProto, FieldDescriptorProto, MethodDescriptorProto, ServiceDescriptorProto};
+use record_paths::{find_enum_proto, find_enum_value_proto, find_field_proto, find_message_proto, find_method_proto, find_oneof_proto, find_service_proto};
 use script_files::files_of;
 use std::process::Abort;
 use std::test::Fail;

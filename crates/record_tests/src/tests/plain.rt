@@ -1,7 +1,7 @@
 //! Texts, lists, and names in scopes.
 
 use super::copies::check_made;
-use plain_values::{Items, Text, duplicate_given, duplicates};
+use plain_data::{Items, Text, duplicate_given, duplicates};
 use proto_types::join;
 use std::alloc::{AllocError, Global};
 use std::process::Abort;

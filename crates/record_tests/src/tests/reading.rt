@@ -1,14 +1,9 @@
 //! What records read as.
 
 use super::whole::{Record, WHOLE_SCRIPT};
-use plain_values::Text;
-use proto_files::{
-    DescriptorProto, ExtensionRange, FileDescriptorProto, OneofDescriptorProto, ReservedRange,
-};
-use proto_types::{
-    EnumDescriptorProto, EnumOptions, EnumValueDescriptorProto, FieldDescriptorProto,
-    MethodDescriptorProto, ServiceDescriptorProto, SourceCodeInfo,
-};
+use plain_data::Text;
+use proto_files::{DescriptorProto, ExtensionRange, FileDescriptorProto, OneofDescriptorProto, ReservedRange};
+use proto_types::{EnumDescriptorProto, EnumOptions, EnumValueDescriptorProto, FieldDescriptorProto, MethodDescriptorProto, ServiceDescriptorProto, SourceCodeInfo};
 use script_files::files_of;
 use std::alloc::{AllocError, Global};
 use std::fmt::Write;

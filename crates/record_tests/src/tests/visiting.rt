@@ -8,10 +8,7 @@ use super::counting::{EVERY_KIND, NONE};
 use declaration_lists::Lister;
 use proto_files::{DescriptorProto, FileDescriptorProto, OneofDescriptorProto};
 use proto_records::{Visitor, visit, visit_each};
-use proto_types::{
-    EnumDescriptorProto, EnumValueDescriptorProto, FieldDescriptorProto, MethodDescriptorProto,
-    ServiceDescriptorProto,
-};
+use proto_types::{EnumDescriptorProto, EnumValueDescriptorProto, FieldDescriptorProto, MethodDescriptorProto, ServiceDescriptorProto};
 use script_files::files_of;
 use std::alloc::{AllocError, Global};
 use std::cell::Cell;

@@ -1,7 +1,8 @@
 //! Devices over memory, and runs that they end.
 
 use super::linking::{FIRST_REPORT, FIRST_SCRIPT};
-use descriptor_linker::{Ending, MemoryInput, MemoryOutput, ReportOutput, ScriptInput, run};
+use descriptor_linker::{Ending, run};
+use script_devices::{MemoryInput, MemoryOutput, ReportOutput, ScriptInput};
 use std::alloc::{AllocError, Global};
 use std::process::Abort;
 use std::test::Fail;

@@ -1,10 +1,8 @@
 //! What each statement of a script says, and the faults of scripts.
 
 use link_script::{ScriptError, ScriptFault, ScriptReader, Statement, read_script};
-use plain_values::Text;
-use proto_types::{
-    EnumValueDescriptorProto, FieldDescriptorProto, Location, MethodDescriptorProto,
-};
+use plain_data::Text;
+use proto_types::{EnumValueDescriptorProto, FieldDescriptorProto, Location, MethodDescriptorProto};
 use std::alloc::{AllocError, Global};
 use std::fmt::Write;
 use std::process::Abort;

@@ -1,7 +1,8 @@
 //! Devices over streams of the library, and runs over them.
 
 use super::linking::{FIRST_REPORT, FIRST_SCRIPT};
-use descriptor_linker::{Ending, ReaderInput, ReportOutput, ScriptInput, WriterOutput, run};
+use descriptor_linker::{Ending, run};
+use script_devices::{ReaderInput, ReportOutput, ScriptInput, WriterOutput};
 use std::alloc::Global;
 use std::io::{self, Read, Write};
 use std::process::Abort;

@@ -1,7 +1,7 @@
 use Rattle.std.proofs.Common.{take, ap, sym, ◌∙◌}
 use Rattle.std.specs.FinMap as map
 use Rattle.proto_types.specs.Readers.{text_of}
-use Rattle.plain_maps.specs.Maps.{inserted}
+use Rattle.plain_data.specs.Maps.{inserted}
 use Rattle.enum_rules.specs.Items.{names_of}
 use Rattle.enum_rules.proofs.Positions.{mapped-next, inserted-next}
 use Rattle.enum_rules.proofs.tables.value_names.Goals as goal

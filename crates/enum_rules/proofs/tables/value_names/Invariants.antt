@@ -1,5 +1,5 @@
 use Rattle.std.proofs.Common.{◌≡◌, take}
-use Rattle.plain_maps.specs.Maps.{inserted}
+use Rattle.plain_data.specs.Maps.{inserted}
 use Rattle.enum_rules.specs.Items.{names_of}
 use Rattle.enum_rules.proofs.tables.value_names.Given as goal
 

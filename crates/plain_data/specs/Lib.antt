@@ -1,0 +1,4 @@
+pub mod formers
+pub mod Exact
+pub mod Maps
+pub mod MapEquality
