@@ -4,9 +4,8 @@ ghost use Rattle.proto_records.specs.Declarations.{declarations};
 ghost use Rattle.proto_records.specs.Listed.{declaration_of};
 
 use plain_data::{Items, Text};
-use proto_files::{DescriptorProto, FileDescriptorProto, OneofDescriptorProto};
+use proto_types::{DescriptorProto, EnumDescriptorProto, EnumValueDescriptorProto, FieldDescriptorProto, FileDescriptorProto, MethodDescriptorProto, OneofDescriptorProto, ServiceDescriptorProto};
 use proto_records::{Counts, Declaration, DeclarationKind, Visitor, walk_files};
-use proto_types::{EnumDescriptorProto, EnumValueDescriptorProto, FieldDescriptorProto, MethodDescriptorProto, ServiceDescriptorProto};
 use std::alloc::{AllocError, Global};
 use std::marker::Model;
 

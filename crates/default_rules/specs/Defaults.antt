@@ -10,7 +10,7 @@ use Rattle.proto_types.specs.declared.tag.field.TheConstants as field
 use Rattle.proto_types.specs.declared.records.enumeration.EnumValueDescriptorProto.{EnumValueDescriptorProto}
 use Rattle.proto_types.specs.Lists.{only_if}
 use Rattle.proto_types.specs.Readers.{number_of, text_of}
-use Rattle.proto_files.specs.declared.file.FileDescriptorProto.{FileDescriptorProto}
+use Rattle.proto_types.specs.declared.file.FileDescriptorProto.{FileDescriptorProto}
 use Rattle.pool_kinds.specs.declared.kinds.KindIndex.{KindIndex}
 use Rattle.pool_kinds.specs.declared.kinds.KindIndex.TheVariants as index
 use Rattle.pool_kinds.specs.declared.default_value.DefaultValue.{DefaultValue}

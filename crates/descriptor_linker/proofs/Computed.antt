@@ -2,7 +2,7 @@
 use Rattle.std.specs.Fmt.{digits}
 use Rattle.std.specs.Str.{is_utf8, chars}
 use lib.Utf8.{encode}
-use Rattle.proto_files.specs.Computed.{literals}
+use Rattle.proto_types.specs.Computed.{literals}
 
 unfoldable pub scripts : Unit {0}
 unfolding digits is_utf8 chars encode literals

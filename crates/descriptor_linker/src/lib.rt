@@ -15,7 +15,7 @@ pub use plain_data::{Items, Text};
 pub use pool_faults::DescriptorErrorKind;
 pub use pool_kinds::{Cardinality, FileDescriptor, KindIndex, MessageDescriptor, Syntax};
 pub use pool_types::{Definition, DefinitionKind, FieldDescriptorInner, FileDescriptorInner, Identity, MessageDescriptorInner, OneofDescriptorInner};
-pub use proto_files::{DescriptorProto, FileDescriptorProto};
+pub use proto_types::{DescriptorProto, FileDescriptorProto};
 pub use proto_records::{CountKind, Counts};
 pub use proto_types::{EnumDescriptorProto, EnumValueDescriptorProto, FieldDescriptorProto, Location, MethodDescriptorProto, ServiceDescriptorProto};
 pub use report::{Report, report_of};

@@ -4,7 +4,7 @@ use Rattle.std.specs.List.{All, AllByRecursion}
 use Rattle.std.specs.Option.{IfSome, option_or}
 use Rattle.std.specs.Str.{bytes_eq}
 use Rattle.std.proofs.lemmas.List.Elements.{All-nil, All-append, recursion_from_All}
-use Rattle.proto_files.specs.declared.file.FileDescriptorProto.{FileDescriptorProto}
+use Rattle.proto_types.specs.declared.file.FileDescriptorProto.{FileDescriptorProto}
 use Rattle.name_tables.specs.Entries.{first_of, names, names_with}
 use Rattle.name_tables.proofs.Entries.{get-with}
 use Rattle.pool_types.specs.Contents.{ByText}

@@ -1,6 +1,6 @@
 -- A pool into which new files are linked.
 use Rattle.std.proofs.Common.{◌≡◌, ◌∷◌, refl, rules, IsOk, Result, Ok, Err, OnOk, OnErr, subst, List, [], length, ap, sym, ◌∙◌}
-use Rattle.proto_files.specs.declared.file.FileDescriptorProto.{FileDescriptorProto}
+use Rattle.proto_types.specs.declared.file.FileDescriptorProto.{FileDescriptorProto}
 use Rattle.pool_types.specs.Contents.{Contents}
 use Rattle.proto_records.specs.declared.counts.Counts.{Counts}
 use Rattle.proto_records.specs.Counts.{counts_in}

@@ -10,7 +10,7 @@ use Rattle.name_tables.proofs.Entries.{get-with, with-more, with-nothing}
 use Rattle.proto_records.specs.Protos.{Proto, of_file, of_message, of_field, of_oneof, of_service, of_method, of_enum, of_value, of_extension}
 use Rattle.proto_records.specs.Shown.{Shown}
 use Rattle.pool_types.specs.Contents.{Contents}
-use Rattle.proto_files.specs.declared.file.FileDescriptorProto.{FileDescriptorProto}
+use Rattle.proto_types.specs.declared.file.FileDescriptorProto.{FileDescriptorProto}
 use Rattle.syntax_rules.specs.Syntaxes.{syntax_faults}
 use Rattle.link_rules.specs.Broken.{Faults}
 use Rattle.name_pass.specs.Entered.{entries_of, entries, file_entries_of, file_entries}

@@ -9,7 +9,7 @@ use Rattle.proto_records.specs.Counts.{counts_in}
 use Rattle.proto_records.specs.Fits.{counts_with}
 use Rattle.proto_records.specs.Walking.{WithinLimits}
 use Rattle.proto_records.specs.declared.counts.Counts.{Counts}
-use Rattle.proto_files.specs.declared.file.FileDescriptorProto.{FileDescriptorProto}
+use Rattle.proto_types.specs.declared.file.FileDescriptorProto.{FileDescriptorProto}
 use Rattle.descriptor_pool.specs.Behind.{names_behind, references_behind, linked_behind}
 use Rattle.growing_pool.specs.Extended.{extended_by}
 use Rattle.descriptor_pool.specs.Outcome.{IsLinked}

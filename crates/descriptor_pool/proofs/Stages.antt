@@ -18,7 +18,7 @@ use Rattle.descriptor_pool.proofs.Bases.{new-of, same-base}
 use Rattle.descriptor_pool.proofs.Files.{names-behind-before, room-files}
 use Rattle.descriptor_pool.proofs.LinkedFiles.{have-imports}
 use Rattle.descriptor_pool.proofs.NamedItems.{items-are}
-use Rattle.proto_files.specs.declared.file.FileDescriptorProto.{FileDescriptorProto}
+use Rattle.proto_types.specs.declared.file.FileDescriptorProto.{FileDescriptorProto}
 use Rattle.pool_types.specs.Contents.{Contents, files_of}
 use Rattle.proto_records.specs.declared.counts.Counts.{Counts}
 use Rattle.proto_records.specs.Counts.{counts_in}

@@ -32,7 +32,7 @@ use name_tables::{FileNames, HashedNames};
 use pool_faults::DescriptorErrorKind;
 use pool_inner::DescriptorPoolInner;
 use pool_types::FileDescriptorInner;
-use proto_files::FileDescriptorProto;
+use proto_types::FileDescriptorProto;
 use proto_records::{Counts, walk};
 use reference_pass::{Linker, NewItems, NextItems, ResolveVisitor};
 use std::alloc::{AllocError, Global};

@@ -6,7 +6,7 @@ use crate::error::BuildError;
 use pool_inner::DescriptorPoolInner;
 use pool_kinds::{EnumDescriptor, ExtensionDescriptor, FileDescriptor, MessageDescriptor, ServiceDescriptor};
 use pool_types::{Definition, EnumDescriptorInner, ExtensionDescriptorInner, FileDescriptorInner, MessageDescriptorInner, ServiceDescriptorInner};
-use proto_files::FileDescriptorProto;
+use proto_types::FileDescriptorProto;
 use proto_records::Counts;
 use std::alloc::{AllocError, Global};
 use std::marker::Model;

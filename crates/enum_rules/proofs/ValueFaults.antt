@@ -6,7 +6,7 @@ use Rattle.proto_types.specs.declared.records.enumeration.EnumDescriptorProto.{E
 use Rattle.proto_types.specs.declared.records.enumeration.EnumValueDescriptorProto.{EnumValueDescriptorProto}
 use Rattle.proto_types.specs.Lists.{listed}
 use Rattle.proto_types.specs.Readers.{number_of}
-use Rattle.proto_files.specs.declared.file.FileDescriptorProto.{FileDescriptorProto}
+use Rattle.proto_types.specs.declared.file.FileDescriptorProto.{FileDescriptorProto}
 use Rattle.pool_faults.specs.declared.fault.DescriptorErrorKind.{DescriptorErrorKind}
 use Rattle.pool_faults.specs.declared.fault.DescriptorErrorKind.TheVariants as fault
 use Rattle.proto_records.specs.Shown.{Shown}

@@ -12,7 +12,7 @@ use Rattle.proto_types.specs.Lists.{at}
 use Rattle.places.specs.Each.{each}
 use Rattle.field_rules.specs.Numbers.{item_number}
 use Rattle.field_rules.specs.Oneofs.{oneof_of, members}
-use Rattle.proto_files.specs.declared.message.OneofDescriptorProto.{OneofDescriptorProto}
+use Rattle.proto_types.specs.declared.message.OneofDescriptorProto.{OneofDescriptorProto}
 use Rattle.field_rules.proofs.Latest.{entries-next}
 
 abbrev none : List ℕ

@@ -1,6 +1,6 @@
 -- The fault of two fields that have one number, or one JSON name, by their positions.
 use Rattle.std.specs.Prelude.{ℕ, ℤ, List}
-use Rattle.proto_files.specs.declared.file.FileDescriptorProto.{FileDescriptorProto}
+use Rattle.proto_types.specs.declared.file.FileDescriptorProto.{FileDescriptorProto}
 use Rattle.pool_faults.specs.declared.fault.DescriptorErrorKind.{DescriptorErrorKind}
 use Rattle.pool_faults.specs.declared.fault.DescriptorErrorKind.TheVariants.{DuplicateFieldNumber, DuplicateFieldJsonName}
 use Rattle.field_rules.specs.Again.{number_label, name_label}

@@ -7,8 +7,7 @@ ghost use Rattle.field_rules.specs.Oneofs.{oneof_faults, oneof_of, members};
 use places::Findings;
 use plain_data::Items;
 use pool_faults::DescriptorErrorKind;
-use proto_files::OneofDescriptorProto;
-use proto_types::FieldDescriptorProto;
+use proto_types::{FieldDescriptorProto, OneofDescriptorProto};
 use std::alloc::{AllocError, Global};
 
 /// Appends to `faults` that of a field whose oneof index is no position of its message's oneofs,

@@ -9,8 +9,8 @@ use Rattle.std.proofs.lemmas.Option.{slice_get-map, slice_get-get_or}
 use Rattle.name_tables.specs.NameTables.{FileNamesBefore}
 use Rattle.pool_types.specs.Contents.{ByText}
 use Rattle.pool_types.specs.declared.contents.file.FileDescriptorInner.{FileDescriptorInner}
-use Rattle.proto_files.specs.Empty.{no_file}
-use Rattle.proto_files.specs.declared.file.FileDescriptorProto.{FileDescriptorProto}
+use Rattle.proto_types.specs.EmptyFile.{no_file}
+use Rattle.proto_types.specs.declared.file.FileDescriptorProto.{FileDescriptorProto}
 use Rattle.file_visibility.specs.declared.visible.Seen.{Seen}
 use Rattle.file_visibility.specs.Seen.{SeesEach}
 use Rattle.file_visibility.specs.Visibility.{file_at, public_imports_of, Sees, seen_from}

@@ -13,7 +13,7 @@ use Rattle.std.proofs.lemmas.List.Kept.{IsStrictlySortedBy-filter}
 use Rattle.std.proofs.lemmas.Map.Keys.{sorted_from_strictly_increasing}
 use Rattle.std.proofs.lemmas.Map.Lookups.{btree_set_from_contains, exact_unsigned}
 use Rattle.std.proofs.lemmas.Map.Views.{All-set_contains, length-le_from_below, any-filter_same}
-use Rattle.proto_files.specs.declared.file.FileDescriptorProto.{FileDescriptorProto}
+use Rattle.proto_types.specs.declared.file.FileDescriptorProto.{FileDescriptorProto}
 use Rattle.file_visibility.specs.declared.visible.Seen.{Seen}
 use Rattle.file_visibility.specs.Seen.{SeesEach}
 use Rattle.file_visibility.specs.Visibility.{file_at, imports_of, public_imports_of, Imports, ImportsPublicly, Sees, sees, seen_from}

@@ -10,7 +10,7 @@ ghost use Rattle.file_visibility.specs.Visibility.{Sees, seen_from};
 use name_tables::FileNames;
 use plain_data::Text;
 use pool_types::FileDescriptorInner;
-use proto_files::FileDescriptorProto;
+use proto_types::FileDescriptorProto;
 use std::alloc::{AllocError, Global};
 use std::collections::BTreeSet;
 

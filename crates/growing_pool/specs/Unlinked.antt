@@ -1,7 +1,7 @@
 -- New files before they are linked.
 use Rattle.std.specs.Prelude.{[]}
 use Rattle.pool_types.specs.declared.contents.file.FileDescriptorInner.{FileDescriptorInner}
-use Rattle.proto_files.specs.declared.file.FileDescriptorProto.{FileDescriptorProto}
+use Rattle.proto_types.specs.declared.file.FileDescriptorProto.{FileDescriptorProto}
 use Rattle.syntax_rules.specs.Syntaxes.{syntax_of}
 
 -- a file as it is, of which nothing but its syntax is known

@@ -8,7 +8,7 @@ use name_tables::NameTable;
 use plain_data::Items;
 use pool_inner::DescriptorPoolInner;
 use pool_types::{FileDescriptorInner, MessageDescriptorInner};
-use proto_files::FileDescriptorProto;
+use proto_types::FileDescriptorProto;
 use proto_records::Counts;
 use std::alloc::{AllocError, Global};
 use std::collections::BTreeSet;

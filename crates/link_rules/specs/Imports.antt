@@ -4,7 +4,7 @@ use Rattle.std.specs.FinMap as finite
 use Rattle.std.specs.List.{flat_map}
 use Rattle.proto_types.specs.declared.tag.file.TheConstants as file
 use Rattle.proto_types.specs.Lists.{at, only_if}
-use Rattle.proto_files.specs.declared.file.FileDescriptorProto.{FileDescriptorProto}
+use Rattle.proto_types.specs.declared.file.FileDescriptorProto.{FileDescriptorProto}
 use Rattle.proto_records.specs.Shown.{step}
 use Rattle.source_labels.specs.Labels.{label_in}
 use Rattle.pool_faults.specs.declared.fault.DescriptorErrorKind.{DescriptorErrorKind}

@@ -1,7 +1,7 @@
 -- Files none of whose lists is longer than a pool allows.
 use Rattle.std.specs.Prelude.{◌≡◌, true, List}
 use Rattle.std.specs.List.{list_all}
-use Rattle.proto_files.specs.declared.file.FileDescriptorProto.{FileDescriptorProto}
+use Rattle.proto_types.specs.declared.file.FileDescriptorProto.{FileDescriptorProto}
 use Rattle.proto_records.specs.Counts.{no_counts, lists_fit}
 use Rattle.proto_records.specs.Declarations.{declarations}
 

@@ -1,7 +1,7 @@
 ghost use Rattle.std.specs.Prelude.{◌≡◌, ◌<◌, true, IfOk, OnOk, length, get_or, unwrap_or};
 ghost use Rattle.pool_kinds.specs.declared.kinds.KindIndex.TheVariants.{Double};
 ghost use Rattle.proto_types.specs.Empty.{no_field};
-ghost use Rattle.proto_files.specs.declared.message.DescriptorProto.{out-DescriptorProto};
+ghost use Rattle.proto_types.specs.declared.message.DescriptorProto.{out-DescriptorProto};
 ghost use Rattle.proto_records.specs.Counts.{lists_fit};
 ghost use Rattle.proto_records.specs.Protos.{of_field, of_message};
 ghost use Rattle.number_rules.specs.Bounds.{AreRangesOf};
@@ -23,8 +23,7 @@ use plain_data::duplicate_given;
 use pool_kinds::{DefaultValue, KindIndex, Syntax};
 use pool_parts::cardinality_of;
 use pool_types::{FieldDescriptorInner, Identity};
-use proto_files::OneofDescriptorProto;
-use proto_types::{FieldDescriptorProto, tag};
+use proto_types::{FieldDescriptorProto, OneofDescriptorProto, tag};
 use std::alloc::AllocError;
 use syntax_rules::syntax_at;
 

@@ -11,9 +11,8 @@ use crate::reading::Reading;
 use places::Findings;
 use plain_data::Text;
 use pool_faults::DescriptorErrorKind;
-use proto_files::FileDescriptorProto;
+use proto_types::{FileDescriptorProto, tag};
 use proto_records::entry_path;
-use proto_types::tag;
 use std::alloc::{AllocError, Global};
 
 /// Appends to `faults` one for each import of the file with an index that names no file, and then

@@ -1,6 +1,6 @@
 ghost use Rattle.std.specs.Prelude.{◌≡◌, true, [], IfOk, OnOk};
 ghost use Rattle.std.specs.List.{All};
-ghost use Rattle.proto_files.specs.declared.message.DescriptorProto.{out-DescriptorProto};
+ghost use Rattle.proto_types.specs.declared.message.DescriptorProto.{out-DescriptorProto};
 ghost use Rattle.proto_records.specs.Counts.{lists_fit};
 ghost use Rattle.proto_records.specs.FullNames.{EndsWithName};
 ghost use Rattle.proto_records.specs.Protos.{of_message};
@@ -20,8 +20,7 @@ use number_rules::MessageRanges;
 use places::{Owner, Place, identity, identity_inside};
 use plain_data::Items;
 use pool_types::{FieldDescriptorInner, MessageDescriptorInner, OneofDescriptorInner};
-use proto_files::DescriptorProto;
-use proto_types::tag;
+use proto_types::{DescriptorProto, tag};
 use std::alloc::{AllocError, Global};
 
 /// The item of a message, with its fields, its oneofs and its maps, before what extends it is known.

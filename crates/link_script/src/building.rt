@@ -1,14 +1,13 @@
 //! Records as the statements of a script build them.
 
 ghost use Rattle.std.specs.Prelude.{◌≡◌, [], OnOk};
-ghost use Rattle.proto_files.specs.declared.message.DescriptorProto.{out-DescriptorProto, roll-DescriptorProto};
+ghost use Rattle.proto_types.specs.declared.message.DescriptorProto.{out-DescriptorProto, roll-DescriptorProto};
 ghost use Rattle.link_script.specs.declared.script.statement.Statement.TheVariants as say;
 ghost use Rattle.link_script.specs.Building.{change_last, more_said, in_file, in_message, in_enum, in_service};
 
 use crate::script::Statement;
 use plain_data::{Items, Text};
-use proto_files::{DescriptorProto, ExtensionRange, FileDescriptorProto, OneofDescriptorProto, ReservedRange};
-use proto_types::{EnumDescriptorProto, EnumOptions, EnumReservedRange, FieldDescriptorProto, FieldOptions, Location, Options, ServiceDescriptorProto, SourceCodeInfo};
+use proto_types::{DescriptorProto, EnumDescriptorProto, EnumOptions, EnumReservedRange, ExtensionRange, FieldDescriptorProto, FieldOptions, FileDescriptorProto, Location, OneofDescriptorProto, Options, ReservedRange, ServiceDescriptorProto, SourceCodeInfo};
 use std::alloc::{AllocError, Global};
 
 /// A record whose block is open.

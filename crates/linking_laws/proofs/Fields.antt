@@ -6,7 +6,7 @@ use Rattle.proto_types.specs.declared.records.field.FieldDescriptorProto.{FieldD
 use Rattle.proto_types.specs.Lists.{at, only_if}
 use Rattle.proto_types.specs.Names.{join}
 use Rattle.proto_types.specs.Readers.{text_of}
-use Rattle.proto_files.specs.declared.message.DescriptorProto.{DescriptorProto, out-DescriptorProto}
+use Rattle.proto_types.specs.declared.message.DescriptorProto.{DescriptorProto, out-DescriptorProto}
 use Rattle.pool_faults.specs.declared.fault.DescriptorErrorKind.TheVariants.{InvalidOneofIndex}
 use Rattle.proto_records.specs.Changed.{Changes}
 use Rattle.proto_records.specs.Shown.{Shown, inside}

@@ -12,8 +12,8 @@ use Rattle.proto_types.specs.declared.tag.file.TheConstants.{SYNTAX}
 use Rattle.proto_types.specs.Lists.{after_each, listed, only_if}
 use Rattle.proto_types.specs.Names.{join}
 use Rattle.proto_types.specs.Readers.{number_of, text_of}
-use Rattle.proto_files.specs.declared.file.FileDescriptorProto.{FileDescriptorProto}
-use Rattle.proto_files.specs.declared.message.DescriptorProto.{DescriptorProto, out-DescriptorProto}
+use Rattle.proto_types.specs.declared.file.FileDescriptorProto.{FileDescriptorProto}
+use Rattle.proto_types.specs.declared.message.DescriptorProto.{DescriptorProto, out-DescriptorProto}
 use Rattle.pool_types.specs.Contents.{ByText, Contents}
 use Rattle.source_labels.specs.Labels.{label_in}
 use Rattle.pool_types.specs.declared.contents.definition.Definition.{Definition}

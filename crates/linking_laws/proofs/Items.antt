@@ -8,8 +8,8 @@ use Rattle.proto_types.specs.declared.records.field.FieldDescriptorProto.{FieldD
 use Rattle.proto_types.specs.declared.tag.message.TheConstants as message
 use Rattle.proto_types.specs.Names.{join}
 use Rattle.proto_types.specs.Readers.{number_of, text_of}
-use Rattle.proto_files.specs.declared.message.DescriptorProto.{DescriptorProto}
-use Rattle.proto_files.specs.declared.message.OneofDescriptorProto.{OneofDescriptorProto}
+use Rattle.proto_types.specs.declared.message.DescriptorProto.{DescriptorProto}
+use Rattle.proto_types.specs.declared.message.OneofDescriptorProto.{OneofDescriptorProto}
 use Rattle.pool_kinds.specs.declared.default_value.DefaultValue.{DefaultValue}
 use Rattle.pool_kinds.specs.declared.kinds.KindIndex.{KindIndex}
 use Rattle.pool_kinds.specs.declared.kinds.KindIndex.TheVariants.{Double}

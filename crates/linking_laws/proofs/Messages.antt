@@ -1,8 +1,8 @@
 -- A message that is carried to another setting: its fields break nothing, and its item is what it was.
 use Rattle.std.proofs.Common.{◌≡◌, ◌<◌, ℕ, List, [], refl, ap, ◌∙◌}
 use Rattle.proto_types.specs.Readers.{text_of}
-use Rattle.proto_files.specs.Computed.{literals}
-use Rattle.proto_files.specs.declared.message.DescriptorProto.{DescriptorProto, DescriptorProto', out-DescriptorProto}
+use Rattle.proto_types.specs.Computed.{literals}
+use Rattle.proto_types.specs.declared.message.DescriptorProto.{DescriptorProto, DescriptorProto', out-DescriptorProto}
 use Rattle.proto_records.specs.Changed.{Changes, changed_fields, changed_message}
 use Rattle.proto_records.specs.Shown.{Shown, inside}
 use Rattle.places.specs.Identities.{named_at}

@@ -7,9 +7,9 @@ use Rattle.proto_types.specs.declared.tag.file.TheConstants as file
 use Rattle.proto_types.specs.declared.tag.message.TheConstants as message
 use Rattle.proto_types.specs.Names.{join}
 use Rattle.proto_types.specs.Readers.{text_of}
-use Rattle.proto_files.specs.Computed.{literals}
-use Rattle.proto_files.specs.declared.file.FileDescriptorProto.{FileDescriptorProto}
-use Rattle.proto_files.specs.declared.message.DescriptorProto.{DescriptorProto, DescriptorProto', out-DescriptorProto, Row_of-DescriptorProto, end_of-DescriptorProto, more_of-DescriptorProto}
+use Rattle.proto_types.specs.Computed.{literals}
+use Rattle.proto_types.specs.declared.file.FileDescriptorProto.{FileDescriptorProto}
+use Rattle.proto_types.specs.declared.message.DescriptorProto.{DescriptorProto, DescriptorProto', out-DescriptorProto, Row_of-DescriptorProto, end_of-DescriptorProto, more_of-DescriptorProto}
 use Rattle.proto_records.specs.declared.counts.Counts.{Counts}
 use Rattle.proto_records.specs.Changed.{Changes, changed_fields, changed_file, changed_message, changed_messages, changed_nested, changed_services}
 use Rattle.proto_records.specs.Counts.{counted, counting}

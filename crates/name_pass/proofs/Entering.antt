@@ -2,7 +2,7 @@
 use Rattle.std.proofs.Common.{◌≡◌, ℕ, List, [], ◌∷◌, ◌++◌, Option, Some, None, is_some, true, false, Result, OnOk, refl, rules, ap, sym, ◌∙◌, append-nil}
 use Rattle.std.specs.FinMap as finite
 use Rattle.pool_types.specs.Contents.{ByText}
-use Rattle.proto_files.specs.declared.file.FileDescriptorProto.{FileDescriptorProto}
+use Rattle.proto_types.specs.declared.file.FileDescriptorProto.{FileDescriptorProto}
 use Rattle.pool_types.specs.declared.contents.definition.Definition.{Definition}
 use Rattle.name_tables.specs.Entries.{Entry}
 use Rattle.name_tables.proofs.Entries.{with-absent, with-present}

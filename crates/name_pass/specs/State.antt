@@ -2,7 +2,7 @@
 use Rattle.std.specs.Prelude.{◌≡◌, ℕ, List, [], ◌∷◌, length, map, take}
 use Rattle.name_tables.specs.NameTables.{file_names_before, without_files_from}
 use Rattle.pool_types.specs.Contents.{Contents, no_contents}
-use Rattle.proto_files.specs.declared.file.FileDescriptorProto.{FileDescriptorProto}
+use Rattle.proto_types.specs.declared.file.FileDescriptorProto.{FileDescriptorProto}
 use Rattle.name_pass.specs.declared.names.NameVisitor.{NameVisitor}
 use Rattle.name_pass.specs.Steps.{NameState}
 

@@ -5,7 +5,7 @@ use Rattle.std.specs.List.{AllByRecursion, fold}
 use Rattle.pool_faults.specs.declared.fault.DescriptorErrorKind.{DescriptorErrorKind}
 use Rattle.pool_types.specs.Contents.{ByText, no_contents}
 use Rattle.pool_types.specs.declared.contents.definition.Definition.{Definition}
-use Rattle.proto_files.specs.declared.file.FileDescriptorProto.{FileDescriptorProto}
+use Rattle.proto_types.specs.declared.file.FileDescriptorProto.{FileDescriptorProto}
 use Rattle.proto_records.specs.Progress.{Progress}
 use Rattle.proto_records.specs.Protos.{of_file, of_message, of_enum}
 use Rattle.proto_types.specs.Readers.{text_of}

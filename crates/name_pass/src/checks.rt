@@ -10,8 +10,7 @@ ghost use Rattle.syntax_rules.specs.Syntaxes.{syntax_faults};
 use places::Findings;
 use pool_faults::DescriptorErrorKind;
 use pool_types::FileDescriptorInner;
-use proto_files::{DescriptorProto, FileDescriptorProto};
-use proto_types::EnumDescriptorProto;
+use proto_types::{DescriptorProto, EnumDescriptorProto, FileDescriptorProto};
 use std::alloc::{AllocError, Global};
 
 /// Appends to `faults` what the syntax of the file with an index breaks.

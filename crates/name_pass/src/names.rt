@@ -12,9 +12,8 @@ use plain_data::{Items, Text};
 use pool_faults::DescriptorErrorKind;
 use source_labels::label_at;
 use pool_types::{Definition, DefinitionKind, FileDescriptorInner};
-use proto_files::{DescriptorProto, FileDescriptorProto, OneofDescriptorProto};
+use proto_types::{DescriptorProto, EnumDescriptorProto, EnumValueDescriptorProto, FieldDescriptorProto, FileDescriptorProto, MethodDescriptorProto, OneofDescriptorProto, ServiceDescriptorProto, tag};
 use proto_records::Visitor;
-use proto_types::{EnumDescriptorProto, EnumValueDescriptorProto, FieldDescriptorProto, MethodDescriptorProto, ServiceDescriptorProto, tag};
 use std::alloc::{AllocError, Global};
 
 /// The first pass: it enters the names of declarations into the tables of a pool whose files are

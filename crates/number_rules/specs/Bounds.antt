@@ -1,8 +1,8 @@
 -- The ranges of a message, each as its start and its end.
 use Rattle.std.specs.Prelude.{◌≡◌, ℤ, List, map}
-use Rattle.proto_files.specs.declared.message.DescriptorProto.{DescriptorProto, out-DescriptorProto}
-use Rattle.proto_files.specs.declared.message.ExtensionRange.{ExtensionRange}
-use Rattle.proto_files.specs.declared.message.ReservedRange.{ReservedRange}
+use Rattle.proto_types.specs.declared.message.DescriptorProto.{DescriptorProto, out-DescriptorProto}
+use Rattle.proto_types.specs.declared.message.ExtensionRange.{ExtensionRange}
+use Rattle.proto_types.specs.declared.message.ReservedRange.{ReservedRange}
 use Rattle.proto_types.specs.Readers.{number_of}
 use Rattle.number_rules.specs.declared.message_ranges.MessageRanges.{MessageRanges}
 

@@ -8,10 +8,10 @@ use Rattle.proto_types.specs.declared.tag.message.TheConstants as message
 use Rattle.proto_types.specs.declared.records.field.FieldDescriptorProto.{FieldDescriptorProto}
 use Rattle.proto_types.specs.Lists.{listed, only_if}
 use Rattle.proto_types.specs.Readers.{number_of}
-use Rattle.proto_files.specs.declared.file.FileDescriptorProto.{FileDescriptorProto}
-use Rattle.proto_files.specs.declared.message.DescriptorProto.{DescriptorProto, out-DescriptorProto}
-use Rattle.proto_files.specs.declared.message.ExtensionRange.{ExtensionRange}
-use Rattle.proto_files.specs.declared.message.ReservedRange.{ReservedRange}
+use Rattle.proto_types.specs.declared.file.FileDescriptorProto.{FileDescriptorProto}
+use Rattle.proto_types.specs.declared.message.DescriptorProto.{DescriptorProto, out-DescriptorProto}
+use Rattle.proto_types.specs.declared.message.ExtensionRange.{ExtensionRange}
+use Rattle.proto_types.specs.declared.message.ReservedRange.{ReservedRange}
 use Rattle.source_labels.specs.declared.label.Label.{Label}
 use Rattle.pool_faults.specs.declared.fault.DescriptorErrorKind.{DescriptorErrorKind}
 use Rattle.pool_faults.specs.declared.fault.DescriptorErrorKind.TheVariants as fault

@@ -1,7 +1,7 @@
 -- Which numbers a range of a message holds (descriptor.proto on `ReservedRange` and `ExtensionRange`).
 use Rattle.std.specs.Prelude.{ℤ, Bool, ◌&&◌, int_le, int_lt}
-use Rattle.proto_files.specs.declared.message.ExtensionRange.{ExtensionRange}
-use Rattle.proto_files.specs.declared.message.ReservedRange.{ReservedRange}
+use Rattle.proto_types.specs.declared.message.ExtensionRange.{ExtensionRange}
+use Rattle.proto_types.specs.declared.message.ReservedRange.{ReservedRange}
 use Rattle.proto_types.specs.Readers.{number_of}
 
 -- those from its start on and below its end

@@ -1,7 +1,7 @@
 ghost use Rattle.std.specs.Prelude.{◌≡◌, IfOk};
 ghost use Rattle.number_rules.specs.Bounds.{extension_bounds, reserved_bounds};
 
-use proto_files::{ExtensionRange, ReservedRange};
+use proto_types::{ExtensionRange, ReservedRange};
 use std::alloc::{AllocError, Global};
 
 /// The start and the end of each reserved range.

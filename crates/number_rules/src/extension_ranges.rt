@@ -1,7 +1,7 @@
 ghost use Rattle.std.specs.Prelude.{◌≡◌, ◌<◌, ◌^◌, true, length, is_some};
 ghost use Rattle.std.specs.Prelude.{if◌then◌else◌, IfOk, IfSome, OnOk};
 ghost use Rattle.std.specs.List.{list_any, position_from};
-ghost use Rattle.proto_files.specs.declared.message.DescriptorProto.{out-DescriptorProto};
+ghost use Rattle.proto_types.specs.declared.message.DescriptorProto.{out-DescriptorProto};
 ghost use Rattle.proto_records.specs.Counts.{fits_list};
 ghost use Rattle.proto_types.specs.Readers.{number_of};
 ghost use Rattle.places.specs.Tells.{Tells, named_files};
@@ -15,8 +15,7 @@ use number_ranges::NumberRanges;
 use places::{Findings, Owner, Place};
 use plain_data::Text;
 use pool_faults::DescriptorErrorKind;
-use proto_files::ExtensionRange;
-use proto_types::{FieldDescriptorProto, tag};
+use proto_types::{ExtensionRange, FieldDescriptorProto, tag};
 use std::alloc::AllocError;
 
 /// Appends to `faults` what the number of a field breaks by the extension ranges of its message:

@@ -2,7 +2,7 @@ ghost use Rattle.std.specs.Prelude.{IfOk};
 
 use crate::bounds::{extension_bounds, reserved_bounds};
 use number_ranges::NumberRanges;
-use proto_files::DescriptorProto;
+use proto_types::DescriptorProto;
 use std::alloc::{AllocError, Global};
 
 /// The ranges of a message, among which those that hold a number are found.

@@ -1,5 +1,5 @@
 ghost use Rattle.std.specs.Prelude.{◌≡◌, ◌<◌, ◌^◌, true, OnOk};
-ghost use Rattle.proto_files.specs.declared.message.DescriptorProto.{out-DescriptorProto};
+ghost use Rattle.proto_types.specs.declared.message.DescriptorProto.{out-DescriptorProto};
 ghost use Rattle.proto_records.specs.Counts.{fits_list};
 ghost use Rattle.places.specs.Tells.{Tells, named_files};
 ghost use Rattle.number_rules.specs.At.{any_at};
@@ -11,8 +11,7 @@ use crate::field_number::is_valid_number;
 use number_ranges::NumberRanges;
 use places::{Findings, Owner, Place};
 use pool_faults::DescriptorErrorKind;
-use proto_files::ReservedRange;
-use proto_types::tag;
+use proto_types::{ReservedRange, tag};
 use std::alloc::AllocError;
 
 /// Appends to `faults` that of a number that no field may have.

@@ -1,6 +1,6 @@
 -- Labels of the parts of a declaration.
 use Rattle.std.specs.Prelude.{ℕ, ℤ, List, [], ◌∷◌, ◌++◌}
-use Rattle.proto_files.specs.declared.file.FileDescriptorProto.{FileDescriptorProto}
+use Rattle.proto_types.specs.declared.file.FileDescriptorProto.{FileDescriptorProto}
 use Rattle.source_labels.specs.declared.label.Label.{Label}
 use Rattle.source_labels.specs.Labels.{label_in}
 use Rattle.proto_records.specs.Shown.{step}

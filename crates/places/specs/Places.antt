@@ -5,7 +5,7 @@ use Rattle.proto_types.specs.declared.tag.message.TheConstants as message
 use Rattle.proto_types.specs.declared.records.enumeration.EnumDescriptorProto.{EnumDescriptorProto}
 use Rattle.proto_types.specs.declared.records.field.FieldDescriptorProto.{FieldDescriptorProto}
 use Rattle.proto_types.specs.declared.records.service.ServiceDescriptorProto.{ServiceDescriptorProto}
-use Rattle.proto_files.specs.declared.message.DescriptorProto.{DescriptorProto}
+use Rattle.proto_types.specs.declared.message.DescriptorProto.{DescriptorProto}
 use Rattle.proto_records.specs.Protos.{Proto, name_of, of_message, of_field, of_enum, of_service}
 use Rattle.proto_records.specs.Shown.{Shown, Surrounding, shown, beside_name, step}
 use Rattle.places.specs.declared.place.Place.{Place}

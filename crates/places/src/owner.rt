@@ -1,5 +1,5 @@
 use crate::Place;
-use proto_files::DescriptorProto;
+use proto_types::DescriptorProto;
 
 /// A message at a place, for what its fields and its extensions are checked with.
 #[derive(Clone, Copy)]

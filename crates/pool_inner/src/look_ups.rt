@@ -13,7 +13,7 @@ use crate::inner::DescriptorPoolInner;
 use name_tables::NameTable;
 use pool_kinds::{EnumDescriptor, ExtensionDescriptor, FileDescriptor, MessageDescriptor, ServiceDescriptor};
 use pool_types::{Definition, EnumDescriptorInner, ExtensionDescriptorInner, FileDescriptorInner, MessageDescriptorInner, ServiceDescriptorInner};
-use proto_files::FileDescriptorProto;
+use proto_types::FileDescriptorProto;
 use std::alloc::{AllocError, Global};
 
 impl DescriptorPoolInner {

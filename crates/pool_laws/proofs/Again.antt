@@ -7,8 +7,8 @@ use Rattle.std.specs.FinMap as finite
 use Rattle.std.specs.List.{Contains, flat_map}
 use Rattle.std.specs.Option.{IfSome, option_and_then, option_or}
 use Rattle.proto_types.specs.Lists.{only_if}
-use Rattle.proto_files.specs.Empty.{no_file}
-use Rattle.proto_files.specs.declared.file.FileDescriptorProto.{FileDescriptorProto}
+use Rattle.proto_types.specs.EmptyFile.{no_file}
+use Rattle.proto_types.specs.declared.file.FileDescriptorProto.{FileDescriptorProto}
 use Rattle.pool_types.specs.Contents.{ByText, Contents, files_of, no_contents}
 use Rattle.pool_types.specs.declared.contents.definition.Definition.{Definition}
 use Rattle.pool_faults.specs.declared.fault.DescriptorErrorKind.{DescriptorErrorKind}

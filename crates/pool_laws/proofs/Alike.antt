@@ -1,7 +1,7 @@
 -- Files that import alike see alike.
 use Rattle.std.proofs.Common.{◌≡◌, ◌==◌, ◌||◌, ℕ, zero, suc, Option, List, length, refl}
 use Rattle.std.specs.List.{filter, filter_map, list_any, range_with_len}
-use Rattle.proto_files.specs.declared.file.FileDescriptorProto.{FileDescriptorProto}
+use Rattle.proto_types.specs.declared.file.FileDescriptorProto.{FileDescriptorProto}
 use Rattle.proto_types.specs.Lists.{at}
 use Rattle.file_visibility.specs.Visibility.{file_at, imports_of, public_imports_of, leads_publicly, seen_from}
 

@@ -10,8 +10,8 @@ use Rattle.std.specs.FinMap as finite
 use Rattle.std.specs.List.{Contains, filter, flat_map, list_any, range_with_len}
 use Rattle.std.specs.Option.{IfSome}
 use Rattle.std.specs.Ordering.{is_eq, nat_cmp}
-use Rattle.proto_files.specs.Empty.{no_file}
-use Rattle.proto_files.specs.declared.file.FileDescriptorProto.{FileDescriptorProto}
+use Rattle.proto_types.specs.EmptyFile.{no_file}
+use Rattle.proto_types.specs.declared.file.FileDescriptorProto.{FileDescriptorProto}
 use Rattle.pool_types.specs.Contents.{Contents, files_of}
 use Rattle.name_tables.specs.Entries.{first_of, names_with}
 use Rattle.name_tables.specs.NameTables.{FileNamesBefore}

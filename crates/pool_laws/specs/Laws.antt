@@ -4,7 +4,7 @@ use Rattle.std.specs.FinMap as finite
 use Rattle.std.specs.List.{All, Contains}
 use Rattle.proto_types.specs.Names.{fronts}
 use Rattle.proto_types.specs.Readers.{text_of}
-use Rattle.proto_files.specs.declared.file.FileDescriptorProto.{FileDescriptorProto}
+use Rattle.proto_types.specs.declared.file.FileDescriptorProto.{FileDescriptorProto}
 use Rattle.pool_types.specs.Contents.{Contents, files_of, no_contents}
 use Rattle.pool_types.specs.declared.contents.definition.Definition.{Definition}
 use Rattle.pool_types.specs.declared.contents.definition.DefinitionKind.{DefinitionKind}

@@ -2,7 +2,7 @@
 ghost use Rattle.pool_laws.specs.Laws.{DotSaysNothing, EarlierStays, PrefixesEntered, Relinks, SeenNamesStand, Splits};
 
 use descriptor_pool::DescriptorPool;
-use proto_files::FileDescriptorProto;
+use proto_types::FileDescriptorProto;
 
 /// The linked files of a pool, linked at once from nothing, break no rule, are not too many, and make
 /// an equal pool.

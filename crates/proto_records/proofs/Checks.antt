@@ -4,17 +4,17 @@ use Rattle.std.specs.Option.{option_and_then}
 use Rattle.std.specs.declared.option.Option.{Option}
 use Rattle.std.specs.declared.option.Option.TheVariants.{None, Some}
 use Rattle.std.specs.declared.result.Result.TheVariants.{Ok}
-use Rattle.proto_files.specs.Computed.{literals}
+use Rattle.proto_types.specs.Computed.{literals}
 use Rattle.proto_types.specs.Names.{join, fronts}
 use Rattle.proto_types.specs.Empty.{no_field, no_enum, no_value, no_service, no_method}
-use Rattle.proto_files.specs.Empty.{no_file, no_oneof}
+use Rattle.proto_types.specs.EmptyFile.{no_file, no_oneof}
 use Rattle.proto_records.specs.Shown.{Shown}
 use Rattle.proto_records.specs.Declarations.{declarations}
 use Rattle.proto_records.specs.Counts.{no_counts, counts_of}
 use Rattle.proto_records.specs.Leads.{leads}
 use Rattle.proto_records.specs.Protos.{as_message, as_extension}
-use Rattle.proto_files.specs.declared.file.FileDescriptorProto.{FileDescriptorProto}
-use Rattle.proto_files.specs.declared.message.DescriptorProto.{DescriptorProto, roll-DescriptorProto}
+use Rattle.proto_types.specs.declared.file.FileDescriptorProto.{FileDescriptorProto}
+use Rattle.proto_types.specs.declared.message.DescriptorProto.{DescriptorProto, roll-DescriptorProto}
 
 pub joined : join (codes "p") (codes "M") ≡ codes "p.M"
 joined = refl

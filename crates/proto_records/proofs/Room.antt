@@ -7,7 +7,7 @@ use Rattle.proto_records.specs.declared.counts.CountKind.{CountKind}
 use Rattle.std.proofs.lemmas.Bool.Decides.{nat_tests}
 use Rattle.proto_records.specs.declared.counts.Counts.{Counts}
 use Rattle.proto_records.specs.declared.counts.CountKind.TheVariants.{ListTooLong}
-use Rattle.proto_files.specs.declared.file.FileDescriptorProto.{FileDescriptorProto}
+use Rattle.proto_types.specs.declared.file.FileDescriptorProto.{FileDescriptorProto}
 use Rattle.proto_records.specs.Protos.{of_file}
 use Rattle.proto_records.specs.Shown.{Shown}
 use Rattle.proto_records.specs.Counts.{no_counts, counted, counting, plus, within_limit, added_to, counts_of, lists_fit}

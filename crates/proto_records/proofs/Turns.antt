@@ -5,11 +5,11 @@ use Rattle.proto_types.specs.declared.tag.message.TheConstants as message
 use Rattle.proto_types.specs.declared.tag.enum_.TheConstants as enumeration
 use Rattle.proto_types.specs.declared.tag.file.TheConstants as file
 use Rattle.proto_types.specs.declared.tag.service.TheConstants as service
-use Rattle.proto_files.specs.declared.message.DescriptorProto.{DescriptorProto, out-DescriptorProto}
+use Rattle.proto_types.specs.declared.message.DescriptorProto.{DescriptorProto, out-DescriptorProto}
 use Rattle.proto_types.specs.declared.records.enumeration.EnumDescriptorProto.{EnumDescriptorProto}
 use Rattle.proto_types.specs.declared.records.service.ServiceDescriptorProto.{ServiceDescriptorProto}
 use Rattle.proto_types.specs.declared.records.field.FieldDescriptorProto.{FieldDescriptorProto}
-use Rattle.proto_files.specs.declared.message.OneofDescriptorProto.{OneofDescriptorProto}
+use Rattle.proto_types.specs.declared.message.OneofDescriptorProto.{OneofDescriptorProto}
 use Rattle.proto_records.specs.Protos.{Proto, of_message, of_field, of_oneof, of_service, of_method, of_enum, of_value}
 use Rattle.proto_records.specs.Shown.{Shown, Surrounding, shown, row, parts, inside, beside}
 use Rattle.proto_records.specs.Counts.{counted, counting, fits_list, lists_fit}

@@ -6,7 +6,7 @@ use Rattle.std.specs.declared.result.Result.TheVariants.{Ok, Err}
 use Rattle.proto_records.specs.declared.counts.Counts.{Counts}
 use Rattle.proto_records.specs.declared.counts.CountKind.{CountKind}
 use Rattle.proto_records.specs.declared.counts.CountKind.TheVariants.{ListTooLong, Files, Messages, Enums, Services, Extensions}
-use Rattle.proto_files.specs.declared.message.DescriptorProto.{out-DescriptorProto}
+use Rattle.proto_types.specs.declared.message.DescriptorProto.{out-DescriptorProto}
 use Rattle.proto_records.specs.Protos.{Proto, of_file, of_message, of_service, of_enum, of_extension}
 use Rattle.proto_records.specs.Shown.{Shown}
 use Rattle.pool_types.specs.Contents.{Contents}

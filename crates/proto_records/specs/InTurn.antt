@@ -1,6 +1,6 @@
 -- What two lists of files declare, one behind the other.
 use Rattle.std.specs.Prelude.{◌≡◌, List, ◌++◌}
-use Rattle.proto_files.specs.declared.file.FileDescriptorProto.{FileDescriptorProto}
+use Rattle.proto_types.specs.declared.file.FileDescriptorProto.{FileDescriptorProto}
 use Rattle.proto_records.specs.declared.counts.Counts.{Counts}
 use Rattle.proto_records.specs.Counts.{counted}
 use Rattle.proto_records.specs.Declarations.{declarations}

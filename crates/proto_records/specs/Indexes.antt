@@ -3,7 +3,7 @@ use Rattle.std.specs.Prelude.{◌≡◌, pos, List, ◌∷◌, ◌++◌}
 use Rattle.std.specs.List.{last_or}
 use Rattle.std.specs.declared.option.Option.TheVariants.{None, Some}
 use Rattle.proto_records.specs.declared.counts.Counts.{Counts}
-use Rattle.proto_files.specs.declared.file.FileDescriptorProto.{FileDescriptorProto}
+use Rattle.proto_types.specs.declared.file.FileDescriptorProto.{FileDescriptorProto}
 use Rattle.proto_records.specs.Protos.{Proto, of_file, of_message, of_service, of_enum, of_extension}
 use Rattle.proto_records.specs.Shown.{Shown}
 use Rattle.proto_records.specs.Counts.{counted}

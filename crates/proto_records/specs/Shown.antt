@@ -7,7 +7,7 @@ use Rattle.std.specs.declared.option.Option.TheVariants.{None, Some}
 use Rattle.proto_types.specs.Names.{join}
 use Rattle.proto_records.specs.Protos.{Proto, of_file, name_of}
 use Rattle.proto_types.specs.Readers.{text_of}
-use Rattle.proto_files.specs.declared.file.FileDescriptorProto.{FileDescriptorProto}
+use Rattle.proto_types.specs.declared.file.FileDescriptorProto.{FileDescriptorProto}
 
 -- A file, message, enum, service or extension has its index in the pool, and any other its position in its list.
 -- The parent is the index of the innermost message, enum or service around it.

@@ -7,10 +7,10 @@ use Rattle.std.specs.declared.option.Option.TheVariants.{None, Some}
 use Rattle.proto_records.specs.declared.counts.Counts.{Counts}
 use Rattle.proto_records.specs.declared.counts.totals.Totals.{Totals}
 use Rattle.proto_records.specs.Counts.{no_counts, counted, plus, lists_fit}
-use Rattle.proto_files.specs.declared.message.DescriptorProto.{DescriptorProto}
+use Rattle.proto_types.specs.declared.message.DescriptorProto.{DescriptorProto}
 use Rattle.proto_types.specs.declared.records.enumeration.EnumDescriptorProto.{EnumDescriptorProto}
 use Rattle.proto_types.specs.declared.records.service.ServiceDescriptorProto.{ServiceDescriptorProto}
-use Rattle.proto_files.specs.declared.file.FileDescriptorProto.{FileDescriptorProto}
+use Rattle.proto_types.specs.declared.file.FileDescriptorProto.{FileDescriptorProto}
 use Rattle.proto_types.specs.declared.tag.file.TheConstants.{MESSAGE_TYPE, ENUM_TYPE}
 use Rattle.proto_records.specs.Declarations.{enums_walk, services_walk, message_walk, messages_walk, file_walk, declarations}
 use Rattle.proto_records.specs.Shown.{Shown, Surrounding}

@@ -15,7 +15,7 @@ use Rattle.proto_records.specs.Protos.{Proto, of_file, of_message, of_field, of_
 use Rattle.proto_records.specs.Shown.{Shown, shown_as, row}
 use Rattle.proto_records.specs.Declarations.{messages_walk, enums_walk, services_walk, in_file}
 use Rattle.proto_types.specs.declared.tag.file.TheConstants as file
-use Rattle.proto_files.specs.declared.file.FileDescriptorProto.{FileDescriptorProto}
+use Rattle.proto_types.specs.declared.file.FileDescriptorProto.{FileDescriptorProto}
 
 abbrev pub proto_of : Part → Proto
 proto_of (part.Message _ m) = of_message m.now

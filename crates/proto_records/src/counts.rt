@@ -1,6 +1,6 @@
 mod totals;
 
-use proto_files::FileDescriptorProto;
+use proto_types::FileDescriptorProto;
 use totals::Totals;
 
 /// How many of each numbered kind there are.

@@ -6,7 +6,7 @@ ghost use Rattle.proto_records.specs.Changed.{Changes, KeepNames, DeclareChanged
 ghost use Rattle.proto_records.specs.InTurn.{DeclareInTurn};
 
 use crate::counts::Counts;
-use proto_files::FileDescriptorProto;
+use proto_types::FileDescriptorProto;
 
 /// The path of each declaration of files leads to its record, in the file with its index. The files are numbered on
 /// from the counts of a pool.

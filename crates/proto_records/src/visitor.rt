@@ -4,8 +4,7 @@ ghost use Rattle.proto_records.specs.Progress.{Progress, HasSeen};
 ghost use Rattle.proto_records.specs.Protos.{of_message, of_field, of_oneof, of_service, of_method, of_enum, of_value, of_extension};
 ghost use Rattle.proto_records.specs.Shown.{Shown, file_shown, shown_as};
 
-use proto_files::{DescriptorProto, FileDescriptorProto, OneofDescriptorProto};
-use proto_types::{EnumDescriptorProto, EnumValueDescriptorProto, FieldDescriptorProto, MethodDescriptorProto, ServiceDescriptorProto};
+use proto_types::{DescriptorProto, EnumDescriptorProto, EnumValueDescriptorProto, FieldDescriptorProto, FileDescriptorProto, MethodDescriptorProto, OneofDescriptorProto, ServiceDescriptorProto};
 use std::alloc::AllocError;
 
 /// What is shown the declarations of files, one after another.

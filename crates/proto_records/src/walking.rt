@@ -20,7 +20,7 @@ use crate::visitor::Visitor;
 use cursor::Cursor;
 use located::show_file;
 use pool_types::FileDescriptorInner;
-use proto_files::FileDescriptorProto;
+use proto_types::FileDescriptorProto;
 pub use site::entry_path;
 use std::alloc::{AllocError, Global};
 

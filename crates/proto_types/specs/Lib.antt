@@ -3,3 +3,6 @@ pub mod Lists
 pub mod Readers
 pub mod Empty
 pub mod Equality
+pub mod EmptyFile
+pub mod Computed
+pub mod FileEquality

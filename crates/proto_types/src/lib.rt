@@ -2,11 +2,16 @@
 #![tactic(auto)]
 
 mod exact;
+mod file;
+mod file_exact;
+mod message;
 mod names;
 mod records;
 pub mod tag;
 mod text;
 
+pub use file::{FileDescriptorProto, FileDescriptorSet};
+pub use message::{DescriptorProto, ExtensionRange, OneofDescriptorProto, ReservedRange};
 pub use names::join;
 pub use records::{EnumDescriptorProto, EnumOptions, EnumReservedRange, EnumValueDescriptorProto, FieldDescriptorProto, FieldLabel, FieldOptions, FieldType, Location, MethodDescriptorProto, Options, ServiceDescriptorProto, SourceCodeInfo, Unread};
 pub use text::or_empty;

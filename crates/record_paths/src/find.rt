@@ -8,8 +8,7 @@ ghost use Rattle.proto_records.specs.Protos.{as_message, as_enum, as_field, as_e
 
 mod record;
 
-use proto_files::{DescriptorProto, FileDescriptorProto, OneofDescriptorProto};
-use proto_types::{EnumDescriptorProto, EnumValueDescriptorProto, FieldDescriptorProto, MethodDescriptorProto, ServiceDescriptorProto};
+use proto_types::{DescriptorProto, EnumDescriptorProto, EnumValueDescriptorProto, FieldDescriptorProto, FileDescriptorProto, MethodDescriptorProto, OneofDescriptorProto, ServiceDescriptorProto};
 use record::Record;
 
 /// The message at a path, or none where no message stands there.

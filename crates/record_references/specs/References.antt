@@ -2,7 +2,7 @@
 -- methods take and give.
 use Rattle.std.specs.Prelude.{ℕ, List, [], ◌∷◌, codes}
 use Rattle.std.specs.List.{flat_map}
-use Rattle.proto_files.specs.declared.file.FileDescriptorProto.{FileDescriptorProto}
+use Rattle.proto_types.specs.declared.file.FileDescriptorProto.{FileDescriptorProto}
 use Rattle.proto_types.specs.Readers.{text_of}
 use Rattle.proto_records.specs.Counts.{no_counts}
 use Rattle.proto_records.specs.Declarations.{declarations}

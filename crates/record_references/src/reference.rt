@@ -15,7 +15,7 @@ ghost use Rattle.record_references.specs.Code.{reference_of};
 
 use declaration_lists::list_declarations;
 use plain_data::Text;
-use proto_files::FileDescriptorProto;
+use proto_types::FileDescriptorProto;
 use proto_records::{Counts, Declaration, DeclarationKind};
 use record_paths::{find_field_proto, find_method_proto};
 use std::alloc::{AllocError, Global};

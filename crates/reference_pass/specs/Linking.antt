@@ -11,9 +11,9 @@ use Rattle.proto_types.specs.declared.records.field.FieldDescriptorProto.{FieldD
 use Rattle.proto_types.specs.declared.records.field.FieldType.{FieldType}
 use Rattle.proto_types.specs.declared.records.field.FieldType.TheVariants as written
 use Rattle.proto_types.specs.declared.records.service.MethodDescriptorProto.{MethodDescriptorProto}
-use Rattle.proto_files.specs.declared.file.FileDescriptorProto.{FileDescriptorProto}
-use Rattle.proto_files.specs.declared.message.DescriptorProto.{out-DescriptorProto}
-use Rattle.proto_files.specs.declared.message.OneofDescriptorProto.{OneofDescriptorProto}
+use Rattle.proto_types.specs.declared.file.FileDescriptorProto.{FileDescriptorProto}
+use Rattle.proto_types.specs.declared.message.DescriptorProto.{out-DescriptorProto}
+use Rattle.proto_types.specs.declared.message.OneofDescriptorProto.{OneofDescriptorProto}
 use Rattle.pool_kinds.specs.declared.kinds.KindIndex.{KindIndex}
 use Rattle.pool_kinds.specs.declared.kinds.KindIndex.TheVariants as index
 use Rattle.pool_types.specs.Contents.{Contents}

@@ -5,7 +5,7 @@ ghost use Rattle.std.specs.Prelude.{◌≡◌, ◌∷◌, [], IfOk, OnOk, slice_
 ghost use Rattle.std.specs.Option.{option_map, option_map_or};
 ghost use Rattle.proto_types.specs.Names.{join};
 ghost use Rattle.proto_types.specs.Readers.{text_of};
-ghost use Rattle.proto_files.specs.declared.message.DescriptorProto.{out-DescriptorProto};
+ghost use Rattle.proto_types.specs.declared.message.DescriptorProto.{out-DescriptorProto};
 ghost use Rattle.proto_records.specs.Changed.{changed_message, changed_messages, changed_fields, changed_service, changed_services};
 ghost use Rattle.proto_records.specs.Counts.{counted};
 ghost use Rattle.proto_records.specs.Declarations.{message_walk, messages_walk, service_walk, services_walk};
@@ -18,8 +18,7 @@ ghost use Rattle.reference_pass.specs.Linking.{enum_name, kind_name, kind_number
 use plain_data::Text;
 use pool_types::{EnumDescriptorInner, ExtensionDescriptorInner, FieldDescriptorInner, FileDescriptorInner, MessageDescriptorInner, MethodDescriptorInner, ServiceDescriptorInner};
 use pool_kinds::KindIndex;
-use proto_files::{DescriptorProto, FileDescriptorProto};
-use proto_types::{FieldDescriptorProto, FieldType, MethodDescriptorProto, ServiceDescriptorProto};
+use proto_types::{DescriptorProto, FieldDescriptorProto, FieldType, FileDescriptorProto, MethodDescriptorProto, ServiceDescriptorProto};
 use std::alloc::{AllocError, Global};
 
 /// Writes what references mean into records, by the items of a pool.

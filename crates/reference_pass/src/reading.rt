@@ -19,8 +19,7 @@ use linked_records::Setting;
 use places::{Findings, Place};
 use pool_faults::DescriptorErrorKind;
 use pool_types::{EnumDescriptorInner, ExtensionDescriptorInner, FileDescriptorInner, MessageDescriptorInner, ServiceDescriptorInner};
-use proto_files::{DescriptorProto, FileDescriptorProto};
-use proto_types::{EnumDescriptorProto, FieldDescriptorProto, ServiceDescriptorProto};
+use proto_types::{DescriptorProto, EnumDescriptorProto, FieldDescriptorProto, FileDescriptorProto, ServiceDescriptorProto};
 use std::alloc::{AllocError, Global};
 
 /// Appends to `faults` what the imports of the file with an index break.

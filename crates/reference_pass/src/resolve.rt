@@ -7,9 +7,8 @@ use crate::reading::{check_imports, read_enum, read_extension, read_message, rea
 use linked_records::Setting;
 use places::Place;
 use pool_faults::DescriptorErrorKind;
-use proto_files::{DescriptorProto, FileDescriptorProto, OneofDescriptorProto};
+use proto_types::{DescriptorProto, EnumDescriptorProto, EnumValueDescriptorProto, FieldDescriptorProto, FileDescriptorProto, MethodDescriptorProto, OneofDescriptorProto, ServiceDescriptorProto};
 use proto_records::Visitor;
-use proto_types::{EnumDescriptorProto, EnumValueDescriptorProto, FieldDescriptorProto, MethodDescriptorProto, ServiceDescriptorProto};
 use std::alloc::{AllocError, Global};
 
 /// The second pass: it reads a batch against a pool whose files and names are those of the batch as

@@ -2,7 +2,7 @@
 #![tactic(auto)]
 
 use link_script::{Open, Script, Statement, read_script};
-use proto_files::FileDescriptorProto;
+use proto_types::FileDescriptorProto;
 use std::alloc::{AllocError, Global};
 
 /// The files that a script declares, in order, as its statements build them. Statements that

@@ -6,11 +6,11 @@ use Rattle.std.specs.Option.{option_map_or, option_and_then}
 use Rattle.std.specs.Ordering.{int_eq}
 use Rattle.std.specs.declared.option.Option.{Option}
 use Rattle.std.specs.declared.option.Option.TheVariants.{None, Some}
-use Rattle.proto_files.specs.Empty.{no_file}
+use Rattle.proto_types.specs.EmptyFile.{no_file}
 use Rattle.proto_types.specs.Readers.{text_of}
 use Rattle.proto_types.specs.declared.records.source.Location.{Location}
 use Rattle.source_labels.specs.declared.label.Label.{Label}
-use Rattle.proto_files.specs.declared.file.FileDescriptorProto.{FileDescriptorProto}
+use Rattle.proto_types.specs.declared.file.FileDescriptorProto.{FileDescriptorProto}
 
 -- the file with an index
 abbrev pub file_at : List FileDescriptorProto → ℕ → FileDescriptorProto

@@ -6,8 +6,7 @@ ghost use Rattle.source_labels.specs.Labels.{label, label_in, label_line, label_
 
 use plain_data::{Items, Text};
 use pool_types::FileDescriptorInner;
-use proto_files::FileDescriptorProto;
-use proto_types::Location;
+use proto_types::{FileDescriptorProto, Location};
 use std::alloc::{AllocError, Global};
 
 /// Where something stands: the name of a file, the path in its record, and the place in its source.

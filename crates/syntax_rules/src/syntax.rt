@@ -8,8 +8,7 @@ use plain_data::Text;
 use pool_faults::DescriptorErrorKind;
 use pool_kinds::Syntax;
 use pool_types::FileDescriptorInner;
-use proto_files::FileDescriptorProto;
-use proto_types::{or_empty, tag};
+use proto_types::{FileDescriptorProto, or_empty, tag};
 use std::alloc::AllocError;
 
 /// The language that a file's `syntax` names: "proto2", in which a file is written that names none,

@@ -3,9 +3,7 @@ ghost use Rattle.visitor_example.specs.Fields.{fields_in, longest_path};
 
 use proto_records::{Declaration, DeclarationKind, Visitor};
 
-use proto_files::{DescriptorProto, FileDescriptorProto, OneofDescriptorProto};
-
-use proto_types::{EnumDescriptorProto, EnumValueDescriptorProto, FieldDescriptorProto, MethodDescriptorProto, ServiceDescriptorProto};
+use proto_types::{DescriptorProto, EnumDescriptorProto, EnumValueDescriptorProto, FieldDescriptorProto, FileDescriptorProto, MethodDescriptorProto, OneofDescriptorProto, ServiceDescriptorProto};
 
 use plain_data::{Items, Text};
 use std::alloc::{AllocError, Global};

@@ -10,7 +10,7 @@ mod field_visitor;
 
 pub use field_visitor::FieldVisitor;
 use proto_records::{Counts, visit};
-use proto_files::FileDescriptorProto;
+use proto_types::FileDescriptorProto;
 use std::alloc::{AllocError, Global};
 
 /// The fields of messages that files declare, in order, numbered on from the counts of a pool.

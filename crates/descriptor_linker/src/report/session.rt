@@ -7,7 +7,7 @@ ghost use Rattle.descriptor_linker.specs.Report.Session.{new_session, opening, s
 use super::{answers::{tell_found, tell_refs, tell_walk}, relink::tell_relink};
 use descriptor_pool::{BuildError, DescriptorPool};
 use link_script::{Open, Statement};
-use proto_files::FileDescriptorProto;
+use proto_types::FileDescriptorProto;
 use script_answers::{tell_counts, tell_refused, tell_too_many};
 use std::alloc::{AllocError, Global};
 use std::mem;

@@ -5,7 +5,7 @@ use super::{items::pool_of, values::tell_value};
 use descriptor_pool::{BuildError, DescriptorPool};
 use pool_kinds::{EnumDescriptor, MessageDescriptor, ServiceDescriptor};
 use pool_types::{EnumDescriptorInner, FieldDescriptorInner, MessageDescriptorInner, ServiceDescriptorInner};
-use proto_files::{DescriptorProto, FileDescriptorProto};
+use proto_types::{DescriptorProto, FileDescriptorProto};
 use script_files::files_of;
 use std::alloc::{AllocError, Global};
 use std::fmt::Write;

@@ -5,7 +5,7 @@ use descriptor_errors::DescriptorError;
 use descriptor_pool::{BuildError, DescriptorPool};
 use plain_data::Text;
 use pool_faults::{DescriptorErrorKind, Labelled};
-use proto_files::FileDescriptorProto;
+use proto_types::FileDescriptorProto;
 use script_files::files_of;
 use source_labels::Label;
 use std::alloc::{AllocError, Global};

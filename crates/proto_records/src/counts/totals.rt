@@ -7,8 +7,7 @@ ghost use Rattle.proto_records.specs.Protos.{of_file, of_message, of_enum, of_se
 
 use super::{CountKind, Counts};
 use plain_data::Items;
-use proto_files::{DescriptorProto, FileDescriptorProto};
-use proto_types::{EnumDescriptorProto, ServiceDescriptorProto};
+use proto_types::{DescriptorProto, EnumDescriptorProto, FileDescriptorProto, ServiceDescriptorProto};
 
 /// The most entries of a list.
 const LIST_LIMIT: usize = 2_147_483_647;

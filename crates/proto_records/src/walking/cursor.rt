@@ -6,7 +6,7 @@ ghost use Rattle.proto_records.specs.Walking.{Room, within_file};
 
 use super::{located::Located, row::Row, rows::Rows, site::Site};
 use crate::counts::Counts;
-use proto_files::FileDescriptorProto;
+use proto_types::FileDescriptorProto;
 use std::alloc::{AllocError, Global};
 
 /// The declarations in a file that are still to come, and the counts before them.

@@ -5,7 +5,7 @@ ghost use Rattle.proto_records.specs.Walking.{located};
 
 use super::{part::Part, site::Site};
 use crate::visitor::Visitor;
-use proto_files::FileDescriptorProto;
+use proto_types::FileDescriptorProto;
 use std::alloc::AllocError;
 
 /// Calls the method of a visitor for the kind of a record, as it stands at a site.

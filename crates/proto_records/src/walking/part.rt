@@ -4,8 +4,7 @@ ghost use Rattle.proto_records.specs.Protos.{name_of};
 ghost use Rattle.proto_records.specs.Walking.{WithinLimits, index_at, proto_of};
 
 use crate::counts::Counts;
-use proto_files::{DescriptorProto, OneofDescriptorProto};
-use proto_types::{EnumDescriptorProto, EnumValueDescriptorProto, FieldDescriptorProto, MethodDescriptorProto, ServiceDescriptorProto};
+use proto_types::{DescriptorProto, EnumDescriptorProto, EnumValueDescriptorProto, FieldDescriptorProto, MethodDescriptorProto, OneofDescriptorProto, ServiceDescriptorProto};
 
 /// A record that stands in a file, behind the index of the message, enum or service around it.
 #[derive(Clone, Copy)]

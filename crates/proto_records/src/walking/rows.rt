@@ -3,8 +3,7 @@ ghost use Rattle.proto_records.specs.Walking.{parent_in, proto_of, protos_in};
 ghost use Rattle.proto_records.specs.Cursor.{file_lines, inner_lines, line, line_in, lines, message_lines, stacked, stacked_all};
 
 use super::{part::Part, records::Records, row::{Depth, Place, Row}};
-use proto_files::{DescriptorProto, FileDescriptorProto};
-use proto_types::tag;
+use proto_types::{DescriptorProto, FileDescriptorProto, tag};
 use std::alloc::{AllocError, Global};
 
 /// The lists that are still to be gone through, the next one last. None is empty.

@@ -4,8 +4,7 @@ ghost use Rattle.proto_records.specs.Leads.{last_entry};
 ghost use Rattle.proto_types.specs.Lists.{at};
 
 use plain_data::Items;
-use proto_files::{DescriptorProto, FileDescriptorProto, OneofDescriptorProto};
-use proto_types::{EnumDescriptorProto, EnumValueDescriptorProto, FieldDescriptorProto, MethodDescriptorProto, ServiceDescriptorProto, tag::{enum_, file, message, service}};
+use proto_types::{DescriptorProto, EnumDescriptorProto, EnumValueDescriptorProto, FieldDescriptorProto, FileDescriptorProto, MethodDescriptorProto, OneofDescriptorProto, ServiceDescriptorProto, tag::{enum_, file, message, service}};
 
 /// A borrowed record that declares something.
 #[derive(Clone, Copy)]

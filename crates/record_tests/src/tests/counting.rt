@@ -1,6 +1,6 @@
 //! How many declarations files have.
 
-use proto_files::FileDescriptorProto;
+use proto_types::FileDescriptorProto;
 use proto_records::{CountKind, Counts};
 use script_files::files_of;
 use std::process::Abort;

@@ -1,7 +1,7 @@
 //! The laws of the walk, and the example of a visitor of a user's own, on the file of each kind.
 
 use super::counting::{EVERY_KIND, NONE};
-use proto_files::FileDescriptorProto;
+use proto_types::FileDescriptorProto;
 use proto_records::{declared_indexes, declared_paths};
 use script_files::files_of;
 use std::alloc::{AllocError, Global};

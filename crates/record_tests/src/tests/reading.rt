@@ -2,8 +2,7 @@
 
 use super::whole::{Record, WHOLE_SCRIPT};
 use plain_data::Text;
-use proto_files::{DescriptorProto, ExtensionRange, FileDescriptorProto, OneofDescriptorProto, ReservedRange};
-use proto_types::{EnumDescriptorProto, EnumOptions, EnumValueDescriptorProto, FieldDescriptorProto, MethodDescriptorProto, ServiceDescriptorProto, SourceCodeInfo};
+use proto_types::{DescriptorProto, EnumDescriptorProto, EnumOptions, EnumValueDescriptorProto, ExtensionRange, FieldDescriptorProto, FileDescriptorProto, MethodDescriptorProto, OneofDescriptorProto, ReservedRange, ServiceDescriptorProto, SourceCodeInfo};
 use script_files::files_of;
 use std::alloc::{AllocError, Global};
 use std::fmt::Write;

@@ -2,7 +2,7 @@
 
 use super::counting::{EVERY_KIND, NONE};
 use declaration_lists::{Lister, list_declarations};
-use proto_files::FileDescriptorProto;
+use proto_types::FileDescriptorProto;
 use proto_records::{Counts, Declaration, visit};
 use script_files::files_of;
 use std::alloc::{AllocError, Global};

@@ -6,9 +6,8 @@ ghost use Rattle.proto_records.specs.Shown.{Shown};
 
 use super::counting::{EVERY_KIND, NONE};
 use declaration_lists::Lister;
-use proto_files::{DescriptorProto, FileDescriptorProto, OneofDescriptorProto};
+use proto_types::{DescriptorProto, EnumDescriptorProto, EnumValueDescriptorProto, FieldDescriptorProto, FileDescriptorProto, MethodDescriptorProto, OneofDescriptorProto, ServiceDescriptorProto};
 use proto_records::{Visitor, visit, visit_each};
-use proto_types::{EnumDescriptorProto, EnumValueDescriptorProto, FieldDescriptorProto, MethodDescriptorProto, ServiceDescriptorProto};
 use script_files::files_of;
 use std::alloc::{AllocError, Global};
 use std::cell::Cell;

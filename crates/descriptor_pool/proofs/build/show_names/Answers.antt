@@ -2,7 +2,7 @@ use Rattle.std.proofs.Common.{◌-◌, List, length, map, take, drop, refl, ap, 
 use Rattle.std.proofs.lemmas.List.{length-take-le}
 use Rattle.std.proofs.lemmas.Result.{on_ok_weaker}
 use Rattle.std.specs.List.{fold}
-use Rattle.proto_files.specs.declared.file.FileDescriptorProto.{FileDescriptorProto}
+use Rattle.proto_types.specs.declared.file.FileDescriptorProto.{FileDescriptorProto}
 use Rattle.proto_records.specs.Declarations.{declarations}
 use Rattle.name_pass.specs.Steps.{CanBeEntered, name_step, state_at}
 use Rattle.growing_pool.specs.Growing.{records_from}

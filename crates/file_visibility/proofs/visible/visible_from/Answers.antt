@@ -2,7 +2,7 @@ use Rattle.std.proofs.Common.{◌≡◌, ◌≤◌, [], length, refl, sym, subst
 use Rattle.std.specs.BTreeSet.{btree_set_len}
 use Rattle.std.specs.FinMap as finite
 use Rattle.std.proofs.lemmas.List.{nil_from_length}
-use Rattle.proto_files.specs.declared.file.FileDescriptorProto.{FileDescriptorProto}
+use Rattle.proto_types.specs.declared.file.FileDescriptorProto.{FileDescriptorProto}
 use Rattle.file_visibility.specs.declared.visible.Seen.{Seen}
 use Rattle.file_visibility.specs.Seen.{SeesEach}
 use Rattle.file_visibility.specs.Visibility.{imports_of}

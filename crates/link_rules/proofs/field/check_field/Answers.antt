@@ -1,6 +1,6 @@
 use Rattle.std.proofs.Common.{◌++◌, unwrap_or, ap, sym, ◌∙◌, append_assoc}
 use Rattle.pool_kinds.specs.declared.kinds.KindIndex.TheVariants.{Double}
-use Rattle.proto_files.specs.declared.message.DescriptorProto.{out-DescriptorProto}
+use Rattle.proto_types.specs.declared.message.DescriptorProto.{out-DescriptorProto}
 use Rattle.proto_records.specs.Protos.{of_field}
 use Rattle.proto_records.specs.Shown.{Shown}
 use Rattle.field_rules.specs.Oneofs.{oneof_faults}

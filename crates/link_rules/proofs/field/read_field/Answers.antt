@@ -6,7 +6,7 @@ use Rattle.pool_types.specs.declared.contents.definition.Identity.{Identity}
 use Rattle.proto_types.specs.Empty.{no_field}
 use Rattle.proto_types.specs.declared.records.field.FieldDescriptorProto.{FieldDescriptorProto}
 use Rattle.proto_types.specs.declared.tag.message.TheConstants.{FIELD}
-use Rattle.proto_files.specs.declared.message.DescriptorProto.{out-DescriptorProto}
+use Rattle.proto_types.specs.declared.message.DescriptorProto.{out-DescriptorProto}
 use Rattle.proto_types.specs.Names.{join}
 use Rattle.proto_types.specs.Readers.{text_of}
 use Rattle.proto_records.specs.Protos.{of_field}

@@ -1,6 +1,6 @@
 use Rattle.std.proofs.Common.{◌≡◌, take}
 use Rattle.std.specs.List.{All}
-use Rattle.proto_files.specs.declared.message.DescriptorProto.{out-DescriptorProto}
+use Rattle.proto_types.specs.declared.message.DescriptorProto.{out-DescriptorProto}
 use Rattle.field_rules.specs.MapsOf.{AreMapsOf}
 use Rattle.link_rules.specs.Broken.{faults_of_fields}
 use Rattle.link_rules.specs.Items.{field_items}

@@ -3,8 +3,8 @@ use Rattle.std.proofs.Common.{List, ◌<◌, length, get_or, subst, arith, ◌�
 use Rattle.std.proofs.lemmas.List.Elements.{All-push}
 use Rattle.std.specs.List.{All}
 use Rattle.pool_types.specs.declared.contents.oneof.OneofDescriptorInner.{OneofDescriptorInner}
-use Rattle.proto_files.specs.declared.message.DescriptorProto.{out-DescriptorProto}
-use Rattle.proto_files.specs.declared.message.OneofDescriptorProto.{OneofDescriptorProto}
+use Rattle.proto_types.specs.declared.message.DescriptorProto.{out-DescriptorProto}
+use Rattle.proto_types.specs.declared.message.OneofDescriptorProto.{OneofDescriptorProto}
 use Rattle.proto_types.specs.declared.tag.message.TheConstants.{ONEOF_DECL}
 use Rattle.proto_types.specs.Names.{join}
 use Rattle.proto_records.specs.Protos.{of_oneof}

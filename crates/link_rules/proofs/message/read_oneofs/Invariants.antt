@@ -1,6 +1,6 @@
 use Rattle.std.proofs.Common.{◌≡◌, take}
 use Rattle.std.specs.List.{All}
-use Rattle.proto_files.specs.declared.message.DescriptorProto.{out-DescriptorProto}
+use Rattle.proto_types.specs.declared.message.DescriptorProto.{out-DescriptorProto}
 use Rattle.link_rules.specs.Items.{oneof_items}
 use Rattle.places.specs.NamesBegin.{BeginsAtBoundary}
 use Rattle.places.specs.Places.{inside_of}

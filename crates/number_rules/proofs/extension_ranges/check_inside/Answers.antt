@@ -1,9 +1,9 @@
 use Rattle.std.proofs.Common.{◌≡◌, ◌-◌, ◌∷◌, [], ℕ, ℤ, get_or, Option, None, Some, refl, ap, sym, ◌∙◌, arith, to_z, of_z, w32}
 use Rattle.std.proofs.lemmas.Int.{to_z-of_z}
-use Rattle.proto_files.specs.declared.message.DescriptorProto.{out-DescriptorProto}
+use Rattle.proto_types.specs.declared.message.DescriptorProto.{out-DescriptorProto}
 use Rattle.std.specs.Option.{option_map}
 use Rattle.proto_types.specs.Lists.{listed}
-use Rattle.proto_files.specs.declared.message.ExtensionRange.{ExtensionRange}
+use Rattle.proto_types.specs.declared.message.ExtensionRange.{ExtensionRange}
 use Rattle.pool_faults.specs.declared.fault.DescriptorErrorKind.{DescriptorErrorKind}
 use Rattle.places.specs.Tells.{named_files}
 use Rattle.places.proofs.Tells.{tells-as, tells-none}

@@ -1,6 +1,6 @@
 use Rattle.std.proofs.Common.{◌≡◌, ◌∙◌, ◌+◌, true, false, is_some, if◌then◌else◌, ap, sym, arith, rules, to_z, of_z, w32}
 use Rattle.std.proofs.lemmas.Int.{to_z-of_z}
-use Rattle.proto_files.specs.declared.message.DescriptorProto.{out-DescriptorProto}
+use Rattle.proto_types.specs.declared.message.DescriptorProto.{out-DescriptorProto}
 use Rattle.proto_types.specs.Readers.{number_of}
 use Rattle.proto_records.proofs.Listings.{on-ok}
 use Rattle.places.specs.Tells.{named_files}
@@ -9,7 +9,7 @@ use Rattle.number_rules.specs.At.{any_at}
 use Rattle.number_rules.specs.Numbers.{outside_faults, extension_range_faults}
 use Rattle.std.specs.Prelude.{ℕ, ℤ, List, Option}
 use Rattle.std.specs.List.{list_any, position_from}
-use Rattle.proto_files.specs.declared.message.ExtensionRange.{ExtensionRange}
+use Rattle.proto_types.specs.declared.message.ExtensionRange.{ExtensionRange}
 use Rattle.number_ranges.specs.Holds.{holds, first_from}
 use Rattle.number_ranges.proofs.Firsts.{first-any, first-map, position-first, option_map-id}
 use Rattle.number_rules.specs.Bounds.{extension_bounds}

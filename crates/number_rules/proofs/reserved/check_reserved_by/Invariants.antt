@@ -1,5 +1,5 @@
 use Rattle.std.proofs.Common.{◌≤◌, ◌-◌, length, take}
-use Rattle.proto_files.specs.declared.message.DescriptorProto.{out-DescriptorProto}
+use Rattle.proto_types.specs.declared.message.DescriptorProto.{out-DescriptorProto}
 use Rattle.places.specs.Tells.{Tells, named_files}
 use Rattle.number_rules.specs.At.{any_at}
 use Rattle.number_rules.specs.Numbers.{reserved_faults}

@@ -1,6 +1,6 @@
 use Rattle.std.proofs.Common.{◌+◌, ℤ, None, get_or, ap, sym, take, to_z, of_z, w32, refl}
 use Rattle.std.proofs.lemmas.List.{get_or_default}
-use Rattle.proto_files.specs.declared.message.ReservedRange.{ReservedRange}
+use Rattle.proto_types.specs.declared.message.ReservedRange.{ReservedRange}
 use Rattle.places.specs.Tells.{named_files}
 use Rattle.places.proofs.Tells.{tells-as, tells-next}
 use Rattle.number_rules.specs.At.{any_at}

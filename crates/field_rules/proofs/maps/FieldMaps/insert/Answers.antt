@@ -7,7 +7,7 @@ use Rattle.std.proofs.lemmas.List.{get_or_default}
 use Rattle.proto_types.specs.declared.records.field.FieldDescriptorProto.{FieldDescriptorProto}
 use Rattle.proto_types.specs.Empty.{no_field}
 use Rattle.proto_types.specs.Lists.{listed}
-use Rattle.proto_files.specs.declared.message.DescriptorProto.{out-DescriptorProto}
+use Rattle.proto_types.specs.declared.message.DescriptorProto.{out-DescriptorProto}
 use Rattle.proto_records.proofs.Listings.{on-ok}
 use Rattle.places.specs.Tells.{Tells, named_files}
 use Rattle.places.proofs.Tells.{same-files, tells-as, tells-two}

@@ -1,6 +1,6 @@
 use Rattle.std.proofs.Common.{◌+◌, length, OnOk, refl, rules, subst}
 use Rattle.std.proofs.lemmas.Option.{slice_get_read}
-use Rattle.proto_files.specs.declared.message.DescriptorProto.{out-DescriptorProto, out-roll-DescriptorProto}
+use Rattle.proto_types.specs.declared.message.DescriptorProto.{out-DescriptorProto, out-roll-DescriptorProto}
 use Rattle.proto_records.proofs.Listings.{on-ok}
 use Rattle.reference_pass.specs.declared.linking.NextItems.{NextItems}
 use Rattle.reference_pass.specs.Linking.{LinksFields, lists_of}
