@@ -8,7 +8,7 @@ use crate::meant::MeantEnum;
 use crate::values::value_of;
 use places::{Findings, Place};
 use plain_data::Text;
-use pool_kinds::{DefaultValue, KindIndex};
+use pool_types::{DefaultValue, KindIndex};
 use std::alloc::AllocError;
 
 /// The default value of a field or an extension, if one is given, by the kind of its type

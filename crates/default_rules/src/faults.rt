@@ -9,7 +9,7 @@ use crate::meant::MeantEnum;
 use places::{Findings, Place};
 use plain_data::Text;
 use pool_faults::DescriptorErrorKind;
-use pool_kinds::KindIndex;
+use pool_types::KindIndex;
 use proto_types::tag;
 use std::alloc::{AllocError, Global};
 

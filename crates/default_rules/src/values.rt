@@ -6,7 +6,7 @@ ghost use Rattle.default_values.specs.Defaults.{is_simple, simple_value};
 ghost use Rattle.default_rules.specs.Defaults.{value_named, value_of};
 
 use default_values::{ValueFault, parse_simple_value};
-use pool_kinds::{DefaultValue, KindIndex};
+use pool_types::{DefaultValue, KindIndex};
 use proto_types::EnumValueDescriptorProto;
 use std::alloc::{AllocError, Global};
 

@@ -1,8 +1,8 @@
 -- What texts stand for, computed.
 use Rattle.std.specs.Prelude.{◌≡◌, ℕ, pos, neg_ℤ, true, List, [], ◌∷◌, ◌++◌, refl, codes}
 use Rattle.std.specs.declared.result.Result.TheVariants.{Ok, Err}
-use Rattle.pool_kinds.specs.declared.kinds.KindIndex.TheVariants as index
-use Rattle.pool_kinds.specs.declared.default_value.DefaultValue.TheVariants as value
+use Rattle.pool_types.specs.declared.kinds.KindIndex.TheVariants as index
+use Rattle.pool_types.specs.declared.default_value.DefaultValue.TheVariants as value
 use Rattle.default_values.specs.declared.faults.EscapeFault.TheVariants.{MissingEscape, HexTooShort, InvalidHex, OctalTooLarge, InvalidEscape}
 use Rattle.default_values.specs.declared.faults.ValueFault.TheVariants as fault
 use Rattle.default_values.specs.Escapes.{unescaped}

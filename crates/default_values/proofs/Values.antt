@@ -1,8 +1,8 @@
 -- The value of bytes is what their text stands for.
 use Rattle.std.proofs.Common.{◌≡◌, ℕ, List, Ok, Err, ap, sym}
 use Rattle.std.specs.Result.{result_map_both}
-use Rattle.pool_kinds.specs.declared.kinds.KindIndex.TheVariants as index
-use Rattle.pool_kinds.specs.declared.default_value.DefaultValue.TheVariants as value
+use Rattle.pool_types.specs.declared.kinds.KindIndex.TheVariants as index
+use Rattle.pool_types.specs.declared.default_value.DefaultValue.TheVariants as value
 use Rattle.default_values.specs.declared.faults.EscapeFault.{EscapeFault}
 use Rattle.default_values.specs.declared.faults.EscapeFault.TheVariants.{MissingEscape, HexTooShort, InvalidHex, OctalTooLarge, InvalidEscape, OutOfMemory}
 use Rattle.default_values.specs.Escapes.{Bytes, Escaped, EscapeRefused, IsRefusal}

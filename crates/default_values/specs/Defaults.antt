@@ -4,10 +4,10 @@ use Rattle.std.specs.Option.{option_map, ok_or}
 use Rattle.std.specs.Result.{result_map_both}
 use Rattle.std.specs.declared.result.Result.{Result}
 use Rattle.std.specs.declared.result.Result.TheVariants.{Ok, Err}
-use Rattle.pool_kinds.specs.declared.kinds.KindIndex.{KindIndex}
-use Rattle.pool_kinds.specs.declared.kinds.KindIndex.TheVariants as index
-use Rattle.pool_kinds.specs.declared.default_value.DefaultValue.{DefaultValue}
-use Rattle.pool_kinds.specs.declared.default_value.DefaultValue.TheVariants as value
+use Rattle.pool_types.specs.declared.kinds.KindIndex.{KindIndex}
+use Rattle.pool_types.specs.declared.kinds.KindIndex.TheVariants as index
+use Rattle.pool_types.specs.declared.default_value.DefaultValue.{DefaultValue}
+use Rattle.pool_types.specs.declared.default_value.DefaultValue.TheVariants as value
 use Rattle.default_values.specs.declared.faults.EscapeFault.{EscapeFault}
 use Rattle.default_values.specs.declared.faults.EscapeFault.TheVariants as escape
 use Rattle.default_values.specs.declared.faults.ValueFault.{ValueFault}

@@ -7,7 +7,7 @@ use crate::escapes::unescape_c_escape_string;
 use crate::faults::ValueFault;
 use crate::words::{parse_bool, parse_int32};
 use plain_data::{Items, Text};
-use pool_kinds::{DefaultValue, KindIndex};
+use pool_types::{DefaultValue, KindIndex};
 use std::alloc::Global;
 
 /// The value that a text writes, of a kind that is no message, group or enum.

@@ -8,8 +8,8 @@ use Rattle.proto_types.specs.declared.records.field.FieldLabel.TheVariants.{Opti
 use Rattle.proto_types.specs.declared.records.options.FieldOptions.{FieldOptions}
 use Rattle.proto_types.specs.declared.records.options.Options.{Options}
 use Rattle.proto_types.specs.Readers.{flag_of, label_of}
-use Rattle.pool_kinds.specs.declared.kinds.KindIndex.{KindIndex}
-use Rattle.pool_kinds.specs.Kinds.{is_packable, is_message}
+use Rattle.pool_types.specs.declared.kinds.KindIndex.{KindIndex}
+use Rattle.pool_types.specs.Kinds.{is_packable, is_message}
 
 abbrev pub is_repeated : FieldDescriptorProto → Bool
 is_repeated f = elim (label_of f.label) [ Optional ↦ false | Required ↦ false | Repeated ↦ true ]

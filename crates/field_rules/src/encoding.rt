@@ -1,7 +1,7 @@
 ghost use Rattle.std.specs.Prelude.{◌≡◌};
 ghost use Rattle.field_rules.specs.Encoding.{is_packed, packed_of, supports_presence};
 
-use pool_kinds::KindIndex;
+use pool_types::KindIndex;
 use proto_types::{FieldDescriptorProto, FieldLabel};
 
 /// Whether the values of a field of a kind are encoded as one run of bytes: of a repeated number,

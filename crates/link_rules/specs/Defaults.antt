@@ -4,8 +4,8 @@ use Rattle.std.specs.Option.{option_and_then, option_map_or}
 use Rattle.std.specs.declared.option.Option.{Option}
 use Rattle.proto_types.specs.declared.records.field.FieldDescriptorProto.{FieldDescriptorProto}
 use Rattle.proto_types.specs.Readers.{text_of}
-use Rattle.pool_kinds.specs.declared.default_value.DefaultValue.{DefaultValue}
-use Rattle.pool_kinds.specs.declared.kinds.KindIndex.{KindIndex}
+use Rattle.pool_types.specs.declared.default_value.DefaultValue.{DefaultValue}
+use Rattle.pool_types.specs.declared.kinds.KindIndex.{KindIndex}
 use Rattle.pool_types.specs.declared.contents.definition.Definition.{Definition}
 use Rattle.pool_faults.specs.declared.fault.DescriptorErrorKind.{DescriptorErrorKind}
 use Rattle.proto_records.specs.Shown.{Shown}

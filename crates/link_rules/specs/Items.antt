@@ -12,9 +12,9 @@ use Rattle.pool_types.specs.declared.contents.oneof.OneofDescriptorInner.{OneofD
 use Rattle.pool_types.specs.declared.contents.service.ServiceDescriptorInner.{ServiceDescriptorInner}
 use Rattle.pool_types.specs.declared.contents.service.MethodDescriptorInner.{MethodDescriptorInner}
 use Rattle.std.specs.declared.option.Option.{Option}
-use Rattle.pool_kinds.specs.declared.default_value.DefaultValue.{DefaultValue}
-use Rattle.pool_kinds.specs.declared.kinds.KindIndex.{KindIndex}
-use Rattle.pool_kinds.specs.declared.kinds.KindIndex.TheVariants.{Double}
+use Rattle.pool_types.specs.declared.default_value.DefaultValue.{DefaultValue}
+use Rattle.pool_types.specs.declared.kinds.KindIndex.{KindIndex}
+use Rattle.pool_types.specs.declared.kinds.KindIndex.TheVariants.{Double}
 use Rattle.proto_types.specs.declared.records.field.FieldDescriptorProto.{FieldDescriptorProto}
 use Rattle.proto_types.specs.declared.records.service.MethodDescriptorProto.{MethodDescriptorProto}
 use Rattle.proto_types.specs.declared.records.service.ServiceDescriptorProto.{ServiceDescriptorProto}

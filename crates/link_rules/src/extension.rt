@@ -18,9 +18,8 @@ use field_rules::{is_packed, item_number};
 use number_rules::check_extension_number;
 use places::{Owner, Place, identity};
 use plain_data::Text;
-use pool_kinds::KindIndex;
+use pool_types::{ExtensionDescriptorInner, KindIndex};
 use pool_parts::{ResolveNameResult, cardinality_of};
-use pool_types::ExtensionDescriptorInner;
 use proto_types::{FieldDescriptorProto, tag};
 use std::alloc::{AllocError, Global};
 

@@ -1,5 +1,5 @@
 ghost use Rattle.std.specs.Prelude.{◌≡◌, ◌<◌, true, IfOk, OnOk, length, get_or, unwrap_or};
-ghost use Rattle.pool_kinds.specs.declared.kinds.KindIndex.TheVariants.{Double};
+ghost use Rattle.pool_types.specs.declared.kinds.KindIndex.TheVariants.{Double};
 ghost use Rattle.proto_types.specs.Empty.{no_field};
 ghost use Rattle.proto_types.specs.declared.message.DescriptorProto.{out-DescriptorProto};
 ghost use Rattle.proto_records.specs.Counts.{lists_fit};
@@ -20,9 +20,8 @@ use field_rules::{check_oneof_index, is_packed, item_number, oneof_of, supports_
 use number_rules::{MessageRanges, check_field_number};
 use places::{Owner, Place, identity_inside};
 use plain_data::duplicate_given;
-use pool_kinds::{DefaultValue, KindIndex, Syntax};
+use pool_types::{DefaultValue, FieldDescriptorInner, Identity, KindIndex, Syntax};
 use pool_parts::cardinality_of;
-use pool_types::{FieldDescriptorInner, Identity};
 use proto_types::{FieldDescriptorProto, OneofDescriptorProto, tag};
 use std::alloc::AllocError;
 use syntax_rules::syntax_at;

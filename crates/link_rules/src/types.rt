@@ -26,7 +26,7 @@ use linked_records::Setting;
 use places::{Findings, Place};
 use plain_data::Text;
 use pool_faults::DescriptorErrorKind;
-use pool_kinds::{DefaultValue, KindIndex};
+use pool_types::{DefaultValue, KindIndex};
 use pool_parts::{ResolveNameFilter, ResolveNameResult, named_kind, simple_kind};
 use proto_types::{FieldDescriptorProto, FieldType, tag};
 use std::alloc::AllocError;

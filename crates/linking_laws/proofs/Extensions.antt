@@ -2,7 +2,7 @@
 use Rattle.std.proofs.Common.{◌≡◌, ◌<◌, ℕ, Option, unwrap_or, List, [], ◌∷◌, ◌++◌, refl, ap, sym, subst, ◌∙◌}
 use Rattle.proto_types.specs.declared.records.field.FieldDescriptorProto.{FieldDescriptorProto}
 use Rattle.proto_types.specs.Readers.{label_of, number_of, text_of}
-use Rattle.pool_kinds.specs.declared.kinds.KindIndex.TheVariants.{Double}
+use Rattle.pool_types.specs.declared.kinds.KindIndex.TheVariants.{Double}
 use Rattle.proto_records.specs.Changed.{Changes}
 use Rattle.proto_records.specs.Shown.{Shown}
 use Rattle.pool_parts.specs.declared.filter.ResolveNameFilter.TheVariants.{FieldType as AnyType}

@@ -19,7 +19,7 @@ use Rattle.source_labels.specs.Labels.{label_in}
 use Rattle.pool_types.specs.declared.contents.definition.Definition.{Definition}
 use Rattle.pool_faults.specs.declared.fault.DescriptorErrorKind.{DescriptorErrorKind}
 use Rattle.pool_faults.specs.declared.fault.DescriptorErrorKind.TheVariants.{EmptyEnum, InvalidProto3EnumDefault, UnknownSyntax}
-use Rattle.pool_kinds.specs.declared.kinds.Syntax.{Syntax}
+use Rattle.pool_types.specs.declared.kinds.Syntax.{Syntax}
 use Rattle.name_tables.specs.Entries.{Entry, first_of}
 use Rattle.name_tables.proofs.Entries.{first-append}
 use Rattle.proto_records.specs.Changed.{Changes, KeepNames, changed, changed_message}

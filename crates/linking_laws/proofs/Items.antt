@@ -10,9 +10,9 @@ use Rattle.proto_types.specs.Names.{join}
 use Rattle.proto_types.specs.Readers.{number_of, text_of}
 use Rattle.proto_types.specs.declared.message.DescriptorProto.{DescriptorProto}
 use Rattle.proto_types.specs.declared.message.OneofDescriptorProto.{OneofDescriptorProto}
-use Rattle.pool_kinds.specs.declared.default_value.DefaultValue.{DefaultValue}
-use Rattle.pool_kinds.specs.declared.kinds.KindIndex.{KindIndex}
-use Rattle.pool_kinds.specs.declared.kinds.KindIndex.TheVariants.{Double}
+use Rattle.pool_types.specs.declared.default_value.DefaultValue.{DefaultValue}
+use Rattle.pool_types.specs.declared.kinds.KindIndex.{KindIndex}
+use Rattle.pool_types.specs.declared.kinds.KindIndex.TheVariants.{Double}
 use Rattle.pool_types.specs.declared.contents.oneof.OneofDescriptorInner.{OneofDescriptorInner}
 use Rattle.proto_records.specs.Changed.{Changes}
 use Rattle.proto_records.specs.Protos.{of_oneof}

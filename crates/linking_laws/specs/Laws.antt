@@ -12,8 +12,8 @@ use Rattle.proto_types.specs.declared.records.field.FieldDescriptorProto.{FieldD
 use Rattle.proto_types.specs.Lists.{listed}
 use Rattle.proto_types.specs.Names.{fronts}
 use Rattle.proto_types.specs.Readers.{text_of}
-use Rattle.pool_kinds.specs.declared.default_value.DefaultValue.{DefaultValue}
-use Rattle.pool_kinds.specs.declared.kinds.KindIndex.{KindIndex}
+use Rattle.pool_types.specs.declared.default_value.DefaultValue.{DefaultValue}
+use Rattle.pool_types.specs.declared.kinds.KindIndex.{KindIndex}
 use Rattle.pool_types.specs.Contents.{ByText}
 use Rattle.pool_types.specs.declared.contents.definition.Definition.{Definition}
 use Rattle.pool_types.specs.declared.contents.extension.ExtensionDescriptorInner.{ExtensionDescriptorInner}

@@ -11,8 +11,7 @@ ghost use Rattle.pool_inner.specs.LookUps.{definition_named, without_dot};
 
 use crate::inner::DescriptorPoolInner;
 use name_tables::NameTable;
-use pool_kinds::{EnumDescriptor, ExtensionDescriptor, FileDescriptor, MessageDescriptor, ServiceDescriptor};
-use pool_types::{Definition, EnumDescriptorInner, ExtensionDescriptorInner, FileDescriptorInner, MessageDescriptorInner, ServiceDescriptorInner};
+use pool_types::{Definition, EnumDescriptor, EnumDescriptorInner, ExtensionDescriptor, ExtensionDescriptorInner, FileDescriptor, FileDescriptorInner, MessageDescriptor, MessageDescriptorInner, ServiceDescriptor, ServiceDescriptorInner};
 use proto_types::FileDescriptorProto;
 use std::alloc::{AllocError, Global};
 

@@ -2,10 +2,10 @@
 use Rattle.std.specs.Prelude.{ℕ, Bool, true, false, List, codes}
 use Rattle.std.specs.declared.option.Option.{Option}
 use Rattle.std.specs.declared.option.Option.TheVariants.{None, Some}
-use Rattle.pool_kinds.specs.declared.kinds.KindIndex.{KindIndex}
-use Rattle.pool_kinds.specs.declared.kinds.KindIndex.TheVariants as index
-use Rattle.pool_kinds.specs.declared.kinds.Cardinality.{Cardinality}
-use Rattle.pool_kinds.specs.declared.kinds.Cardinality.TheVariants as cardinality
+use Rattle.pool_types.specs.declared.kinds.KindIndex.{KindIndex}
+use Rattle.pool_types.specs.declared.kinds.KindIndex.TheVariants as index
+use Rattle.pool_types.specs.declared.kinds.Cardinality.{Cardinality}
+use Rattle.pool_types.specs.declared.kinds.Cardinality.TheVariants as cardinality
 use Rattle.pool_types.specs.declared.contents.definition.DefinitionKind.{DefinitionKind}
 use Rattle.pool_types.specs.declared.contents.definition.DefinitionKind.TheVariants as definition
 use Rattle.proto_types.specs.declared.records.field.FieldLabel.{FieldLabel}

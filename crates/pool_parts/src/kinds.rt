@@ -1,9 +1,7 @@
 ghost use Rattle.std.specs.Prelude.{◌≡◌};
 ghost use Rattle.pool_parts.specs.Kinds.{simple_kind, named_kind, cardinality_of};
 
-use pool_kinds::{Cardinality, KindIndex};
-
-use pool_types::DefinitionKind;
+use pool_types::{Cardinality, DefinitionKind, KindIndex};
 use proto_types::{FieldLabel, FieldType};
 
 /// The kind of a type that names nothing else; none of a group, a message or an enum.

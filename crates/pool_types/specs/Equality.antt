@@ -7,7 +7,7 @@ use Rattle.std.specs.Cmp.Lexicographic.{pointwise}
 use Rattle.plain_data.specs.Exact.{Exact, ◌and◌, by-parts, given, items-exact, text-exact, given-text, numbers-exact}
 use Rattle.plain_data.specs.MapEquality.{number_map-exact, text_map-exact}
 use Rattle.proto_types.specs.FileEquality.{file-exact}
-use Rattle.pool_kinds.specs.Equality.{cardinality-exact, default-exact, kind_index-exact, syntax-exact}
+use Rattle.pool_types.specs.KindEquality.{cardinality-exact, default-exact, kind_index-exact, syntax-exact}
 use Rattle.pool_types.specs.contracts.contents.definition.DefinitionKindPartialEq.TheImpl as definition_kind
 use Rattle.pool_types.specs.contracts.contents.definition.IdentityPartialEq.TheImpl as identity
 use Rattle.pool_types.specs.contracts.contents.definition.DefinitionPartialEq.TheImpl as definition

@@ -14,8 +14,8 @@ use Rattle.proto_types.specs.declared.records.service.MethodDescriptorProto.{Met
 use Rattle.proto_types.specs.declared.file.FileDescriptorProto.{FileDescriptorProto}
 use Rattle.proto_types.specs.declared.message.DescriptorProto.{out-DescriptorProto}
 use Rattle.proto_types.specs.declared.message.OneofDescriptorProto.{OneofDescriptorProto}
-use Rattle.pool_kinds.specs.declared.kinds.KindIndex.{KindIndex}
-use Rattle.pool_kinds.specs.declared.kinds.KindIndex.TheVariants as index
+use Rattle.pool_types.specs.declared.kinds.KindIndex.{KindIndex}
+use Rattle.pool_types.specs.declared.kinds.KindIndex.TheVariants as index
 use Rattle.pool_types.specs.Contents.{Contents}
 use Rattle.pool_types.specs.declared.contents.definition.DefinitionKind.{DefinitionKind}
 use Rattle.pool_types.specs.declared.contents.definition.DefinitionKind.TheVariants as definition

@@ -11,7 +11,7 @@ use crate::syntax::syntax_at;
 use places::Findings;
 use plain_data::Text;
 use pool_faults::DescriptorErrorKind;
-use pool_kinds::Syntax;
+use pool_types::Syntax;
 use proto_types::{DescriptorProto, FieldDescriptorProto, tag};
 use proto_records::entry_path;
 use source_labels::Label;

@@ -5,7 +5,7 @@ ghost use Rattle.syntax_rules.specs.Enumeration.{enum_faults};
 use crate::syntax::syntax_at;
 use places::Findings;
 use pool_faults::DescriptorErrorKind;
-use pool_kinds::Syntax;
+use pool_types::Syntax;
 use proto_types::{EnumDescriptorProto, tag};
 use std::alloc::AllocError;
 

@@ -6,8 +6,7 @@ ghost use Rattle.syntax_rules.specs.Syntaxes.{known_syntax, syntax_of, syntax_at
 use places::Findings;
 use plain_data::Text;
 use pool_faults::DescriptorErrorKind;
-use pool_kinds::Syntax;
-use pool_types::FileDescriptorInner;
+use pool_types::{FileDescriptorInner, Syntax};
 use proto_types::{FileDescriptorProto, or_empty, tag};
 use std::alloc::AllocError;
 

@@ -8,7 +8,7 @@ ghost use Rattle.script_answers.specs.Answers.{walk_answer, refs_answer};
 ghost use Rattle.descriptor_linker.specs.Report.Answers.{find_answer};
 
 use descriptor_pool::DescriptorPool;
-use pool_kinds::FileDescriptor;
+use pool_types::FileDescriptor;
 use script_answers::{tell_definition, tell_none};
 use std::alloc::{AllocError, Global};
 

@@ -1,8 +1,7 @@
 //! Batches that a pool takes and refuses, and what its names mean then.
 
 use descriptor_pool::{BuildError, DescriptorPool};
-use pool_types::DefinitionKind;
-use pool_kinds::{ExtensionDescriptor, MessageDescriptor};
+use pool_types::{DefinitionKind, ExtensionDescriptor, MessageDescriptor};
 use script_files::files_of;
 use std::alloc::{AllocError, Global};
 use std::process::Abort;

@@ -2,8 +2,7 @@
 
 use super::{batches::pool_of, values::tell_value};
 use descriptor_pool::DescriptorPool;
-use pool_kinds::{Cardinality, ExtensionDescriptor, KindIndex, MessageDescriptor};
-use pool_types::ExtensionDescriptorInner;
+use pool_types::{Cardinality, ExtensionDescriptor, ExtensionDescriptorInner, KindIndex, MessageDescriptor};
 use std::alloc::{AllocError, Global};
 use std::fmt::Write;
 use std::process::Abort;

@@ -2,8 +2,7 @@
 
 use super::batches::FIRST;
 use descriptor_pool::{BuildError, DescriptorPool};
-use pool_kinds::{Cardinality, FileDescriptor, KindIndex, MessageDescriptor};
-use pool_types::{FieldDescriptorInner, FileDescriptorInner, MessageDescriptorInner};
+use pool_types::{Cardinality, FieldDescriptorInner, FileDescriptor, FileDescriptorInner, KindIndex, MessageDescriptor, MessageDescriptorInner};
 use proto_types::FieldDescriptorProto;
 use script_files::files_of;
 use std::alloc::{AllocError, Global};

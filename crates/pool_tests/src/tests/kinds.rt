@@ -2,8 +2,7 @@
 
 use number_rules::is_valid_number;
 use pool_parts::{ResolveNameFilter, cardinality_of, named_kind, simple_kind};
-use pool_kinds::{Cardinality, KindIndex};
-use pool_types::DefinitionKind;
+use pool_types::{Cardinality, DefinitionKind, KindIndex};
 use proto_types::{FieldLabel, FieldType};
 use std::test::Fail;
 

@@ -3,8 +3,7 @@
 
 use super::{items::pool_of, values::tell_value};
 use descriptor_pool::{BuildError, DescriptorPool};
-use pool_kinds::{EnumDescriptor, MessageDescriptor, ServiceDescriptor};
-use pool_types::{EnumDescriptorInner, FieldDescriptorInner, MessageDescriptorInner, ServiceDescriptorInner};
+use pool_types::{EnumDescriptor, EnumDescriptorInner, FieldDescriptorInner, MessageDescriptor, MessageDescriptorInner, ServiceDescriptor, ServiceDescriptorInner};
 use proto_types::{DescriptorProto, FileDescriptorProto};
 use script_files::files_of;
 use std::alloc::{AllocError, Global};

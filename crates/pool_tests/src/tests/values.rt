@@ -2,7 +2,7 @@
 
 use default_values::{EscapeFault, ValueFault, parse_simple_value, unescape_c_escape_string};
 use plain_data::{Duplicate, NumberMap, TextMap};
-use pool_kinds::{DefaultValue, KindIndex};
+use pool_types::{DefaultValue, KindIndex};
 use std::alloc::{AllocError, Global};
 use std::fmt::Write;
 use std::process::Abort;

@@ -3,7 +3,7 @@ ghost use Rattle.std.specs.Str.{IsCharBoundary};
 ghost use Rattle.pool_types.specs.DefinitionKinds.{is_parent};
 
 use plain_data::{Items, Text};
-use pool_kinds::FileDescriptor;
+use crate::FileDescriptor;
 use std::alloc::{AllocError, Global};
 
 /// Where a declaration stands, and its name.

@@ -2,7 +2,7 @@ ghost use Rattle.std.specs.Prelude.{◌≡◌, IfOk};
 
 use super::definition::Identity;
 use plain_data::{Duplicate, Text, duplicate_given};
-use pool_kinds::{Cardinality, DefaultValue, KindIndex};
+use crate::{Cardinality, DefaultValue, KindIndex};
 use std::alloc::{AllocError, Global};
 
 /// A field of a message.

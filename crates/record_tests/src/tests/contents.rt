@@ -2,8 +2,7 @@
 
 use super::copies::check_made;
 use plain_data::{Items, NumberMap, Text, TextMap, same};
-use pool_kinds::{Cardinality, DefaultValue, FileDescriptor, KindIndex, MessageDescriptor};
-use pool_types::{Definition, DefinitionKind, EnumDescriptorInner, EnumValueDescriptorInner, ExtensionDescriptorInner, FieldDescriptorInner, Identity, MessageDescriptorInner, MethodDescriptorInner, OneofDescriptorInner, ServiceDescriptorInner};
+use pool_types::{Cardinality, DefaultValue, Definition, DefinitionKind, EnumDescriptorInner, EnumValueDescriptorInner, ExtensionDescriptorInner, FieldDescriptorInner, FileDescriptor, Identity, KindIndex, MessageDescriptor, MessageDescriptorInner, MethodDescriptorInner, OneofDescriptorInner, ServiceDescriptorInner};
 use std::alloc::{AllocError, Global};
 use std::process::Abort;
 use std::test::Fail;

@@ -1,5 +1,5 @@
 use Rattle.std.proofs.Common.{rules, FitsSigned, w32, to_z-of_z, ◌++◌, unwrap_or, ap, sym, ◌∙◌, append_assoc}
-use Rattle.pool_kinds.specs.declared.kinds.KindIndex.TheVariants.{Double}
+use Rattle.pool_types.specs.declared.kinds.KindIndex.TheVariants.{Double}
 use Rattle.proto_records.specs.Protos.{of_extension}
 use Rattle.proto_records.specs.Shown.{Shown}
 use Rattle.field_rules.specs.Encoding.{is_packed}

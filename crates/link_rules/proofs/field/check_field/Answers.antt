@@ -1,5 +1,5 @@
 use Rattle.std.proofs.Common.{◌++◌, unwrap_or, ap, sym, ◌∙◌, append_assoc}
-use Rattle.pool_kinds.specs.declared.kinds.KindIndex.TheVariants.{Double}
+use Rattle.pool_types.specs.declared.kinds.KindIndex.TheVariants.{Double}
 use Rattle.proto_types.specs.declared.message.DescriptorProto.{out-DescriptorProto}
 use Rattle.proto_records.specs.Protos.{of_field}
 use Rattle.proto_records.specs.Shown.{Shown}

@@ -1,5 +1,0 @@
-use Rattle.std.proofs.Common.{rules}
-use Rattle.pool_kinds.proofs.indexes.MethodDescriptor.new.Goals as goal
-
-pub returns : goal.returns
-returns c = search rules
