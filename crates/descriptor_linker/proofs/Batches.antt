@@ -6,7 +6,7 @@ use Rattle.proto_records.specs.declared.counts.CountKind.{CountKind}
 use Rattle.proto_records.specs.Counts.{counts_in}
 use Rattle.proto_records.proofs.Listings.{on-ok}
 use Rattle.pool_types.specs.Contents.{Contents}
-use Rattle.descriptor_errors.specs.declared.error.DescriptorError.{DescriptorError}
+use Rattle.pool_faults.specs.declared.error.DescriptorError.{DescriptorError}
 use Rattle.link_rules.specs.Broken.{Faults}
 use Rattle.descriptor_pool.specs.Behind.{first_of_both}
 use Rattle.descriptor_pool.specs.Pool.{Batch, faults, faults_of_names, faults_of_references, counts_after}

@@ -1,7 +1,7 @@
 -- Whether a pool is what its linked files make, by what linking them from empty ended in.
 use Rattle.std.proofs.Common.{◌≡◌, ◌≢◌, Bool, false, ◌&&◌, is_ok, [], ◌∷◌, Err, refl, ap, sym, subst, ◌∙◌}
 use Rattle.pool_types.specs.Contents.{Contents, no_contents, files_of}
-use Rattle.descriptor_errors.specs.declared.error.DescriptorError.{DescriptorError}
+use Rattle.pool_faults.specs.declared.error.DescriptorError.{DescriptorError}
 use Rattle.link_rules.specs.Broken.{Faults}
 use Rattle.pool_inner.specs.Equality.{contents_eq}
 use Rattle.descriptor_pool.specs.Pool.{Batch, faults, counts_after, link}

@@ -7,7 +7,7 @@ mod ending;
 mod report;
 mod runs;
 
-pub use descriptor_errors::DescriptorError;
+pub use pool_faults::DescriptorError;
 pub use descriptor_pool::{BuildError, DescriptorPool};
 pub use ending::Ending;
 pub use link_script::{Block, Keyword, Open, Script, ScriptFault, Statement, read_script};
@@ -20,4 +20,4 @@ pub use proto_types::{EnumDescriptorProto, EnumValueDescriptorProto, FieldDescri
 pub use report::{Report, report_of};
 pub use runs::run;
 pub use script_devices::{MemoryInput, MemoryOutput, ReaderInput, ReportOutput, ScriptInput, WriterOutput};
-pub use source_labels::Label;
+pub use pool_faults::Label;

@@ -15,7 +15,7 @@ use Rattle.proto_types.specs.Readers.{text_of, type_of}
 use Rattle.pool_types.specs.declared.contents.definition.Definition.{Definition}
 use Rattle.pool_faults.specs.declared.fault.DescriptorErrorKind.TheVariants.{MissingRequiredField}
 use Rattle.pool_types.specs.Contents.{ByText}
-use Rattle.source_labels.specs.Labels.{label_in}
+use Rattle.pool_faults.specs.Labels.{label_in}
 use Rattle.proto_records.specs.Changed.{changed}
 use Rattle.proto_records.specs.Protos.{Proto, of_file, of_message, of_field, of_oneof, of_service, of_method, of_enum, of_value, of_extension}
 use Rattle.proto_records.specs.Shown.{Shown}

@@ -4,7 +4,7 @@ use Rattle.std.specs.declared.result.Result.{Result}
 use Rattle.std.specs.declared.result.Result.TheVariants.{Ok, Err}
 use Rattle.proto_records.specs.declared.counts.CountKind.{CountKind}
 use Rattle.pool_types.specs.Contents.{Contents}
-use Rattle.descriptor_errors.specs.declared.error.DescriptorError.{DescriptorError}
+use Rattle.pool_faults.specs.declared.error.DescriptorError.{DescriptorError}
 use Rattle.descriptor_pool.specs.declared.error.BuildError.{BuildError}
 use Rattle.descriptor_pool.specs.declared.error.BuildError.TheVariants.{TooMany, Descriptor, OutOfMemory}
 use Rattle.descriptor_pool.specs.Pool.{Batch, faults, counts_after, Accepts, Fits, link}

@@ -24,12 +24,11 @@ ghost use Rattle.reference_pass.specs.Linking.{ItemsAre, lists_in};
 ghost use Rattle.descriptor_pool.specs.Pool.{Made};
 
 use crate::error::BuildError;
-use descriptor_errors::DescriptorError;
+use pool_faults::{DescriptorError, DescriptorErrorKind};
 use growing_pool::GrowingPool;
 use linked_records::Setting;
 use name_pass::NameVisitor;
 use name_tables::{FileNames, HashedNames};
-use pool_faults::DescriptorErrorKind;
 use pool_inner::DescriptorPoolInner;
 use pool_types::FileDescriptorInner;
 use proto_types::FileDescriptorProto;

@@ -1,4 +1,4 @@
-use descriptor_errors::DescriptorError;
+use pool_faults::DescriptorError;
 use proto_records::CountKind;
 use std::alloc::AllocError;
 

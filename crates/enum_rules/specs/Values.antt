@@ -12,7 +12,7 @@ use Rattle.proto_types.specs.declared.records.enumeration.EnumValueDescriptorPro
 use Rattle.proto_types.specs.Lists.{listed, only_if}
 use Rattle.proto_types.specs.Readers.{number_of}
 use Rattle.proto_types.specs.declared.file.FileDescriptorProto.{FileDescriptorProto}
-use Rattle.source_labels.specs.declared.label.Label.{Label}
+use Rattle.pool_faults.specs.declared.label.Label.{Label}
 use Rattle.pool_faults.specs.declared.fault.DescriptorErrorKind.{DescriptorErrorKind}
 use Rattle.pool_faults.specs.declared.fault.DescriptorErrorKind.TheVariants as fault
 use Rattle.proto_records.specs.Shown.{Shown}

@@ -16,9 +16,8 @@ ghost use Rattle.enum_rules.specs.Values.{values_faults};
 
 use crate::ranges::check_reserved;
 use places::{Findings, Place};
-use pool_faults::DescriptorErrorKind;
+use pool_faults::{DescriptorErrorKind, Label};
 use proto_types::{EnumDescriptorProto, tag};
-use source_labels::Label;
 use std::alloc::AllocError;
 use std::collections::BTreeMap;
 use std::collections::btree_map::Entry;

@@ -9,7 +9,7 @@ use Rattle.proto_types.specs.declared.file.FileDescriptorProto.{FileDescriptorPr
 use Rattle.pool_types.specs.declared.kinds.KindIndex.{KindIndex}
 use Rattle.pool_faults.specs.declared.fault.DescriptorErrorKind.{DescriptorErrorKind}
 use Rattle.pool_faults.specs.declared.fault.DescriptorErrorKind.TheVariants.{MissingRequiredField}
-use Rattle.source_labels.specs.Labels.{label_in}
+use Rattle.pool_faults.specs.Labels.{label_in}
 use Rattle.proto_records.specs.Shown.{Shown}
 use Rattle.pool_parts.specs.declared.filter.ResolveNameFilter.TheVariants.{FieldType as AnyType}
 use Rattle.pool_parts.specs.Kinds.{simple_kind}

@@ -1,8 +1,8 @@
 -- Labels of the parts of a declaration.
 use Rattle.std.specs.Prelude.{ℕ, ℤ, List, [], ◌∷◌, ◌++◌}
 use Rattle.proto_types.specs.declared.file.FileDescriptorProto.{FileDescriptorProto}
-use Rattle.source_labels.specs.declared.label.Label.{Label}
-use Rattle.source_labels.specs.Labels.{label_in}
+use Rattle.pool_faults.specs.declared.label.Label.{Label}
+use Rattle.pool_faults.specs.Labels.{label_in}
 use Rattle.proto_records.specs.Shown.{step}
 
 -- of the part with a field number, of what stands at a path of a file

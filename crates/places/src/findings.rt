@@ -1,12 +1,11 @@
 ghost use Rattle.std.specs.Prelude.{◌≡◌, ◌∷◌, ◌<◌, ◌^◌, [], IfOk, OnOk};
-ghost use Rattle.source_labels.specs.Labels.{label_in};
+ghost use Rattle.pool_faults.specs.Labels.{label_in};
 ghost use Rattle.places.specs.Labels.{part_label, entry_label, entry_part_label};
 
 use crate::Place;
-use pool_faults::DescriptorErrorKind;
+use pool_faults::{DescriptorErrorKind, Label, label_at};
 use pool_types::FileDescriptorInner;
 use proto_records::entry_path;
-use source_labels::{Label, label_at};
 use std::alloc::{AllocError, Global};
 
 /// What declarations are checked with: the files that labels name, and the faults that are found.

@@ -2,7 +2,7 @@
 use Rattle.std.specs.Prelude.{◌≡◌, ℕ, pos, negsuc, List, [], ◌∷◌, refl, codes}
 use Rattle.std.specs.Fmt.{digits}
 use Rattle.std.specs.declared.option.Option.TheVariants.{None}
-use Rattle.source_labels.specs.declared.label.Label.{Label}
+use Rattle.pool_faults.specs.declared.label.Label.{Label}
 use Rattle.pool_faults.specs.declared.fault.DescriptorErrorKind.TheVariants as fault
 use Rattle.pool_faults.specs.Texts.{fault_text, labelled_text}
 

@@ -3,7 +3,7 @@ use Rattle.std.proofs.Common.{Bool, true, false, refl, ap, ◌⊎◌, inl, inr}
 use Rattle.std.specs.Cmp.{signed_Decides}
 use Rattle.std.proofs.lemmas.Bool.Decides.{Decides-like}
 use Rattle.plain_data.specs.Exact.{Exact, ◌and◌, text-exact}
-use Rattle.source_labels.specs.Equality.{label-exact}
+use Rattle.pool_faults.specs.LabelEquality.{label-exact}
 use Rattle.pool_faults.specs.contracts.fault.DescriptorErrorKind.{enum}
 use Rattle.pool_faults.specs.contracts.fault.DescriptorErrorKindPartialEq.TheImpl as fault
 use mathlib.Core.Logic.{⊎_elim}

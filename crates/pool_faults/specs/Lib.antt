@@ -1,2 +1,4 @@
+pub mod Labels
+pub mod LabelEquality
 pub mod Texts
 pub mod Equality

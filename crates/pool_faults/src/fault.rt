@@ -4,7 +4,7 @@ ghost use Rattle.std.specs.Option.{option_copied};
 ghost use Rattle.pool_faults.specs.Texts.{shown_label, name_fault_text, reference_fault_text, number_fault_text, range_text, out_of_range_text, between, line_text};
 
 use plain_data::Text;
-use source_labels::Label;
+use crate::Label;
 use std::error::Error;
 use std::fmt;
 

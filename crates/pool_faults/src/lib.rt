@@ -2,7 +2,14 @@
 //! of a batch, with the label and the text of each; and the error of a batch, which has them all.
 #![tactic(auto)]
 
+mod error;
 mod exact;
 mod fault;
+mod files;
+mod label;
+mod label_exact;
 
+pub use error::DescriptorError;
 pub use fault::{DescriptorErrorKind, Labelled};
+pub use files::label_at;
+pub use label::Label;

@@ -6,7 +6,7 @@ use Rattle.pool_faults.specs.declared.fault.DescriptorErrorKind.{DescriptorError
 use Rattle.pool_faults.specs.declared.fault.DescriptorErrorKind.TheVariants.{NameNotFound, NameShadowed, InvalidType}
 use Rattle.proto_types.specs.declared.file.FileDescriptorProto.{FileDescriptorProto}
 use Rattle.pool_parts.specs.Kinds.{filter_text}
-use Rattle.source_labels.specs.Labels.{label_in}
+use Rattle.pool_faults.specs.Labels.{label_in}
 use Rattle.pool_parts.specs.Resolution.{Resolution, found, invalid_type, not_imported, shadowed, not_found}
 
 -- of a reference as it is written, at a path of a file

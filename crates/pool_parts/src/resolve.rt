@@ -15,10 +15,9 @@ use crate::filter::ResolveNameFilter;
 use crate::parents::CandidateParents;
 use name_tables::NameTable;
 use plain_data::Text;
-use pool_faults::DescriptorErrorKind;
+use pool_faults::{DescriptorErrorKind, Label, label_at};
 use pool_types::{Definition, FileDescriptorInner};
 use proto_types::join;
-use source_labels::{Label, label_at};
 use std::alloc::{AllocError, Global};
 use std::collections::BTreeSet;
 

@@ -3,18 +3,17 @@ ghost use Rattle.std.specs.HashMap.{get_by_text};
 ghost use Rattle.std.specs.Str.{bytes_eq};
 ghost use Rattle.proto_records.specs.Counts.{fits_list, lists_fit};
 ghost use Rattle.proto_records.specs.Protos.{of_message};
-ghost use Rattle.source_labels.specs.Labels.{label_in};
+ghost use Rattle.pool_faults.specs.Labels.{label_in};
 ghost use Rattle.places.specs.Tells.{Tells, named_files};
 ghost use Rattle.syntax_rules.specs.CamelCase.{camel_case_key, name_path, camel_case_fault, camel_case_faults, message_own_faults};
 
 use crate::syntax::syntax_at;
 use places::Findings;
 use plain_data::Text;
-use pool_faults::DescriptorErrorKind;
+use pool_faults::{DescriptorErrorKind, Label};
 use pool_types::Syntax;
 use proto_types::{DescriptorProto, FieldDescriptorProto, tag};
 use proto_records::entry_path;
-use source_labels::Label;
 use std::alloc::{AllocError, Global};
 use std::collections::HashMap;
 

@@ -3,7 +3,7 @@ use Rattle.std.specs.Prelude.{ℕ, Bool, true, false, ◌&&◌, is_ok, if◌then
 use Rattle.std.specs.Option.{option_map_or}
 use Rattle.proto_types.specs.Readers.{text_of}
 use Rattle.pool_types.specs.Contents.{Contents, no_contents, files_of}
-use Rattle.source_labels.specs.Labels.{file_at}
+use Rattle.pool_faults.specs.Labels.{file_at}
 use Rattle.link_rules.specs.Broken.{Faults}
 use Rattle.pool_inner.specs.Equality.{contents_eq}
 use Rattle.pool_inner.specs.LookUps.{definition_named}

@@ -1,10 +1,9 @@
 //! The faults of refused batches, as they are printed.
 
 use super::rules::built;
-use descriptor_errors::DescriptorError;
+use pool_faults::{DescriptorError, DescriptorErrorKind, Labelled};
 use descriptor_pool::BuildError;
 use plain_data::Text;
-use pool_faults::{DescriptorErrorKind, Labelled};
 use proto_records::CountKind;
 use script_files::files_of;
 use std::alloc::{AllocError, Global};

@@ -2,11 +2,10 @@
 
 use name_tables::{HashedNames, NameTable};
 use plain_data::Items;
-use pool_faults::Labelled;
+use pool_faults::{Label, Labelled, label_at};
 use pool_parts::{CandidateParents, ResolveNameFilter, ResolveNameResult, resolve_name};
 use pool_types::{Definition, DefinitionKind, FileDescriptorInner, Syntax};
 use script_files::files_of;
-use source_labels::{Label, label_at};
 use std::alloc::{AllocError, Global};
 use std::collections::BTreeSet;
 use std::fmt::Write;

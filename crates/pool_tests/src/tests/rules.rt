@@ -1,13 +1,11 @@
 //! The faults of numbers, of ranges, of oneofs, of JSON names, of values, and of methods.
 
 use super::extension_faults::{DEFAULT_FAULTS, EXTENSION_FAULTS};
-use descriptor_errors::DescriptorError;
+use pool_faults::{DescriptorError, DescriptorErrorKind, Label, Labelled};
 use descriptor_pool::{BuildError, DescriptorPool};
 use plain_data::Text;
-use pool_faults::{DescriptorErrorKind, Labelled};
 use proto_types::FileDescriptorProto;
 use script_files::files_of;
-use source_labels::Label;
 use std::alloc::{AllocError, Global};
 use std::fmt::Write;
 use std::process::Abort;

@@ -4,7 +4,7 @@ use Rattle.proto_types.specs.declared.tag.file.TheConstants.{DEPENDENCY}
 use Rattle.proto_types.specs.Lists.{only_if}
 use Rattle.proto_records.specs.Shown.{step}
 use Rattle.proto_records.proofs.Listings.{on-ok}
-use Rattle.source_labels.specs.Labels.{label_in}
+use Rattle.pool_faults.specs.Labels.{label_in}
 use Rattle.pool_faults.specs.declared.fault.DescriptorErrorKind.{DescriptorErrorKind}
 use Rattle.pool_faults.specs.declared.fault.DescriptorErrorKind.TheVariants.{FileNotFound}
 use Rattle.link_rules.specs.Reading.{setting_of}

@@ -1,5 +1,0 @@
-use Rattle.std.proofs.Common.{rules}
-use Rattle.descriptor_errors.proofs.error.DescriptorError.line.Goals as goal
-
-pub returns : goal.returns
-returns c = search rules

@@ -1,0 +1,61 @@
+-- Where something stands: a file's name, a path, and lines and columns in its source.
+use Rattle.std.specs.Prelude.{ℕ, ℤ, pos, negsuc, List, [], ◌∷◌, slice_get, unwrap_or, find, int_lt, if◌then◌else◌}
+use Rattle.std.specs.Cmp.Lexicographic.{pointwise}
+use Rattle.std.specs.List.{list_any}
+use Rattle.std.specs.Option.{option_map_or, option_and_then}
+use Rattle.std.specs.Ordering.{int_eq}
+use Rattle.std.specs.declared.option.Option.{Option}
+use Rattle.std.specs.declared.option.Option.TheVariants.{None, Some}
+use Rattle.proto_types.specs.EmptyFile.{no_file}
+use Rattle.proto_types.specs.Readers.{text_of}
+use Rattle.proto_types.specs.declared.records.source.Location.{Location}
+use Rattle.pool_faults.specs.declared.label.Label.{Label}
+use Rattle.proto_types.specs.declared.file.FileDescriptorProto.{FileDescriptorProto}
+
+-- the file with an index
+abbrev pub file_at : List FileDescriptorProto → ℕ → FileDescriptorProto
+file_at files n = unwrap_or (slice_get files n) no_file
+
+-- start line, start column, end line, end column, of these or of three without the end line
+abbrev pub four_of : List ℤ → Option (List ℤ)
+four_of (line ∷ start ∷ last ∷ []) = Some (line ∷ start ∷ line ∷ last ∷ [])
+four_of (line ∷ start ∷ below ∷ last ∷ []) = Some (line ∷ start ∷ below ∷ last ∷ [])
+four_of _ = None
+
+-- the same, where none is negative
+abbrev pub span_of : List ℤ → Option (List ℤ)
+span_of numbers = if list_any (λ n. int_lt n (pos 0)) numbers then None else four_of numbers
+
+-- what a file's record says of its source
+abbrev pub locations : FileDescriptorProto → List Location
+locations f = option_map_or (λ s. s.location) f.source_code_info []
+
+-- of the first location of the path
+abbrev pub span_at : FileDescriptorProto → List ℤ → Option (List ℤ)
+span_at f path = option_and_then (λ l. span_of l.span) (find (λ l. pointwise int_eq l.path path) (locations f))
+
+abbrev pub label : FileDescriptorProto → List ℤ → Label
+label f path = record { file = text_of f.name; path = path; span = span_at f path }
+
+-- in the file with an index
+abbrev pub label_in : List FileDescriptorProto → ℕ → List ℤ → Label
+label_in files file path = label (file_at files file) path
+
+-- a number that is not negative
+abbrev pub natural : ℤ → Option ℕ
+natural (pos n) = Some n
+natural (negsuc _) = None
+
+-- the line and the column at which a span begins
+abbrev pub start_line : List ℤ → Option ℕ
+start_line span = option_and_then natural (slice_get span 0)
+
+abbrev pub start_column : List ℤ → Option ℕ
+start_column span = option_and_then natural (slice_get span 1)
+
+-- the same of a label, if its span is known
+abbrev pub label_line : Label → Option ℕ
+label_line l = option_and_then start_line l.span
+
+abbrev pub label_column : Label → Option ℕ
+label_column l = option_and_then start_column l.span

@@ -1,0 +1,108 @@
+ghost use Rattle.std.specs.Prelude.{◌≡◌, ◌≢◌, []};
+ghost use Rattle.std.specs.Option.{option_copied, option_map, option_and_then};
+ghost use Rattle.pool_faults.specs.Labels.{label_line, label_column};
+ghost use Rattle.pool_faults.specs.Texts.{first_label};
+
+use plain_data::Items;
+use crate::{DescriptorErrorKind, Label, Labelled};
+use std::error::Error;
+use std::fmt;
+
+/// The faults of a batch, of which there is at least one.
+#[derive(Drop)]
+pub struct DescriptorError {
+    pub errors: Items<DescriptorErrorKind>,
+    ghost some: { errors ≢ [] },
+}
+
+impl DescriptorError {
+    /// Faults in their order, which must be some.
+    pub fn new(errors: Vec<DescriptorErrorKind>) -> DescriptorError
+        requires { errors.items ≢ [] }
+        ensures { result.errors ≡ errors.items }
+    {
+        DescriptorError {
+            errors: Items::from_vec(errors),
+        }
+    }
+
+    /// All faults, in order.
+    pub fn errors(&self) -> &[DescriptorErrorKind]
+        ensures { result.now ≡ self.now.errors }
+    {
+        self.errors.as_slice()
+    }
+
+    /// The name of the file that the first fault shows, or none where it shows no label.
+    pub fn file(&self) -> Option<&str>
+        ensures { option_copied result ≡ option_map (λ l. l.file) (first_label self.now.errors) }
+    {
+        match self.first_label() {
+            Some(label) => Some(label.file()),
+            None => None,
+        }
+    }
+
+    /// The line at which what the first fault shows begins, from 0, or none where it isn't known.
+    pub fn line(&self) -> Option<usize>
+        ensures { result ≡ option_and_then label_line (first_label self.now.errors) }
+    {
+        self.first_label()?.line()
+    }
+
+    /// The column at which what the first fault shows begins, from 0, or none where it isn't known.
+    pub fn column(&self) -> Option<usize>
+        ensures { result ≡ option_and_then label_column (first_label self.now.errors) }
+    {
+        self.first_label()?.column()
+    }
+
+    /// The path that the first fault shows, or none where it shows no label.
+    pub fn path(&self) -> Option<&[i32]>
+        ensures { option_copied result ≡ option_map (λ l. l.path) (first_label self.now.errors) }
+    {
+        match self.first_label() {
+            Some(label) => Some(label.path()),
+            None => None,
+        }
+    }
+
+    fn first_label(&self) -> Option<&Label>
+        ensures { option_copied result ≡ first_label self.now.errors }
+    {
+        self.errors().first()?.label()
+    }
+}
+
+impl fmt::Display for DescriptorError {
+    ghost use Rattle.std.specs.Prelude.{Some};
+    ghost use Rattle.pool_faults.specs.Texts.{first_text};
+
+    ghost output = { λ e. Some (first_text e.errors) };
+
+    fn fmt<W: fmt::Write>(&self, f: &mut fmt::Formatter<W>) -> fmt::Result {
+        match self.errors().first() {
+            Some(first) => write!(f, "{first}"),
+            None => Ok(()),
+        }
+    }
+}
+
+impl fmt::Debug for DescriptorError {
+    ghost use Rattle.std.specs.Prelude.{Some};
+    ghost use Rattle.pool_faults.specs.Texts.{first_labelled_text};
+
+    ghost debug_output = { λ e. Some (first_labelled_text e.errors) };
+
+    fn fmt<W: fmt::Write>(&self, f: &mut fmt::Formatter<W>) -> fmt::Result {
+        match self.errors().first() {
+            Some(first) => {
+                let first = Labelled(first);
+                write!(f, "{first}")
+            }
+            None => Ok(()),
+        }
+    }
+}
+
+impl Error for DescriptorError {}
