@@ -1,11 +1,11 @@
 ghost use Rattle.std.specs.Prelude.{◌≡◌, [], ◌∷◌, ◌++◌, map, IsOk, IfOk, OnOk};
-ghost use Rattle.proto_records.specs.Fits.{counts_with};
-ghost use Rattle.proto_records.specs.Declarations.{declarations};
-ghost use Rattle.proto_records.specs.Listed.{declaration_of};
+ghost use Rattle.record_walk.specs.Fits.{counts_with};
+ghost use Rattle.record_walk.specs.Declarations.{declarations};
+ghost use Rattle.record_walk.specs.Listed.{declaration_of};
 
 use plain_data::{Items, Text};
 use proto_types::{DescriptorProto, EnumDescriptorProto, EnumValueDescriptorProto, FieldDescriptorProto, FileDescriptorProto, MethodDescriptorProto, OneofDescriptorProto, ServiceDescriptorProto};
-use proto_records::{Counts, Declaration, DeclarationKind, Visitor, walk_files};
+use record_walk::{Counts, Declaration, DeclarationKind, Visitor, walk_files};
 use std::alloc::{AllocError, Global};
 use std::marker::Model;
 
@@ -18,7 +18,7 @@ pub struct Lister {
 
 impl Model for Lister {
     ghost use Rattle.std.specs.Prelude.{List};
-    ghost use Rattle.proto_records.specs.declared.declaration.Declaration.{Declaration};
+    ghost use Rattle.record_walk.specs.declared.declaration.Declaration.{Declaration};
 
     ghost Value = { List Declaration };
 
@@ -82,7 +82,7 @@ impl Lister {
 impl Visitor for Lister {
     ghost use Rattle.std.specs.Prelude.{[], ◌++◌, map};
     ghost use Rattle.pool_types.specs.Contents.{no_contents};
-    ghost use Rattle.proto_records.specs.Listed.{declaration_of};
+    ghost use Rattle.record_walk.specs.Listed.{declaration_of};
 
     ghost after = { λ l ds.
         record { contents = no_contents; faults = []; listed = l ++ map declaration_of ds } };

@@ -1,10 +1,10 @@
 -- What a session makes of a batch, by what linking it ended in.
 use Rattle.std.proofs.Common.{◌≡◌, ◌≢◌, ℕ, List, [], ◌∷◌, ◌++◌, IsOk, OnOk, Ok, Err, refl, ap, sym, subst, ◌∙◌}
 use Rattle.std.specs.declared.result.Result.{Result}
-use Rattle.proto_records.specs.declared.counts.Counts.{Counts}
-use Rattle.proto_records.specs.declared.counts.CountKind.{CountKind}
-use Rattle.proto_records.specs.Counts.{counts_in}
-use Rattle.proto_records.proofs.Listings.{on-ok}
+use Rattle.record_walk.specs.declared.counts.Counts.{Counts}
+use Rattle.record_walk.specs.declared.counts.CountKind.{CountKind}
+use Rattle.record_walk.specs.Counts.{counts_in}
+use Rattle.record_walk.proofs.Listings.{on-ok}
 use Rattle.pool_types.specs.Contents.{Contents}
 use Rattle.pool_faults.specs.declared.error.DescriptorError.{DescriptorError}
 use Rattle.link_rules.specs.Broken.{Faults}

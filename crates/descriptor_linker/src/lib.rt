@@ -15,7 +15,7 @@ pub use plain_data::{Items, Text};
 pub use pool_faults::DescriptorErrorKind;
 pub use pool_types::{Cardinality, Definition, DefinitionKind, FieldDescriptorInner, FileDescriptor, FileDescriptorInner, Identity, KindIndex, MessageDescriptor, MessageDescriptorInner, OneofDescriptorInner, Syntax};
 pub use proto_types::{DescriptorProto, FileDescriptorProto};
-pub use proto_records::{CountKind, Counts};
+pub use record_walk::{CountKind, Counts};
 pub use proto_types::{EnumDescriptorProto, EnumValueDescriptorProto, FieldDescriptorProto, Location, MethodDescriptorProto, ServiceDescriptorProto};
 pub use report::{Report, report_of};
 pub use runs::run;

@@ -4,7 +4,7 @@ use Rattle.std.proofs.Math.Seq.{drop-append_seam}
 use Rattle.std.proofs.lemmas.List.{drop-map, length-drop, length-map, length-take-le, take_all}
 use Rattle.pool_types.specs.declared.contents.file.FileDescriptorInner.{FileDescriptorInner}
 use Rattle.proto_types.specs.declared.file.FileDescriptorProto.{FileDescriptorProto}
-use Rattle.proto_records.specs.Counts.{counts_in}
+use Rattle.record_walk.specs.Counts.{counts_in}
 use Rattle.growing_pool.specs.declared.growing.GrowingPool.{GrowingPool}
 use Rattle.growing_pool.specs.Extended.{cut}
 use Rattle.growing_pool.specs.Growing.{kept_in, records_from}

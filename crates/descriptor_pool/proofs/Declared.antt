@@ -11,18 +11,18 @@ use Rattle.pool_parts.specs.declared.filter.ResolveNameFilter.TheVariants.{Field
 use Rattle.proto_types.specs.declared.file.FileDescriptorProto.{FileDescriptorProto}
 use Rattle.proto_types.specs.declared.records.field.FieldDescriptorProto.{FieldDescriptorProto}
 use Rattle.proto_types.specs.Readers.{text_of}
-use Rattle.proto_records.specs.declared.counts.Counts.{Counts}
-use Rattle.proto_records.specs.Changed.{Changes, KeepNames, changed, changed_file, changed_files}
-use Rattle.proto_records.specs.Counts.{no_counts, counted, counting, counts_in}
-use Rattle.proto_records.specs.Declarations.{declarations, file_walk}
-use Rattle.proto_records.specs.Protos.{Proto, of_file, of_message, of_field, of_oneof, of_service, of_method, of_enum, of_value, of_extension, as_file, as_message, as_enum, as_service, as_extension}
-use Rattle.proto_records.specs.Shown.{Shown, of_kind, file_shown}
-use Rattle.proto_records.specs.Walking.{within_file}
-use Rattle.proto_records.proofs.Appended.{declarations-append}
-use Rattle.proto_records.proofs.Changed.{counted-changed, declare-changed}
-use Rattle.proto_records.proofs.Counted.{counted-append, counts_are}
-use Rattle.proto_records.proofs.Paths.{one-file}
-use Rattle.proto_records.proofs.Walks.{IsInside, within-all}
+use Rattle.record_walk.specs.declared.counts.Counts.{Counts}
+use Rattle.record_walk.specs.Changed.{Changes, KeepNames, changed, changed_file, changed_files}
+use Rattle.record_walk.specs.Counts.{no_counts, counted, counting, counts_in}
+use Rattle.record_walk.specs.Declarations.{declarations, file_walk}
+use Rattle.record_walk.specs.Protos.{Proto, of_file, of_message, of_field, of_oneof, of_service, of_method, of_enum, of_value, of_extension, as_file, as_message, as_enum, as_service, as_extension}
+use Rattle.record_walk.specs.Shown.{Shown, of_kind, file_shown}
+use Rattle.record_walk.specs.Walking.{within_file}
+use Rattle.record_walk.proofs.Appended.{declarations-append}
+use Rattle.record_walk.proofs.Changed.{counted-changed, declare-changed}
+use Rattle.record_walk.proofs.Counted.{counted-append, counts_are}
+use Rattle.record_walk.proofs.Paths.{one-file}
+use Rattle.record_walk.proofs.Walks.{IsInside, within-all}
 use Rattle.places.specs.Each.{each}
 use Rattle.enum_rules.specs.Items.{enum_item}
 use Rattle.link_rules.specs.Items.{file_item, message_item, service_item, extension_item}

@@ -16,8 +16,8 @@ use Rattle.proto_types.specs.Readers.{text_of}
 use Rattle.pool_types.specs.Contents.{Contents, no_contents}
 use Rattle.pool_types.specs.declared.contents.extension.ExtensionDescriptorInner.{ExtensionDescriptorInner}
 use Rattle.pool_types.specs.declared.contents.message.MessageDescriptorInner.{MessageDescriptorInner}
-use Rattle.proto_records.specs.Protos.{Proto, as_extension, as_message, of_file, of_message, of_field, of_oneof, of_service, of_method, of_enum, of_value, of_extension}
-use Rattle.proto_records.specs.Shown.{Shown, of_kind}
+use Rattle.record_walk.specs.Protos.{Proto, as_extension, as_message, of_file, of_message, of_field, of_oneof, of_service, of_method, of_enum, of_value, of_extension}
+use Rattle.record_walk.specs.Shown.{Shown, of_kind}
 use Rattle.pool_parts.specs.declared.filter.ResolveNameFilter.TheVariants.{Message}
 use Rattle.pool_parts.specs.References.{reference_fault}
 use Rattle.pool_parts.specs.Resolution.{Resolution, found, invalid_type, not_imported, shadowed, not_found}

@@ -9,21 +9,21 @@ use Rattle.name_tables.specs.Entries.{first_of, names, names_with}
 use Rattle.name_tables.proofs.Entries.{get-with}
 use Rattle.pool_types.specs.Contents.{ByText}
 use Rattle.std.specs.FinMap as finite
-use Rattle.proto_records.proofs.Room.{room-fits}
-use Rattle.proto_records.proofs.Counted.{counted-append}
+use Rattle.record_walk.proofs.Room.{room-fits}
+use Rattle.record_walk.proofs.Counted.{counted-append}
 use Rattle.name_tables.specs.NameTables.{AllBefore, FileNamesBefore}
 use Rattle.name_tables.proofs.Names.{get-lookup}
 use Rattle.proto_types.specs.Readers.{text_of}
-use Rattle.proto_records.specs.declared.counts.Counts.{Counts}
-use Rattle.proto_records.specs.Counts.{counted, lists_fit}
-use Rattle.proto_records.specs.Fits.{counts_with}
-use Rattle.proto_records.specs.FullNames.{CanBeRead}
-use Rattle.proto_records.proofs.FullNames.{declarations-read}
-use Rattle.proto_records.specs.Declarations.{declarations, file_walk}
-use Rattle.proto_records.specs.Protos.{Proto, of_file, of_message, of_field, of_oneof, of_service, of_method, of_enum, of_value, of_extension}
-use Rattle.proto_records.specs.Shown.{Shown}
-use Rattle.proto_records.proofs.Paths.{one-file}
-use Rattle.proto_records.proofs.Walks.{file-all}
+use Rattle.record_walk.specs.declared.counts.Counts.{Counts}
+use Rattle.record_walk.specs.Counts.{counted, lists_fit}
+use Rattle.record_walk.specs.Fits.{counts_with}
+use Rattle.record_walk.specs.FullNames.{CanBeRead}
+use Rattle.record_walk.proofs.FullNames.{declarations-read}
+use Rattle.record_walk.specs.Declarations.{declarations, file_walk}
+use Rattle.record_walk.specs.Protos.{Proto, of_file, of_message, of_field, of_oneof, of_service, of_method, of_enum, of_value, of_extension}
+use Rattle.record_walk.specs.Shown.{Shown}
+use Rattle.record_walk.proofs.Paths.{one-file}
+use Rattle.record_walk.proofs.Walks.{file-all}
 use Rattle.name_pass.specs.Entered.{entries, entries_of, file_entries, file_entries_of, package_entry, packages}
 use Rattle.descriptor_pool.proofs.Resolved.{all-append}
 

@@ -2,11 +2,11 @@
 use Rattle.std.proofs.Common.{◌≡◌, ◌∷◌, refl, rules, IsOk, Result, Ok, Err, OnOk, OnErr, subst, List, [], length, ap, sym, ◌∙◌}
 use Rattle.proto_types.specs.declared.file.FileDescriptorProto.{FileDescriptorProto}
 use Rattle.pool_types.specs.Contents.{Contents}
-use Rattle.proto_records.specs.declared.counts.Counts.{Counts}
-use Rattle.proto_records.specs.Counts.{counts_in}
-use Rattle.proto_records.specs.Fits.{counts_with}
-use Rattle.proto_records.specs.Walking.{WithinLimits}
-use Rattle.proto_records.proofs.Room.{room-fits}
+use Rattle.record_walk.specs.declared.counts.Counts.{Counts}
+use Rattle.record_walk.specs.Counts.{counts_in}
+use Rattle.record_walk.specs.Fits.{counts_with}
+use Rattle.record_walk.specs.Walking.{WithinLimits}
+use Rattle.record_walk.proofs.Room.{room-fits}
 use Rattle.link_rules.specs.Broken.{Faults}
 use Rattle.link_rules.specs.NamesBegin.{NamesBegin}
 use Rattle.descriptor_pool.specs.declared.error.BuildError.{BuildError}

@@ -7,14 +7,14 @@ use Rattle.proto_types.specs.declared.file.FileDescriptorProto.{FileDescriptorPr
 use Rattle.proto_types.specs.Readers.{text_of}
 use Rattle.pool_types.specs.Contents.{Contents, files_of}
 use Rattle.pool_types.specs.declared.contents.definition.Definition.{Definition}
-use Rattle.proto_records.specs.declared.counts.Counts.{Counts}
-use Rattle.proto_records.specs.Counts.{no_counts, counted, counting}
-use Rattle.proto_records.specs.Declarations.{declarations}
-use Rattle.proto_records.specs.Indexes.{HasIndex}
-use Rattle.proto_records.specs.Protos.{Proto, of_file, of_message, of_field, of_oneof, of_service, of_method, of_enum, of_value, of_extension}
-use Rattle.proto_records.specs.Shown.{Shown}
-use Rattle.proto_records.proofs.Counted.{counted-append, counted-plus}
-use Rattle.proto_records.proofs.Indexes.{indexes-count-on}
+use Rattle.record_walk.specs.declared.counts.Counts.{Counts}
+use Rattle.record_walk.specs.Counts.{no_counts, counted, counting}
+use Rattle.record_walk.specs.Declarations.{declarations}
+use Rattle.record_walk.specs.Indexes.{HasIndex}
+use Rattle.record_walk.specs.Protos.{Proto, of_file, of_message, of_field, of_oneof, of_service, of_method, of_enum, of_value, of_extension}
+use Rattle.record_walk.specs.Shown.{Shown}
+use Rattle.record_walk.proofs.Counted.{counted-append, counted-plus}
+use Rattle.record_walk.proofs.Indexes.{indexes-count-on}
 use Rattle.name_tables.specs.Entries.{names}
 use Rattle.name_tables.proofs.Names.{get-lookup}
 use Rattle.link_rules.specs.Messages.{message_index}

@@ -7,8 +7,8 @@ use Rattle.places.specs.Each.{each}
 use Rattle.pool_types.specs.Contents.{Contents}
 use Rattle.pool_types.specs.declared.contents.extension.ExtensionDescriptorInner.{ExtensionDescriptorInner}
 use Rattle.pool_types.specs.declared.contents.message.MessageDescriptorInner.{MessageDescriptorInner}
-use Rattle.proto_records.specs.Counts.{counts_in}
-use Rattle.proto_records.proofs.Counted.{counts_are}
+use Rattle.record_walk.specs.Counts.{counts_in}
+use Rattle.record_walk.proofs.Counted.{counts_are}
 use Rattle.link_rules.specs.NamesBegin.{MessageNamesBegin, NamesBegin}
 use Rattle.growing_pool.specs.Extended.{extended_by, extending, with_extended}
 use Rattle.growing_pool.proofs.Each.{all-each, length-each}

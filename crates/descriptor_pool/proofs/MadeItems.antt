@@ -4,8 +4,8 @@ use Rattle.std.proofs.lemmas.List.{length-take-le, take-append-drop}
 use Rattle.std.specs.List.{AllByRecursion}
 use Rattle.pool_types.specs.Contents.{Contents}
 use Rattle.places.specs.Each.{each}
-use Rattle.proto_records.specs.Declarations.{declarations}
-use Rattle.proto_records.specs.Shown.{Shown}
+use Rattle.record_walk.specs.Declarations.{declarations}
+use Rattle.record_walk.specs.Shown.{Shown}
 use Rattle.link_rules.specs.Items.{file_item}
 use Rattle.linked_records.specs.Setting.{Setting}
 use Rattle.reference_pass.specs.Against.{setting_with}

@@ -22,15 +22,15 @@ use Rattle.pool_types.specs.declared.contents.service.ServiceDescriptorInner.{Se
 use Rattle.name_tables.specs.Entries.{first_of, names_with}
 use Rattle.name_tables.proofs.Entries.{get-with}
 use Rattle.places.specs.Each.{each}
-use Rattle.proto_records.specs.declared.counts.Counts.{Counts}
-use Rattle.proto_records.specs.Counts.{count_limit, counted, counts_in}
-use Rattle.proto_records.specs.Declarations.{declarations}
-use Rattle.proto_records.specs.Fits.{counts_with}
-use Rattle.proto_records.specs.Indexes.{HasIndex}
-use Rattle.proto_records.specs.Protos.{Proto, of_file, of_message, of_field, of_oneof, of_service, of_method, of_enum, of_value, of_extension, as_message, as_enum, as_service, as_extension}
-use Rattle.proto_records.specs.Shown.{Shown, of_kind}
-use Rattle.proto_records.proofs.Indexes.{indexes-count-on}
-use Rattle.proto_records.proofs.Room.{room-fits}
+use Rattle.record_walk.specs.declared.counts.Counts.{Counts}
+use Rattle.record_walk.specs.Counts.{count_limit, counted, counts_in}
+use Rattle.record_walk.specs.Declarations.{declarations}
+use Rattle.record_walk.specs.Fits.{counts_with}
+use Rattle.record_walk.specs.Indexes.{HasIndex}
+use Rattle.record_walk.specs.Protos.{Proto, of_file, of_message, of_field, of_oneof, of_service, of_method, of_enum, of_value, of_extension, as_message, as_enum, as_service, as_extension}
+use Rattle.record_walk.specs.Shown.{Shown, of_kind}
+use Rattle.record_walk.proofs.Indexes.{indexes-count-on}
+use Rattle.record_walk.proofs.Room.{room-fits}
 use Rattle.enum_rules.specs.Items.{enum_item}
 use Rattle.link_rules.specs.Items.{extension_item, message_item, service_item}
 use Rattle.linked_records.specs.Setting.{Setting}

@@ -7,8 +7,8 @@ use Rattle.proto_types.specs.Lists.{after_each}
 use Rattle.proto_types.specs.Readers.{text_of}
 use Rattle.name_tables.specs.Entries.{Entry, names_with}
 use Rattle.name_tables.proofs.Entries.{get-with, with-more, with-nothing}
-use Rattle.proto_records.specs.Protos.{Proto, of_file, of_message, of_field, of_oneof, of_service, of_method, of_enum, of_value, of_extension}
-use Rattle.proto_records.specs.Shown.{Shown}
+use Rattle.record_walk.specs.Protos.{Proto, of_file, of_message, of_field, of_oneof, of_service, of_method, of_enum, of_value, of_extension}
+use Rattle.record_walk.specs.Shown.{Shown}
 use Rattle.pool_types.specs.Contents.{Contents}
 use Rattle.proto_types.specs.declared.file.FileDescriptorProto.{FileDescriptorProto}
 use Rattle.syntax_rules.specs.Syntaxes.{syntax_faults}

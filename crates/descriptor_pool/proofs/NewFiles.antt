@@ -5,10 +5,10 @@ use Rattle.std.proofs.lemmas.List.{drop_all}
 use Rattle.places.specs.Each.{each}
 use Rattle.pool_types.specs.Contents.{Contents}
 use Rattle.name_tables.proofs.Entries.{with-nothing}
-use Rattle.proto_records.specs.Counts.{counts_in}
-use Rattle.proto_records.specs.Fits.{counts_with}
-use Rattle.proto_records.specs.Walking.{WithinLimits}
-use Rattle.proto_records.specs.declared.counts.Counts.{Counts}
+use Rattle.record_walk.specs.Counts.{counts_in}
+use Rattle.record_walk.specs.Fits.{counts_with}
+use Rattle.record_walk.specs.Walking.{WithinLimits}
+use Rattle.record_walk.specs.declared.counts.Counts.{Counts}
 use Rattle.proto_types.specs.declared.file.FileDescriptorProto.{FileDescriptorProto}
 use Rattle.descriptor_pool.specs.Behind.{names_behind, references_behind, linked_behind}
 use Rattle.growing_pool.specs.Extended.{extended_by}

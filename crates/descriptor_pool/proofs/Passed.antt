@@ -7,12 +7,12 @@ use Rattle.pool_faults.specs.declared.fault.DescriptorErrorKind.{DescriptorError
 use Rattle.pool_types.specs.Contents.{ByText, Contents, no_contents}
 use Rattle.pool_types.specs.declared.contents.file.FileDescriptorInner.{FileDescriptorInner}
 use Rattle.proto_types.specs.declared.file.FileDescriptorProto.{FileDescriptorProto}
-use Rattle.proto_records.specs.declared.counts.Counts.{Counts}
-use Rattle.proto_records.specs.Declarations.{declarations}
+use Rattle.record_walk.specs.declared.counts.Counts.{Counts}
+use Rattle.record_walk.specs.Declarations.{declarations}
 use Rattle.pool_types.specs.declared.contents.definition.Definition.{Definition}
 use Rattle.name_tables.specs.NameTables.{file_names_before, without_files_from}
-use Rattle.proto_records.specs.Progress.{HasSeen, Progress}
-use Rattle.proto_records.specs.Shown.{Shown}
+use Rattle.record_walk.specs.Progress.{HasSeen, Progress}
+use Rattle.record_walk.specs.Shown.{Shown}
 use Rattle.name_pass.specs.declared.names.NameVisitor.{NameVisitor}
 use Rattle.name_pass.specs.State.{borrows_of, first_new, kept_of, records_of, state_of}
 use Rattle.name_pass.specs.Steps.{NameState, name_progress, name_step, state_at}

@@ -16,9 +16,9 @@ use Rattle.pool_types.specs.declared.contents.definition.Definition.{Definition}
 use Rattle.pool_faults.specs.declared.fault.DescriptorErrorKind.TheVariants.{MissingRequiredField}
 use Rattle.pool_types.specs.Contents.{ByText}
 use Rattle.pool_faults.specs.Labels.{label_in}
-use Rattle.proto_records.specs.Changed.{changed}
-use Rattle.proto_records.specs.Protos.{Proto, of_file, of_message, of_field, of_oneof, of_service, of_method, of_enum, of_value, of_extension}
-use Rattle.proto_records.specs.Shown.{Shown}
+use Rattle.record_walk.specs.Changed.{changed}
+use Rattle.record_walk.specs.Protos.{Proto, of_file, of_message, of_field, of_oneof, of_service, of_method, of_enum, of_value, of_extension}
+use Rattle.record_walk.specs.Shown.{Shown}
 use Rattle.pool_parts.specs.declared.filter.ResolveNameFilter.TheVariants.{Message, FieldType}
 use Rattle.pool_parts.specs.Kinds.{simple_kind}
 use Rattle.pool_parts.specs.References.{reference_fault}

@@ -6,22 +6,22 @@ use Rattle.std.specs.FinMap as finite
 use Rattle.std.specs.List.{All, AllByRecursion, flat_map, list_all}
 use Rattle.std.proofs.lemmas.Bool.Decides.{nat_tests}
 use Rattle.std.specs.declared.result.Result.TheVariants.{Err}
-use Rattle.proto_records.specs.declared.counts.Counts.{Counts}
-use Rattle.proto_records.specs.declared.counts.CountKind.TheVariants.{ListTooLong}
+use Rattle.record_walk.specs.declared.counts.Counts.{Counts}
+use Rattle.record_walk.specs.declared.counts.CountKind.TheVariants.{ListTooLong}
 use Rattle.proto_types.specs.declared.file.FileDescriptorProto.{FileDescriptorProto}
-use Rattle.proto_records.specs.Fits.{counts_with}
-use Rattle.proto_records.specs.Walking.{WithinLimits}
-use Rattle.proto_records.specs.Protos.{as_extension, as_message}
-use Rattle.proto_records.specs.Shown.{Shown, of_kind}
-use Rattle.proto_records.proofs.Changed.{all-fit-changed}
-use Rattle.proto_records.proofs.Listings.{first-true, second-true}
-use Rattle.proto_records.proofs.Room.{room-fits}
+use Rattle.record_walk.specs.Fits.{counts_with}
+use Rattle.record_walk.specs.Walking.{WithinLimits}
+use Rattle.record_walk.specs.Protos.{as_extension, as_message}
+use Rattle.record_walk.specs.Shown.{Shown, of_kind}
+use Rattle.record_walk.proofs.Changed.{all-fit-changed}
+use Rattle.record_walk.proofs.Listings.{first-true, second-true}
+use Rattle.record_walk.proofs.Room.{room-fits}
 use Rattle.std.specs.Option.{option_or}
 use Rattle.pool_types.specs.declared.contents.definition.Definition.{Definition}
 use Rattle.pool_types.specs.Contents.{ByText, Contents, no_contents, files_of}
-use Rattle.proto_records.specs.Changed.{changed}
-use Rattle.proto_records.specs.Counts.{no_counts, counted, counts_in, lists_fit, added_to, within_limit}
-use Rattle.proto_records.specs.Declarations.{declarations}
+use Rattle.record_walk.specs.Changed.{changed}
+use Rattle.record_walk.specs.Counts.{no_counts, counted, counts_in, lists_fit, added_to, within_limit}
+use Rattle.record_walk.specs.Declarations.{declarations}
 use Rattle.name_tables.specs.Entries.{Entry, first_of, names, names_with}
 use Rattle.name_tables.specs.NameTables.{AllBefore, FileNamesBefore}
 use Rattle.name_tables.proofs.Entries.{get-with, with-names}

@@ -5,8 +5,8 @@ use Rattle.std.proofs.lemmas.List.{length-append, length-map, map-append}
 use Rattle.std.specs.List.{AllByRecursion}
 use Rattle.name_tables.specs.Entries.{names_with}
 use Rattle.name_tables.specs.NameTables.{FileNamesBefore}
-use Rattle.proto_records.specs.Fits.{counts_with}
-use Rattle.proto_records.specs.Shown.{Shown}
+use Rattle.record_walk.specs.Fits.{counts_with}
+use Rattle.record_walk.specs.Shown.{Shown}
 use Rattle.linked_records.specs.Setting.{Setting}
 use Rattle.link_rules.specs.NamesBegin.{NamesBegin}
 use Rattle.link_rules.specs.Short.{ShortFiles}
@@ -20,9 +20,9 @@ use Rattle.descriptor_pool.proofs.LinkedFiles.{have-imports}
 use Rattle.descriptor_pool.proofs.NamedItems.{items-are}
 use Rattle.proto_types.specs.declared.file.FileDescriptorProto.{FileDescriptorProto}
 use Rattle.pool_types.specs.Contents.{Contents, files_of}
-use Rattle.proto_records.specs.declared.counts.Counts.{Counts}
-use Rattle.proto_records.specs.Counts.{counts_in}
-use Rattle.proto_records.specs.Declarations.{declarations}
+use Rattle.record_walk.specs.declared.counts.Counts.{Counts}
+use Rattle.record_walk.specs.Counts.{counts_in}
+use Rattle.record_walk.specs.Declarations.{declarations}
 use Rattle.link_rules.specs.Broken.{Faults, second_pass}
 use Rattle.growing_pool.specs.declared.growing.GrowingPool.{GrowingPool}
 use Rattle.descriptor_pool.specs.declared.error.BuildError.{BuildError}

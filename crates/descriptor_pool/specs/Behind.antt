@@ -6,10 +6,10 @@ use Rattle.proto_types.specs.declared.file.FileDescriptorProto.{FileDescriptorPr
 use Rattle.pool_types.specs.Contents.{Contents, files_of}
 use Rattle.name_tables.specs.Entries.{names_with}
 use Rattle.file_visibility.specs.Visibility.{seen_from}
-use Rattle.proto_records.specs.Counts.{counts_in}
-use Rattle.proto_records.specs.Declarations.{declarations}
-use Rattle.proto_records.specs.Protos.{as_file, as_message, as_enum, as_service, as_extension}
-use Rattle.proto_records.specs.Shown.{Shown, of_kind}
+use Rattle.record_walk.specs.Counts.{counts_in}
+use Rattle.record_walk.specs.Declarations.{declarations}
+use Rattle.record_walk.specs.Protos.{as_file, as_message, as_enum, as_service, as_extension}
+use Rattle.record_walk.specs.Shown.{Shown, of_kind}
 use Rattle.link_rules.specs.Broken.{Faults, second_pass}
 use Rattle.places.specs.Each.{each}
 use Rattle.enum_rules.specs.Items.{enum_item}

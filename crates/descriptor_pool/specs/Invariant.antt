@@ -1,8 +1,8 @@
 -- What is true of the contents of every pool.
 use Rattle.std.specs.Prelude.{◌≡◌}
-use Rattle.proto_records.specs.Counts.{no_counts, counted, counts_in}
-use Rattle.proto_records.specs.Declarations.{declarations}
-use Rattle.proto_records.specs.Walking.{WithinLimits}
+use Rattle.record_walk.specs.Counts.{no_counts, counted, counts_in}
+use Rattle.record_walk.specs.Declarations.{declarations}
+use Rattle.record_walk.specs.Walking.{WithinLimits}
 use Rattle.pool_types.specs.Contents.{Contents, files_of}
 use Rattle.link_rules.specs.NamesBegin.{NamesBegin}
 use Rattle.descriptor_pool.specs.Pool.{Made}

@@ -2,7 +2,7 @@
 use Rattle.std.specs.Prelude.{◌≡◌}
 use Rattle.std.specs.declared.result.Result.{Result}
 use Rattle.std.specs.declared.result.Result.TheVariants.{Ok, Err}
-use Rattle.proto_records.specs.declared.counts.CountKind.{CountKind}
+use Rattle.record_walk.specs.declared.counts.CountKind.{CountKind}
 use Rattle.pool_types.specs.Contents.{Contents}
 use Rattle.pool_faults.specs.declared.error.DescriptorError.{DescriptorError}
 use Rattle.descriptor_pool.specs.declared.error.BuildError.{BuildError}

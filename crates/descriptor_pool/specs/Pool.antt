@@ -3,12 +3,12 @@ use Rattle.std.specs.Prelude.{◌≡◌, ℕ, Bool, not, is_some, IsOk, List, []
 use Rattle.std.specs.FinMap as finite
 use Rattle.std.specs.List.{filter}
 use Rattle.std.specs.declared.result.Result.{Result}
-use Rattle.proto_records.specs.declared.counts.Counts.{Counts}
-use Rattle.proto_records.specs.declared.counts.CountKind.{CountKind}
+use Rattle.record_walk.specs.declared.counts.Counts.{Counts}
+use Rattle.record_walk.specs.declared.counts.CountKind.{CountKind}
 use Rattle.proto_types.specs.declared.file.FileDescriptorProto.{FileDescriptorProto}
 use Rattle.pool_types.specs.Contents.{Contents, no_contents}
-use Rattle.proto_records.specs.Counts.{counts_in}
-use Rattle.proto_records.specs.Fits.{counts_with}
+use Rattle.record_walk.specs.Counts.{counts_in}
+use Rattle.record_walk.specs.Fits.{counts_with}
 use Rattle.proto_types.specs.Readers.{text_of}
 use Rattle.link_rules.specs.Broken.{Faults}
 use Rattle.descriptor_pool.specs.Behind.{names_behind, references_behind, first_of_both, linked_behind}

@@ -1,5 +1,5 @@
 use pool_faults::DescriptorError;
-use proto_records::CountKind;
+use record_walk::CountKind;
 use std::alloc::AllocError;
 
 /// Why a batch isn't linked. The pool is then as it was.

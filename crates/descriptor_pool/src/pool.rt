@@ -6,7 +6,7 @@ use crate::error::BuildError;
 use pool_inner::DescriptorPoolInner;
 use pool_types::{Definition, EnumDescriptor, EnumDescriptorInner, ExtensionDescriptor, ExtensionDescriptorInner, FileDescriptor, FileDescriptorInner, MessageDescriptor, MessageDescriptorInner, ServiceDescriptor, ServiceDescriptorInner};
 use proto_types::FileDescriptorProto;
-use proto_records::Counts;
+use record_walk::Counts;
 use std::alloc::{AllocError, Global};
 use std::marker::Model;
 
@@ -35,8 +35,8 @@ impl Model for DescriptorPool {
 
 impl DescriptorPool {
     ghost use Rattle.pool_types.specs.Contents.{no_contents, files_of};
-    ghost use Rattle.proto_records.specs.Counts.{counts_in, no_counts};
-    ghost use Rattle.proto_records.specs.Fits.{counts_with};
+    ghost use Rattle.record_walk.specs.Counts.{counts_in, no_counts};
+    ghost use Rattle.record_walk.specs.Fits.{counts_with};
     ghost use Rattle.descriptor_pool.specs.Extensions.{ExtendeesLieIn, ListsAreWhole};
     ghost use Rattle.descriptor_pool.specs.Invariant.{IsPool};
     ghost use Rattle.pool_inner.specs.LookUps.{definition_named};

@@ -7,7 +7,7 @@ use Rattle.proto_types.specs.declared.tag.enum_.TheConstants as enumeration
 use Rattle.proto_types.specs.declared.file.FileDescriptorProto.{FileDescriptorProto}
 use Rattle.pool_faults.specs.declared.fault.DescriptorErrorKind.{DescriptorErrorKind}
 use Rattle.pool_faults.specs.declared.fault.DescriptorErrorKind.TheVariants as fault
-use Rattle.proto_records.specs.Shown.{Shown}
+use Rattle.record_walk.specs.Shown.{Shown}
 use Rattle.places.specs.Labels.{entry_label}
 use Rattle.enum_rules.specs.Ranges.{reserves}
 use Rattle.enum_rules.specs.Values.{number_label, reserved_fault}

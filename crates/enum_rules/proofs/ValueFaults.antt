@@ -9,7 +9,7 @@ use Rattle.proto_types.specs.Readers.{number_of}
 use Rattle.proto_types.specs.declared.file.FileDescriptorProto.{FileDescriptorProto}
 use Rattle.pool_faults.specs.declared.fault.DescriptorErrorKind.{DescriptorErrorKind}
 use Rattle.pool_faults.specs.declared.fault.DescriptorErrorKind.TheVariants as fault
-use Rattle.proto_records.specs.Shown.{Shown}
+use Rattle.record_walk.specs.Shown.{Shown}
 use Rattle.enum_rules.specs.Items.{allows_alias}
 use Rattle.enum_rules.specs.Values.{number_label, reserved_faults, again_faults, value_faults}
 use Rattle.enum_rules.proofs.Earlier.{earliest, told-earliest}

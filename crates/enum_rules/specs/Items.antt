@@ -14,8 +14,8 @@ use Rattle.proto_types.specs.declared.records.options.Options.{Options}
 use Rattle.proto_types.specs.Readers.{flag_of, number_of, text_of}
 use Rattle.pool_types.specs.declared.contents.enumeration.EnumDescriptorInner.{EnumDescriptorInner}
 use Rattle.pool_types.specs.declared.contents.enumeration.EnumValueDescriptorInner.{EnumValueDescriptorInner}
-use Rattle.proto_records.specs.Protos.{of_value}
-use Rattle.proto_records.specs.Shown.{Shown}
+use Rattle.record_walk.specs.Protos.{of_value}
+use Rattle.record_walk.specs.Shown.{Shown}
 use Rattle.places.specs.Each.{each}
 use Rattle.places.specs.Identities.{identity}
 use Rattle.places.specs.Places.{part_beside}

@@ -15,7 +15,7 @@ use Rattle.proto_types.specs.declared.file.FileDescriptorProto.{FileDescriptorPr
 use Rattle.pool_faults.specs.declared.label.Label.{Label}
 use Rattle.pool_faults.specs.declared.fault.DescriptorErrorKind.{DescriptorErrorKind}
 use Rattle.pool_faults.specs.declared.fault.DescriptorErrorKind.TheVariants as fault
-use Rattle.proto_records.specs.Shown.{Shown}
+use Rattle.record_walk.specs.Shown.{Shown}
 use Rattle.places.specs.Each.{each}
 use Rattle.places.specs.Labels.{entry_label, entry_part_label}
 use Rattle.enum_rules.specs.Items.{allows_alias}

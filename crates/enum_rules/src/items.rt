@@ -1,7 +1,7 @@
 ghost use Rattle.std.specs.Prelude.{◌≡◌, true, IfOk, OnOk};
-ghost use Rattle.proto_records.specs.Counts.{lists_fit};
-ghost use Rattle.proto_records.specs.FullNames.{EndsWithName};
-ghost use Rattle.proto_records.specs.Protos.{of_enum};
+ghost use Rattle.record_walk.specs.Counts.{lists_fit};
+ghost use Rattle.record_walk.specs.FullNames.{EndsWithName};
+ghost use Rattle.record_walk.specs.Protos.{of_enum};
 ghost use Rattle.places.specs.Places.{enum_at};
 ghost use Rattle.places.specs.Tells.{Tells, named_files};
 ghost use Rattle.enum_rules.specs.Items.{enum_item, value_items};

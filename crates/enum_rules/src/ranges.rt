@@ -3,7 +3,7 @@ ghost use Rattle.pool_faults.specs.declared.fault.DescriptorErrorKind.TheVariant
 ghost use Rattle.proto_types.specs.declared.tag.enum_.TheConstants.{VALUE, RESERVED_RANGE};
 ghost use Rattle.proto_types.specs.declared.tag.enum_value.TheConstants.{NUMBER};
 ghost use Rattle.proto_types.specs.Readers.{number_of};
-ghost use Rattle.proto_records.specs.Counts.{fits_list};
+ghost use Rattle.record_walk.specs.Counts.{fits_list};
 ghost use Rattle.places.specs.Labels.{entry_label, entry_part_label};
 ghost use Rattle.places.specs.Places.{enum_at};
 ghost use Rattle.places.specs.Tells.{Tells, named_files};

@@ -1,7 +1,7 @@
 ghost use Rattle.std.specs.Prelude.{◌≡◌, true, IfOk, map};
 ghost use Rattle.std.specs.List.{enumerate_from};
 ghost use Rattle.plain_data.specs.Maps.{inserted};
-ghost use Rattle.proto_records.specs.Counts.{fits_list};
+ghost use Rattle.record_walk.specs.Counts.{fits_list};
 ghost use Rattle.proto_types.specs.Readers.{number_of};
 ghost use Rattle.enum_rules.specs.Items.{names_of, numbers_of};
 

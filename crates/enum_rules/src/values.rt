@@ -6,8 +6,8 @@ ghost use Rattle.pool_faults.specs.declared.fault.DescriptorErrorKind.TheVariant
 ghost use Rattle.proto_types.specs.declared.tag.enum_.TheConstants.{VALUE};
 ghost use Rattle.proto_types.specs.declared.tag.enum_value.TheConstants.{NUMBER};
 ghost use Rattle.proto_types.specs.Lists.{listed};
-ghost use Rattle.proto_records.specs.Counts.{lists_fit};
-ghost use Rattle.proto_records.specs.Protos.{of_enum};
+ghost use Rattle.record_walk.specs.Counts.{lists_fit};
+ghost use Rattle.record_walk.specs.Protos.{of_enum};
 ghost use Rattle.places.specs.Labels.{entry_part_label};
 ghost use Rattle.places.specs.Places.{enum_at};
 ghost use Rattle.places.specs.Tells.{Tells, named_files};

@@ -20,7 +20,7 @@ use Rattle.proto_types.specs.declared.records.field.FieldDescriptorProto.{FieldD
 use Rattle.proto_types.specs.Lists.{listed}
 use Rattle.proto_types.specs.Readers.{number_of, text_of}
 use Rattle.proto_types.specs.declared.file.FileDescriptorProto.{FileDescriptorProto}
-use Rattle.proto_records.specs.Counts.{fits_list}
+use Rattle.record_walk.specs.Counts.{fits_list}
 use Rattle.plain_data.specs.Maps.{inserted}
 use Rattle.field_rules.specs.declared.maps.FieldMaps.{FieldMaps}
 use Rattle.field_rules.specs.Again.{latest, number_again, json_name_again}

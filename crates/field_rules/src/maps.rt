@@ -5,7 +5,7 @@ ghost use Rattle.std.specs.Option.{option_map, option_map_or};
 ghost use Rattle.proto_types.specs.Lists.{listed};
 ghost use Rattle.proto_types.specs.Empty.{no_field};
 ghost use Rattle.proto_types.specs.declared.message.DescriptorProto.{out-DescriptorProto};
-ghost use Rattle.proto_records.specs.Counts.{fits_list};
+ghost use Rattle.record_walk.specs.Counts.{fits_list};
 ghost use Rattle.places.specs.Tells.{Tells, named_files};
 ghost use Rattle.field_rules.specs.Again.{again_faults};
 ghost use Rattle.field_rules.specs.Same.{same_number, same_json_name};

@@ -1,5 +1,5 @@
 ghost use Rattle.std.specs.Prelude.{◌≡◌, true, [], OnOk, IfOk, map};
-ghost use Rattle.proto_records.specs.Counts.{fits_list};
+ghost use Rattle.record_walk.specs.Counts.{fits_list};
 ghost use Rattle.places.specs.Each.{each};
 ghost use Rattle.places.specs.Tells.{Tells};
 ghost use Rattle.field_rules.specs.Oneofs.{oneof_faults, oneof_of, members};

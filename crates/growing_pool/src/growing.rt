@@ -9,7 +9,7 @@ use plain_data::Items;
 use pool_inner::DescriptorPoolInner;
 use pool_types::{FileDescriptorInner, MessageDescriptorInner};
 use proto_types::FileDescriptorProto;
-use proto_records::Counts;
+use record_walk::Counts;
 use std::alloc::{AllocError, Global};
 use std::collections::BTreeSet;
 use std::mem;
@@ -28,7 +28,7 @@ pub struct GrowingPool {
 }
 
 impl GrowingPool {
-    ghost use Rattle.proto_records.specs.Counts.{counts_in};
+    ghost use Rattle.record_walk.specs.Counts.{counts_in};
     ghost use Rattle.growing_pool.specs.Extended.{with_extended};
     ghost use Rattle.pool_inner.specs.Held.{contents_in, ListsLieIn, NamesLieIn};
     ghost use Rattle.name_tables.specs.NameTables.{FileNamesBefore};

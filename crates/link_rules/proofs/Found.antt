@@ -3,9 +3,9 @@ use Rattle.std.proofs.Common.{◌≡◌, true, Option, Some, None, ap}
 use Rattle.std.specs.Option.{option_and_then}
 use Rattle.pool_types.specs.declared.contents.definition.Definition.{Definition}
 use Rattle.proto_types.specs.declared.message.DescriptorProto.{DescriptorProto}
-use Rattle.proto_records.specs.Counts.{no_counts, lists_fit}
-use Rattle.proto_records.specs.Protos.{Proto, of_file, of_message, of_field, of_oneof, of_service, of_method, of_enum, of_value, of_extension, as_message}
-use Rattle.proto_records.proofs.Reached.{found-fits}
+use Rattle.record_walk.specs.Counts.{no_counts, lists_fit}
+use Rattle.record_walk.specs.Protos.{Proto, of_file, of_message, of_field, of_oneof, of_service, of_method, of_enum, of_value, of_extension, as_message}
+use Rattle.record_walk.proofs.Reached.{found-fits}
 use Rattle.link_rules.specs.Definitions.{around_name, message_record, record_of}
 use Rattle.linked_records.specs.Setting.{Setting}
 use Rattle.link_rules.specs.Short.{ShortFiles}

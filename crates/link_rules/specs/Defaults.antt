@@ -8,7 +8,7 @@ use Rattle.pool_types.specs.declared.default_value.DefaultValue.{DefaultValue}
 use Rattle.pool_types.specs.declared.kinds.KindIndex.{KindIndex}
 use Rattle.pool_types.specs.declared.contents.definition.Definition.{Definition}
 use Rattle.pool_faults.specs.declared.fault.DescriptorErrorKind.{DescriptorErrorKind}
-use Rattle.proto_records.specs.Shown.{Shown}
+use Rattle.record_walk.specs.Shown.{Shown}
 use Rattle.pool_parts.specs.Resolution.{Resolution}
 use Rattle.default_rules.specs.Defaults.{MeantEnum, default_value, default_faults}
 use Rattle.link_rules.specs.Definitions.{found_as, enum_record}

@@ -6,8 +6,8 @@ use Rattle.std.specs.declared.option.Option.TheVariants.{None, Some}
 use Rattle.proto_types.specs.declared.records.enumeration.EnumDescriptorProto.{EnumDescriptorProto}
 use Rattle.proto_types.specs.declared.message.DescriptorProto.{DescriptorProto}
 use Rattle.pool_types.specs.declared.contents.definition.Definition.{Definition}
-use Rattle.proto_records.specs.Leads.{leads}
-use Rattle.proto_records.specs.Protos.{Proto, as_message, as_enum}
+use Rattle.record_walk.specs.Leads.{leads}
+use Rattle.record_walk.specs.Protos.{Proto, as_message, as_enum}
 use Rattle.pool_parts.specs.Resolution.{Resolution, found}
 use Rattle.linked_records.specs.Setting.{Setting}
 

@@ -10,8 +10,8 @@ use Rattle.proto_types.specs.Readers.{text_of}
 use Rattle.proto_types.specs.declared.message.DescriptorProto.{DescriptorProto}
 use Rattle.pool_types.specs.declared.contents.definition.Definition.{Definition}
 use Rattle.pool_faults.specs.declared.fault.DescriptorErrorKind.{DescriptorErrorKind}
-use Rattle.proto_records.specs.Protos.{of_message}
-use Rattle.proto_records.specs.Shown.{Shown}
+use Rattle.record_walk.specs.Protos.{of_message}
+use Rattle.record_walk.specs.Shown.{Shown}
 use Rattle.pool_parts.specs.References.{reference_fault}
 use Rattle.pool_parts.specs.Resolution.{Resolution}
 use Rattle.number_rules.specs.Numbers.{extension_number_faults}

@@ -10,7 +10,7 @@ use Rattle.pool_faults.specs.declared.fault.DescriptorErrorKind.TheVariants.{Mis
 use Rattle.pool_faults.specs.Labels.{label_in}
 use Rattle.proto_types.specs.Lists.{listed, only_if}
 use Rattle.proto_types.specs.Readers.{text_of, type_of}
-use Rattle.proto_records.specs.Shown.{Shown}
+use Rattle.record_walk.specs.Shown.{Shown}
 use Rattle.pool_parts.specs.declared.filter.ResolveNameFilter.TheVariants.{FieldType}
 use Rattle.pool_parts.specs.Kinds.{simple_kind, named_kind}
 use Rattle.pool_parts.specs.References.{reference_fault}

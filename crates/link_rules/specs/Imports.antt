@@ -5,7 +5,7 @@ use Rattle.std.specs.List.{flat_map}
 use Rattle.proto_types.specs.declared.tag.file.TheConstants as file
 use Rattle.proto_types.specs.Lists.{at, only_if}
 use Rattle.proto_types.specs.declared.file.FileDescriptorProto.{FileDescriptorProto}
-use Rattle.proto_records.specs.Shown.{step}
+use Rattle.record_walk.specs.Shown.{step}
 use Rattle.pool_faults.specs.Labels.{label_in}
 use Rattle.pool_faults.specs.declared.fault.DescriptorErrorKind.{DescriptorErrorKind}
 use Rattle.pool_faults.specs.declared.fault.DescriptorErrorKind.TheVariants.{FileNotFound, InvalidImportIndex}

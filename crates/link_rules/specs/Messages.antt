@@ -8,8 +8,8 @@ use Rattle.proto_types.specs.declared.records.service.MethodDescriptorProto.{Met
 use Rattle.proto_types.specs.Readers.{text_of}
 use Rattle.pool_types.specs.declared.contents.definition.DefinitionKind.{DefinitionKind}
 use Rattle.pool_types.specs.declared.contents.definition.DefinitionKind.TheVariants as definition
-use Rattle.proto_records.specs.Protos.{of_method}
-use Rattle.proto_records.specs.Shown.{Shown, Surrounding}
+use Rattle.record_walk.specs.Protos.{of_method}
+use Rattle.record_walk.specs.Shown.{Shown, Surrounding}
 use Rattle.pool_parts.specs.declared.filter.ResolveNameFilter.TheVariants.{Message}
 use Rattle.pool_parts.specs.Resolution.{Resolution, kind_found}
 use Rattle.places.specs.Places.{part_inside}

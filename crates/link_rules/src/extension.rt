@@ -1,6 +1,6 @@
 ghost use Rattle.std.specs.Prelude.{◌≡◌, ◌++◌, IfOk, OnOk};
 ghost use Rattle.pool_parts.specs.Resolution.{resolution_in};
-ghost use Rattle.proto_records.specs.Protos.{of_extension};
+ghost use Rattle.record_walk.specs.Protos.{of_extension};
 ghost use Rattle.link_rules.specs.Broken.{extension_faults};
 ghost use Rattle.link_rules.specs.Extensions.{extendee_faults, number_faults};
 ghost use Rattle.link_rules.specs.Items.{bracketed, extension_item};

@@ -2,8 +2,8 @@ ghost use Rattle.std.specs.Prelude.{◌≡◌, ◌<◌, true, IfOk, OnOk, length
 ghost use Rattle.pool_types.specs.declared.kinds.KindIndex.TheVariants.{Double};
 ghost use Rattle.proto_types.specs.Empty.{no_field};
 ghost use Rattle.proto_types.specs.declared.message.DescriptorProto.{out-DescriptorProto};
-ghost use Rattle.proto_records.specs.Counts.{lists_fit};
-ghost use Rattle.proto_records.specs.Protos.{of_field, of_message};
+ghost use Rattle.record_walk.specs.Counts.{lists_fit};
+ghost use Rattle.record_walk.specs.Protos.{of_field, of_message};
 ghost use Rattle.number_rules.specs.Bounds.{AreRangesOf};
 ghost use Rattle.link_rules.specs.Broken.{own_faults};
 ghost use Rattle.link_rules.specs.Defaults.{field_default};

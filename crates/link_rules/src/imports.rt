@@ -1,8 +1,8 @@
 ghost use Rattle.std.specs.Prelude.{◌≡◌, ◌<◌, ◌^◌, true, is_some, OnOk};
 ghost use Rattle.std.specs.List.{flat_map};
 ghost use Rattle.proto_types.specs.Lists.{at};
-ghost use Rattle.proto_records.specs.Counts.{fits_list, lists_fit};
-ghost use Rattle.proto_records.specs.Protos.{of_file};
+ghost use Rattle.record_walk.specs.Counts.{fits_list, lists_fit};
+ghost use Rattle.record_walk.specs.Protos.{of_file};
 ghost use Rattle.link_rules.specs.Imports.{missing_file, missing_files, index_fault, import_faults};
 ghost use Rattle.link_rules.specs.Reading.{Reads, setting_of};
 ghost use Rattle.places.specs.Tells.{Tells};
@@ -12,7 +12,7 @@ use places::Findings;
 use plain_data::Text;
 use pool_faults::DescriptorErrorKind;
 use proto_types::{FileDescriptorProto, tag};
-use proto_records::entry_path;
+use record_walk::entry_path;
 use std::alloc::{AllocError, Global};
 
 /// Appends to `faults` one for each import of the file with an index that names no file, and then

@@ -1,9 +1,9 @@
 ghost use Rattle.std.specs.Prelude.{◌≡◌, true, [], IfOk, OnOk};
 ghost use Rattle.std.specs.List.{All};
 ghost use Rattle.proto_types.specs.declared.message.DescriptorProto.{out-DescriptorProto};
-ghost use Rattle.proto_records.specs.Counts.{lists_fit};
-ghost use Rattle.proto_records.specs.FullNames.{EndsWithName};
-ghost use Rattle.proto_records.specs.Protos.{of_message};
+ghost use Rattle.record_walk.specs.Counts.{lists_fit};
+ghost use Rattle.record_walk.specs.FullNames.{EndsWithName};
+ghost use Rattle.record_walk.specs.Protos.{of_message};
 ghost use Rattle.field_rules.specs.MapsOf.{AreMapsOf};
 ghost use Rattle.number_rules.specs.Bounds.{AreRangesOf};
 ghost use Rattle.link_rules.specs.Broken.{faults_of_fields, message_faults};

@@ -1,7 +1,7 @@
 ghost use Rattle.std.specs.Prelude.{◌≡◌, ◌<◌, ◌^◌, ◌++◌, [], ◌∷◌, true, IfOk, OnOk};
 ghost use Rattle.proto_types.specs.Lists.{listed};
-ghost use Rattle.proto_records.specs.Counts.{fits_list, lists_fit};
-ghost use Rattle.proto_records.specs.Protos.{of_service};
+ghost use Rattle.record_walk.specs.Counts.{fits_list, lists_fit};
+ghost use Rattle.record_walk.specs.Protos.{of_service};
 ghost use Rattle.pool_parts.specs.References.{reference_fault};
 ghost use Rattle.link_rules.specs.Broken.{faults_of_methods, method_faults, service_faults};
 ghost use Rattle.link_rules.specs.Items.{service_item, method_item, method_items};

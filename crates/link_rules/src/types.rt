@@ -6,7 +6,7 @@ ghost use Rattle.proto_types.specs.Readers.{text_of, type_of};
 ghost use Rattle.pool_faults.specs.declared.fault.DescriptorErrorKind.TheVariants.{MissingRequiredField};
 ghost use Rattle.places.specs.Labels.{part_label};
 ghost use Rattle.places.specs.Tells.{Tells, named_files};
-ghost use Rattle.proto_records.specs.Protos.{of_field};
+ghost use Rattle.record_walk.specs.Protos.{of_field};
 ghost use Rattle.pool_parts.specs.Kinds.{named_kind, simple_kind};
 ghost use Rattle.pool_parts.specs.References.{reference_fault};
 ghost use Rattle.pool_parts.specs.Resolution.{kind_found, resolution_in};

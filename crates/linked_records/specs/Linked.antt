@@ -11,7 +11,7 @@ use Rattle.proto_types.specs.declared.records.service.MethodDescriptorProto.{Met
 use Rattle.pool_types.specs.declared.contents.definition.DefinitionKind.{DefinitionKind}
 use Rattle.pool_types.specs.declared.contents.definition.DefinitionKind.TheVariants as definition
 use Rattle.proto_types.specs.Readers.{text_of, type_of}
-use Rattle.proto_records.specs.Changed.{Changes, changed_file}
+use Rattle.record_walk.specs.Changed.{Changes, changed_file}
 use Rattle.pool_parts.specs.declared.filter.ResolveNameFilter.TheVariants.{Message, FieldType as AnyType}
 use Rattle.pool_parts.specs.Resolution.{Resolution, name_found, kind_found}
 use Rattle.linked_records.specs.Setting.{Setting, meaning}

@@ -4,7 +4,7 @@ use Rattle.proto_types.specs.declared.records.field.FieldDescriptorProto.{FieldD
 use Rattle.proto_types.specs.declared.tag.field.TheConstants as field
 use Rattle.proto_types.specs.Lists.{listed}
 use Rattle.proto_types.specs.Readers.{text_of}
-use Rattle.proto_records.specs.Shown.{Shown}
+use Rattle.record_walk.specs.Shown.{Shown}
 use Rattle.pool_parts.specs.declared.filter.ResolveNameFilter.TheVariants.{Message}
 use Rattle.pool_parts.specs.References.{reference_fault}
 use Rattle.pool_parts.specs.Resolution.{Resolution, found, invalid_type, not_imported, shadowed, not_found}

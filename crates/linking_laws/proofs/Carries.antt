@@ -5,8 +5,8 @@ use Rattle.proto_types.specs.declared.records.service.MethodDescriptorProto.{Met
 use Rattle.proto_types.specs.declared.tag.field.TheConstants as field
 use Rattle.proto_types.specs.Lists.{listed}
 use Rattle.proto_types.specs.Readers.{text_of}
-use Rattle.proto_records.specs.Changed.{Changes}
-use Rattle.proto_records.specs.Shown.{Shown}
+use Rattle.record_walk.specs.Changed.{Changes}
+use Rattle.record_walk.specs.Shown.{Shown}
 use Rattle.syntax_rules.specs.Syntaxes.{syntax_at}
 use Rattle.pool_parts.specs.References.{reference_fault}
 use Rattle.link_rules.specs.Defaults.{field_default, field_default_faults}

@@ -1,9 +1,9 @@
 -- A declaration that is carried to another setting: it breaks nothing.
 use Rattle.std.proofs.Common.{◌≡◌, ◌<◌, ℕ, ℤ, Option, Some, List, [], refl}
 use Rattle.std.specs.FinMap as finite
-use Rattle.proto_records.specs.Changed.{Changes, changed}
-use Rattle.proto_records.specs.Protos.{Proto, of_file, of_message, of_field, of_oneof, of_service, of_method, of_enum, of_value, of_extension}
-use Rattle.proto_records.specs.Shown.{Shown}
+use Rattle.record_walk.specs.Changed.{Changes, changed}
+use Rattle.record_walk.specs.Protos.{Proto, of_file, of_message, of_field, of_oneof, of_service, of_method, of_enum, of_value, of_extension}
+use Rattle.record_walk.specs.Shown.{Shown}
 use Rattle.link_rules.specs.Broken.{owner_faults}
 use Rattle.linked_records.specs.Setting.{Setting}
 use Rattle.linking_laws.specs.Laws.{ImportsMean}

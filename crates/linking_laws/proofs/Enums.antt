@@ -7,7 +7,7 @@ use Rattle.proto_types.specs.declared.records.enumeration.EnumReservedRange.{Enu
 use Rattle.proto_types.specs.declared.records.enumeration.EnumValueDescriptorProto.{EnumValueDescriptorProto}
 use Rattle.proto_types.specs.Readers.{number_of}
 use Rattle.proto_types.specs.declared.file.FileDescriptorProto.{FileDescriptorProto}
-use Rattle.proto_records.specs.Shown.{Shown}
+use Rattle.record_walk.specs.Shown.{Shown}
 use Rattle.places.specs.Each.{each}
 use Rattle.enum_rules.specs.Items.{allows_alias}
 use Rattle.enum_rules.specs.Ranges.{reserves}

@@ -3,8 +3,8 @@ use Rattle.std.proofs.Common.{◌≡◌, ◌<◌, ℕ, Option, unwrap_or, List, 
 use Rattle.proto_types.specs.declared.records.field.FieldDescriptorProto.{FieldDescriptorProto}
 use Rattle.proto_types.specs.Readers.{label_of, number_of, text_of}
 use Rattle.pool_types.specs.declared.kinds.KindIndex.TheVariants.{Double}
-use Rattle.proto_records.specs.Changed.{Changes}
-use Rattle.proto_records.specs.Shown.{Shown}
+use Rattle.record_walk.specs.Changed.{Changes}
+use Rattle.record_walk.specs.Shown.{Shown}
 use Rattle.pool_parts.specs.declared.filter.ResolveNameFilter.TheVariants.{FieldType as AnyType}
 use Rattle.pool_parts.specs.Resolution.{Resolution}
 use Rattle.pool_parts.specs.Kinds.{cardinality_of}

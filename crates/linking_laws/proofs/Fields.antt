@@ -8,8 +8,8 @@ use Rattle.proto_types.specs.Names.{join}
 use Rattle.proto_types.specs.Readers.{text_of}
 use Rattle.proto_types.specs.declared.message.DescriptorProto.{DescriptorProto, out-DescriptorProto}
 use Rattle.pool_faults.specs.declared.fault.DescriptorErrorKind.TheVariants.{InvalidOneofIndex}
-use Rattle.proto_records.specs.Changed.{Changes}
-use Rattle.proto_records.specs.Shown.{Shown, inside}
+use Rattle.record_walk.specs.Changed.{Changes}
+use Rattle.record_walk.specs.Shown.{Shown, inside}
 use Rattle.places.specs.Each.{each}
 use Rattle.places.specs.Places.{field_at}
 use Rattle.number_rules.specs.Numbers.{field_number_faults}

@@ -5,9 +5,9 @@ use Rattle.std.specs.List.{cons_option, filter_map, flat_map}
 use Rattle.proto_types.specs.Lists.{only_if}
 use Rattle.proto_types.specs.declared.file.FileDescriptorProto.{FileDescriptorProto}
 use Rattle.pool_faults.specs.declared.fault.DescriptorErrorKind.{DescriptorErrorKind}
-use Rattle.proto_records.specs.declared.counts.Counts.{Counts}
-use Rattle.proto_records.specs.Changed.{Changes, changed_file}
-use Rattle.proto_records.specs.Declarations.{file_walk}
+use Rattle.record_walk.specs.declared.counts.Counts.{Counts}
+use Rattle.record_walk.specs.Changed.{Changes, changed_file}
+use Rattle.record_walk.specs.Declarations.{file_walk}
 use Rattle.places.specs.Each.{each}
 use Rattle.link_rules.specs.Broken.{Faults, owner_faults}
 use Rattle.link_rules.specs.Imports.{index_fault, missing_file, missing_files}

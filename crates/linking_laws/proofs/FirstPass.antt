@@ -22,9 +22,9 @@ use Rattle.pool_faults.specs.declared.fault.DescriptorErrorKind.TheVariants.{Emp
 use Rattle.pool_types.specs.declared.kinds.Syntax.{Syntax}
 use Rattle.name_tables.specs.Entries.{Entry, first_of}
 use Rattle.name_tables.proofs.Entries.{first-append}
-use Rattle.proto_records.specs.Changed.{Changes, KeepNames, changed, changed_message}
-use Rattle.proto_records.specs.Protos.{Proto, of_file, of_message, of_field, of_oneof, of_service, of_method, of_enum, of_value, of_extension}
-use Rattle.proto_records.specs.Shown.{Shown}
+use Rattle.record_walk.specs.Changed.{Changes, KeepNames, changed, changed_message}
+use Rattle.record_walk.specs.Protos.{Proto, of_file, of_message, of_field, of_oneof, of_service, of_method, of_enum, of_value, of_extension}
+use Rattle.record_walk.specs.Shown.{Shown}
 use Rattle.pool_parts.specs.Kinds.{is_package}
 use Rattle.syntax_rules.specs.CamelCase.{Placed, camel_case_faults, camel_case_key, key_at, message_own_faults, shared_key_faults}
 use Rattle.syntax_rules.specs.Enumeration.{first_number_path}

@@ -14,9 +14,9 @@ use Rattle.pool_types.specs.declared.default_value.DefaultValue.{DefaultValue}
 use Rattle.pool_types.specs.declared.kinds.KindIndex.{KindIndex}
 use Rattle.pool_types.specs.declared.kinds.KindIndex.TheVariants.{Double}
 use Rattle.pool_types.specs.declared.contents.oneof.OneofDescriptorInner.{OneofDescriptorInner}
-use Rattle.proto_records.specs.Changed.{Changes}
-use Rattle.proto_records.specs.Protos.{of_oneof}
-use Rattle.proto_records.specs.Shown.{Shown, Surrounding, inside}
+use Rattle.record_walk.specs.Changed.{Changes}
+use Rattle.record_walk.specs.Protos.{of_oneof}
+use Rattle.record_walk.specs.Shown.{Shown, Surrounding, inside}
 use Rattle.syntax_rules.specs.Syntaxes.{is_proto3}
 use Rattle.places.specs.Each.{each}
 use Rattle.places.specs.Identities.{identity, named_at}

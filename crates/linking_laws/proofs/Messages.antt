@@ -3,8 +3,8 @@ use Rattle.std.proofs.Common.{◌≡◌, ◌<◌, ℕ, List, [], refl, ap, ◌�
 use Rattle.proto_types.specs.Readers.{text_of}
 use Rattle.proto_types.specs.Computed.{literals}
 use Rattle.proto_types.specs.declared.message.DescriptorProto.{DescriptorProto, DescriptorProto', out-DescriptorProto}
-use Rattle.proto_records.specs.Changed.{Changes, changed_fields, changed_message}
-use Rattle.proto_records.specs.Shown.{Shown, inside}
+use Rattle.record_walk.specs.Changed.{Changes, changed_fields, changed_message}
+use Rattle.record_walk.specs.Shown.{Shown, inside}
 use Rattle.places.specs.Identities.{named_at}
 use Rattle.field_rules.specs.Maps.{by_json_name, by_name, by_number}
 use Rattle.link_rules.specs.Broken.{message_faults}

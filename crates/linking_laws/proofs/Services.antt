@@ -7,8 +7,8 @@ use Rattle.proto_types.specs.declared.tag.method.TheConstants as method
 use Rattle.proto_types.specs.Lists.{listed}
 use Rattle.proto_types.specs.Names.{join}
 use Rattle.proto_types.specs.Readers.{text_of}
-use Rattle.proto_records.specs.Changed.{Changes, changed_methods, changed_service}
-use Rattle.proto_records.specs.Shown.{Shown, inside}
+use Rattle.record_walk.specs.Changed.{Changes, changed_methods, changed_service}
+use Rattle.record_walk.specs.Shown.{Shown, inside}
 use Rattle.pool_parts.specs.References.{reference_fault}
 use Rattle.places.specs.Each.{each}
 use Rattle.link_rules.specs.Broken.{Faults, method_faults, service_faults}

@@ -10,12 +10,12 @@ use Rattle.proto_types.specs.Readers.{text_of}
 use Rattle.proto_types.specs.Computed.{literals}
 use Rattle.proto_types.specs.declared.file.FileDescriptorProto.{FileDescriptorProto}
 use Rattle.proto_types.specs.declared.message.DescriptorProto.{DescriptorProto, DescriptorProto', out-DescriptorProto, Row_of-DescriptorProto, end_of-DescriptorProto, more_of-DescriptorProto}
-use Rattle.proto_records.specs.declared.counts.Counts.{Counts}
-use Rattle.proto_records.specs.Changed.{Changes, changed_fields, changed_file, changed_message, changed_messages, changed_nested, changed_services}
-use Rattle.proto_records.specs.Counts.{counted, counting}
-use Rattle.proto_records.specs.Declarations.{enums_walk, file_walk, in_file, message_end, message_front, message_walk, messages_walk, nested_walk, service_walk, services_walk}
-use Rattle.proto_records.specs.Protos.{of_extension, of_message, of_service}
-use Rattle.proto_records.specs.Shown.{Shown, Surrounding, inside, row, shown}
+use Rattle.record_walk.specs.declared.counts.Counts.{Counts}
+use Rattle.record_walk.specs.Changed.{Changes, changed_fields, changed_file, changed_message, changed_messages, changed_nested, changed_services}
+use Rattle.record_walk.specs.Counts.{counted, counting}
+use Rattle.record_walk.specs.Declarations.{enums_walk, file_walk, in_file, message_end, message_front, message_walk, messages_walk, nested_walk, service_walk, services_walk}
+use Rattle.record_walk.specs.Protos.{of_extension, of_message, of_service}
+use Rattle.record_walk.specs.Shown.{Shown, Surrounding, inside, row, shown}
 use Rattle.places.specs.Each.{each}
 use Rattle.places.specs.Places.{field_at}
 use Rattle.link_rules.specs.Broken.{Faults, field_faults, owner_faults}

@@ -15,7 +15,7 @@ use Rattle.pool_faults.specs.Labels.{label_in}
 use Rattle.pool_types.specs.declared.contents.definition.Definition.{Definition}
 use Rattle.pool_types.specs.declared.contents.definition.DefinitionKind.{DefinitionKind}
 use Rattle.pool_types.specs.declared.contents.definition.DefinitionKind.TheVariants as definition
-use Rattle.proto_records.specs.Shown.{Shown}
+use Rattle.record_walk.specs.Shown.{Shown}
 use Rattle.pool_parts.specs.declared.filter.ResolveNameFilter.{ResolveNameFilter}
 use Rattle.pool_parts.specs.declared.filter.ResolveNameFilter.TheVariants.{FieldType as AnyType}
 use Rattle.pool_parts.specs.Kinds.{is_match, named_kind, simple_kind}

@@ -6,9 +6,9 @@ use Rattle.proto_types.specs.declared.records.service.ServiceDescriptorProto.{Se
 use Rattle.proto_types.specs.Computed.{literals}
 use Rattle.proto_types.specs.declared.file.FileDescriptorProto.{FileDescriptorProto}
 use Rattle.proto_types.specs.declared.message.DescriptorProto.{DescriptorProto, DescriptorProto', out-DescriptorProto, Row_of-DescriptorProto, end_of-DescriptorProto, more_of-DescriptorProto}
-use Rattle.proto_records.specs.Changed.{KeepNames, changed, changed_file, changed_files, changed_message, changed_nested, changed_service}
-use Rattle.proto_records.specs.Protos.{Proto, of_file, of_message, of_field, of_oneof, of_service, of_method, of_enum, of_value, of_extension}
-use Rattle.proto_records.specs.Shown.{Shown}
+use Rattle.record_walk.specs.Changed.{KeepNames, changed, changed_file, changed_files, changed_message, changed_nested, changed_service}
+use Rattle.record_walk.specs.Protos.{Proto, of_file, of_message, of_field, of_oneof, of_service, of_method, of_enum, of_value, of_extension}
+use Rattle.record_walk.specs.Shown.{Shown}
 use Rattle.linking_laws.specs.Laws.{unchanged}
 
 map-same : {X : Type 0} (change : X → X) → ((x : X) → change x ≡ x) → (xs : List X) → map change xs ≡ xs

@@ -20,11 +20,11 @@ use Rattle.pool_types.specs.declared.contents.extension.ExtensionDescriptorInner
 use Rattle.pool_types.specs.declared.contents.file.FileDescriptorInner.{FileDescriptorInner}
 use Rattle.pool_types.specs.declared.contents.message.MessageDescriptorInner.{MessageDescriptorInner}
 use Rattle.pool_types.specs.declared.contents.service.ServiceDescriptorInner.{ServiceDescriptorInner}
-use Rattle.proto_records.specs.declared.counts.Counts.{Counts}
-use Rattle.proto_records.specs.Declarations.{file_walk}
-use Rattle.proto_records.specs.Changed.{Changes, changed, changed_message, changed_service}
-use Rattle.proto_records.specs.Protos.{Proto, of_extension, of_file, of_message, of_service}
-use Rattle.proto_records.specs.Shown.{Shown}
+use Rattle.record_walk.specs.declared.counts.Counts.{Counts}
+use Rattle.record_walk.specs.Declarations.{file_walk}
+use Rattle.record_walk.specs.Changed.{Changes, changed, changed_message, changed_service}
+use Rattle.record_walk.specs.Protos.{Proto, of_extension, of_file, of_message, of_service}
+use Rattle.record_walk.specs.Shown.{Shown}
 use Rattle.syntax_rules.specs.Syntaxes.{syntax_at}
 use Rattle.pool_parts.specs.declared.filter.ResolveNameFilter.{ResolveNameFilter}
 use Rattle.pool_parts.specs.References.{reference_fault}

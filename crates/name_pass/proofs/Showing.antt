@@ -3,8 +3,8 @@ use Rattle.std.proofs.Common.{◌≡◌, List, [], ◌∷◌, ◌++◌, Global, 
 use Rattle.std.specs.List.{fold}
 use Rattle.pool_faults.specs.declared.fault.DescriptorErrorKind.{DescriptorErrorKind}
 use Rattle.pool_types.specs.Contents.{Contents}
-use Rattle.proto_records.specs.Progress.{HasSeen}
-use Rattle.proto_records.specs.Shown.{Shown}
+use Rattle.record_walk.specs.Progress.{HasSeen}
+use Rattle.record_walk.specs.Shown.{Shown}
 use Rattle.name_pass.specs.declared.names.NameVisitor.{NameVisitor}
 use Rattle.name_pass.specs.State.{first_new, records_of, state_of, Stays}
 use Rattle.name_pass.specs.Steps.{CanBeEntered, NameState, entered, faulted, file_step, name_progress, name_step, own_step}

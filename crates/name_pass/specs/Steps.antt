@@ -6,12 +6,12 @@ use Rattle.pool_faults.specs.declared.fault.DescriptorErrorKind.{DescriptorError
 use Rattle.pool_types.specs.Contents.{ByText, no_contents}
 use Rattle.pool_types.specs.declared.contents.definition.Definition.{Definition}
 use Rattle.proto_types.specs.declared.file.FileDescriptorProto.{FileDescriptorProto}
-use Rattle.proto_records.specs.Progress.{Progress}
-use Rattle.proto_records.specs.Protos.{of_file, of_message, of_enum}
+use Rattle.record_walk.specs.Progress.{Progress}
+use Rattle.record_walk.specs.Protos.{of_file, of_message, of_enum}
 use Rattle.proto_types.specs.Readers.{text_of}
-use Rattle.proto_records.specs.Shown.{Shown}
+use Rattle.record_walk.specs.Shown.{Shown}
 use Rattle.name_tables.specs.Entries.{Entry, names_with}
-use Rattle.proto_records.specs.Counts.{lists_fit}
+use Rattle.record_walk.specs.Counts.{lists_fit}
 use Rattle.syntax_rules.specs.Syntaxes.{syntax_faults}
 use Rattle.syntax_rules.specs.CamelCase.{message_own_faults}
 use Rattle.syntax_rules.specs.Enumeration.{enum_faults}

@@ -1,8 +1,8 @@
 //! What a file, a message and an enum break by themselves, each with findings of its own.
 
 ghost use Rattle.std.specs.Prelude.{◌≡◌, ◌++◌, true, OnOk, map};
-ghost use Rattle.proto_records.specs.Counts.{lists_fit};
-ghost use Rattle.proto_records.specs.Protos.{of_message};
+ghost use Rattle.record_walk.specs.Counts.{lists_fit};
+ghost use Rattle.record_walk.specs.Protos.{of_message};
 ghost use Rattle.syntax_rules.specs.CamelCase.{message_own_faults};
 ghost use Rattle.syntax_rules.specs.Enumeration.{enum_faults};
 ghost use Rattle.syntax_rules.specs.Syntaxes.{syntax_faults};

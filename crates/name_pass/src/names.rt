@@ -12,7 +12,7 @@ use plain_data::{Items, Text};
 use pool_faults::{DescriptorErrorKind, label_at};
 use pool_types::{Definition, DefinitionKind, FileDescriptorInner};
 use proto_types::{DescriptorProto, EnumDescriptorProto, EnumValueDescriptorProto, FieldDescriptorProto, FileDescriptorProto, MethodDescriptorProto, OneofDescriptorProto, ServiceDescriptorProto, tag};
-use proto_records::Visitor;
+use record_walk::Visitor;
 use std::alloc::{AllocError, Global};
 
 /// The first pass: it enters the names of declarations into the tables of a pool whose files are

@@ -1,7 +1,7 @@
 -- Declarations of which only the place counts: a fault of a number reads no more of them.
 use Rattle.proto_types.specs.Empty.{no_field}
-use Rattle.proto_records.specs.Protos.{of_field}
-use Rattle.proto_records.specs.Shown.{Shown}
+use Rattle.record_walk.specs.Protos.{of_field}
+use Rattle.record_walk.specs.Shown.{Shown}
 use Rattle.places.specs.Places.{shown_at}
 use Rattle.places.specs.declared.place.Place.{Place}
 

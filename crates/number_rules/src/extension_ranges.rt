@@ -2,7 +2,7 @@ ghost use Rattle.std.specs.Prelude.{◌≡◌, ◌<◌, ◌^◌, true, length, i
 ghost use Rattle.std.specs.Prelude.{if◌then◌else◌, IfOk, IfSome, OnOk};
 ghost use Rattle.std.specs.List.{list_any, position_from};
 ghost use Rattle.proto_types.specs.declared.message.DescriptorProto.{out-DescriptorProto};
-ghost use Rattle.proto_records.specs.Counts.{fits_list};
+ghost use Rattle.record_walk.specs.Counts.{fits_list};
 ghost use Rattle.proto_types.specs.Readers.{number_of};
 ghost use Rattle.places.specs.Tells.{Tells, named_files};
 ghost use Rattle.number_rules.specs.At.{any_at};

@@ -1,6 +1,6 @@
 ghost use Rattle.std.specs.Prelude.{◌≡◌, ◌<◌, ◌^◌, true, OnOk};
 ghost use Rattle.proto_types.specs.declared.message.DescriptorProto.{out-DescriptorProto};
-ghost use Rattle.proto_records.specs.Counts.{fits_list};
+ghost use Rattle.record_walk.specs.Counts.{fits_list};
 ghost use Rattle.places.specs.Tells.{Tells, named_files};
 ghost use Rattle.number_rules.specs.At.{any_at};
 ghost use Rattle.number_rules.specs.Bounds.{reserved_bounds};

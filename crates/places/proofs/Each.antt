@@ -5,7 +5,7 @@ use Rattle.std.proofs.lemmas.Bool.Decides.{nat_tests}
 use Rattle.std.proofs.lemmas.Grind.{flat_map-append}
 use Rattle.std.proofs.lemmas.List.{map-append}
 use Rattle.std.specs.List.{flat_map}
-use Rattle.proto_records.specs.Counts.{fits_list}
+use Rattle.record_walk.specs.Counts.{fits_list}
 use Rattle.places.specs.Each.{each}
 
 each-append : {X Y : Type 0} (make : ℕ → X → Y) (position : ℕ) (xs : List X) (x : X)

@@ -2,7 +2,7 @@
 use Rattle.std.proofs.Common.{◌≡◌, ℕ, ◌-◌, List, length, length-append, ap, subst, ◌∙◌, arith}
 use Rattle.std.specs.Str.{IsUtf8, IsCharBoundary}
 use Rattle.std.proofs.lemmas.Str.{IsCharBoundary-at_seam}
-use Rattle.proto_records.specs.FullNames.{EndsWith}
+use Rattle.record_walk.specs.FullNames.{EndsWith}
 
 -- a name that ends a full name begins where a character begins
 pub name-begins : (text full_name name : List ℕ) (index : ℕ) → text ≡ full_name → index ≡ length full_name - length name → IsUtf8 name

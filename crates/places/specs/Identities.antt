@@ -1,8 +1,8 @@
 -- Where a declaration stands that has a name, as a pool keeps it.
 use Rattle.std.specs.Prelude.{ℕ, ◌-◌, ℤ, List, length}
 use Rattle.pool_types.specs.declared.contents.definition.Identity.{Identity}
-use Rattle.proto_records.specs.Protos.{name_of}
-use Rattle.proto_records.specs.Shown.{Shown}
+use Rattle.record_walk.specs.Protos.{name_of}
+use Rattle.record_walk.specs.Shown.{Shown}
 
 -- the name begins in the full name so many bytes before its end
 abbrev pub named_at : ℕ → List ℤ → List ℕ → List ℕ → Identity

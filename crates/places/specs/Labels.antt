@@ -3,7 +3,7 @@ use Rattle.std.specs.Prelude.{ℕ, ℤ, List, [], ◌∷◌, ◌++◌}
 use Rattle.proto_types.specs.declared.file.FileDescriptorProto.{FileDescriptorProto}
 use Rattle.pool_faults.specs.declared.label.Label.{Label}
 use Rattle.pool_faults.specs.Labels.{label_in}
-use Rattle.proto_records.specs.Shown.{step}
+use Rattle.record_walk.specs.Shown.{step}
 
 -- of the part with a field number, of what stands at a path of a file
 abbrev pub part_label : List FileDescriptorProto → ℕ → List ℤ → ℤ → Label

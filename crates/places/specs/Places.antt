@@ -6,8 +6,8 @@ use Rattle.proto_types.specs.declared.records.enumeration.EnumDescriptorProto.{E
 use Rattle.proto_types.specs.declared.records.field.FieldDescriptorProto.{FieldDescriptorProto}
 use Rattle.proto_types.specs.declared.records.service.ServiceDescriptorProto.{ServiceDescriptorProto}
 use Rattle.proto_types.specs.declared.message.DescriptorProto.{DescriptorProto}
-use Rattle.proto_records.specs.Protos.{Proto, name_of, of_message, of_field, of_enum, of_service}
-use Rattle.proto_records.specs.Shown.{Shown, Surrounding, shown, beside_name, step}
+use Rattle.record_walk.specs.Protos.{Proto, name_of, of_message, of_field, of_enum, of_service}
+use Rattle.record_walk.specs.Shown.{Shown, Surrounding, shown, beside_name, step}
 use Rattle.places.specs.declared.place.Place.{Place}
 
 -- a declaration at a place, and what surrounds the parts that are named inside it

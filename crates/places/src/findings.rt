@@ -5,7 +5,7 @@ ghost use Rattle.places.specs.Labels.{part_label, entry_label, entry_part_label}
 use crate::Place;
 use pool_faults::{DescriptorErrorKind, Label, label_at};
 use pool_types::FileDescriptorInner;
-use proto_records::entry_path;
+use record_walk::entry_path;
 use std::alloc::{AllocError, Global};
 
 /// What declarations are checked with: the files that labels name, and the faults that are found.

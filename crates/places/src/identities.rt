@@ -1,7 +1,7 @@
 ghost use Rattle.std.specs.Prelude.{◌≡◌, ◌++◌, ◌<◌, ◌^◌, IfOk};
 ghost use Rattle.proto_types.specs.Names.{join};
-ghost use Rattle.proto_records.specs.FullNames.{EndsWith};
-ghost use Rattle.proto_records.specs.Shown.{step};
+ghost use Rattle.record_walk.specs.FullNames.{EndsWith};
+ghost use Rattle.record_walk.specs.Shown.{step};
 ghost use Rattle.places.specs.Identities.{named_at};
 ghost use Rattle.places.specs.NamesBegin.{BeginsAtBoundary};
 ghost use Rattle.places.specs.Places.{before_ending};
@@ -9,7 +9,7 @@ ghost use Rattle.places.specs.Places.{before_ending};
 use crate::Place;
 use plain_data::{Items, Text};
 use pool_types::Identity;
-use proto_records::entry_path;
+use record_walk::entry_path;
 use proto_types::join;
 use std::alloc::{AllocError, Global};
 

@@ -15,14 +15,14 @@ use Rattle.pool_faults.specs.declared.fault.DescriptorErrorKind.{DescriptorError
 use Rattle.name_tables.specs.Entries.{first_of, names_with}
 use Rattle.name_tables.proofs.Entries.{get-with, with-names}
 use Rattle.file_visibility.specs.Visibility.{file_at, seen_from}
-use Rattle.proto_records.specs.declared.counts.Counts.{Counts}
-use Rattle.proto_records.specs.Changed.{changed_files}
-use Rattle.proto_records.specs.Counts.{counted, no_counts}
-use Rattle.proto_records.specs.Declarations.{declarations, file_walk}
-use Rattle.proto_records.specs.Leads.{leads}
-use Rattle.proto_records.specs.Protos.{as_enum, as_message}
-use Rattle.proto_records.specs.Shown.{Shown}
-use Rattle.proto_records.proofs.Paths.{one-file}
+use Rattle.record_walk.specs.declared.counts.Counts.{Counts}
+use Rattle.record_walk.specs.Changed.{changed_files}
+use Rattle.record_walk.specs.Counts.{counted, no_counts}
+use Rattle.record_walk.specs.Declarations.{declarations, file_walk}
+use Rattle.record_walk.specs.Leads.{leads}
+use Rattle.record_walk.specs.Protos.{as_enum, as_message}
+use Rattle.record_walk.specs.Shown.{Shown}
+use Rattle.record_walk.proofs.Paths.{one-file}
 use Rattle.syntax_rules.specs.Syntaxes.{syntax_at, syntax_of}
 use Rattle.places.specs.Each.{each}
 use Rattle.link_rules.specs.Broken.{Faults, owner_faults}

@@ -3,7 +3,7 @@ use Rattle.std.specs.Prelude.{ℕ, zero, suc, List, [], ◌∷◌, ◌++◌, sli
 use Rattle.std.specs.declared.option.Option.{Option}
 use Rattle.std.specs.declared.option.Option.TheVariants.{None, Some}
 use Rattle.proto_types.specs.declared.file.FileDescriptorProto.{FileDescriptorProto}
-use Rattle.proto_records.specs.Changed.{Changes, changed_file, changed_files}
+use Rattle.record_walk.specs.Changed.{Changes, changed_file, changed_files}
 
 abbrev Related : Type 1
 Related = Option FileDescriptorProto → Option FileDescriptorProto → Type 0

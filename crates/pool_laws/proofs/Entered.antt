@@ -15,12 +15,12 @@ use Rattle.proto_types.specs.Computed.{literals}
 use Rattle.proto_types.specs.declared.file.FileDescriptorProto.{FileDescriptorProto}
 use Rattle.proto_types.specs.declared.message.DescriptorProto.{DescriptorProto, DescriptorProto', Row_of-DescriptorProto, end_of-DescriptorProto, more_of-DescriptorProto}
 use Rattle.name_tables.specs.Entries.{Entry}
-use Rattle.proto_records.specs.declared.counts.Counts.{Counts}
-use Rattle.proto_records.specs.Counts.{counted, counting}
-use Rattle.proto_records.specs.Declarations.{enum_walk, enums_walk, file_walk, in_file, message_end, message_front, message_walk, messages_walk, nested_walk, service_walk, services_walk}
-use Rattle.proto_records.specs.Protos.{Proto, of_enum, of_extension, of_field, of_message, of_method, of_oneof, of_service, of_value, name_of}
-use Rattle.proto_records.specs.Shown.{Shown, Surrounding, beside, file_shown, inside, parts, row, shown}
-use Rattle.proto_records.specs.Walking.{within_file}
+use Rattle.record_walk.specs.declared.counts.Counts.{Counts}
+use Rattle.record_walk.specs.Counts.{counted, counting}
+use Rattle.record_walk.specs.Declarations.{enum_walk, enums_walk, file_walk, in_file, message_end, message_front, message_walk, messages_walk, nested_walk, service_walk, services_walk}
+use Rattle.record_walk.specs.Protos.{Proto, of_enum, of_extension, of_field, of_message, of_method, of_oneof, of_service, of_value, name_of}
+use Rattle.record_walk.specs.Shown.{Shown, Surrounding, beside, file_shown, inside, parts, row, shown}
+use Rattle.record_walk.specs.Walking.{within_file}
 use Rattle.linking_laws.proofs.Still.{all-front, all-rest}
 use Rattle.name_pass.specs.Entered.{entries, entries_of, own_entry, package_entry, packages}
 use Rattle.descriptor_pool.proofs.Resolved.{all-append}

@@ -18,14 +18,14 @@ use Rattle.pool_types.specs.declared.contents.definition.Definition.{Definition}
 use Rattle.name_tables.specs.Entries.{first_of}
 use Rattle.name_tables.proofs.Entries.{first-append, get-with}
 use Rattle.file_visibility.proofs.Members.{Contains-cons_cases}
-use Rattle.proto_records.specs.declared.counts.Counts.{Counts}
-use Rattle.proto_records.specs.Counts.{counted, counts_in, no_counts}
-use Rattle.proto_records.specs.Declarations.{declarations, file_walk}
-use Rattle.proto_records.specs.Leads.{leads}
-use Rattle.proto_records.specs.Protos.{Proto, as_enum, as_message, of_file}
-use Rattle.proto_records.specs.Shown.{Shown}
-use Rattle.proto_records.specs.Walking.{within_file}
-use Rattle.proto_records.proofs.Walks.{IsInside, within-all}
+use Rattle.record_walk.specs.declared.counts.Counts.{Counts}
+use Rattle.record_walk.specs.Counts.{counted, counts_in, no_counts}
+use Rattle.record_walk.specs.Declarations.{declarations, file_walk}
+use Rattle.record_walk.specs.Leads.{leads}
+use Rattle.record_walk.specs.Protos.{Proto, as_enum, as_message, of_file}
+use Rattle.record_walk.specs.Shown.{Shown}
+use Rattle.record_walk.specs.Walking.{within_file}
+use Rattle.record_walk.proofs.Walks.{IsInside, within-all}
 use Rattle.pool_parts.specs.declared.filter.ResolveNameFilter.{ResolveNameFilter}
 use Rattle.pool_parts.specs.Resolution.{found, resolution}
 use Rattle.syntax_rules.specs.Syntaxes.{syntax_of}

@@ -3,13 +3,13 @@ use Rattle.std.proofs.Common.{◌≡◌, ◌≤◌, ◌<◌, ◌+◌, ℕ, ℤ, 
 use Rattle.std.specs.List.{AllByRecursion, cons_option, flat_map}
 use Rattle.std.specs.Option.{option_map}
 use Rattle.proto_types.specs.declared.file.FileDescriptorProto.{FileDescriptorProto}
-use Rattle.proto_records.specs.declared.counts.Counts.{Counts}
-use Rattle.proto_records.specs.Changed.{Changes, changed, changed_files}
-use Rattle.proto_records.specs.Counts.{counted}
-use Rattle.proto_records.specs.Declarations.{declarations, file_walk}
-use Rattle.proto_records.specs.Protos.{Proto, of_message, of_service, of_enum, of_extension, as_enum, as_extension, as_message, as_service}
-use Rattle.proto_records.specs.Shown.{Shown, of_kind}
-use Rattle.proto_records.proofs.Paths.{one-file}
+use Rattle.record_walk.specs.declared.counts.Counts.{Counts}
+use Rattle.record_walk.specs.Changed.{Changes, changed, changed_files}
+use Rattle.record_walk.specs.Counts.{counted}
+use Rattle.record_walk.specs.Declarations.{declarations, file_walk}
+use Rattle.record_walk.specs.Protos.{Proto, of_message, of_service, of_enum, of_extension, as_enum, as_extension, as_message, as_service}
+use Rattle.record_walk.specs.Shown.{Shown, of_kind}
+use Rattle.record_walk.proofs.Paths.{one-file}
 use Rattle.enum_rules.specs.Items.{enum_item}
 use Rattle.places.specs.Each.{each}
 use Rattle.link_rules.specs.Broken.{owner_faults}

@@ -9,9 +9,9 @@ use Rattle.proto_types.specs.declared.file.FileDescriptorProto.{FileDescriptorPr
 use Rattle.pool_types.specs.Contents.{Contents, files_of}
 use Rattle.pool_types.specs.declared.contents.extension.ExtensionDescriptorInner.{ExtensionDescriptorInner}
 use Rattle.pool_types.specs.declared.contents.message.MessageDescriptorInner.{MessageDescriptorInner}
-use Rattle.proto_records.specs.Counts.{counted, counts_in, no_counts}
-use Rattle.proto_records.specs.Protos.{Proto, as_enum, as_extension, as_file, as_message, as_service}
-use Rattle.proto_records.specs.Shown.{Shown, of_kind}
+use Rattle.record_walk.specs.Counts.{counted, counts_in, no_counts}
+use Rattle.record_walk.specs.Protos.{Proto, as_enum, as_extension, as_file, as_message, as_service}
+use Rattle.record_walk.specs.Shown.{Shown, of_kind}
 use Rattle.enum_rules.specs.Items.{enum_item}
 use Rattle.places.specs.Each.{each}
 use Rattle.link_rules.specs.Items.{extension_item, file_item, message_item, service_item}

@@ -3,8 +3,8 @@ use Rattle.std.proofs.Common.{◌≡◌, ℕ, ◌+◌, zero, suc, if◌then◌el
 use Rattle.std.specs.FinMap as finite
 use Rattle.std.specs.Option.{option_map}
 use Rattle.pool_types.specs.Contents.{Contents}
-use Rattle.proto_records.specs.Protos.{as_extension, as_message}
-use Rattle.proto_records.specs.Shown.{of_kind}
+use Rattle.record_walk.specs.Protos.{as_extension, as_message}
+use Rattle.record_walk.specs.Shown.{of_kind}
 use Rattle.pool_parts.proofs.Fronts.{no_dot}
 use Rattle.places.specs.Each.{each}
 use Rattle.link_rules.specs.Items.{extension_item, message_item}

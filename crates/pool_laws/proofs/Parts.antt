@@ -17,10 +17,10 @@ use Rattle.name_tables.specs.Entries.{first_of, names_with}
 use Rattle.name_tables.specs.NameTables.{FileNamesBefore}
 use Rattle.name_tables.proofs.Entries.{get-with, with-more}
 use Rattle.file_visibility.specs.Visibility.{file_at, seen_from, sees}
-use Rattle.proto_records.specs.Counts.{counted, counts_in, no_counts}
-use Rattle.proto_records.specs.Declarations.{declarations}
-use Rattle.proto_records.specs.Shown.{Shown}
-use Rattle.proto_records.proofs.Appended.{declarations-append}
+use Rattle.record_walk.specs.Counts.{counted, counts_in, no_counts}
+use Rattle.record_walk.specs.Declarations.{declarations}
+use Rattle.record_walk.specs.Shown.{Shown}
+use Rattle.record_walk.proofs.Appended.{declarations-append}
 use Rattle.places.specs.Each.{each}
 use Rattle.link_rules.specs.Broken.{owner_faults}
 use Rattle.linked_records.specs.Setting.{Setting, seen_by}

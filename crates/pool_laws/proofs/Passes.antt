@@ -6,8 +6,8 @@ use Rattle.proto_types.specs.declared.file.FileDescriptorProto.{FileDescriptorPr
 use Rattle.proto_types.specs.Lists.{after_each}
 use Rattle.pool_types.specs.Contents.{ByText, Contents}
 use Rattle.name_tables.specs.Entries.{first_of}
-use Rattle.proto_records.specs.Changed.{Changes, KeepNames, changed}
-use Rattle.proto_records.specs.Shown.{Shown}
+use Rattle.record_walk.specs.Changed.{Changes, KeepNames, changed}
+use Rattle.record_walk.specs.Shown.{Shown}
 use Rattle.syntax_rules.specs.Syntaxes.{syntax_at}
 use Rattle.link_rules.specs.Broken.{owner_faults}
 use Rattle.linked_records.specs.Linked.{linking}

@@ -13,9 +13,9 @@ use Rattle.proto_types.specs.Readers.{text_of}
 use Rattle.proto_types.specs.Computed.{literals}
 use Rattle.proto_types.specs.declared.file.FileDescriptorProto.{FileDescriptorProto}
 use Rattle.proto_types.specs.declared.message.DescriptorProto.{DescriptorProto, DescriptorProto', out-DescriptorProto, Row_of-DescriptorProto, end_of-DescriptorProto, more_of-DescriptorProto, items-the_row-DescriptorProto, items_shown-the_row-DescriptorProto-0}
-use Rattle.proto_records.specs.Changed.{Changes, changed_file, changed_message, changed_messages, changed_nested, changed_service}
-use Rattle.proto_records.specs.Leads.{last_entry, leaf, leads, leads_in_enum, leads_in_message, leads_in_service}
-use Rattle.proto_records.specs.Protos.{Proto, of_field, of_oneof, of_method, of_extension, as_enum, as_message}
+use Rattle.record_walk.specs.Changed.{Changes, changed_file, changed_message, changed_messages, changed_nested, changed_service}
+use Rattle.record_walk.specs.Leads.{last_entry, leaf, leads, leads_in_enum, leads_in_message, leads_in_service}
+use Rattle.record_walk.specs.Protos.{Proto, of_field, of_oneof, of_method, of_extension, as_enum, as_message}
 use Rattle.linking_laws.specs.Laws.{RangesStay}
 use Rattle.linking_laws.proofs.Messages.{parts-of}
 

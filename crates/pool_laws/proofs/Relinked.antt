@@ -17,13 +17,13 @@ use Rattle.pool_types.specs.Contents.{ByText, Contents, files_of, no_contents}
 use Rattle.pool_types.specs.declared.contents.message.MessageDescriptorInner.{MessageDescriptorInner}
 use Rattle.name_tables.specs.Entries.{first_of, names}
 use Rattle.name_tables.proofs.Names.{get-lookup}
-use Rattle.proto_records.specs.Changed.{changed, changed_files}
-use Rattle.proto_records.specs.Counts.{counts_in, no_counts}
-use Rattle.proto_records.specs.Declarations.{declarations}
-use Rattle.proto_records.specs.Fits.{counts_with}
-use Rattle.proto_records.specs.Protos.{Proto, as_enum, as_extension, as_message, as_service}
-use Rattle.proto_records.specs.Shown.{Shown, of_kind}
-use Rattle.proto_records.proofs.Changed.{declare-changed}
+use Rattle.record_walk.specs.Changed.{changed, changed_files}
+use Rattle.record_walk.specs.Counts.{counts_in, no_counts}
+use Rattle.record_walk.specs.Declarations.{declarations}
+use Rattle.record_walk.specs.Fits.{counts_with}
+use Rattle.record_walk.specs.Protos.{Proto, as_enum, as_extension, as_message, as_service}
+use Rattle.record_walk.specs.Shown.{Shown, of_kind}
+use Rattle.record_walk.proofs.Changed.{declare-changed}
 use Rattle.syntax_rules.specs.Syntaxes.{syntax_at}
 use Rattle.enum_rules.specs.Items.{enum_item}
 use Rattle.places.specs.Each.{each}

@@ -14,12 +14,12 @@ use Rattle.pool_types.specs.declared.contents.definition.Definition.{Definition}
 use Rattle.name_tables.specs.Entries.{names_with}
 use Rattle.name_tables.proofs.Entries.{get-with, with-more}
 use Rattle.file_visibility.specs.Visibility.{file_at, seen_from}
-use Rattle.proto_records.specs.declared.counts.Counts.{Counts}
-use Rattle.proto_records.specs.Changed.{changed_files}
-use Rattle.proto_records.specs.Counts.{counted, counts_in}
-use Rattle.proto_records.specs.Declarations.{declarations}
-use Rattle.proto_records.specs.Leads.{leads}
-use Rattle.proto_records.specs.Shown.{Shown}
+use Rattle.record_walk.specs.declared.counts.Counts.{Counts}
+use Rattle.record_walk.specs.Changed.{changed_files}
+use Rattle.record_walk.specs.Counts.{counted, counts_in}
+use Rattle.record_walk.specs.Declarations.{declarations}
+use Rattle.record_walk.specs.Leads.{leads}
+use Rattle.record_walk.specs.Shown.{Shown}
 use Rattle.pool_parts.specs.Resolution.{resolution}
 use Rattle.places.specs.Each.{each}
 use Rattle.syntax_rules.specs.Syntaxes.{syntax_at, syntax_of}

@@ -15,18 +15,18 @@ use Rattle.pool_faults.specs.declared.fault.DescriptorErrorKind.TheVariants as f
 use Rattle.pool_types.specs.Contents.{Contents, files_of}
 use Rattle.name_tables.specs.Entries.{first_of}
 use Rattle.name_tables.proofs.Entries.{get-with}
-use Rattle.proto_records.specs.declared.counts.Counts.{Counts}
-use Rattle.proto_records.specs.declared.counts.CountKind.{CountKind}
-use Rattle.proto_records.specs.declared.counts.CountKind.TheVariants.{ListTooLong}
-use Rattle.proto_records.specs.Counts.{added_to, counted, counts_in, counts_of, lists_fit, no_counts, plus, within_limit}
-use Rattle.proto_records.specs.Declarations.{declarations, file_walk}
-use Rattle.proto_records.specs.Fits.{counts_with}
-use Rattle.proto_records.specs.Shown.{Shown, file_shown}
-use Rattle.proto_records.specs.Totals.{tally}
-use Rattle.proto_records.specs.Walking.{Room, WithinLimits, within_file}
-use Rattle.proto_records.proofs.Counted.{counted-append, counted-plus}
-use Rattle.proto_records.proofs.Room.{room-fits}
-use Rattle.proto_records.proofs.Tallies.{declarations-tally}
+use Rattle.record_walk.specs.declared.counts.Counts.{Counts}
+use Rattle.record_walk.specs.declared.counts.CountKind.{CountKind}
+use Rattle.record_walk.specs.declared.counts.CountKind.TheVariants.{ListTooLong}
+use Rattle.record_walk.specs.Counts.{added_to, counted, counts_in, counts_of, lists_fit, no_counts, plus, within_limit}
+use Rattle.record_walk.specs.Declarations.{declarations, file_walk}
+use Rattle.record_walk.specs.Fits.{counts_with}
+use Rattle.record_walk.specs.Shown.{Shown, file_shown}
+use Rattle.record_walk.specs.Totals.{tally}
+use Rattle.record_walk.specs.Walking.{Room, WithinLimits, within_file}
+use Rattle.record_walk.proofs.Counted.{counted-append, counted-plus}
+use Rattle.record_walk.proofs.Room.{room-fits}
+use Rattle.record_walk.proofs.Tallies.{declarations-tally}
 use Rattle.syntax_rules.specs.Syntaxes.{syntax_faults}
 use Rattle.linking_laws.proofs.FirstPass.{holder-more}
 use Rattle.linking_laws.proofs.Numbered.{both-empty}

@@ -15,14 +15,14 @@ use Rattle.name_tables.specs.Entries.{Entry, first_of, names, names_with}
 use Rattle.name_tables.proofs.Entries.{first-append, get-with, with-more, with-names}
 use Rattle.name_tables.proofs.Names.{get-lookup}
 use Rattle.file_visibility.proofs.Members.{Contains-cons_cases}
-use Rattle.proto_records.specs.declared.counts.Counts.{Counts}
-use Rattle.proto_records.specs.Counts.{counted, counts_in, no_counts}
-use Rattle.proto_records.specs.Declarations.{declarations, file_walk}
-use Rattle.proto_records.specs.Protos.{Proto, of_file}
-use Rattle.proto_records.specs.Shown.{Shown, file_shown}
-use Rattle.proto_records.specs.Walking.{within_file}
-use Rattle.proto_records.proofs.Appended.{declarations-append}
-use Rattle.proto_records.proofs.Walks.{IsInside, within-all}
+use Rattle.record_walk.specs.declared.counts.Counts.{Counts}
+use Rattle.record_walk.specs.Counts.{counted, counts_in, no_counts}
+use Rattle.record_walk.specs.Declarations.{declarations, file_walk}
+use Rattle.record_walk.specs.Protos.{Proto, of_file}
+use Rattle.record_walk.specs.Shown.{Shown, file_shown}
+use Rattle.record_walk.specs.Walking.{within_file}
+use Rattle.record_walk.proofs.Appended.{declarations-append}
+use Rattle.record_walk.proofs.Walks.{IsInside, within-all}
 use Rattle.linking_laws.specs.Laws.{SeenAmong}
 use Rattle.linking_laws.proofs.Fewer.{all-mapped}
 use Rattle.linking_laws.proofs.Still.{all-front}

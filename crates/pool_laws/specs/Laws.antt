@@ -12,11 +12,11 @@ use Rattle.pool_types.specs.declared.contents.definition.DefinitionKind.TheVaria
 use Rattle.pool_types.specs.declared.contents.message.MessageDescriptorInner.{MessageDescriptorInner}
 use Rattle.pool_inner.specs.LookUps.{definition_named}
 use Rattle.name_tables.specs.Entries.{Entry}
-use Rattle.proto_records.specs.declared.counts.Counts.{Counts}
-use Rattle.proto_records.specs.Counts.{counted, no_counts}
-use Rattle.proto_records.specs.Declarations.{file_walk}
-use Rattle.proto_records.specs.Protos.{name_of}
-use Rattle.proto_records.specs.Walking.{within_file}
+use Rattle.record_walk.specs.declared.counts.Counts.{Counts}
+use Rattle.record_walk.specs.Counts.{counted, no_counts}
+use Rattle.record_walk.specs.Declarations.{file_walk}
+use Rattle.record_walk.specs.Protos.{name_of}
+use Rattle.record_walk.specs.Walking.{within_file}
 use Rattle.name_pass.specs.Entered.{entries}
 use Rattle.linking_laws.specs.Laws.{SeenAmong}
 use Rattle.descriptor_pool.specs.Behind.{declared_behind, with_names}

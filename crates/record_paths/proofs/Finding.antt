@@ -5,7 +5,7 @@ use Rattle.std.specs.Option.{option_and_then}
 use Rattle.proto_types.specs.declared.message.DescriptorProto.{DescriptorProto, out-DescriptorProto}
 use Rattle.proto_types.specs.declared.tag.message.TheConstants as message
 use Rattle.proto_types.specs.Lists.{at}
-use Rattle.proto_records.specs.Leads.{leads_in_message}
+use Rattle.record_walk.specs.Leads.{leads_in_message}
 
 leads-nested : (m n : DescriptorProto) (position : ℤ) (rest : List ℤ) → at (out-DescriptorProto m).nested_type position ≡ Some n
     → leads_in_message m (message.NESTED_TYPE ∷ position ∷ rest) ≡ leads_in_message n rest

@@ -1,7 +1,7 @@
 -- A record that is borrowed, as one that declares something.
 use Rattle.record_paths.specs.declared.find.record.Record.{Record}
 use Rattle.record_paths.specs.declared.find.record.Record.TheVariants as borrowed
-use Rattle.proto_records.specs.Protos.{Proto, of_file, of_message, of_field, of_oneof, of_service, of_method, of_enum, of_value, of_extension}
+use Rattle.record_walk.specs.Protos.{Proto, of_file, of_message, of_field, of_oneof, of_service, of_method, of_enum, of_value, of_extension}
 
 abbrev pub proto_in : Record → Proto
 proto_in (borrowed.File f) = of_file f.now

@@ -2,12 +2,12 @@
 use Rattle.std.proofs.Common.{◌≡◌, ℕ, ℤ, List, [], ◌∷◌, ◌++◌, Option, Some, OnOk, Result, codes, ap, sym, ◌∙◌, append_assoc}
 use Rattle.proto_types.specs.Readers.{text_of}
 use Rattle.proto_types.specs.declared.records.service.MethodDescriptorProto.{MethodDescriptorProto}
-use Rattle.proto_records.specs.declared.declaration.Declaration.{Declaration}
-use Rattle.proto_records.specs.declared.declaration.DeclarationKind.TheVariants as declared
-use Rattle.proto_records.specs.Listed.{declaration_of}
-use Rattle.proto_records.specs.Protos.{Proto, of_file, of_message, of_field, of_oneof, of_service, of_method, of_enum, of_value, of_extension}
-use Rattle.proto_records.specs.Shown.{Shown}
-use Rattle.proto_records.proofs.Listings.{on-ok}
+use Rattle.record_walk.specs.declared.declaration.Declaration.{Declaration}
+use Rattle.record_walk.specs.declared.declaration.DeclarationKind.TheVariants as declared
+use Rattle.record_walk.specs.Listed.{declaration_of}
+use Rattle.record_walk.specs.Protos.{Proto, of_file, of_message, of_field, of_oneof, of_service, of_method, of_enum, of_value, of_extension}
+use Rattle.record_walk.specs.Shown.{Shown}
+use Rattle.record_walk.proofs.Listings.{on-ok}
 use Rattle.record_references.specs.References.{Reference, reference, references_in}
 
 -- two references behind others, by the declaration of a method to whose record its path leads

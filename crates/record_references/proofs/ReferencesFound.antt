@@ -3,13 +3,13 @@ use Rattle.std.proofs.Common.{◌≡◌, List, [], ◌∷◌, ◌++◌, map, Som
 use Rattle.std.specs.List.{All, AllByRecursion, flat_map}
 use Rattle.std.proofs.lemmas.List.Elements.{recursion_from_All}
 use Rattle.proto_types.specs.declared.file.FileDescriptorProto.{FileDescriptorProto}
-use Rattle.proto_records.specs.declared.declaration.Declaration.{Declaration}
-use Rattle.proto_records.specs.Counts.{no_counts}
-use Rattle.proto_records.specs.Declarations.{declarations, file_walk}
-use Rattle.proto_records.specs.Leads.{leads}
-use Rattle.proto_records.specs.Listed.{declaration_of}
-use Rattle.proto_records.specs.Shown.{Shown}
-use Rattle.proto_records.proofs.Leading.{paths-lead}
+use Rattle.record_walk.specs.declared.declaration.Declaration.{Declaration}
+use Rattle.record_walk.specs.Counts.{no_counts}
+use Rattle.record_walk.specs.Declarations.{declarations, file_walk}
+use Rattle.record_walk.specs.Leads.{leads}
+use Rattle.record_walk.specs.Listed.{declaration_of}
+use Rattle.record_walk.specs.Shown.{Shown}
+use Rattle.record_walk.proofs.Leading.{paths-lead}
 use Rattle.record_references.specs.References.{Reference, references_in, references}
 
 -- the path of a declaration leads to its record

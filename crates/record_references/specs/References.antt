@@ -4,10 +4,10 @@ use Rattle.std.specs.Prelude.{ℕ, List, [], ◌∷◌, codes}
 use Rattle.std.specs.List.{flat_map}
 use Rattle.proto_types.specs.declared.file.FileDescriptorProto.{FileDescriptorProto}
 use Rattle.proto_types.specs.Readers.{text_of}
-use Rattle.proto_records.specs.Counts.{no_counts}
-use Rattle.proto_records.specs.Declarations.{declarations}
-use Rattle.proto_records.specs.Protos.{of_field, of_method, of_extension}
-use Rattle.proto_records.specs.Shown.{Shown}
+use Rattle.record_walk.specs.Counts.{no_counts}
+use Rattle.record_walk.specs.Declarations.{declarations}
+use Rattle.record_walk.specs.Protos.{of_field, of_method, of_extension}
+use Rattle.record_walk.specs.Shown.{Shown}
 
 -- the full name of the declaration that refers, the part of its record, and the text there
 pub record Reference : Type 0 where

@@ -4,19 +4,19 @@ ghost use Rattle.std.specs.Prelude.{◌≡◌, [], ◌∷◌, ◌++◌, map, Som
 ghost use Rattle.proto_types.specs.declared.records.field.FieldDescriptorProto.{FieldDescriptorProto as Field};
 ghost use Rattle.proto_types.specs.declared.records.service.MethodDescriptorProto.{MethodDescriptorProto as Method};
 ghost use Rattle.proto_types.specs.Readers.{text_of};
-ghost use Rattle.proto_records.specs.Counts.{no_counts};
-ghost use Rattle.proto_records.specs.Fits.{counts_with};
-ghost use Rattle.proto_records.specs.Leads.{leads};
-ghost use Rattle.proto_records.specs.Listed.{declaration_of};
-ghost use Rattle.proto_records.specs.Protos.{of_extension, of_field, of_method};
-ghost use Rattle.proto_records.specs.Shown.{Shown};
+ghost use Rattle.record_walk.specs.Counts.{no_counts};
+ghost use Rattle.record_walk.specs.Fits.{counts_with};
+ghost use Rattle.record_walk.specs.Leads.{leads};
+ghost use Rattle.record_walk.specs.Listed.{declaration_of};
+ghost use Rattle.record_walk.specs.Protos.{of_extension, of_field, of_method};
+ghost use Rattle.record_walk.specs.Shown.{Shown};
 ghost use Rattle.record_references.specs.References.{reference, reference_in, references_in, references};
 ghost use Rattle.record_references.specs.Code.{reference_of};
 
 use declaration_lists::list_declarations;
 use plain_data::Text;
 use proto_types::FileDescriptorProto;
-use proto_records::{Counts, Declaration, DeclarationKind};
+use record_walk::{Counts, Declaration, DeclarationKind};
 use record_paths::{find_field_proto, find_method_proto};
 use std::alloc::{AllocError, Global};
 use std::slice;

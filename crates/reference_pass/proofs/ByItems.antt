@@ -32,17 +32,17 @@ use Rattle.pool_types.specs.declared.contents.file.FileDescriptorInner.{FileDesc
 use Rattle.pool_types.specs.declared.contents.message.MessageDescriptorInner.{MessageDescriptorInner}
 use Rattle.pool_types.specs.declared.contents.service.MethodDescriptorInner.{MethodDescriptorInner}
 use Rattle.pool_types.specs.declared.contents.service.ServiceDescriptorInner.{ServiceDescriptorInner}
-use Rattle.proto_records.specs.declared.counts.Counts.{Counts}
-use Rattle.proto_records.specs.Changed.{changed_fields, changed_methods, changed_message, changed_service}
-use Rattle.proto_records.specs.Counts.{count_limit, counted, counting}
-use Rattle.proto_records.specs.Declarations.{declarations, in_file, enum_walk, enums_walk, file_walk, message_front, message_walk, messages_walk, service_walk, services_walk}
-use Rattle.proto_records.specs.Protos.{Proto, of_file, of_message, of_field, of_oneof, of_service, of_method, of_enum, of_value, of_extension}
-use Rattle.proto_records.specs.Shown.{Shown, Surrounding, file_shown, inside, row, shown}
-use Rattle.proto_records.proofs.Changed.{changed-message-is}
-use Rattle.proto_records.proofs.Counted.{counted-append}
-use Rattle.proto_records.proofs.Paths.{one-file}
-use Rattle.proto_records.proofs.Leading.{message-walk-opens}
-use Rattle.proto_records.proofs.Turns.{counted-enum, counted-front, counted-service, services-keep}
+use Rattle.record_walk.specs.declared.counts.Counts.{Counts}
+use Rattle.record_walk.specs.Changed.{changed_fields, changed_methods, changed_message, changed_service}
+use Rattle.record_walk.specs.Counts.{count_limit, counted, counting}
+use Rattle.record_walk.specs.Declarations.{declarations, in_file, enum_walk, enums_walk, file_walk, message_front, message_walk, messages_walk, service_walk, services_walk}
+use Rattle.record_walk.specs.Protos.{Proto, of_file, of_message, of_field, of_oneof, of_service, of_method, of_enum, of_value, of_extension}
+use Rattle.record_walk.specs.Shown.{Shown, Surrounding, file_shown, inside, row, shown}
+use Rattle.record_walk.proofs.Changed.{changed-message-is}
+use Rattle.record_walk.proofs.Counted.{counted-append}
+use Rattle.record_walk.proofs.Paths.{one-file}
+use Rattle.record_walk.proofs.Leading.{message-walk-opens}
+use Rattle.record_walk.proofs.Turns.{counted-enum, counted-front, counted-service, services-keep}
 use Rattle.pool_parts.specs.declared.filter.ResolveNameFilter.TheVariants.{Message, FieldType as AnyType}
 use Rattle.pool_parts.specs.Kinds.{is_match, named_kind, simple_kind}
 use Rattle.pool_parts.specs.Resolution.{Resolution, found, invalid_type, not_imported, shadowed, not_found, kind_found}

@@ -26,12 +26,12 @@ use Rattle.pool_types.specs.declared.contents.file.FileDescriptorInner.{FileDesc
 use Rattle.pool_types.specs.declared.contents.message.MessageDescriptorInner.{MessageDescriptorInner}
 use Rattle.pool_types.specs.declared.contents.service.MethodDescriptorInner.{MethodDescriptorInner}
 use Rattle.pool_types.specs.declared.contents.service.ServiceDescriptorInner.{ServiceDescriptorInner}
-use Rattle.proto_records.specs.declared.counts.Counts.{Counts}
-use Rattle.proto_records.specs.Changed.{changed_fields, changed_methods}
-use Rattle.proto_records.specs.Counts.{count_limit, counted}
-use Rattle.proto_records.specs.Declarations.{declarations, file_walk}
-use Rattle.proto_records.specs.Protos.{of_message, of_service, of_extension}
-use Rattle.proto_records.specs.Shown.{Shown, Surrounding, inside}
+use Rattle.record_walk.specs.declared.counts.Counts.{Counts}
+use Rattle.record_walk.specs.Changed.{changed_fields, changed_methods}
+use Rattle.record_walk.specs.Counts.{count_limit, counted}
+use Rattle.record_walk.specs.Declarations.{declarations, file_walk}
+use Rattle.record_walk.specs.Protos.{of_message, of_service, of_extension}
+use Rattle.record_walk.specs.Shown.{Shown, Surrounding, inside}
 use Rattle.places.specs.Each.{each}
 use Rattle.linked_records.specs.Linked.{linked, linked_field, linked_method}
 use Rattle.linked_records.specs.Setting.{Setting}

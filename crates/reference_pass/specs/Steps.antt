@@ -5,9 +5,9 @@ use Rattle.pool_types.specs.declared.contents.extension.ExtensionDescriptorInner
 use Rattle.pool_types.specs.declared.contents.message.MessageDescriptorInner.{MessageDescriptorInner}
 use Rattle.pool_types.specs.declared.contents.service.ServiceDescriptorInner.{ServiceDescriptorInner}
 use Rattle.pool_types.specs.Contents.{no_contents}
-use Rattle.proto_records.specs.Progress.{Progress}
-use Rattle.proto_records.specs.Protos.{of_file, of_message, of_enum, of_service, of_extension}
-use Rattle.proto_records.specs.Shown.{Shown}
+use Rattle.record_walk.specs.Progress.{Progress}
+use Rattle.record_walk.specs.Protos.{of_file, of_message, of_enum, of_service, of_extension}
+use Rattle.record_walk.specs.Shown.{Shown}
 use Rattle.link_rules.specs.Broken.{Faults, owner_faults}
 use Rattle.enum_rules.specs.Items.{enum_item}
 use Rattle.link_rules.specs.Items.{message_item, service_item, extension_item}

@@ -1,9 +1,9 @@
 //! The items of declarations, each read with a reading of its own.
 
 ghost use Rattle.std.specs.Prelude.{◌≡◌, ◌++◌, true, IfOk, OnOk, map};
-ghost use Rattle.proto_records.specs.Counts.{lists_fit};
-ghost use Rattle.proto_records.specs.FullNames.{EndsWithName};
-ghost use Rattle.proto_records.specs.Protos.{of_enum, of_extension, of_file, of_message, of_service};
+ghost use Rattle.record_walk.specs.Counts.{lists_fit};
+ghost use Rattle.record_walk.specs.FullNames.{EndsWithName};
+ghost use Rattle.record_walk.specs.Protos.{of_enum, of_extension, of_file, of_message, of_service};
 ghost use Rattle.places.specs.Places.{enum_at, message_at, service_at, shown_at};
 ghost use Rattle.enum_rules.specs.Items.{enum_item};
 ghost use Rattle.enum_rules.specs.Values.{values_faults};

@@ -8,7 +8,7 @@ use linked_records::Setting;
 use places::Place;
 use pool_faults::DescriptorErrorKind;
 use proto_types::{DescriptorProto, EnumDescriptorProto, EnumValueDescriptorProto, FieldDescriptorProto, FileDescriptorProto, MethodDescriptorProto, OneofDescriptorProto, ServiceDescriptorProto};
-use proto_records::Visitor;
+use record_walk::Visitor;
 use std::alloc::{AllocError, Global};
 
 /// The second pass: it reads a batch against a pool whose files and names are those of the batch as
@@ -31,7 +31,7 @@ impl Visitor for ResolveVisitor<'_> {
     ghost use Rattle.std.specs.List.{fold};
     ghost use Rattle.std.specs.Prelude.{[]};
     ghost use Rattle.pool_types.specs.Contents.{no_contents};
-    ghost use Rattle.proto_records.specs.FullNames.{CanBeRead, front-read};
+    ghost use Rattle.record_walk.specs.FullNames.{CanBeRead, front-read};
     ghost use Rattle.linked_records.specs.SettingCode.{setting_in};
     ghost use Rattle.reference_pass.specs.Steps.{reference_progress, reference_step};
     ghost use Rattle.reference_pass.specs.State.{state_of};

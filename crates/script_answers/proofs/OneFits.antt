@@ -4,15 +4,15 @@ use Rattle.std.specs.List.{list_all, find}
 use Rattle.std.specs.declared.result.Result.TheVariants.{Err}
 use Rattle.std.proofs.lemmas.Bool.Decides.{nat_tests}
 use Rattle.proto_types.specs.declared.file.FileDescriptorProto.{FileDescriptorProto}
-use Rattle.proto_records.specs.declared.counts.Counts.{Counts}
-use Rattle.proto_records.specs.declared.counts.CountKind.TheVariants.{ListTooLong}
-use Rattle.proto_records.specs.Counts.{no_counts, counted, lists_fit, added_to, within_limit}
-use Rattle.proto_records.specs.Declarations.{declarations}
-use Rattle.proto_records.specs.Fits.{counts_with}
-use Rattle.proto_records.specs.Walking.{WithinLimits}
-use Rattle.proto_records.proofs.Counted.{both}
-use Rattle.proto_records.proofs.Room.{room-fits}
-use Rattle.proto_records.proofs.Tallies.{file_tally, files_tally, declarations-tally}
+use Rattle.record_walk.specs.declared.counts.Counts.{Counts}
+use Rattle.record_walk.specs.declared.counts.CountKind.TheVariants.{ListTooLong}
+use Rattle.record_walk.specs.Counts.{no_counts, counted, lists_fit, added_to, within_limit}
+use Rattle.record_walk.specs.Declarations.{declarations}
+use Rattle.record_walk.specs.Fits.{counts_with}
+use Rattle.record_walk.specs.Walking.{WithinLimits}
+use Rattle.record_walk.proofs.Counted.{both}
+use Rattle.record_walk.proofs.Room.{room-fits}
+use Rattle.record_walk.proofs.Tallies.{file_tally, files_tally, declarations-tally}
 
 -- there are counts, and a pool can hold them
 abbrev CanHold : Option Counts → Type 0

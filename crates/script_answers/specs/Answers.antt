@@ -12,15 +12,15 @@ use Rattle.pool_types.specs.declared.contents.definition.DefinitionKind.{Definit
 use Rattle.pool_types.specs.declared.contents.definition.DefinitionKind.TheVariants as definition
 use Rattle.pool_faults.specs.Texts.{path_text, labelled_text}
 use Rattle.pool_faults.specs.declared.fault.DescriptorErrorKind.{DescriptorErrorKind}
-use Rattle.proto_records.specs.declared.counts.Counts.{Counts}
-use Rattle.proto_records.specs.declared.counts.CountKind.{CountKind}
-use Rattle.proto_records.specs.declared.counts.CountKind.TheVariants as too_many
-use Rattle.proto_records.specs.declared.declaration.Declaration.{Declaration}
-use Rattle.proto_records.specs.declared.declaration.DeclarationKind.{DeclarationKind}
-use Rattle.proto_records.specs.declared.declaration.DeclarationKind.TheVariants as declared
-use Rattle.proto_records.specs.Counts.{no_counts}
-use Rattle.proto_records.specs.Declarations.{declarations}
-use Rattle.proto_records.specs.Listed.{declaration_of}
+use Rattle.record_walk.specs.declared.counts.Counts.{Counts}
+use Rattle.record_walk.specs.declared.counts.CountKind.{CountKind}
+use Rattle.record_walk.specs.declared.counts.CountKind.TheVariants as too_many
+use Rattle.record_walk.specs.declared.declaration.Declaration.{Declaration}
+use Rattle.record_walk.specs.declared.declaration.DeclarationKind.{DeclarationKind}
+use Rattle.record_walk.specs.declared.declaration.DeclarationKind.TheVariants as declared
+use Rattle.record_walk.specs.Counts.{no_counts}
+use Rattle.record_walk.specs.Declarations.{declarations}
+use Rattle.record_walk.specs.Listed.{declaration_of}
 use Rattle.link_script.specs.declared.script.statement.ScriptFault.{ScriptFault}
 use Rattle.link_script.specs.Script.Faults.{fault_words}
 use Rattle.record_references.specs.References.{Reference, references}

@@ -8,7 +8,7 @@ use Rattle.std.specs.List.{enumerate_from}
 use Rattle.std.specs.Option.{option_map, option_or}
 use Rattle.std.specs.Str.{bytes_eq}
 use Rattle.proto_types.specs.Lists.{after_each}
-use Rattle.proto_records.specs.Counts.{fits_list}
+use Rattle.record_walk.specs.Counts.{fits_list}
 
 enumerate-append : {X : Type 0} (n : ℕ) (xs : List X) (x : X) → enumerate_from n (xs ++ x ∷ []) ≡ enumerate_from n xs ++ (n + length xs, x) ∷ []
 enumerate-append n [] x = let here : n ≡ n + 0 = omega arith in ap (λ k. (k, x) ∷ []) here

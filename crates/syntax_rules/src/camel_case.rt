@@ -1,8 +1,8 @@
 ghost use Rattle.std.specs.Prelude.{◌≡◌, ◌<◌, ◌^◌, ℕ, List, Some, true, unwrap_or, if◌then◌else◌, IfOk, OnOk, string_bytes};
 ghost use Rattle.std.specs.HashMap.{get_by_text};
 ghost use Rattle.std.specs.Str.{bytes_eq};
-ghost use Rattle.proto_records.specs.Counts.{fits_list, lists_fit};
-ghost use Rattle.proto_records.specs.Protos.{of_message};
+ghost use Rattle.record_walk.specs.Counts.{fits_list, lists_fit};
+ghost use Rattle.record_walk.specs.Protos.{of_message};
 ghost use Rattle.pool_faults.specs.Labels.{label_in};
 ghost use Rattle.places.specs.Tells.{Tells, named_files};
 ghost use Rattle.syntax_rules.specs.CamelCase.{camel_case_key, name_path, camel_case_fault, camel_case_faults, message_own_faults};
@@ -13,7 +13,7 @@ use plain_data::Text;
 use pool_faults::{DescriptorErrorKind, Label};
 use pool_types::Syntax;
 use proto_types::{DescriptorProto, FieldDescriptorProto, tag};
-use proto_records::entry_path;
+use record_walk::entry_path;
 use std::alloc::{AllocError, Global};
 use std::collections::HashMap;
 

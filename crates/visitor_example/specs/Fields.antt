@@ -2,10 +2,10 @@
 use Rattle.std.specs.Prelude.{ℕ, Bool, List, length, map, max}
 use Rattle.std.specs.List.{filter, fold}
 use Rattle.std.specs.Option.{is_some}
-use Rattle.proto_records.specs.declared.declaration.Declaration.{Declaration}
-use Rattle.proto_records.specs.Listed.{declaration_of}
-use Rattle.proto_records.specs.Protos.{as_field}
-use Rattle.proto_records.specs.Shown.{Shown}
+use Rattle.record_walk.specs.declared.declaration.Declaration.{Declaration}
+use Rattle.record_walk.specs.Listed.{declaration_of}
+use Rattle.record_walk.specs.Protos.{as_field}
+use Rattle.record_walk.specs.Shown.{Shown}
 
 -- whether a declaration is a field of a message
 abbrev pub is_field : Shown → Bool

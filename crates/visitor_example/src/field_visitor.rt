@@ -1,7 +1,7 @@
 ghost use Rattle.std.specs.Prelude.{◌≡◌, [], ◌++◌, length};
 ghost use Rattle.visitor_example.specs.Fields.{fields_in, longest_path};
 
-use proto_records::{Declaration, DeclarationKind, Visitor};
+use record_walk::{Declaration, DeclarationKind, Visitor};
 
 use proto_types::{DescriptorProto, EnumDescriptorProto, EnumValueDescriptorProto, FieldDescriptorProto, FileDescriptorProto, MethodDescriptorProto, OneofDescriptorProto, ServiceDescriptorProto};
 
@@ -18,7 +18,7 @@ pub struct FieldVisitor {
 
 impl Model for FieldVisitor {
     ghost use Rattle.std.specs.Prelude.{List};
-    ghost use Rattle.proto_records.specs.declared.declaration.Declaration.{Declaration};
+    ghost use Rattle.record_walk.specs.declared.declaration.Declaration.{Declaration};
 
     ghost Value = { List Declaration };
 

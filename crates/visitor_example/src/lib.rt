@@ -2,14 +2,14 @@
 #![tactic(auto)]
 
 ghost use Rattle.std.specs.Prelude.{◌≡◌, IsOk, IfOk};
-ghost use Rattle.proto_records.specs.Declarations.{declarations};
-ghost use Rattle.proto_records.specs.Fits.{counts_with};
+ghost use Rattle.record_walk.specs.Declarations.{declarations};
+ghost use Rattle.record_walk.specs.Fits.{counts_with};
 ghost use Rattle.visitor_example.specs.Fields.{fields_in};
 
 mod field_visitor;
 
 pub use field_visitor::FieldVisitor;
-use proto_records::{Counts, visit};
+use record_walk::{Counts, visit};
 use proto_types::FileDescriptorProto;
 use std::alloc::{AllocError, Global};
 

@@ -4,7 +4,7 @@ use super::rules::built;
 use pool_faults::{DescriptorError, DescriptorErrorKind, Labelled};
 use descriptor_pool::BuildError;
 use plain_data::Text;
-use proto_records::CountKind;
+use record_walk::CountKind;
 use script_files::files_of;
 use std::alloc::{AllocError, Global};
 use std::fmt::Write;

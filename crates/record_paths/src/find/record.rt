@@ -1,6 +1,6 @@
 ghost use Rattle.std.specs.Prelude.{◌≡◌};
 ghost use Rattle.std.specs.Option.{option_copied};
-ghost use Rattle.proto_records.specs.Leads.{last_entry};
+ghost use Rattle.record_walk.specs.Leads.{last_entry};
 ghost use Rattle.proto_types.specs.Lists.{at};
 
 use plain_data::Items;
@@ -22,7 +22,7 @@ pub(crate) enum Record<'a> {
 
 impl<'a> Record<'a> {
     ghost use Rattle.std.specs.Option.{option_map};
-    ghost use Rattle.proto_records.specs.Leads.{leads, leads_in_message, leads_in_enum, leads_in_service};
+    ghost use Rattle.record_walk.specs.Leads.{leads, leads_in_message, leads_in_enum, leads_in_service};
     ghost use Rattle.record_paths.specs.Records.{proto_in};
 
     /// The record at a path of a file, or none where nothing stands there.

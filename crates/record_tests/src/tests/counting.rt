@@ -1,7 +1,7 @@
 //! How many declarations files have.
 
 use proto_types::FileDescriptorProto;
-use proto_records::{CountKind, Counts};
+use record_walk::{CountKind, Counts};
 use script_files::files_of;
 use std::process::Abort;
 use std::test::Fail;

@@ -2,7 +2,7 @@
 
 use super::counting::{EVERY_KIND, NONE};
 use proto_types::FileDescriptorProto;
-use proto_records::{declared_indexes, declared_paths};
+use record_walk::{declared_indexes, declared_paths};
 use script_files::files_of;
 use std::alloc::{AllocError, Global};
 use std::process::Abort;

@@ -3,7 +3,7 @@
 use super::counting::{EVERY_KIND, NONE};
 use declaration_lists::{Lister, list_declarations};
 use proto_types::FileDescriptorProto;
-use proto_records::{Counts, Declaration, visit};
+use record_walk::{Counts, Declaration, visit};
 use script_files::files_of;
 use std::alloc::{AllocError, Global};
 use std::fmt::Write;

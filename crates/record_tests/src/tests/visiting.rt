@@ -2,12 +2,12 @@
 
 ghost use Rattle.std.specs.Prelude.{List, [], IfOk};
 ghost use Rattle.pool_types.specs.Contents.{no_contents};
-ghost use Rattle.proto_records.specs.Shown.{Shown};
+ghost use Rattle.record_walk.specs.Shown.{Shown};
 
 use super::counting::{EVERY_KIND, NONE};
 use declaration_lists::Lister;
 use proto_types::{DescriptorProto, EnumDescriptorProto, EnumValueDescriptorProto, FieldDescriptorProto, FileDescriptorProto, MethodDescriptorProto, OneofDescriptorProto, ServiceDescriptorProto};
-use proto_records::{Visitor, visit, visit_each};
+use record_walk::{Visitor, visit, visit_each};
 use script_files::files_of;
 use std::alloc::{AllocError, Global};
 use std::cell::Cell;

@@ -2,10 +2,10 @@ use Rattle.std.proofs.Common.{MutBor, [], ◌++◌, List, map, ap, ◌∙◌, sy
 use Rattle.std.specs.List.{filter}
 use borrow.Pointer.Hide.{carried_sameᵐ}
 use mir.Syntax.{Dict}
-use Rattle.proto_records.specs.declared.declaration.Declaration.{Declaration}
-use Rattle.proto_records.specs.Declarations.{declarations}
-use Rattle.proto_records.specs.Listed.{declaration_of}
-use Rattle.proto_records.specs.Progress.{Progress}
+use Rattle.record_walk.specs.declared.declaration.Declaration.{Declaration}
+use Rattle.record_walk.specs.Declarations.{declarations}
+use Rattle.record_walk.specs.Listed.{declaration_of}
+use Rattle.record_walk.specs.Progress.{Progress}
 use Rattle.visitor_example.specs.Fields.{is_field}
 use Rattle.visitor_example.proofs.fields_of.OwnLists.{own-1, at-1-1, entry-1-1, same-1-1}
 use Rattle.visitor_example.proofs.fields_of.Object-1 as object

@@ -1,8 +1,8 @@
 use Rattle.std.proofs.Common.{map, ap, ◌∙◌}
 use Rattle.std.specs.List.{fold}
 use Rattle.pool_types.specs.Contents.{files_of}
-use Rattle.proto_records.specs.Declarations.{declarations}
-use Rattle.proto_records.proofs.Listings.{on-ok}
+use Rattle.record_walk.specs.Declarations.{declarations}
+use Rattle.record_walk.proofs.Listings.{on-ok}
 use Rattle.pool_inner.specs.Held.{contents_in}
 use Rattle.name_pass.specs.Steps.{NameState, name_step, state_at}
 use Rattle.growing_pool.specs.Growing.{new_records, records_from}

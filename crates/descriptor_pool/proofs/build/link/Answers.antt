@@ -1,6 +1,6 @@
 use Rattle.std.proofs.Common.{◌≡◌, rules, true, Result, Ok, Err, OnOk, ap, subst, sym, ◌∙◌}
 use Rattle.std.specs.Result.{is_err}
-use Rattle.proto_records.proofs.Listings.{on-ok}
+use Rattle.record_walk.proofs.Listings.{on-ok}
 use Rattle.pool_types.specs.Contents.{Contents}
 use Rattle.link_rules.specs.NamesBegin.{NamesBegin}
 use Rattle.growing_pool.specs.declared.growing.GrowingPool.{GrowingPool}

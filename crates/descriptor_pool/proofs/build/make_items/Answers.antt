@@ -2,10 +2,10 @@ use Rattle.std.proofs.Common.{◌++◌, length, ap, subst, sym, ◌∙◌, arith
 use Rattle.std.proofs.lemmas.List.Elements.{All-append}
 use Rattle.pool_types.specs.Contents.{Contents}
 use Rattle.link_rules.specs.NamesBegin.{MessageNamesBegin, NamesBegin}
-use Rattle.proto_records.specs.declared.counts.Counts.{Counts}
-use Rattle.proto_records.specs.Counts.{counted}
-use Rattle.proto_records.specs.Declarations.{declarations}
-use Rattle.proto_records.proofs.Room.{room-fits}
+use Rattle.record_walk.specs.declared.counts.Counts.{Counts}
+use Rattle.record_walk.specs.Counts.{counted}
+use Rattle.record_walk.specs.Declarations.{declarations}
+use Rattle.record_walk.proofs.Room.{room-fits}
 use Rattle.growing_pool.specs.Extended.{with_extended}
 use Rattle.growing_pool.specs.Growing.{before_items, first_extension, new_records}
 use Rattle.reference_pass.specs.Against.{setting_with}

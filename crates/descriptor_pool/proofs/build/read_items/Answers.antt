@@ -1,10 +1,10 @@
 use Rattle.std.proofs.Common.{◌≡◌, ◌-◌, List, [], length, map, take, drop, rules, sym, subst, ◌∙◌}
 use Rattle.pool_types.specs.declared.contents.file.FileDescriptorInner.{FileDescriptorInner}
 use Rattle.proto_types.specs.declared.file.FileDescriptorProto.{FileDescriptorProto}
-use Rattle.proto_records.specs.declared.counts.Counts.{Counts}
-use Rattle.proto_records.specs.Declarations.{declarations}
-use Rattle.proto_records.specs.FullNames.{CanBeRead}
-use Rattle.proto_records.proofs.FullNames.{declarations-read}
+use Rattle.record_walk.specs.declared.counts.Counts.{Counts}
+use Rattle.record_walk.specs.Declarations.{declarations}
+use Rattle.record_walk.specs.FullNames.{CanBeRead}
+use Rattle.record_walk.proofs.FullNames.{declarations-read}
 use Rattle.linked_records.specs.Setting.{Setting}
 use Rattle.linked_records.specs.SettingCode.{setting_in}
 use Rattle.link_rules.specs.Broken.{second_pass}

@@ -3,7 +3,7 @@ use Rattle.std.proofs.lemmas.List.{length-take-le}
 use Rattle.std.proofs.lemmas.Result.{on_ok_weaker}
 use Rattle.std.specs.List.{fold}
 use Rattle.proto_types.specs.declared.file.FileDescriptorProto.{FileDescriptorProto}
-use Rattle.proto_records.specs.Declarations.{declarations}
+use Rattle.record_walk.specs.Declarations.{declarations}
 use Rattle.name_pass.specs.Steps.{CanBeEntered, name_step, state_at}
 use Rattle.growing_pool.specs.Growing.{records_from}
 use Rattle.descriptor_pool.proofs.Bases.{rest-records}

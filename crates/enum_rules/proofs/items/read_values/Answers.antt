@@ -5,8 +5,8 @@ use Rattle.proto_types.specs.declared.tag.enum_.TheConstants.{VALUE}
 use Rattle.proto_types.specs.Readers.{number_of, text_of}
 use Rattle.proto_types.specs.declared.records.enumeration.EnumValueDescriptorProto.{EnumValueDescriptorProto}
 use Rattle.pool_types.specs.declared.contents.definition.Identity.{Identity}
-use Rattle.proto_records.specs.Protos.{of_enum, of_value}
-use Rattle.proto_records.specs.Shown.{step}
+use Rattle.record_walk.specs.Protos.{of_enum, of_value}
+use Rattle.record_walk.specs.Shown.{step}
 use Rattle.places.specs.Identities.{named_at}
 use Rattle.enum_rules.specs.Items.{value_item}
 use Rattle.places.specs.Places.{shown_at, part_beside}

@@ -1,7 +1,7 @@
 use Rattle.std.proofs.Common.{◌≡◌, take}
 use Rattle.proto_types.specs.declared.tag.enum_.TheConstants.{VALUE}
 use Rattle.proto_types.specs.Readers.{number_of}
-use Rattle.proto_records.specs.Protos.{of_enum, of_value}
+use Rattle.record_walk.specs.Protos.{of_enum, of_value}
 use Rattle.places.specs.Each.{each}
 use Rattle.enum_rules.specs.Items.{value_item}
 use Rattle.places.specs.Places.{shown_at, part_beside}

@@ -1,7 +1,7 @@
 use Rattle.std.proofs.Common.{rules, FitsSigned, w32, to_z-of_z, ◌++◌, unwrap_or, ap, sym, ◌∙◌, append_assoc}
 use Rattle.pool_types.specs.declared.kinds.KindIndex.TheVariants.{Double}
-use Rattle.proto_records.specs.Protos.{of_extension}
-use Rattle.proto_records.specs.Shown.{Shown}
+use Rattle.record_walk.specs.Protos.{of_extension}
+use Rattle.record_walk.specs.Shown.{Shown}
 use Rattle.field_rules.specs.Encoding.{is_packed}
 use Rattle.field_rules.specs.Numbers.{item_number}
 use Rattle.places.specs.Identities.{named_at}

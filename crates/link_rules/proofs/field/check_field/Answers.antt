@@ -1,8 +1,8 @@
 use Rattle.std.proofs.Common.{◌++◌, unwrap_or, ap, sym, ◌∙◌, append_assoc}
 use Rattle.pool_types.specs.declared.kinds.KindIndex.TheVariants.{Double}
 use Rattle.proto_types.specs.declared.message.DescriptorProto.{out-DescriptorProto}
-use Rattle.proto_records.specs.Protos.{of_field}
-use Rattle.proto_records.specs.Shown.{Shown}
+use Rattle.record_walk.specs.Protos.{of_field}
+use Rattle.record_walk.specs.Shown.{Shown}
 use Rattle.field_rules.specs.Oneofs.{oneof_faults}
 use Rattle.number_rules.specs.Numbers.{field_number_faults}
 use Rattle.places.specs.Places.{message_at, shown_at}

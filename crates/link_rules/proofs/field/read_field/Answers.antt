@@ -9,8 +9,8 @@ use Rattle.proto_types.specs.declared.tag.message.TheConstants.{FIELD}
 use Rattle.proto_types.specs.declared.message.DescriptorProto.{out-DescriptorProto}
 use Rattle.proto_types.specs.Names.{join}
 use Rattle.proto_types.specs.Readers.{text_of}
-use Rattle.proto_records.specs.Protos.{of_field}
-use Rattle.proto_records.specs.Shown.{Shown, step}
+use Rattle.record_walk.specs.Protos.{of_field}
+use Rattle.record_walk.specs.Shown.{Shown, step}
 use Rattle.places.specs.Identities.{identity, named_at}
 use Rattle.places.specs.NamesBegin.{BeginsAtBoundary}
 use Rattle.places.specs.Places.{field_at, inside_of, message_at}

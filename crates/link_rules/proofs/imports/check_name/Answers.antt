@@ -2,8 +2,8 @@ use Rattle.std.proofs.Common.{◌≡◌, ◌∷◌, [], false, not, is_some, ap,
 use Rattle.std.specs.FinMap as finite
 use Rattle.proto_types.specs.declared.tag.file.TheConstants.{DEPENDENCY}
 use Rattle.proto_types.specs.Lists.{only_if}
-use Rattle.proto_records.specs.Shown.{step}
-use Rattle.proto_records.proofs.Listings.{on-ok}
+use Rattle.record_walk.specs.Shown.{step}
+use Rattle.record_walk.proofs.Listings.{on-ok}
 use Rattle.pool_faults.specs.Labels.{label_in}
 use Rattle.pool_faults.specs.declared.fault.DescriptorErrorKind.{DescriptorErrorKind}
 use Rattle.pool_faults.specs.declared.fault.DescriptorErrorKind.TheVariants.{FileNotFound}

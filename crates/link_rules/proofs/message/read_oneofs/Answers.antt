@@ -7,8 +7,8 @@ use Rattle.proto_types.specs.declared.message.DescriptorProto.{out-DescriptorPro
 use Rattle.proto_types.specs.declared.message.OneofDescriptorProto.{OneofDescriptorProto}
 use Rattle.proto_types.specs.declared.tag.message.TheConstants.{ONEOF_DECL}
 use Rattle.proto_types.specs.Names.{join}
-use Rattle.proto_records.specs.Protos.{of_oneof}
-use Rattle.proto_records.specs.Shown.{step}
+use Rattle.record_walk.specs.Protos.{of_oneof}
+use Rattle.record_walk.specs.Shown.{step}
 use Rattle.field_rules.specs.Oneofs.{members}
 use Rattle.link_rules.specs.Items.{oneof_item}
 use Rattle.places.specs.Identities.{named_at}

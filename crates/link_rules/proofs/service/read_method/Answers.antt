@@ -6,7 +6,7 @@ use Rattle.proto_types.specs.Lists.{listed}
 use Rattle.proto_types.specs.Names.{join}
 use Rattle.proto_types.specs.declared.tag.method.TheConstants as method
 use Rattle.proto_types.specs.declared.tag.service.TheConstants.{METHOD}
-use Rattle.proto_records.specs.Shown.{step}
+use Rattle.record_walk.specs.Shown.{step}
 use Rattle.places.specs.Identities.{identity, named_at}
 use Rattle.places.specs.Places.{inside_of}
 use Rattle.linked_records.specs.Setting.{Setting, meaning}

@@ -2,8 +2,8 @@ use Rattle.std.proofs.Common.{◌≡◌, ◌++◌, ◌∷◌, [], ap, ◌∙◌}
 use Rattle.std.specs.Option.{option_and_then, option_map_or}
 use Rattle.proto_types.specs.declared.tag.field.TheConstants.{TYPE_NAME}
 use Rattle.proto_types.specs.Lists.{listed}
-use Rattle.proto_records.specs.Protos.{of_field}
-use Rattle.proto_records.specs.Shown.{Shown}
+use Rattle.record_walk.specs.Protos.{of_field}
+use Rattle.record_walk.specs.Shown.{Shown}
 use Rattle.pool_parts.specs.declared.filter.ResolveNameFilter.TheVariants.{FieldType}
 use Rattle.pool_parts.specs.Kinds.{named_kind}
 use Rattle.pool_parts.specs.References.{reference_fault}

@@ -3,8 +3,8 @@ use Rattle.std.proofs.lemmas.Result.{IfOk-weaker}
 use Rattle.std.specs.Option.{option_and_then}
 use Rattle.proto_types.specs.declared.records.field.FieldDescriptorProto.{FieldDescriptorProto}
 use Rattle.proto_types.specs.Readers.{text_of, type_of}
-use Rattle.proto_records.specs.Protos.{of_field}
-use Rattle.proto_records.specs.Shown.{Shown}
+use Rattle.record_walk.specs.Protos.{of_field}
+use Rattle.record_walk.specs.Shown.{Shown}
 use Rattle.pool_parts.specs.Kinds.{named_kind, simple_kind}
 use Rattle.pool_parts.specs.Resolution.{kind_found}
 use Rattle.places.specs.Places.{shown_at}

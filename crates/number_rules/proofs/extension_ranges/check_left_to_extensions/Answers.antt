@@ -2,7 +2,7 @@ use Rattle.std.proofs.Common.{◌≡◌, ◌∙◌, ◌+◌, true, false, is_som
 use Rattle.std.proofs.lemmas.Int.{to_z-of_z}
 use Rattle.proto_types.specs.declared.message.DescriptorProto.{out-DescriptorProto}
 use Rattle.proto_types.specs.Readers.{number_of}
-use Rattle.proto_records.proofs.Listings.{on-ok}
+use Rattle.record_walk.proofs.Listings.{on-ok}
 use Rattle.places.specs.Tells.{named_files}
 use Rattle.places.proofs.Tells.{tells-as}
 use Rattle.number_rules.specs.At.{any_at}

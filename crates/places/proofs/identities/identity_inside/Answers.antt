@@ -1,6 +1,6 @@
 use Rattle.std.proofs.Common.{sym, subst, ◌∙◌}
-use Rattle.proto_records.specs.FullNames.{EndsWith}
-use Rattle.proto_records.proofs.FullNames.{join-ends}
+use Rattle.record_walk.specs.FullNames.{EndsWith}
+use Rattle.record_walk.proofs.FullNames.{join-ends}
 use Rattle.places.proofs.identities.identity_inside.Goals as goal
 
 -- the name ends the name joined to its scope

@@ -1,6 +1,6 @@
 use Rattle.std.proofs.Common.{ap, map, ◌∙◌}
-use Rattle.proto_records.specs.declared.declaration.Declaration.{Declaration}
-use Rattle.proto_records.specs.Leads.{leads}
+use Rattle.record_walk.specs.declared.declaration.Declaration.{Declaration}
+use Rattle.record_walk.specs.Leads.{leads}
 use Rattle.record_references.specs.Code.{reference_of}
 use Rattle.record_references.proofs.ExtensionReferences.{extension-adds}
 use Rattle.record_references.proofs.MethodReferences.{method-adds}

@@ -2,8 +2,8 @@ use Rattle.std.proofs.Common.{◌≡◌, ℕ, true, eqb, List, [], ◌∷◌, le
 use Rattle.std.proofs.lemmas.Bool.Decides.{nat_tests}
 use Rattle.pool_types.specs.Contents.{Contents}
 use Rattle.proto_types.specs.declared.file.FileDescriptorProto.{FileDescriptorProto}
-use Rattle.proto_records.specs.Counts.{counts_in}
-use Rattle.proto_records.specs.Fits.{counts_with}
+use Rattle.record_walk.specs.Counts.{counts_in}
+use Rattle.record_walk.specs.Fits.{counts_with}
 use Rattle.pool_inner.specs.Held.{contents_in}
 use Rattle.descriptor_pool.specs.Outcome.{Outcome, IsLinked}
 use Rattle.descriptor_pool.specs.Pool.{new_files, counts_after}

@@ -8,7 +8,7 @@ use Rattle.proto_types.specs.declared.records.field.FieldDescriptorProto.{FieldD
 use Rattle.proto_types.specs.Empty.{no_field}
 use Rattle.proto_types.specs.Lists.{listed}
 use Rattle.proto_types.specs.declared.message.DescriptorProto.{out-DescriptorProto}
-use Rattle.proto_records.proofs.Listings.{on-ok}
+use Rattle.record_walk.proofs.Listings.{on-ok}
 use Rattle.places.specs.Tells.{Tells, named_files}
 use Rattle.places.proofs.Tells.{same-files, tells-as, tells-two}
 use Rattle.field_rules.specs.Again.{again_faults, number_again}

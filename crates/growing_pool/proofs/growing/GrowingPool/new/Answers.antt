@@ -2,7 +2,7 @@ use Rattle.std.proofs.Common.{ℕ, length, map, take, ap, subst, sym, ◌∙◌}
 use Rattle.std.proofs.Math.Seq.{take-length}
 use Rattle.name_tables.specs.NameTables.{AllBefore, FileNamesBefore}
 use Rattle.name_tables.proofs.Earlier.{earlier-stay}
-use Rattle.proto_records.specs.declared.counts.Counts.{Counts}
+use Rattle.record_walk.specs.declared.counts.Counts.{Counts}
 use Rattle.growing_pool.specs.Extended.{cut}
 use Rattle.growing_pool.proofs.Extending.{cut-still}
 use Rattle.growing_pool.proofs.growing.GrowingPool.new.Goals as goal

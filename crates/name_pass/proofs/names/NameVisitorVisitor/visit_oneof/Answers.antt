@@ -1,7 +1,7 @@
 use Rattle.std.proofs.Common.{Some}
 use Rattle.std.proofs.lemmas.Result.{on_ok_weaker}
-use Rattle.proto_records.specs.Protos.{of_oneof}
-use Rattle.proto_records.specs.Shown.{Shown, shown_as}
+use Rattle.record_walk.specs.Protos.{of_oneof}
+use Rattle.record_walk.specs.Shown.{Shown, shown_as}
 use Rattle.name_pass.proofs.Showing.{shown}
 use Rattle.name_pass.proofs.names.NameVisitorVisitor.visit_oneof.Goals as goal
 

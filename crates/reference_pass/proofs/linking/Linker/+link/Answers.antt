@@ -1,7 +1,7 @@
 use Rattle.std.proofs.Common.{◌+◌, length, OnOk, refl, rules, subst}
 use Rattle.std.proofs.lemmas.Option.{slice_get_read}
 use Rattle.proto_types.specs.declared.message.DescriptorProto.{out-DescriptorProto, out-roll-DescriptorProto}
-use Rattle.proto_records.proofs.Listings.{on-ok}
+use Rattle.record_walk.proofs.Listings.{on-ok}
 use Rattle.reference_pass.specs.declared.linking.NextItems.{NextItems}
 use Rattle.reference_pass.specs.Linking.{LinksFields, lists_of}
 use Rattle.reference_pass.proofs.ByItems.{LinksExtensions, LinksMessages, message-ends, message-missing, messages-all, messages-more, messages-none}

@@ -1,6 +1,6 @@
 use Rattle.std.proofs.Common.{◌≡◌, length, refl, ◌∙◌}
 use Rattle.std.proofs.lemmas.Option.{slice_get_read}
-use Rattle.proto_records.proofs.Listings.{on-ok}
+use Rattle.record_walk.proofs.Listings.{on-ok}
 use Rattle.reference_pass.specs.Linking.{lists_of, reference_by, typed_by}
 use Rattle.reference_pass.proofs.ByItems.{extension-ends, extension-missing}
 use Rattle.reference_pass.proofs.linking.Linker.link_extension.Goals as goal

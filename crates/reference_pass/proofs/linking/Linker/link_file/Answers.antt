@@ -1,5 +1,5 @@
 use Rattle.std.proofs.Common.{OnOk, subst}
-use Rattle.proto_records.proofs.Listings.{on-ok}
+use Rattle.record_walk.proofs.Listings.{on-ok}
 use Rattle.reference_pass.specs.Linking.{lists_of}
 use Rattle.reference_pass.proofs.ByItems.{LinksExtensions, LinksMessages, LinksServices, file-ends}
 use Rattle.reference_pass.proofs.linking.Linker.link_file.Goals as goal

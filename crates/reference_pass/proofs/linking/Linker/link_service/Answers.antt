@@ -1,6 +1,6 @@
 use Rattle.std.proofs.Common.{length, OnOk, refl, subst}
 use Rattle.std.proofs.lemmas.Option.{slice_get_read}
-use Rattle.proto_records.proofs.Listings.{on-ok}
+use Rattle.record_walk.proofs.Listings.{on-ok}
 use Rattle.reference_pass.specs.Linking.{LinksMethods, lists_of}
 use Rattle.reference_pass.proofs.ByItems.{service-ends, service-missing}
 use Rattle.reference_pass.proofs.linking.Linker.link_service.Goals as goal

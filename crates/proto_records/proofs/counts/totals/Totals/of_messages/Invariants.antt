@@ -1,8 +1,0 @@
-use Rattle.std.proofs.Common.{◌≡◌, Some, take}
-use Rattle.proto_records.proofs.Saturated.{in_64}
-use Rattle.proto_records.proofs.Tallies.{messages_tally}
-use Rattle.proto_records.proofs.counts.totals.Totals.of_messages.Given as goal
-
--- the messages so far are summed
-abbrev pub invariant-loop-message : goal.invariant-loop-message
-invariant-loop-message l = in_64 (messages_tally (take l.message-index l.messages)) ≡ Some l.sum

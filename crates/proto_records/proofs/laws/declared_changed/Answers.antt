@@ -1,5 +1,0 @@
-use Rattle.proto_records.proofs.Changed.{declare-changed}
-use Rattle.proto_records.proofs.laws.declared_changed.Goals as goal
-
-pub returns : goal.returns
-returns c = λ changes keep. declare-changed changes keep c.args.base c.args.files.now

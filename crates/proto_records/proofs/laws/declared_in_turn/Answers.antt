@@ -1,5 +1,0 @@
-use Rattle.proto_records.proofs.Appended.{declarations-append}
-use Rattle.proto_records.proofs.laws.declared_in_turn.Goals as goal
-
-pub returns : goal.returns
-returns c = declarations-append c.args.base c.args.files.now c.args.more.now

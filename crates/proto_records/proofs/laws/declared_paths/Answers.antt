@@ -1,5 +1,0 @@
-use Rattle.proto_records.proofs.Paths.{paths-lead-in}
-use Rattle.proto_records.proofs.laws.declared_paths.Goals as goal
-
-pub returns : goal.returns
-returns c = paths-lead-in c.args.base c.args.files.now

@@ -1,0 +1,48 @@
+-- What is left to be shown to a visitor.
+use Rattle.std.proofs.Common.{◌≡◌, ◌↔◌, List, [], ◌++◌, refl, ap, sym, subst, ◌∙◌, append_assoc, append-nil}
+use Rattle.record_walk.specs.Shown.{Shown}
+use Rattle.record_walk.specs.Progress.{Progress, HasSeen}
+
+-- it has been shown all of a list but the rest
+pub record Remains (after : List Shown → Progress) (ready : List Shown → Type 0) (after-now : List Shown → Progress) (ready-now : List Shown → Type 0) (all rest : List Shown) : Type 0 where
+  pub after_is : (more : List Shown) → after-now (rest ++ more) ≡ after (all ++ more)
+  pub ready_is : (more : List Shown) → ready-now (rest ++ more) ↔ ready (all ++ more)
+
+pub remains-all : (A : List Shown → Progress) (R : List Shown → Type 0) (all : List Shown) → Remains A R A R all all
+remains-all A R all = record { after_is = λ more. refl; ready_is = λ more. (λ r. r, λ r. r) }
+
+module _ {A : List Shown → Progress} {R : List Shown → Type 0} {B : List Shown → Progress} {S : List Shown → Type 0} {all : List Shown} where
+  pub remains-as : {rest rest' : List Shown} → rest ≡ rest' → Remains A R B S all rest → Remains A R B S all rest'
+  remains-as e left = subst (Remains A R B S all) e left
+
+  -- it may be shown the first of the rest
+  pub ready-first : (first rest : List Shown) → Remains A R B S all (first ++ rest) → R all → ((ds es : List Shown) → S (ds ++ es) → S ds) → S first
+  ready-first first rest left r front =
+      front first rest (subst S (append-nil (first ++ rest)) ((left.ready_is []).1 (subst R (sym (append-nil all)) r)))
+
+  pub ready-rest : (rest : List Shown) → Remains A R B S all rest → R all → S rest
+  ready-rest rest left r = subst S (append-nil rest) ((left.ready_is []).1 (subst R (sym (append-nil all)) r))
+
+  -- nothing is left
+  pub remains-none : {rest : List Shown} → rest ≡ [] → Remains A R B S all rest → HasSeen A R B S all
+  remains-none e left = let none = remains-as e left in record { after_is = none.after_is; ready_is = none.ready_is }
+
+module _ {A : List Shown → Progress} {R : List Shown → Type 0} {B : List Shown → Progress} {S : List Shown → Type 0} {C : List Shown → Progress} {T : List Shown → Type 0} {all : List Shown} where
+  -- it is shown the first of the rest
+  pub remains-fewer : (first rest : List Shown) → Remains A R B S all (first ++ rest) → HasSeen B S C T first → Remains A R C T all rest
+  remains-fewer first rest left seen =
+      let parts = λ (more : List Shown). append_assoc first rest more in
+      record {
+        after_is = λ more. seen.after_is (rest ++ more) ∙ ap B (sym (parts more)) ∙ left.after_is more;
+        ready_is = λ more. (
+          λ t. (left.ready_is more).0 (subst S (sym (parts more)) ((seen.ready_is (rest ++ more)).0 t)),
+          λ r. (seen.ready_is (rest ++ more)).1 (subst S (parts more) ((left.ready_is more).1 r)),
+        );
+      }
+
+  -- it is shown the last
+  pub remains-last : (last : List Shown) → Remains A R B S all last → HasSeen B S C T last → HasSeen A R C T all
+  remains-last last left seen = record {
+    after_is = λ more. seen.after_is more ∙ left.after_is more;
+    ready_is = λ more. (λ t. (left.ready_is more).0 ((seen.ready_is more).0 t), λ r. (seen.ready_is more).1 ((left.ready_is more).1 r));
+  }

@@ -1,0 +1,5 @@
+use Rattle.std.proofs.Common.{rules}
+use Rattle.record_walk.proofs.counts.Counts.with_files.Goals as goal
+
+pub returns : goal.returns
+returns c = search rules

@@ -1,0 +1,94 @@
+-- The list of declarations that a walk makes of a file.
+use Rattle.std.specs.Prelude.{◌≡◌, ℕ, ◌≤◌, true, List, ◌++◌, map, string_bytes}
+use Rattle.std.specs.List.{list_all}
+use Rattle.std.specs.declared.option.Option.{Option}
+use Rattle.std.specs.declared.option.Option.TheVariants.{None, Some}
+use Rattle.record_walk.specs.declared.counts.Counts.{Counts}
+use Rattle.record_walk.specs.declared.walking.part.Part.{Part}
+use Rattle.record_walk.specs.declared.walking.part.Part.TheVariants as part
+use Rattle.record_walk.specs.declared.walking.records.Records.{Records}
+use Rattle.record_walk.specs.declared.walking.records.Records.TheVariants as records
+use Rattle.record_walk.specs.declared.walking.site.Site.{Site}
+use Rattle.record_walk.specs.declared.walking.located.Located.{Located}
+use Rattle.record_walk.specs.Counts.{counted, count_limit, lists_fit}
+use Rattle.record_walk.specs.Protos.{Proto, of_file, of_message, of_field, of_oneof, of_service, of_method, of_enum, of_value, of_extension}
+use Rattle.record_walk.specs.Shown.{Shown, shown_as, row}
+use Rattle.record_walk.specs.Declarations.{messages_walk, enums_walk, services_walk, in_file}
+use Rattle.proto_types.specs.declared.tag.file.TheConstants as file
+use Rattle.proto_types.specs.declared.file.FileDescriptorProto.{FileDescriptorProto}
+
+abbrev pub proto_of : Part → Proto
+proto_of (part.Message _ m) = of_message m.now
+proto_of (part.Field _ f) = of_field f.now
+proto_of (part.Oneof _ o) = of_oneof o.now
+proto_of (part.Service s) = of_service s.now
+proto_of (part.Method _ m) = of_method m.now
+proto_of (part.Enum _ e) = of_enum e.now
+proto_of (part.EnumValue _ v) = of_value v.now
+proto_of (part.Extension _ x) = of_extension x.now
+
+abbrev pub parent_of : Part → Option ℕ
+parent_of (part.Message parent _) = parent
+parent_of (part.Field parent _) = Some parent
+parent_of (part.Oneof parent _) = Some parent
+parent_of (part.Service _) = None
+parent_of (part.Method parent _) = Some parent
+parent_of (part.Enum parent _) = parent
+parent_of (part.EnumValue parent _) = Some parent
+parent_of (part.Extension parent _) = parent
+
+-- the records of a list, and the index of what they stand in
+abbrev pub protos_in : Records → List Proto
+protos_in (records.Messages _ ms) = map of_message ms.now
+protos_in (records.Fields _ fs) = map of_field fs.now
+protos_in (records.Oneofs _ os) = map of_oneof os.now
+protos_in (records.Services ss) = map of_service ss.now
+protos_in (records.Methods _ ms) = map of_method ms.now
+protos_in (records.Enums _ es) = map of_enum es.now
+protos_in (records.EnumValues _ vs) = map of_value vs.now
+protos_in (records.Extensions _ xs) = map of_extension xs.now
+
+abbrev pub parent_in : Records → Option ℕ
+parent_in (records.Messages parent _) = parent
+parent_in (records.Fields parent _) = Some parent
+parent_in (records.Oneofs parent _) = Some parent
+parent_in (records.Services _) = None
+parent_in (records.Methods parent _) = Some parent
+parent_in (records.Enums parent _) = parent
+parent_in (records.EnumValues parent _) = Some parent
+parent_in (records.Extensions parent _) = parent
+
+-- the index of the next of a kind: how many were counted, or the position where none is
+abbrev pub index_at : Counts → ℕ → Proto → ℕ
+index_at c position (of_file _) = c.files
+index_at c position (of_message _) = c.messages
+index_at c position (of_enum _) = c.enums
+index_at c position (of_service _) = c.services
+index_at c position (of_extension _) = c.extensions
+index_at c position _ = position
+
+-- a record as a declaration, as it stands at a site
+abbrev pub located : Site → Located → Shown
+located s l = shown_as s.path.items (string_bytes s.name) s.file (parent_of l.part) l.index (proto_of l.part)
+
+-- all that stands in the file with an index
+abbrev pub within_file : ℕ → Counts → FileDescriptorProto → List Shown
+within_file index base f =
+    let here = in_file index f in
+    let messages = messages_walk here file.MESSAGE_TYPE 0 base f.message_type in
+    let after = counted base messages in
+    messages ++ enums_walk here file.ENUM_TYPE 0 after.enums f.enum_type ++ services_walk here 0 after.services f.service
+    ++ row of_extension here file.EXTENSION 0 after.extensions f.extension
+
+-- each count is one that a pool can hold
+pub record WithinLimits (c : Counts) : Type 0 where
+  pub files : c.files ≤ count_limit
+  pub messages : c.messages ≤ count_limit
+  pub enums : c.enums ≤ count_limit
+  pub services : c.services ≤ count_limit
+  pub extensions : c.extensions ≤ count_limit
+
+-- no list is too long, and the counts after these declarations are within the limits
+pub record Room (base : Counts) (ds : List Shown) : Type 0 where
+  pub short : list_all (λ d. lists_fit d.proto) ds ≡ true
+  pub within : WithinLimits (counted base ds)

@@ -1,0 +1,124 @@
+ghost use Rattle.std.specs.Prelude.{◌≡◌, [], ◌∷◌, None, OnOk, MatchOption};
+ghost use Rattle.record_walk.specs.Walking.{parent_in, proto_of, protos_in};
+ghost use Rattle.record_walk.specs.Cursor.{file_lines, inner_lines, line, line_in, lines, message_lines, stacked, stacked_all};
+
+use super::{part::Part, records::Records, row::{Depth, Place, Row}};
+use proto_types::{DescriptorProto, FileDescriptorProto, tag};
+use std::alloc::{AllocError, Global};
+
+/// The lists that are still to be gone through, the next one last. None is empty.
+#[derive(Drop)]
+pub(crate) struct Rows<'a> {
+    pub(crate) list: Vec<Row<'a>>,
+}
+
+impl<'a> Rows<'a> {
+    /// No lists, which takes no memory.
+    pub(crate) fn new(alloc: Global) -> Rows<'a>
+        ensures { lines result ≡ [] }
+    {
+        Rows {
+            list: Vec::new(alloc),
+        }
+    }
+
+    /// Takes all lists off.
+    pub(crate) fn clear(&mut self)
+        ensures { lines self.new ≡ [] }
+    {
+        self.list.clear();
+    }
+
+    /// Takes the next list off.
+    pub(crate) fn pop(&mut self) -> Option<Row<'a>>
+        ensures { MatchOption result ((lines self.old ≡ []) × (lines self.new ≡ []))
+            (λ row. lines self.old ≡ line_in row ∷ lines self.new) }
+    {
+        self.list.pop()
+    }
+
+    /// Adds a list, which is the next one, unless it is empty.
+    pub(crate) fn push(&mut self, records: Records<'a>, place: Place) -> Result<(), AllocError>
+        ensures { OnOk result (lines self.new
+            ≡ stacked (line place (parent_in records.entry) (protos_in records.entry))
+            (lines self.old)) }
+    {
+        if let Some((part, rest)) = records.split_first() {
+            self.list.push(Row { part, rest, place })?;
+        }
+        Ok(())
+    }
+
+    /// Adds the lists of a message.
+    fn push_message(
+        &mut self,
+        message: &'a DescriptorProto,
+        index: u32,
+        depth: Depth,
+    ) -> Result<(), AllocError>
+        ensures { OnOk result (lines self.new
+            ≡ stacked_all (message_lines depth index message.now) (lines self.old)) }
+    {
+        let parent = Some(index);
+        let extensions = Records::Extensions(parent, message.extension.as_slice());
+        self.push(extensions, depth.start(tag::message::EXTENSION))?;
+        let enums = Records::Enums(parent, message.enum_type.as_slice());
+        self.push(enums, depth.start(tag::message::ENUM_TYPE))?;
+        let nested = Records::Messages(parent, message.nested_type.as_slice());
+        self.push(nested, depth.start(tag::message::NESTED_TYPE))?;
+        let fields = Records::Fields(index, message.field.as_slice());
+        self.push(fields, depth.start(tag::message::FIELD))?;
+        let oneofs = Records::Oneofs(index, message.oneof_decl.as_slice());
+        self.push(oneofs, depth.start(tag::message::ONEOF_DECL))
+    }
+
+    /// Adds the lists of a record with an index: they stand at a depth, but the values of an enum
+    /// are named in the scope around it.
+    pub(crate) fn push_inner(
+        &mut self,
+        part: Part<'a>,
+        index: u32,
+        inside: Depth,
+        around: usize,
+    ) -> Result<(), AllocError>
+        ensures { OnOk result (lines self.new
+            ≡ stacked_all (inner_lines inside around index (proto_of part.entry))
+            (lines self.old)) }
+    {
+        match part {
+            Part::Message(_, message) => self.push_message(message, index, inside),
+            Part::Enum(_, enumeration) => {
+                let beside = Depth {
+                    path: inside.path,
+                    scope: around,
+                };
+                let values = Records::EnumValues(index, enumeration.value.as_slice());
+                self.push(values, beside.start(tag::enum_::VALUE))
+            }
+            Part::Service(service) => {
+                let methods = Records::Methods(index, service.method.as_slice());
+                self.push(methods, inside.start(tag::service::METHOD))
+            }
+            _ => Ok(()),
+        }
+    }
+
+    /// Adds the lists of a file.
+    pub(crate) fn push_file(
+        &mut self,
+        file: &'a FileDescriptorProto,
+        depth: Depth,
+    ) -> Result<(), AllocError>
+        ensures { OnOk result
+            (lines self.new ≡ stacked_all (file_lines depth file.now) (lines self.old)) }
+    {
+        let extensions = Records::Extensions(None, file.extension.as_slice());
+        self.push(extensions, depth.start(tag::file::EXTENSION))?;
+        let services = Records::Services(file.service.as_slice());
+        self.push(services, depth.start(tag::file::SERVICE))?;
+        let enums = Records::Enums(None, file.enum_type.as_slice());
+        self.push(enums, depth.start(tag::file::ENUM_TYPE))?;
+        let messages = Records::Messages(None, file.message_type.as_slice());
+        self.push(messages, depth.start(tag::file::MESSAGE_TYPE))
+    }
+}
