@@ -33,7 +33,7 @@ use Rattle.link_rules.specs.Messages.{message_meaning}
 use Rattle.linked_records.specs.Setting.{Setting, seen_by}
 use Rattle.std.specs.BTreeSet.{contains_by}
 use Rattle.std.specs.Ordering.{nat_cmp}
-use Rattle.record_references.specs.References.{Reference, reference_in, references_in}
+use Rattle.record_lists.specs.References.{Reference, reference_in, references_in}
 
 has-name : (found : Option Definition) (def : Definition) → found ≡ Some def → IsSome found
 has-name got def is = subst IsSome (sym is) refl

@@ -29,7 +29,7 @@ use Rattle.link_rules.specs.Items.{extension_item, message_item}
 use Rattle.linked_records.specs.Linked.{linking}
 use Rattle.link_rules.specs.Short.{ShortFiles}
 use Rattle.name_pass.specs.Entered.{entries, file_entries}
-use Rattle.record_references.specs.References.{Reference, references_in}
+use Rattle.record_lists.specs.References.{Reference, references_in}
 use Rattle.descriptor_pool.specs.Invariant.{IsPool}
 use Rattle.pool_inner.specs.Held.{ListsLieIn, NamesLieIn}
 use Rattle.descriptor_pool.specs.Pool.{Batch, Made, empty, linked_to, Fits, new_files, faults_of_references, link}

@@ -3,7 +3,7 @@ use Rattle.std.specs.Prelude.{◌≡◌, ℕ, List, ◌∷◌, IsSome}
 use Rattle.std.specs.FinMap as finite
 use Rattle.std.specs.List.{AllByRecursion}
 use Rattle.pool_types.specs.Contents.{Contents, files_of}
-use Rattle.record_references.specs.References.{Reference, references}
+use Rattle.record_lists.specs.References.{Reference, references}
 
 -- a reference that is a dot and a full name of the pool
 abbrev pub NamesDefinition : Contents → Reference → Type 0

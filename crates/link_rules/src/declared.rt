@@ -6,7 +6,7 @@ ghost use Rattle.linked_records.specs.SettingCode.{setting_in};
 use linked_records::Setting;
 use pool_types::Definition;
 use proto_types::{DescriptorProto, EnumDescriptorProto};
-use record_paths::{find_enum_proto, find_message_proto};
+use record_lists::{find_enum_proto, find_message_proto};
 
 /// The record of the message with a definition.
 pub(crate) fn message_record<'a>(

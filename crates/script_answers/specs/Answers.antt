@@ -23,7 +23,7 @@ use Rattle.record_walk.specs.Declarations.{declarations}
 use Rattle.record_walk.specs.Listed.{declaration_of}
 use Rattle.link_script.specs.declared.script.statement.ScriptFault.{ScriptFault}
 use Rattle.link_script.specs.Script.Faults.{fault_words}
-use Rattle.record_references.specs.References.{Reference, references}
+use Rattle.record_lists.specs.References.{Reference, references}
 
 -- words with a space between each two, and the line's end
 abbrev pub line : List (List ℕ) → List ℕ

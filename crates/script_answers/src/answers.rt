@@ -7,15 +7,14 @@ ghost use Rattle.std.specs.Str.{bytes_eq};
 ghost use Rattle.proto_types.specs.Readers.{text_of};
 ghost use Rattle.record_walk.specs.Counts.{no_counts};
 ghost use Rattle.record_walk.specs.Fits.{counts_with};
-ghost use Rattle.record_references.specs.Code.{reference_of};
+ghost use Rattle.record_lists.specs.Code.{reference_of};
 ghost use Rattle.script_answers.specs.Answers as spec;
 
-use declaration_lists::Lister;
+use record_lists::{Lister, Reference, references};
 use link_script::ScriptFault;
 use pool_faults::{DescriptorErrorKind, Labelled};
 use pool_types::{Definition, DefinitionKind, FileDescriptorInner};
 use record_walk::{CountKind, Counts, Declaration, DeclarationKind, walk};
-use record_references::{Reference, references};
 use std::alloc::{AllocError, Global};
 use std::fmt;
 

@@ -1,7 +1,7 @@
 //! The declarations that the walk over files shows.
 
 use super::counting::{EVERY_KIND, NONE};
-use declaration_lists::{Lister, list_declarations};
+use record_lists::{Lister, list_declarations};
 use proto_types::FileDescriptorProto;
 use record_walk::{Counts, Declaration, visit};
 use script_files::files_of;

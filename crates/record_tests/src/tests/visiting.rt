@@ -5,7 +5,7 @@ ghost use Rattle.pool_types.specs.Contents.{no_contents};
 ghost use Rattle.record_walk.specs.Shown.{Shown};
 
 use super::counting::{EVERY_KIND, NONE};
-use declaration_lists::Lister;
+use record_lists::Lister;
 use proto_types::{DescriptorProto, EnumDescriptorProto, EnumValueDescriptorProto, FieldDescriptorProto, FileDescriptorProto, MethodDescriptorProto, OneofDescriptorProto, ServiceDescriptorProto};
 use record_walk::{Visitor, visit, visit_each};
 use script_files::files_of;

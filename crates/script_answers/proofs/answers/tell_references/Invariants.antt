@@ -1,7 +1,7 @@
 use Rattle.std.proofs.Common.{◌≡◌, ◌++◌, string_bytes, map, take}
 use Rattle.std.specs.List.{flat_map}
 use Rattle.script_answers.specs.Answers.{reference_line}
-use Rattle.record_references.specs.Code.{reference_of}
+use Rattle.record_lists.specs.Code.{reference_of}
 use Rattle.script_answers.proofs.answers.tell_references.Given as goal
 
 -- the references so far are told

@@ -1,7 +1,7 @@
 use Rattle.std.proofs.Common.{◌≡◌, ◌++◌, None, Some, OnOk, map, string_bytes, subst, ap, ◌∙◌}
 use Rattle.std.specs.Str.{bytes_eq}
 use Rattle.proto_types.specs.Readers.{text_of}
-use Rattle.record_references.specs.Code.{reference_of}
+use Rattle.record_lists.specs.Code.{reference_of}
 use Rattle.script_answers.specs.Answers.{reference_lines}
 use Rattle.script_answers.proofs.FileNamed.{found-named, refs-named}
 use Rattle.script_answers.proofs.OneFits.{one-fits}

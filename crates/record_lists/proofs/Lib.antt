@@ -1,0 +1,4 @@
+mod Finding
+pub mod ReferencesFound
+pub mod MethodReferences
+pub mod ExtensionReferences

@@ -1,0 +1,3 @@
+pub mod Records
+pub mod References
+pub mod Code

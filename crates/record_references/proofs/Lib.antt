@@ -1,3 +1,0 @@
-pub mod ReferencesFound
-pub mod MethodReferences
-pub mod ExtensionReferences
