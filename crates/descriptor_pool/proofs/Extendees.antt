@@ -18,11 +18,11 @@ use Rattle.pool_types.specs.declared.contents.extension.ExtensionDescriptorInner
 use Rattle.pool_types.specs.declared.contents.message.MessageDescriptorInner.{MessageDescriptorInner}
 use Rattle.record_walk.specs.Protos.{Proto, as_extension, as_message, of_file, of_message, of_field, of_oneof, of_service, of_method, of_enum, of_value, of_extension}
 use Rattle.record_walk.specs.Shown.{Shown, of_kind}
-use Rattle.pool_parts.specs.declared.filter.ResolveNameFilter.TheVariants.{Message}
-use Rattle.pool_parts.specs.References.{reference_fault}
-use Rattle.pool_parts.specs.Resolution.{Resolution, found, invalid_type, not_imported, shadowed, not_found}
-use Rattle.pool_parts.proofs.Named.{IsNamed, resolution-named}
-use Rattle.pool_parts.proofs.Wanted.{IsWanted, resolution-wanted}
+use Rattle.name_resolution.specs.declared.filter.ResolveNameFilter.TheVariants.{Message}
+use Rattle.name_resolution.specs.References.{reference_fault}
+use Rattle.name_resolution.specs.Resolution.{Resolution, found, invalid_type, not_imported, shadowed, not_found}
+use Rattle.name_resolution.proofs.Named.{IsNamed, resolution-named}
+use Rattle.name_resolution.proofs.Wanted.{IsWanted, resolution-wanted}
 use Rattle.link_rules.specs.Broken.{second_faults}
 use Rattle.link_rules.specs.Defaults.{field_default_faults}
 use Rattle.link_rules.specs.Extensions.{extendee_faults, number_faults}

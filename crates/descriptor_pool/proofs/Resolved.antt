@@ -19,11 +19,11 @@ use Rattle.pool_faults.specs.Labels.{label_in}
 use Rattle.record_walk.specs.Changed.{changed}
 use Rattle.record_walk.specs.Protos.{Proto, of_file, of_message, of_field, of_oneof, of_service, of_method, of_enum, of_value, of_extension}
 use Rattle.record_walk.specs.Shown.{Shown}
-use Rattle.pool_parts.specs.declared.filter.ResolveNameFilter.TheVariants.{Message, FieldType}
-use Rattle.pool_parts.specs.Kinds.{simple_kind}
-use Rattle.pool_parts.specs.References.{reference_fault}
-use Rattle.pool_parts.specs.Resolution.{Resolution, found, invalid_type, not_imported, shadowed, not_found}
-use Rattle.pool_parts.proofs.Named.{IsNamed, resolution-named}
+use Rattle.name_resolution.specs.declared.filter.ResolveNameFilter.TheVariants.{Message, FieldType}
+use Rattle.name_resolution.specs.Kinds.{simple_kind}
+use Rattle.name_resolution.specs.References.{reference_fault}
+use Rattle.name_resolution.specs.Resolution.{Resolution, found, invalid_type, not_imported, shadowed, not_found}
+use Rattle.name_resolution.proofs.Named.{IsNamed, resolution-named}
 use Rattle.link_rules.specs.Broken.{Faults, Owner, field_faults, own_faults, message_of, second_faults, second_pass}
 use Rattle.link_rules.specs.Defaults.{field_default_faults}
 use Rattle.link_rules.specs.Extensions.{extendee_faults, number_faults}

@@ -4,7 +4,7 @@ use Rattle.std.proofs.lemmas.Bool.Decides.{nat_tests}
 use Rattle.std.proofs.lemmas.List.{append_cancel_left, map-append, take-append-drop}
 use Rattle.std.specs.BTreeSet.{BTreeSet}
 use Rattle.std.specs.FinMap as finite
-use Rattle.file_visibility.specs.Visibility.{seen_from}
+use Rattle.name_resolution.specs.Visibility.{seen_from}
 use Rattle.pool_types.specs.Contents.{Contents, files_of}
 use Rattle.pool_types.specs.declared.contents.file.FileDescriptorInner.{FileDescriptorInner}
 use Rattle.proto_types.specs.declared.file.FileDescriptorProto.{FileDescriptorProto}

@@ -3,8 +3,8 @@ use Rattle.std.proofs.Common.{◌≡◌, ◌<◌, ℕ, true}
 use Rattle.std.specs.Option.{IfSome}
 use Rattle.pool_types.specs.declared.contents.definition.DefinitionKind.{DefinitionKind}
 use Rattle.pool_types.specs.declared.contents.definition.DefinitionKind.TheVariants as definition
-use Rattle.pool_parts.specs.declared.filter.ResolveNameFilter.TheVariants.{Message}
-use Rattle.pool_parts.specs.Kinds.{is_match}
+use Rattle.name_resolution.specs.declared.filter.ResolveNameFilter.TheVariants.{Message}
+use Rattle.name_resolution.specs.Kinds.{is_match}
 use Rattle.link_rules.specs.Messages.{message_index, or_missing}
 
 -- a message that is found has its index below the limit of all that are named

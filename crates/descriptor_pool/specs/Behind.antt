@@ -5,7 +5,7 @@ use Rattle.std.specs.FinMap as finite
 use Rattle.proto_types.specs.declared.file.FileDescriptorProto.{FileDescriptorProto}
 use Rattle.pool_types.specs.Contents.{Contents, files_of}
 use Rattle.name_tables.specs.Entries.{names_with}
-use Rattle.file_visibility.specs.Visibility.{seen_from}
+use Rattle.name_resolution.specs.Visibility.{seen_from}
 use Rattle.record_walk.specs.Counts.{counts_in}
 use Rattle.record_walk.specs.Declarations.{declarations}
 use Rattle.record_walk.specs.Protos.{as_file, as_message, as_enum, as_service, as_extension}

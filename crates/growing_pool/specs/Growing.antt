@@ -6,7 +6,7 @@ use Rattle.pool_types.specs.Contents.{Contents, files_of}
 use Rattle.pool_types.specs.declared.contents.file.FileDescriptorInner.{FileDescriptorInner}
 use Rattle.pool_types.specs.declared.contents.message.MessageDescriptorInner.{MessageDescriptorInner}
 use Rattle.proto_types.specs.declared.file.FileDescriptorProto.{FileDescriptorProto}
-use Rattle.file_visibility.specs.Visibility.{seen_from}
+use Rattle.name_resolution.specs.Visibility.{seen_from}
 use Rattle.places.specs.Each.{each}
 use Rattle.name_tables.specs.NameTables.{without_files_from, file_names_before}
 use Rattle.growing_pool.specs.declared.growing.GrowingPool.{GrowingPool}

@@ -3,7 +3,7 @@ ghost use Rattle.std.specs.List.{filter};
 ghost use Rattle.growing_pool.specs.Extended.{cut};
 ghost use Rattle.growing_pool.specs.Unlinked.{unlinked};
 
-use file_visibility::{imported_files, visible_from};
+use name_resolution::{imported_files, visible_from};
 use name_tables::NameTable;
 use plain_data::Items;
 use pool_inner::DescriptorPoolInner;

@@ -16,7 +16,7 @@ use Rattle.proto_types.specs.Lists.{flat_map_after, listed}
 use Rattle.proto_types.specs.Readers.{text_of}
 use Rattle.record_walk.specs.Protos.{of_file, of_message, of_field, of_service, of_method, of_enum, of_value, of_extension, as_message, as_enum}
 use Rattle.record_walk.specs.Shown.{Shown, Surrounding, inside, of_kind}
-use Rattle.pool_parts.specs.References.{reference_fault}
+use Rattle.name_resolution.specs.References.{reference_fault}
 use Rattle.number_rules.specs.Numbers.{field_number_faults}
 use Rattle.field_rules.specs.Again.{again_faults}
 use Rattle.field_rules.specs.Oneofs.{oneof_faults}

@@ -9,7 +9,7 @@ use Rattle.pool_types.specs.declared.kinds.KindIndex.{KindIndex}
 use Rattle.pool_types.specs.declared.contents.definition.Definition.{Definition}
 use Rattle.pool_faults.specs.declared.fault.DescriptorErrorKind.{DescriptorErrorKind}
 use Rattle.record_walk.specs.Shown.{Shown}
-use Rattle.pool_parts.specs.Resolution.{Resolution}
+use Rattle.name_resolution.specs.Resolution.{Resolution}
 use Rattle.default_rules.specs.Defaults.{MeantEnum, default_value, default_faults}
 use Rattle.link_rules.specs.Definitions.{found_as, enum_record}
 use Rattle.link_rules.specs.FieldTypes.{field_kind, type_meaning}

@@ -8,7 +8,7 @@ use Rattle.proto_types.specs.declared.message.DescriptorProto.{DescriptorProto}
 use Rattle.pool_types.specs.declared.contents.definition.Definition.{Definition}
 use Rattle.record_walk.specs.Leads.{leads}
 use Rattle.record_walk.specs.Protos.{Proto, as_message, as_enum}
-use Rattle.pool_parts.specs.Resolution.{Resolution, found}
+use Rattle.name_resolution.specs.Resolution.{Resolution, found}
 use Rattle.linked_records.specs.Setting.{Setting}
 
 -- the full name that was found, and its definition

@@ -12,8 +12,8 @@ use Rattle.pool_types.specs.declared.contents.definition.Definition.{Definition}
 use Rattle.pool_faults.specs.declared.fault.DescriptorErrorKind.{DescriptorErrorKind}
 use Rattle.record_walk.specs.Protos.{of_message}
 use Rattle.record_walk.specs.Shown.{Shown}
-use Rattle.pool_parts.specs.References.{reference_fault}
-use Rattle.pool_parts.specs.Resolution.{Resolution}
+use Rattle.name_resolution.specs.References.{reference_fault}
+use Rattle.name_resolution.specs.Resolution.{Resolution}
 use Rattle.number_rules.specs.Numbers.{extension_number_faults}
 use Rattle.link_rules.specs.Definitions.{found_as, around_name, message_record}
 use Rattle.link_rules.specs.Messages.{message_meaning}

@@ -11,10 +11,10 @@ use Rattle.pool_faults.specs.Labels.{label_in}
 use Rattle.proto_types.specs.Lists.{listed, only_if}
 use Rattle.proto_types.specs.Readers.{text_of, type_of}
 use Rattle.record_walk.specs.Shown.{Shown}
-use Rattle.pool_parts.specs.declared.filter.ResolveNameFilter.TheVariants.{FieldType}
-use Rattle.pool_parts.specs.Kinds.{simple_kind, named_kind}
-use Rattle.pool_parts.specs.References.{reference_fault}
-use Rattle.pool_parts.specs.Resolution.{Resolution, kind_found}
+use Rattle.name_resolution.specs.declared.filter.ResolveNameFilter.TheVariants.{FieldType}
+use Rattle.name_resolution.specs.Kinds.{simple_kind, named_kind}
+use Rattle.name_resolution.specs.References.{reference_fault}
+use Rattle.name_resolution.specs.Resolution.{Resolution, kind_found}
 use Rattle.linked_records.specs.Setting.{Setting, meaning}
 
 -- what its type name means

@@ -25,7 +25,7 @@ use Rattle.proto_types.specs.Readers.{number_of, label_of}
 use Rattle.link_rules.specs.Defaults.{field_default}
 use Rattle.record_walk.specs.Protos.{of_oneof}
 use Rattle.record_walk.specs.Shown.{Shown, Surrounding, inside}
-use Rattle.pool_parts.specs.Kinds.{cardinality_of}
+use Rattle.name_resolution.specs.Kinds.{cardinality_of}
 use Rattle.syntax_rules.specs.Syntaxes.{syntax_of, syntax_at, is_proto3}
 use Rattle.field_rules.specs.Encoding.{is_packed, supports_presence}
 use Rattle.field_rules.specs.Maps.{by_number, by_name, by_json_name}

@@ -10,8 +10,8 @@ use Rattle.pool_types.specs.declared.contents.definition.DefinitionKind.{Definit
 use Rattle.pool_types.specs.declared.contents.definition.DefinitionKind.TheVariants as definition
 use Rattle.record_walk.specs.Protos.{of_method}
 use Rattle.record_walk.specs.Shown.{Shown, Surrounding}
-use Rattle.pool_parts.specs.declared.filter.ResolveNameFilter.TheVariants.{Message}
-use Rattle.pool_parts.specs.Resolution.{Resolution, kind_found}
+use Rattle.name_resolution.specs.declared.filter.ResolveNameFilter.TheVariants.{Message}
+use Rattle.name_resolution.specs.Resolution.{Resolution, kind_found}
 use Rattle.places.specs.Places.{part_inside}
 use Rattle.linked_records.specs.Setting.{Setting, meaning}
 

@@ -1,5 +1,5 @@
 ghost use Rattle.std.specs.Prelude.{◌≡◌, ◌++◌, IfOk, OnOk};
-ghost use Rattle.pool_parts.specs.Resolution.{resolution_in};
+ghost use Rattle.name_resolution.specs.Resolution.{resolution_in};
 ghost use Rattle.record_walk.specs.Protos.{of_extension};
 ghost use Rattle.link_rules.specs.Broken.{extension_faults};
 ghost use Rattle.link_rules.specs.Extensions.{extendee_faults, number_faults};
@@ -19,7 +19,7 @@ use number_rules::check_extension_number;
 use places::{Owner, Place, identity};
 use plain_data::Text;
 use pool_types::{ExtensionDescriptorInner, KindIndex};
-use pool_parts::{ResolveNameResult, cardinality_of};
+use name_resolution::{ResolveNameResult, cardinality_of};
 use proto_types::{FieldDescriptorProto, tag};
 use std::alloc::{AllocError, Global};
 

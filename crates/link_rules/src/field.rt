@@ -21,7 +21,7 @@ use number_rules::{MessageRanges, check_field_number};
 use places::{Owner, Place, identity_inside};
 use plain_data::duplicate_given;
 use pool_types::{DefaultValue, FieldDescriptorInner, Identity, KindIndex, Syntax};
-use pool_parts::cardinality_of;
+use name_resolution::cardinality_of;
 use proto_types::{FieldDescriptorProto, OneofDescriptorProto, tag};
 use std::alloc::AllocError;
 use syntax_rules::syntax_at;

@@ -1,7 +1,7 @@
 ghost use Rattle.std.specs.Prelude.{◌≡◌, ◌++◌, ◌∷◌, [], IfOk, OnOk};
 ghost use Rattle.proto_types.specs.Lists.{listed};
-ghost use Rattle.pool_parts.specs.References.{reference_fault};
-ghost use Rattle.pool_parts.specs.Resolution.{resolution_in};
+ghost use Rattle.name_resolution.specs.References.{reference_fault};
+ghost use Rattle.name_resolution.specs.Resolution.{resolution_in};
 ghost use Rattle.linked_records.specs.Setting.{meaning};
 ghost use Rattle.linked_records.specs.SettingCode.{setting_in};
 ghost use Rattle.places.specs.Tells.{Tells, named_files};
@@ -9,7 +9,7 @@ ghost use Rattle.places.specs.Tells.{Tells, named_files};
 use linked_records::Setting;
 use name_tables::{FileNames, HashedNames};
 use places::{Findings, Place};
-use pool_parts::{ResolveNameFilter, ResolveNameResult};
+use name_resolution::{ResolveNameFilter, ResolveNameResult};
 use std::alloc::AllocError;
 
 /// What declarations are read with: the files that labels name, the faults that are found, and what

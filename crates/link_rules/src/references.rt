@@ -1,8 +1,8 @@
 ghost use Rattle.std.specs.Prelude.{◌≡◌};
-ghost use Rattle.pool_parts.specs.Resolution.{resolution_in};
+ghost use Rattle.name_resolution.specs.Resolution.{resolution_in};
 ghost use Rattle.link_rules.specs.Messages.{message_found, message_index, or_missing};
 
-use pool_parts::ResolveNameResult;
+use name_resolution::ResolveNameResult;
 use pool_types::DefinitionKind;
 
 /// The index of the message that was found, or the largest number where none was.

@@ -2,7 +2,7 @@ ghost use Rattle.std.specs.Prelude.{◌≡◌, ◌<◌, ◌^◌, ◌++◌, [], �
 ghost use Rattle.proto_types.specs.Lists.{listed};
 ghost use Rattle.record_walk.specs.Counts.{fits_list, lists_fit};
 ghost use Rattle.record_walk.specs.Protos.{of_service};
-ghost use Rattle.pool_parts.specs.References.{reference_fault};
+ghost use Rattle.name_resolution.specs.References.{reference_fault};
 ghost use Rattle.link_rules.specs.Broken.{faults_of_methods, method_faults, service_faults};
 ghost use Rattle.link_rules.specs.Items.{service_item, method_item, method_items};
 ghost use Rattle.link_rules.specs.Messages.{message_found, message_index, method_at, or_missing};
@@ -14,7 +14,7 @@ use crate::reading::Reading;
 use crate::references::message_found;
 use places::{Place, identity, identity_inside};
 use plain_data::Items;
-use pool_parts::ResolveNameFilter;
+use name_resolution::ResolveNameFilter;
 use pool_types::{MethodDescriptorInner, ServiceDescriptorInner};
 use proto_types::{MethodDescriptorProto, ServiceDescriptorProto, tag};
 use std::alloc::AllocError;

@@ -7,9 +7,9 @@ ghost use Rattle.pool_faults.specs.declared.fault.DescriptorErrorKind.TheVariant
 ghost use Rattle.places.specs.Labels.{part_label};
 ghost use Rattle.places.specs.Tells.{Tells, named_files};
 ghost use Rattle.record_walk.specs.Protos.{of_field};
-ghost use Rattle.pool_parts.specs.Kinds.{named_kind, simple_kind};
-ghost use Rattle.pool_parts.specs.References.{reference_fault};
-ghost use Rattle.pool_parts.specs.Resolution.{kind_found, resolution_in};
+ghost use Rattle.name_resolution.specs.Kinds.{named_kind, simple_kind};
+ghost use Rattle.name_resolution.specs.References.{reference_fault};
+ghost use Rattle.name_resolution.specs.Resolution.{kind_found, resolution_in};
 ghost use Rattle.default_rules.specs.MeantCode.{meant_in};
 ghost use Rattle.default_rules.specs.Defaults.{default_faults};
 ghost use Rattle.link_rules.specs.Defaults.{default_by, enum_found, field_default};
@@ -27,7 +27,7 @@ use places::{Findings, Place};
 use plain_data::Text;
 use pool_faults::DescriptorErrorKind;
 use pool_types::{DefaultValue, KindIndex};
-use pool_parts::{ResolveNameFilter, ResolveNameResult, named_kind, simple_kind};
+use name_resolution::{ResolveNameFilter, ResolveNameResult, named_kind, simple_kind};
 use proto_types::{FieldDescriptorProto, FieldType, tag};
 use std::alloc::AllocError;
 

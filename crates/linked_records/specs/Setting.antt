@@ -5,8 +5,8 @@ use Rattle.std.specs.Ordering.{nat_cmp}
 use Rattle.pool_types.specs.declared.contents.definition.Definition.{Definition}
 use Rattle.pool_types.specs.Contents.{ByText}
 use Rattle.proto_types.specs.declared.file.FileDescriptorProto.{FileDescriptorProto}
-use Rattle.pool_parts.specs.declared.filter.ResolveNameFilter.{ResolveNameFilter}
-use Rattle.pool_parts.specs.Resolution.{Resolution, resolution}
+use Rattle.name_resolution.specs.declared.filter.ResolveNameFilter.{ResolveNameFilter}
+use Rattle.name_resolution.specs.Resolution.{Resolution, resolution}
 
 pub record Setting : Type 0 where
   pub files : List FileDescriptorProto

@@ -1,10 +1,10 @@
 ghost use Rattle.std.specs.Prelude.{IfOk, ◌≡◌, slice_get};
 ghost use Rattle.std.specs.Option.{option_copied};
-ghost use Rattle.pool_parts.specs.Resolution.{resolution_in};
+ghost use Rattle.name_resolution.specs.Resolution.{resolution_in};
 ghost use Rattle.linked_records.specs.Setting.{meaning};
 
 use name_tables::{FileNames, HashedNames};
-use pool_parts::{ResolveNameFilter, ResolveNameResult, resolve_name};
+use name_resolution::{ResolveNameFilter, ResolveNameResult, resolve_name};
 use pool_types::FileDescriptorInner;
 use std::alloc::{AllocError, Global};
 use std::collections::BTreeSet;

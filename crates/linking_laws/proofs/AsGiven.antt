@@ -10,10 +10,10 @@ use Rattle.pool_faults.specs.declared.fault.DescriptorErrorKind.{DescriptorError
 use Rattle.pool_faults.specs.declared.fault.DescriptorErrorKind.TheVariants.{MissingRequiredField}
 use Rattle.pool_faults.specs.Labels.{label_in}
 use Rattle.record_walk.specs.Shown.{Shown}
-use Rattle.pool_parts.specs.declared.filter.ResolveNameFilter.TheVariants.{FieldType as AnyType, Message}
-use Rattle.pool_parts.specs.Kinds.{named_kind, simple_kind}
-use Rattle.pool_parts.specs.References.{reference_fault}
-use Rattle.pool_parts.specs.Resolution.{Resolution, found, invalid_type, not_imported, shadowed, not_found, kind_found}
+use Rattle.name_resolution.specs.declared.filter.ResolveNameFilter.TheVariants.{FieldType as AnyType, Message}
+use Rattle.name_resolution.specs.Kinds.{named_kind, simple_kind}
+use Rattle.name_resolution.specs.References.{reference_fault}
+use Rattle.name_resolution.specs.Resolution.{Resolution, found, invalid_type, not_imported, shadowed, not_found, kind_found}
 use Rattle.default_rules.specs.Defaults.{MeantEnum, default_faults}
 use Rattle.link_rules.specs.Defaults.{default_by, enum_found, field_default, field_default_faults, no_enum_meant, type_enum}
 use Rattle.link_rules.specs.Definitions.{message_record}

@@ -5,9 +5,9 @@ use Rattle.proto_types.specs.Readers.{label_of, number_of, text_of}
 use Rattle.pool_types.specs.declared.kinds.KindIndex.TheVariants.{Double}
 use Rattle.record_walk.specs.Changed.{Changes}
 use Rattle.record_walk.specs.Shown.{Shown}
-use Rattle.pool_parts.specs.declared.filter.ResolveNameFilter.TheVariants.{FieldType as AnyType}
-use Rattle.pool_parts.specs.Resolution.{Resolution}
-use Rattle.pool_parts.specs.Kinds.{cardinality_of}
+use Rattle.name_resolution.specs.declared.filter.ResolveNameFilter.TheVariants.{FieldType as AnyType}
+use Rattle.name_resolution.specs.Resolution.{Resolution}
+use Rattle.name_resolution.specs.Kinds.{cardinality_of}
 use Rattle.syntax_rules.specs.Syntaxes.{is_proto3}
 use Rattle.places.specs.Identities.{named_at}
 use Rattle.field_rules.specs.Encoding.{is_packed}

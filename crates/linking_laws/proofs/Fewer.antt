@@ -8,11 +8,11 @@ use Rattle.proto_types.specs.Names.{first_part, fronts, is_dot, join}
 use Rattle.pool_types.specs.Contents.{ByText}
 use Rattle.pool_types.specs.DefinitionKinds.{is_parent}
 use Rattle.pool_types.specs.declared.contents.definition.Definition.{Definition}
-use Rattle.pool_parts.specs.declared.filter.ResolveNameFilter.{ResolveNameFilter}
-use Rattle.pool_parts.specs.Kinds.{is_match}
-use Rattle.pool_parts.specs.Parents.{outer}
-use Rattle.pool_parts.specs.Resolution.{Resolution, found, invalid_type, not_imported, shadowed, not_found, is_found, is_not_found, or_shadowed, has_dot, look, simple, holds_first, dotted, relative, resolution}
-use Rattle.pool_parts.proofs.Outward.{answers}
+use Rattle.name_resolution.specs.declared.filter.ResolveNameFilter.{ResolveNameFilter}
+use Rattle.name_resolution.specs.Kinds.{is_match}
+use Rattle.name_resolution.specs.Parents.{outer}
+use Rattle.name_resolution.specs.Resolution.{Resolution, found, invalid_type, not_imported, shadowed, not_found, is_found, is_not_found, or_shadowed, has_dot, look, simple, holds_first, dotted, relative, resolution}
+use Rattle.name_resolution.proofs.Outward.{answers}
 use Rattle.linking_laws.specs.Laws.{SeenAmong}
 use Rattle.linking_laws.proofs.Looked.{answer, look-again, looked-named}
 

@@ -25,7 +25,7 @@ use Rattle.name_tables.proofs.Entries.{first-append}
 use Rattle.record_walk.specs.Changed.{Changes, KeepNames, changed, changed_message}
 use Rattle.record_walk.specs.Protos.{Proto, of_file, of_message, of_field, of_oneof, of_service, of_method, of_enum, of_value, of_extension}
 use Rattle.record_walk.specs.Shown.{Shown}
-use Rattle.pool_parts.specs.Kinds.{is_package}
+use Rattle.name_resolution.specs.Kinds.{is_package}
 use Rattle.syntax_rules.specs.CamelCase.{Placed, camel_case_faults, camel_case_key, key_at, message_own_faults, shared_key_faults}
 use Rattle.syntax_rules.specs.Enumeration.{first_number_path}
 use Rattle.syntax_rules.specs.Syntaxes.{is_proto3, known_syntax, syntax_at, syntax_faults}

@@ -2,8 +2,8 @@
 use Rattle.std.proofs.Common.{◌≡◌, ℕ, List, [], ◌∷◌, refl}
 use Rattle.proto_types.specs.Readers.{text_of}
 use Rattle.proto_types.specs.declared.records.field.FieldDescriptorProto.{FieldDescriptorProto}
-use Rattle.pool_parts.specs.declared.filter.ResolveNameFilter.TheVariants.{FieldType as AnyType}
-use Rattle.pool_parts.specs.Resolution.{Resolution}
+use Rattle.name_resolution.specs.declared.filter.ResolveNameFilter.TheVariants.{FieldType as AnyType}
+use Rattle.name_resolution.specs.Resolution.{Resolution}
 use Rattle.linked_records.specs.Linked.{linked_field, typed}
 use Rattle.linked_records.specs.Setting.{Setting, meaning}
 

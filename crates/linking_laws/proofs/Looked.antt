@@ -6,11 +6,11 @@ use Rattle.std.specs.Option.{option_map_or}
 use Rattle.pool_types.specs.Contents.{ByText}
 use Rattle.pool_types.specs.declared.contents.definition.Definition.{Definition}
 use Rattle.proto_types.specs.Names.{is_dot, join}
-use Rattle.pool_parts.specs.declared.filter.ResolveNameFilter.{ResolveNameFilter}
-use Rattle.pool_parts.specs.Kinds.{is_match}
-use Rattle.pool_parts.specs.Parents.{outer}
-use Rattle.pool_parts.specs.Resolution.{Resolution, found, invalid_type, not_imported, shadowed, not_found, is_found, is_not_found, or_shadowed, has_dot, look, simple, holds_first, dotted, relative, resolution}
-use Rattle.pool_parts.proofs.Outward.{answers}
+use Rattle.name_resolution.specs.declared.filter.ResolveNameFilter.{ResolveNameFilter}
+use Rattle.name_resolution.specs.Kinds.{is_match}
+use Rattle.name_resolution.specs.Parents.{outer}
+use Rattle.name_resolution.specs.Resolution.{Resolution, found, invalid_type, not_imported, shadowed, not_found, is_found, is_not_found, or_shadowed, has_dot, look, simple, holds_first, dotted, relative, resolution}
+use Rattle.name_resolution.proofs.Outward.{answers}
 
 -- what holds of each look-up, of a name that is shadowed, and of nothing, holds of what a reference means
 module _ (names : ByText Definition) (seen : ℕ → Bool) (filter : ResolveNameFilter) (Q : Resolution → Type 0)

@@ -3,9 +3,9 @@ use Rattle.std.proofs.Common.{◌≡◌, ◌<◌, ℕ, ℤ, Option, Some, List, 
 use Rattle.proto_types.specs.Lists.{listed}
 use Rattle.proto_types.specs.Readers.{text_of}
 use Rattle.record_walk.specs.Shown.{Shown}
-use Rattle.pool_parts.specs.declared.filter.ResolveNameFilter.TheVariants.{Message}
-use Rattle.pool_parts.specs.References.{reference_fault}
-use Rattle.pool_parts.specs.Resolution.{Resolution, found, invalid_type, not_imported, shadowed, not_found}
+use Rattle.name_resolution.specs.declared.filter.ResolveNameFilter.TheVariants.{Message}
+use Rattle.name_resolution.specs.References.{reference_fault}
+use Rattle.name_resolution.specs.Resolution.{Resolution, found, invalid_type, not_imported, shadowed, not_found}
 use Rattle.linked_records.specs.Linked.{resolved}
 use Rattle.link_rules.specs.Messages.{message_found, message_meaning}
 use Rattle.linked_records.specs.Setting.{Setting}

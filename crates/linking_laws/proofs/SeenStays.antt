@@ -6,9 +6,9 @@ use Rattle.std.specs.List.{filter, filter_map, range_with_len, Contains, cons_op
 use Rattle.proto_types.specs.EmptyFile.{no_file}
 use Rattle.proto_types.specs.declared.file.FileDescriptorProto.{FileDescriptorProto}
 use Rattle.proto_types.specs.Lists.{at}
-use Rattle.file_visibility.specs.Visibility.{file_at, imports_of, public_imports_of, Sees, sees, seen_from}
+use Rattle.name_resolution.specs.Visibility.{file_at, imports_of, public_imports_of, Sees, sees, seen_from}
 use Rattle.linking_laws.specs.Laws.{ImportsStay, NamesFiles}
-use Rattle.file_visibility.proofs.Chains.{Sees-itself, Sees-import, Sees-public, Sees-least, Sees-from_test, Sees-tested, import-within}
+use Rattle.name_resolution.proofs.Chains.{Sees-itself, Sees-import, Sees-public, Sees-least, Sees-from_test, Sees-tested, import-within}
 
 -- namings under which each of some names means the same
 same-named : (f g : List ℕ → Option ℕ) (names : List (List ℕ)) → ((name : List ℕ) → Contains names name → g name ≡ f name) → filter_map g names ≡ filter_map f names

@@ -9,7 +9,7 @@ use Rattle.proto_types.specs.Names.{join}
 use Rattle.proto_types.specs.Readers.{text_of}
 use Rattle.record_walk.specs.Changed.{Changes, changed_methods, changed_service}
 use Rattle.record_walk.specs.Shown.{Shown, inside}
-use Rattle.pool_parts.specs.References.{reference_fault}
+use Rattle.name_resolution.specs.References.{reference_fault}
 use Rattle.places.specs.Each.{each}
 use Rattle.link_rules.specs.Broken.{Faults, method_faults, service_faults}
 use Rattle.link_rules.specs.Items.{method_item, service_item}

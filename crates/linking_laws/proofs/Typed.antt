@@ -16,11 +16,11 @@ use Rattle.pool_types.specs.declared.contents.definition.Definition.{Definition}
 use Rattle.pool_types.specs.declared.contents.definition.DefinitionKind.{DefinitionKind}
 use Rattle.pool_types.specs.declared.contents.definition.DefinitionKind.TheVariants as definition
 use Rattle.record_walk.specs.Shown.{Shown}
-use Rattle.pool_parts.specs.declared.filter.ResolveNameFilter.{ResolveNameFilter}
-use Rattle.pool_parts.specs.declared.filter.ResolveNameFilter.TheVariants.{FieldType as AnyType}
-use Rattle.pool_parts.specs.Kinds.{is_match, named_kind, simple_kind}
-use Rattle.pool_parts.specs.References.{reference_fault}
-use Rattle.pool_parts.specs.Resolution.{Resolution, found, invalid_type, not_imported, shadowed, not_found, kind_found, look}
+use Rattle.name_resolution.specs.declared.filter.ResolveNameFilter.{ResolveNameFilter}
+use Rattle.name_resolution.specs.declared.filter.ResolveNameFilter.TheVariants.{FieldType as AnyType}
+use Rattle.name_resolution.specs.Kinds.{is_match, named_kind, simple_kind}
+use Rattle.name_resolution.specs.References.{reference_fault}
+use Rattle.name_resolution.specs.Resolution.{Resolution, found, invalid_type, not_imported, shadowed, not_found, kind_found, look}
 use Rattle.link_rules.specs.FieldTypes.{field_kind, type_faults, type_meaning}
 use Rattle.linked_records.specs.Linked.{linked_field, type_number, typed}
 use Rattle.linked_records.specs.Setting.{Setting, meaning, seen_by}

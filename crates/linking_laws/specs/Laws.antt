@@ -26,10 +26,10 @@ use Rattle.record_walk.specs.Changed.{Changes, changed, changed_message, changed
 use Rattle.record_walk.specs.Protos.{Proto, of_extension, of_file, of_message, of_service}
 use Rattle.record_walk.specs.Shown.{Shown}
 use Rattle.syntax_rules.specs.Syntaxes.{syntax_at}
-use Rattle.pool_parts.specs.declared.filter.ResolveNameFilter.{ResolveNameFilter}
-use Rattle.pool_parts.specs.References.{reference_fault}
-use Rattle.pool_parts.specs.Resolution.{found, resolution}
-use Rattle.file_visibility.specs.Visibility.{file_at, seen_from}
+use Rattle.name_resolution.specs.declared.filter.ResolveNameFilter.{ResolveNameFilter}
+use Rattle.name_resolution.specs.References.{reference_fault}
+use Rattle.name_resolution.specs.Resolution.{found, resolution}
+use Rattle.name_resolution.specs.Visibility.{file_at, seen_from}
 use Rattle.link_rules.specs.Defaults.{field_default, field_default_faults}
 use Rattle.link_rules.specs.Definitions.{enum_record, message_record}
 use Rattle.link_rules.specs.FieldTypes.{field_kind, type_faults}

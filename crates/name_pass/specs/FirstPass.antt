@@ -16,7 +16,7 @@ use Rattle.proto_types.specs.Lists.{after_each, flat_map_after, only_if}
 use Rattle.proto_types.specs.Readers.{text_of}
 use Rattle.record_walk.specs.Protos.{of_file, of_message, of_enum}
 use Rattle.record_walk.specs.Shown.{Shown}
-use Rattle.pool_parts.specs.Kinds.{is_package}
+use Rattle.name_resolution.specs.Kinds.{is_package}
 use Rattle.syntax_rules.specs.Syntaxes.{syntax_faults}
 use Rattle.syntax_rules.specs.CamelCase.{message_own_faults}
 use Rattle.syntax_rules.specs.Enumeration.{enum_faults}

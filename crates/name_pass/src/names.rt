@@ -2,7 +2,7 @@ ghost use Rattle.std.specs.Prelude.{◌≡◌, ◌≤◌, ◌∷◌, ◌++◌, [
 ghost use Rattle.std.specs.List.{fold};
 ghost use Rattle.proto_types.specs.Lists.{listed};
 ghost use Rattle.proto_types.specs.declared.tag.message.TheConstants.{NAME};
-ghost use Rattle.pool_parts.specs.Kinds.{is_package};
+ghost use Rattle.name_resolution.specs.Kinds.{is_package};
 ghost use Rattle.name_pass.specs.Entered.{packages, package_entry};
 ghost use Rattle.name_pass.specs.FirstPass.{holder_faults};
 

@@ -14,7 +14,7 @@ use Rattle.pool_types.specs.declared.contents.definition.Definition.{Definition}
 use Rattle.pool_faults.specs.declared.fault.DescriptorErrorKind.{DescriptorErrorKind}
 use Rattle.name_tables.specs.Entries.{first_of, names_with}
 use Rattle.name_tables.proofs.Entries.{get-with, with-names}
-use Rattle.file_visibility.specs.Visibility.{file_at, seen_from}
+use Rattle.name_resolution.specs.Visibility.{file_at, seen_from}
 use Rattle.record_walk.specs.declared.counts.Counts.{Counts}
 use Rattle.record_walk.specs.Changed.{changed_files}
 use Rattle.record_walk.specs.Counts.{counted, no_counts}

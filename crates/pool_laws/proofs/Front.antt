@@ -17,7 +17,7 @@ use Rattle.pool_types.specs.Contents.{Contents, files_of}
 use Rattle.pool_types.specs.declared.contents.definition.Definition.{Definition}
 use Rattle.name_tables.specs.Entries.{first_of}
 use Rattle.name_tables.proofs.Entries.{first-append, get-with}
-use Rattle.file_visibility.proofs.Members.{Contains-cons_cases}
+use Rattle.name_resolution.proofs.Members.{Contains-cons_cases}
 use Rattle.record_walk.specs.declared.counts.Counts.{Counts}
 use Rattle.record_walk.specs.Counts.{counted, counts_in, no_counts}
 use Rattle.record_walk.specs.Declarations.{declarations, file_walk}
@@ -26,8 +26,8 @@ use Rattle.record_walk.specs.Protos.{Proto, as_enum, as_message, of_file}
 use Rattle.record_walk.specs.Shown.{Shown}
 use Rattle.record_walk.specs.Walking.{within_file}
 use Rattle.record_walk.proofs.Walks.{IsInside, within-all}
-use Rattle.pool_parts.specs.declared.filter.ResolveNameFilter.{ResolveNameFilter}
-use Rattle.pool_parts.specs.Resolution.{found, resolution}
+use Rattle.name_resolution.specs.declared.filter.ResolveNameFilter.{ResolveNameFilter}
+use Rattle.name_resolution.specs.Resolution.{found, resolution}
 use Rattle.syntax_rules.specs.Syntaxes.{syntax_of}
 use Rattle.link_rules.specs.Broken.{owner_faults}
 use Rattle.link_rules.specs.Definitions.{around_name, message_record, record_of}

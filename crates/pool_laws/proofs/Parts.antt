@@ -16,7 +16,7 @@ use Rattle.pool_types.specs.Contents.{Contents, files_of}
 use Rattle.name_tables.specs.Entries.{first_of, names_with}
 use Rattle.name_tables.specs.NameTables.{FileNamesBefore}
 use Rattle.name_tables.proofs.Entries.{get-with, with-more}
-use Rattle.file_visibility.specs.Visibility.{file_at, seen_from, sees}
+use Rattle.name_resolution.specs.Visibility.{file_at, seen_from, sees}
 use Rattle.record_walk.specs.Counts.{counted, counts_in, no_counts}
 use Rattle.record_walk.specs.Declarations.{declarations}
 use Rattle.record_walk.specs.Shown.{Shown}

@@ -13,14 +13,14 @@ use Rattle.pool_types.specs.Contents.{Contents, files_of}
 use Rattle.pool_types.specs.declared.contents.definition.Definition.{Definition}
 use Rattle.name_tables.specs.Entries.{names_with}
 use Rattle.name_tables.proofs.Entries.{get-with, with-more}
-use Rattle.file_visibility.specs.Visibility.{file_at, seen_from}
+use Rattle.name_resolution.specs.Visibility.{file_at, seen_from}
 use Rattle.record_walk.specs.declared.counts.Counts.{Counts}
 use Rattle.record_walk.specs.Changed.{changed_files}
 use Rattle.record_walk.specs.Counts.{counted, counts_in}
 use Rattle.record_walk.specs.Declarations.{declarations}
 use Rattle.record_walk.specs.Leads.{leads}
 use Rattle.record_walk.specs.Shown.{Shown}
-use Rattle.pool_parts.specs.Resolution.{resolution}
+use Rattle.name_resolution.specs.Resolution.{resolution}
 use Rattle.places.specs.Each.{each}
 use Rattle.syntax_rules.specs.Syntaxes.{syntax_at, syntax_of}
 use Rattle.link_rules.specs.Broken.{owner_faults}

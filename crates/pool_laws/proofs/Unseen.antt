@@ -14,7 +14,7 @@ use Rattle.pool_types.specs.declared.contents.definition.Definition.{Definition}
 use Rattle.name_tables.specs.Entries.{Entry, first_of, names, names_with}
 use Rattle.name_tables.proofs.Entries.{first-append, get-with, with-more, with-names}
 use Rattle.name_tables.proofs.Names.{get-lookup}
-use Rattle.file_visibility.proofs.Members.{Contains-cons_cases}
+use Rattle.name_resolution.proofs.Members.{Contains-cons_cases}
 use Rattle.record_walk.specs.declared.counts.Counts.{Counts}
 use Rattle.record_walk.specs.Counts.{counted, counts_in, no_counts}
 use Rattle.record_walk.specs.Declarations.{declarations, file_walk}

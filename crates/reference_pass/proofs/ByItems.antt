@@ -43,11 +43,11 @@ use Rattle.record_walk.proofs.Counted.{counted-append}
 use Rattle.record_walk.proofs.Paths.{one-file}
 use Rattle.record_walk.proofs.Leading.{message-walk-opens}
 use Rattle.record_walk.proofs.Turns.{counted-enum, counted-front, counted-service, services-keep}
-use Rattle.pool_parts.specs.declared.filter.ResolveNameFilter.TheVariants.{Message, FieldType as AnyType}
-use Rattle.pool_parts.specs.Kinds.{is_match, named_kind, simple_kind}
-use Rattle.pool_parts.specs.Resolution.{Resolution, found, invalid_type, not_imported, shadowed, not_found, kind_found}
-use Rattle.pool_parts.proofs.Named.{IsNamed, resolution-named}
-use Rattle.pool_parts.proofs.Wanted.{IsWanted, resolution-wanted}
+use Rattle.name_resolution.specs.declared.filter.ResolveNameFilter.TheVariants.{Message, FieldType as AnyType}
+use Rattle.name_resolution.specs.Kinds.{is_match, named_kind, simple_kind}
+use Rattle.name_resolution.specs.Resolution.{Resolution, found, invalid_type, not_imported, shadowed, not_found, kind_found}
+use Rattle.name_resolution.proofs.Named.{IsNamed, resolution-named}
+use Rattle.name_resolution.proofs.Wanted.{IsWanted, resolution-wanted}
 use Rattle.places.specs.Each.{each}
 use Rattle.places.specs.Places.{field_at}
 use Rattle.linked_records.specs.Linked.{linked, linked_extension, linked_field, linked_method, linking, resolved, type_number, typed}

@@ -1,7 +1,7 @@
 //! Kinds of types and of definitions, and the numbers of fields.
 
 use number_rules::is_valid_number;
-use pool_parts::{ResolveNameFilter, cardinality_of, named_kind, simple_kind};
+use name_resolution::{ResolveNameFilter, cardinality_of, named_kind, simple_kind};
 use pool_types::{Cardinality, DefinitionKind, KindIndex};
 use proto_types::{FieldLabel, FieldType};
 use std::test::Fail;

@@ -3,7 +3,7 @@
 use name_tables::{HashedNames, NameTable};
 use plain_data::Items;
 use pool_faults::{Label, Labelled, label_at};
-use pool_parts::{CandidateParents, ResolveNameFilter, ResolveNameResult, resolve_name};
+use name_resolution::{CandidateParents, ResolveNameFilter, ResolveNameResult, resolve_name};
 use pool_types::{Definition, DefinitionKind, FileDescriptorInner, Syntax};
 use script_files::files_of;
 use std::alloc::{AllocError, Global};

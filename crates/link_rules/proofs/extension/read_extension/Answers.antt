@@ -6,7 +6,7 @@ use Rattle.field_rules.specs.Encoding.{is_packed}
 use Rattle.field_rules.specs.Numbers.{item_number}
 use Rattle.places.specs.Identities.{named_at}
 use Rattle.places.specs.Places.{shown_at}
-use Rattle.pool_parts.specs.Kinds.{cardinality_of}
+use Rattle.name_resolution.specs.Kinds.{cardinality_of}
 use Rattle.syntax_rules.specs.Syntaxes.{is_proto3, syntax_at}
 use Rattle.link_rules.specs.Defaults.{field_default, field_default_faults}
 use Rattle.link_rules.specs.Extensions.{extendee_faults, number_faults}

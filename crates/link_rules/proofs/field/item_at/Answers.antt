@@ -1,7 +1,7 @@
 use Rattle.std.proofs.Common.{rules, FitsSigned, w32, to_z-of_z, ap, ◌∙◌}
 use Rattle.field_rules.specs.Encoding.{is_packed, supports_presence}
 use Rattle.field_rules.specs.Numbers.{item_number}
-use Rattle.pool_parts.specs.Kinds.{cardinality_of}
+use Rattle.name_resolution.specs.Kinds.{cardinality_of}
 use Rattle.link_rules.proofs.field.item_at.Goals as goal
 
 -- each part of the item is as it is read

@@ -1,7 +1,7 @@
 use Rattle.std.proofs.Common.{◌≡◌, ℕ, ℤ, List, ◌++◌, ◌∷◌, [], ap, ◌∙◌}
 use Rattle.pool_types.specs.declared.contents.definition.Identity.{Identity}
-use Rattle.pool_parts.specs.declared.filter.ResolveNameFilter.TheVariants.{Message}
-use Rattle.pool_parts.specs.References.{reference_fault}
+use Rattle.name_resolution.specs.declared.filter.ResolveNameFilter.TheVariants.{Message}
+use Rattle.name_resolution.specs.References.{reference_fault}
 use Rattle.proto_types.specs.Lists.{listed}
 use Rattle.proto_types.specs.Names.{join}
 use Rattle.proto_types.specs.declared.tag.method.TheConstants as method

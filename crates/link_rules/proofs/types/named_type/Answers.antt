@@ -4,10 +4,10 @@ use Rattle.proto_types.specs.declared.tag.field.TheConstants.{TYPE_NAME}
 use Rattle.proto_types.specs.Lists.{listed}
 use Rattle.record_walk.specs.Protos.{of_field}
 use Rattle.record_walk.specs.Shown.{Shown}
-use Rattle.pool_parts.specs.declared.filter.ResolveNameFilter.TheVariants.{FieldType}
-use Rattle.pool_parts.specs.Kinds.{named_kind}
-use Rattle.pool_parts.specs.References.{reference_fault}
-use Rattle.pool_parts.specs.Resolution.{kind_found, resolution_in}
+use Rattle.name_resolution.specs.declared.filter.ResolveNameFilter.TheVariants.{FieldType}
+use Rattle.name_resolution.specs.Kinds.{named_kind}
+use Rattle.name_resolution.specs.References.{reference_fault}
+use Rattle.name_resolution.specs.Resolution.{kind_found, resolution_in}
 use Rattle.places.specs.Places.{shown_at}
 use Rattle.default_rules.specs.Defaults.{default_faults}
 use Rattle.linked_records.specs.Setting.{meaning}

@@ -2,7 +2,7 @@ use Rattle.std.proofs.Common.{◌≡◌, Bor, Option, None, Some, IfOk, [], ap, 
 use Rattle.std.specs.BTreeSet.{contains_by}
 use Rattle.std.specs.Option.{option_copied, unwrap_or}
 use Rattle.std.specs.Ordering.{nat_cmp}
-use Rattle.pool_parts.specs.Resolution.{resolution, resolution_in}
+use Rattle.name_resolution.specs.Resolution.{resolution, resolution_in}
 use Rattle.linked_records.specs.Setting.{seen_by}
 use Rattle.linked_records.specs.SettingCode.{setting_in}
 use Rattle.linked_records.proofs.setting.Setting.meaning.Goals as goal

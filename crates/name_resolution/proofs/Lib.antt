@@ -1,0 +1,12 @@
+pub mod Chains
+pub mod VisibilityChecks
+pub mod Linked
+pub mod Members
+pub mod Reached
+pub mod Seeing
+pub mod ResolutionChecks
+pub mod Dots
+pub mod Fronts
+pub mod Outward
+pub mod Named
+pub mod Wanted

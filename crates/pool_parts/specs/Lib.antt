@@ -1,4 +1,0 @@
-pub mod Kinds
-pub mod Parents
-pub mod Resolution
-pub mod References
