@@ -23,8 +23,8 @@ use Rattle.record_walk.proofs.Changed.{counted-changed, declare-changed}
 use Rattle.record_walk.proofs.Counted.{counted-append, counts_are}
 use Rattle.record_walk.proofs.Paths.{one-file}
 use Rattle.record_walk.proofs.Walks.{IsInside, within-all}
-use Rattle.places.specs.Each.{each}
-use Rattle.enum_rules.specs.Items.{enum_item}
+use Rattle.field_rules.specs.Each.{each}
+use Rattle.field_rules.specs.EnumItems.{enum_item}
 use Rattle.link_rules.specs.Items.{file_item, message_item, service_item, extension_item}
 use Rattle.linked_records.specs.Linked.{linking, linked_field, typed}
 use Rattle.linked_records.specs.Setting.{Setting, meaning}

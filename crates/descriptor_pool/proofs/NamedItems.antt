@@ -21,7 +21,7 @@ use Rattle.pool_types.specs.declared.contents.message.MessageDescriptorInner.{Me
 use Rattle.pool_types.specs.declared.contents.service.ServiceDescriptorInner.{ServiceDescriptorInner}
 use Rattle.name_tables.specs.Entries.{first_of, names_with}
 use Rattle.name_tables.proofs.Entries.{get-with}
-use Rattle.places.specs.Each.{each}
+use Rattle.field_rules.specs.Each.{each}
 use Rattle.record_walk.specs.declared.counts.Counts.{Counts}
 use Rattle.record_walk.specs.Counts.{count_limit, counted, counts_in}
 use Rattle.record_walk.specs.Declarations.{declarations}
@@ -31,7 +31,7 @@ use Rattle.record_walk.specs.Protos.{Proto, of_file, of_message, of_field, of_on
 use Rattle.record_walk.specs.Shown.{Shown, of_kind}
 use Rattle.record_walk.proofs.Indexes.{indexes-count-on}
 use Rattle.record_walk.proofs.Room.{room-fits}
-use Rattle.enum_rules.specs.Items.{enum_item}
+use Rattle.field_rules.specs.EnumItems.{enum_item}
 use Rattle.link_rules.specs.Items.{extension_item, message_item, service_item}
 use Rattle.linked_records.specs.Setting.{Setting}
 use Rattle.name_pass.specs.Entered.{definition_kind, entries, entries_of, package_entry, packages}

@@ -2,7 +2,7 @@
 use Rattle.std.proofs.Common.{◌≡◌, ◌++◌, IsOk, List, [], length, drop, refl, ap, subst, sym, ◌∙◌, arith, append-nil}
 use Rattle.std.proofs.lemmas.Bool.Decides.{nat_tests}
 use Rattle.std.proofs.lemmas.List.{drop_all}
-use Rattle.places.specs.Each.{each}
+use Rattle.field_rules.specs.Each.{each}
 use Rattle.pool_types.specs.Contents.{Contents}
 use Rattle.name_tables.proofs.Entries.{with-nothing}
 use Rattle.record_walk.specs.Counts.{counts_in}

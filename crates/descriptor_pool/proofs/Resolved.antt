@@ -8,7 +8,7 @@ use Rattle.proto_types.specs.declared.tag.field.TheConstants as field
 use Rattle.proto_types.specs.declared.tag.method.TheConstants as method
 use Rattle.proto_types.specs.declared.message.DescriptorProto.{out-DescriptorProto}
 use Rattle.proto_types.specs.Lists.{after_each, listed, only_if}
-use Rattle.number_rules.specs.Numbers.{field_number_faults}
+use Rattle.field_rules.specs.Numbers.{field_number_faults}
 use Rattle.field_rules.specs.Again.{again_faults}
 use Rattle.field_rules.specs.Oneofs.{oneof_faults}
 use Rattle.proto_types.specs.Readers.{text_of, type_of}

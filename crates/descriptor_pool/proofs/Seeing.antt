@@ -8,7 +8,7 @@ use Rattle.name_resolution.specs.Visibility.{seen_from}
 use Rattle.pool_types.specs.Contents.{Contents, files_of}
 use Rattle.pool_types.specs.declared.contents.file.FileDescriptorInner.{FileDescriptorInner}
 use Rattle.proto_types.specs.declared.file.FileDescriptorProto.{FileDescriptorProto}
-use Rattle.places.specs.Each.{each}
+use Rattle.field_rules.specs.Each.{each}
 use Rattle.growing_pool.specs.declared.growing.GrowingPool.{GrowingPool}
 use Rattle.descriptor_pool.specs.Behind.{declared_behind, seen_behind, with_names}
 use Rattle.growing_pool.specs.Growing.{files_seeing, first_new, kept_in, seeing}

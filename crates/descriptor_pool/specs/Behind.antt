@@ -11,8 +11,8 @@ use Rattle.record_walk.specs.Declarations.{declarations}
 use Rattle.record_walk.specs.Protos.{as_file, as_message, as_enum, as_service, as_extension}
 use Rattle.record_walk.specs.Shown.{Shown, of_kind}
 use Rattle.link_rules.specs.Broken.{Faults, second_pass}
-use Rattle.places.specs.Each.{each}
-use Rattle.enum_rules.specs.Items.{enum_item}
+use Rattle.field_rules.specs.Each.{each}
+use Rattle.field_rules.specs.EnumItems.{enum_item}
 use Rattle.link_rules.specs.Items.{file_item, message_item, service_item, extension_item}
 use Rattle.linked_records.specs.Setting.{Setting}
 use Rattle.name_pass.specs.Entered.{entries, file_entries}

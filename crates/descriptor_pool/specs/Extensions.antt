@@ -1,7 +1,7 @@
 -- The extensions of a pool and the messages that they extend.
 use Rattle.std.specs.Prelude.{◌≡◌, ◌<◌, ℕ, List, length}
 use Rattle.std.specs.List.{All}
-use Rattle.places.specs.Each.{each}
+use Rattle.field_rules.specs.Each.{each}
 use Rattle.pool_types.specs.Contents.{Contents}
 use Rattle.pool_types.specs.declared.contents.message.MessageDescriptorInner.{MessageDescriptorInner}
 use Rattle.growing_pool.specs.Extended.{extending}

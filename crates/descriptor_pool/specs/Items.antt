@@ -4,7 +4,7 @@ use Rattle.std.specs.FinMap as finite
 use Rattle.std.specs.List.{filter_map}
 use Rattle.pool_types.specs.Contents.{Contents}
 use Rattle.pool_types.specs.declared.contents.file.FileDescriptorInner.{FileDescriptorInner}
-use Rattle.places.specs.Each.{each}
+use Rattle.field_rules.specs.Each.{each}
 use Rattle.record_walk.specs.Declarations.{declarations}
 use Rattle.syntax_rules.specs.Syntaxes.{syntax_of}
 use Rattle.pool_inner.specs.Held.{contents_in}
@@ -13,7 +13,7 @@ use Rattle.growing_pool.specs.Growing.{new_records}
 use Rattle.reference_pass.specs.Linking.{ItemsAre, linked_item, lists_in}
 use Rattle.record_walk.specs.Protos.{as_message, as_enum, as_service, as_extension}
 use Rattle.record_walk.specs.Shown.{Shown, of_kind}
-use Rattle.enum_rules.specs.Items.{enum_item}
+use Rattle.field_rules.specs.EnumItems.{enum_item}
 use Rattle.link_rules.specs.Items.{message_item, service_item, extension_item}
 use Rattle.linked_records.specs.Setting.{Setting}
 use Rattle.reference_pass.specs.declared.items.NewItems.{NewItems}

@@ -26,7 +26,7 @@ use Rattle.field_rules.specs.declared.maps.FieldMaps.{FieldMaps}
 use Rattle.field_rules.specs.Again.{latest, number_again, json_name_again}
 use Rattle.field_rules.specs.Maps.{keyed, by_number, by_json_name}
 use Rattle.field_rules.specs.MapsOf.{AreMapsOf}
-use Rattle.field_rules.specs.Numbers.{item_number}
+use Rattle.field_rules.specs.DuplicateNumbers.{item_number}
 use Rattle.field_rules.specs.Same.{same_number, same_json_name}
 use Rattle.field_rules.proofs.Latest.{get-keyed, keyed-next, same-latest}
 

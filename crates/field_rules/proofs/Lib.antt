@@ -1,3 +1,14 @@
+pub mod NamesBegin
+pub mod Each
+pub mod Tells
+pub mod First
+pub mod Passed
 pub mod Latest
 pub mod Again
 pub mod Listed
+pub mod Ascending
+pub mod Positions
+pub mod Sorting
+pub mod Told
+pub mod Earlier
+pub mod ValueFaults

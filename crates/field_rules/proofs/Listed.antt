@@ -9,8 +9,8 @@ use Rattle.std.proofs.lemmas.List.Elements.{filter_map-append}
 use Rattle.std.proofs.lemmas.Option.{slice_get_within}
 use Rattle.proto_types.specs.declared.records.field.FieldDescriptorProto.{FieldDescriptorProto}
 use Rattle.proto_types.specs.Lists.{at}
-use Rattle.places.specs.Each.{each}
-use Rattle.field_rules.specs.Numbers.{item_number}
+use Rattle.field_rules.specs.Each.{each}
+use Rattle.field_rules.specs.DuplicateNumbers.{item_number}
 use Rattle.field_rules.specs.Oneofs.{oneof_of, members}
 use Rattle.proto_types.specs.declared.message.OneofDescriptorProto.{OneofDescriptorProto}
 use Rattle.field_rules.proofs.Latest.{entries-next}

@@ -7,7 +7,7 @@ use Rattle.std.specs.declared.option.Option.TheVariants.{Some}
 use Rattle.plain_data.specs.Maps.{ByNumber, ByText, inserted}
 use Rattle.proto_types.specs.declared.records.field.FieldDescriptorProto.{FieldDescriptorProto}
 use Rattle.proto_types.specs.Readers.{number_of, text_of}
-use Rattle.field_rules.specs.Numbers.{item_number}
+use Rattle.field_rules.specs.DuplicateNumbers.{item_number}
 
 -- each field's key, where it has one, with its position
 abbrev pub keyed : {K : Type 0} → (FieldDescriptorProto → Option K) → List FieldDescriptorProto → List (K × ℕ)

@@ -2,10 +2,40 @@
 //! JSON, enums, and default values.
 #![tactic(auto)]
 
+mod bounds;
+mod default_enum;
+mod default_faults;
+mod defaults;
 mod encoding;
+mod enum_defaults;
+mod enum_items;
+mod enum_ranges;
+mod enum_tables;
+mod enum_values;
+mod extension_ranges;
+mod field_number;
+mod findings;
+mod identities;
 mod maps;
+mod message_ranges;
+mod numbers;
 mod oneofs;
+mod owner;
+mod place;
+mod reserved;
 
+pub use default_enum::MeantEnum;
+pub use defaults::read_default;
 pub use encoding::{is_packed, supports_presence};
+pub use enum_items::read_enum;
+pub use enum_tables::{value_names, value_numbers};
+pub use enum_values::{allows_alias, check_values};
+pub use field_number::is_valid_number;
+pub use findings::Findings;
+pub use identities::{identity, identity_beside, identity_inside};
 pub use maps::{FieldMaps, item_number};
+pub use message_ranges::MessageRanges;
+pub use numbers::{check_extension_number, check_field_number};
 pub use oneofs::{check_oneof_index, members, oneof_of};
+pub use owner::Owner;
+pub use place::Place;

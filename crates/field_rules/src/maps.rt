@@ -6,13 +6,13 @@ ghost use Rattle.proto_types.specs.Lists.{listed};
 ghost use Rattle.proto_types.specs.Empty.{no_field};
 ghost use Rattle.proto_types.specs.declared.message.DescriptorProto.{out-DescriptorProto};
 ghost use Rattle.record_walk.specs.Counts.{fits_list};
-ghost use Rattle.places.specs.Tells.{Tells, named_files};
+ghost use Rattle.field_rules.specs.Tells.{Tells, named_files};
 ghost use Rattle.field_rules.specs.Again.{again_faults};
 ghost use Rattle.field_rules.specs.Same.{same_number, same_json_name};
 ghost use Rattle.field_rules.specs.MapsOf.{AreMapsOf};
-ghost use Rattle.field_rules.specs.Numbers.{item_number};
+ghost use Rattle.field_rules.specs.DuplicateNumbers.{item_number};
 
-use places::{Findings, Owner, Place};
+use crate::{Findings, Owner, Place};
 use plain_data::{NumberMap, Text, TextMap};
 use pool_faults::DescriptorErrorKind;
 use proto_types::{FieldDescriptorProto, tag};

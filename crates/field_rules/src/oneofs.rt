@@ -1,10 +1,10 @@
 ghost use Rattle.std.specs.Prelude.{◌≡◌, true, [], OnOk, IfOk, map};
 ghost use Rattle.record_walk.specs.Counts.{fits_list};
-ghost use Rattle.places.specs.Each.{each};
-ghost use Rattle.places.specs.Tells.{Tells};
+ghost use Rattle.field_rules.specs.Each.{each};
+ghost use Rattle.field_rules.specs.Tells.{Tells};
 ghost use Rattle.field_rules.specs.Oneofs.{oneof_faults, oneof_of, members};
 
-use places::Findings;
+use crate::Findings;
 use plain_data::Items;
 use pool_faults::DescriptorErrorKind;
 use proto_types::{FieldDescriptorProto, OneofDescriptorProto};

@@ -3,7 +3,7 @@ use Rattle.std.proofs.Common.{◌≡◌, ◌≢◌, ◌≤◌, ◌<◌, ◌+◌,
 use Rattle.std.proofs.lemmas.Bool.Decides.{nat_tests}
 use Rattle.std.proofs.lemmas.List.Elements.{All-cons, All-head, All-nil, All-tail}
 use Rattle.std.specs.List.{All}
-use Rattle.places.specs.Each.{each}
+use Rattle.field_rules.specs.Each.{each}
 
 -- two changes one after the other
 pub each-twice : {X Y Z : Type 0} (g : ℕ → Y → Z) (f : ℕ → X → Y) (i : ℕ) (xs : List X) → each g i (each f i xs) ≡ each (λ n x. g n (f n x)) i xs

@@ -6,7 +6,7 @@ use Rattle.std.specs.List.{filter_map}
 use Rattle.name_resolution.specs.Visibility.{seen_from}
 use Rattle.pool_types.specs.Contents.{Contents, files_of}
 use Rattle.pool_types.specs.declared.contents.file.FileDescriptorInner.{FileDescriptorInner}
-use Rattle.places.specs.Each.{each}
+use Rattle.field_rules.specs.Each.{each}
 use Rattle.growing_pool.specs.declared.growing.GrowingPool.{GrowingPool}
 use Rattle.growing_pool.specs.Growing.{file_seeing, files_seeing, first_new, seeing}
 use Rattle.pool_inner.specs.Held.{contents_in}

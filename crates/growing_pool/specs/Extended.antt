@@ -4,7 +4,7 @@ use Rattle.std.specs.List.{enumerate_from, filter}
 use Rattle.pool_types.specs.Contents.{Contents}
 use Rattle.pool_types.specs.declared.contents.extension.ExtensionDescriptorInner.{ExtensionDescriptorInner}
 use Rattle.pool_types.specs.declared.contents.message.MessageDescriptorInner.{MessageDescriptorInner}
-use Rattle.places.specs.Each.{each}
+use Rattle.field_rules.specs.Each.{each}
 
 -- of extensions that are numbered on from a first index, the indexes of those that extend the message with an index
 abbrev pub extending : ℕ → ℕ → List ExtensionDescriptorInner → List ℕ

@@ -1,6 +1,6 @@
 -- Entries of lists, by their positions.
 use Rattle.std.proofs.Common.{◌≡◌, ℕ, zero, suc, ◌+◌, ◌<◌, List, [], ◌∷◌, ◌++◌, length, get_or, refl, ap, sym, ◌∙◌, arith, append_assoc}
-use Rattle.places.specs.Each.{each}
+use Rattle.field_rules.specs.Each.{each}
 
 -- an entry is itself, whatever stands in for one that isn't there
 pub found-again : {X : Type 0} (xs : List X) (i : ℕ) (d : X) → get_or xs i d ≡ get_or xs i (get_or xs i d)

@@ -25,9 +25,9 @@ use Rattle.record_walk.specs.Counts.{counted, counting}
 use Rattle.record_walk.specs.Declarations.{in_file, enum_walk, enums_walk, service_walk, services_walk, message_front, message_end, message_walk, nested_walk, messages_walk, file_walk, declarations}
 use Rattle.record_walk.specs.Protos.{Proto, of_message, of_field, of_oneof, of_service, of_method, of_enum, of_value, of_extension, as_message, as_enum}
 use Rattle.record_walk.specs.Shown.{Shown, Surrounding, shown, file_shown, row, parts, inside, beside, of_kind}
-use Rattle.enum_rules.specs.Values.{value_faults, values_faults}
+use Rattle.field_rules.specs.EnumValues.{value_faults, values_faults}
 use Rattle.link_rules.specs.Broken.{Faults, Owner, last, field_faults, faults_of_fields, method_faults, faults_of_methods, second_faults, second_pass, owner_faults}
-use Rattle.places.specs.Each.{each}
+use Rattle.field_rules.specs.Each.{each}
 use Rattle.linked_records.specs.Setting.{Setting}
 
 -- of two lists, each element with those before it

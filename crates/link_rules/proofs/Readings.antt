@@ -1,11 +1,11 @@
 -- What is read, one after another.
 use Rattle.std.proofs.Common.{◌≡◌, ◌<◌, ◌+◌, ℕ, List, [], ◌++◌, length, map, take, get_or, refl, ap, subst, sym, ◌∙◌}
 use Rattle.std.specs.List.{flat_map}
-use Rattle.places.specs.declared.findings.Findings.{Findings}
-use Rattle.places.specs.Each.{each}
-use Rattle.places.specs.Tells.{Tells}
-use Rattle.places.proofs.Each.{all-next}
-use Rattle.places.proofs.Tells.{tells-none, tells-two}
+use Rattle.field_rules.specs.declared.findings.Findings.{Findings}
+use Rattle.field_rules.specs.Each.{each}
+use Rattle.field_rules.specs.Tells.{Tells}
+use Rattle.field_rules.proofs.Each.{all-next}
+use Rattle.field_rules.proofs.Tells.{tells-none, tells-two}
 use Rattle.linked_records.specs.Setting.{Setting}
 use Rattle.link_rules.specs.declared.reading.Reading.{Reading}
 use Rattle.link_rules.specs.Broken.{Faults}

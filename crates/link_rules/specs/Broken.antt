@@ -17,17 +17,17 @@ use Rattle.proto_types.specs.Readers.{text_of}
 use Rattle.record_walk.specs.Protos.{of_file, of_message, of_field, of_service, of_method, of_enum, of_value, of_extension, as_message, as_enum}
 use Rattle.record_walk.specs.Shown.{Shown, Surrounding, inside, of_kind}
 use Rattle.name_resolution.specs.References.{reference_fault}
-use Rattle.number_rules.specs.Numbers.{field_number_faults}
+use Rattle.field_rules.specs.Numbers.{field_number_faults}
 use Rattle.field_rules.specs.Again.{again_faults}
 use Rattle.field_rules.specs.Oneofs.{oneof_faults}
-use Rattle.enum_rules.specs.Values.{value_faults, values_faults}
-use Rattle.places.specs.Each.{each}
+use Rattle.field_rules.specs.EnumValues.{value_faults, values_faults}
+use Rattle.field_rules.specs.Each.{each}
 use Rattle.link_rules.specs.Defaults.{field_default_faults}
 use Rattle.link_rules.specs.Extensions.{extendee_faults, number_faults}
 use Rattle.link_rules.specs.FieldTypes.{type_faults}
 use Rattle.link_rules.specs.Imports.{import_faults}
 use Rattle.link_rules.specs.Messages.{method_at, message_meaning}
-use Rattle.places.specs.Places.{field_at}
+use Rattle.field_rules.specs.Places.{field_at}
 use Rattle.linked_records.specs.Setting.{Setting}
 
 abbrev pub Faults : Type 0

@@ -10,7 +10,7 @@ use Rattle.pool_types.specs.declared.contents.definition.Definition.{Definition}
 use Rattle.pool_faults.specs.declared.fault.DescriptorErrorKind.{DescriptorErrorKind}
 use Rattle.record_walk.specs.Shown.{Shown}
 use Rattle.name_resolution.specs.Resolution.{Resolution}
-use Rattle.default_rules.specs.Defaults.{MeantEnum, default_value, default_faults}
+use Rattle.field_rules.specs.Defaults.{MeantEnum, default_value, default_faults}
 use Rattle.link_rules.specs.Definitions.{found_as, enum_record}
 use Rattle.link_rules.specs.FieldTypes.{field_kind, type_meaning}
 use Rattle.linked_records.specs.Setting.{Setting}

@@ -14,7 +14,7 @@ use Rattle.record_walk.specs.Protos.{of_message}
 use Rattle.record_walk.specs.Shown.{Shown}
 use Rattle.name_resolution.specs.References.{reference_fault}
 use Rattle.name_resolution.specs.Resolution.{Resolution}
-use Rattle.number_rules.specs.Numbers.{extension_number_faults}
+use Rattle.field_rules.specs.Numbers.{extension_number_faults}
 use Rattle.link_rules.specs.Definitions.{found_as, around_name, message_record}
 use Rattle.link_rules.specs.Messages.{message_meaning}
 use Rattle.linked_records.specs.Setting.{Setting}

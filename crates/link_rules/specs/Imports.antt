@@ -9,7 +9,7 @@ use Rattle.record_walk.specs.Shown.{step}
 use Rattle.pool_faults.specs.Labels.{label_in}
 use Rattle.pool_faults.specs.declared.fault.DescriptorErrorKind.{DescriptorErrorKind}
 use Rattle.pool_faults.specs.declared.fault.DescriptorErrorKind.TheVariants.{FileNotFound, InvalidImportIndex}
-use Rattle.places.specs.Each.{each}
+use Rattle.field_rules.specs.Each.{each}
 use Rattle.linked_records.specs.Setting.{Setting}
 
 -- of an import of the file with an index, by its place, that names no file

@@ -29,14 +29,14 @@ use Rattle.name_resolution.specs.Kinds.{cardinality_of}
 use Rattle.syntax_rules.specs.Syntaxes.{syntax_of, syntax_at, is_proto3}
 use Rattle.field_rules.specs.Encoding.{is_packed, supports_presence}
 use Rattle.field_rules.specs.Maps.{by_number, by_name, by_json_name}
-use Rattle.field_rules.specs.Numbers.{item_number}
+use Rattle.field_rules.specs.DuplicateNumbers.{item_number}
 use Rattle.field_rules.specs.Oneofs.{members, oneof_of}
-use Rattle.places.specs.Each.{each}
-use Rattle.places.specs.Identities.{identity}
+use Rattle.field_rules.specs.Each.{each}
+use Rattle.field_rules.specs.Identities.{identity}
 use Rattle.link_rules.specs.FieldTypes.{field_kind}
 use Rattle.linked_records.specs.Linked.{linked}
 use Rattle.link_rules.specs.Messages.{message_found, or_missing, method_at, message_meaning}
-use Rattle.places.specs.Places.{field_at, part_inside}
+use Rattle.field_rules.specs.Places.{field_at, part_inside}
 use Rattle.linked_records.specs.Setting.{Setting, seen_by}
 
 -- the file with an index: its syntax, its linked record, the files that it imports, in order, and those that it sees

@@ -12,7 +12,7 @@ use Rattle.record_walk.specs.Protos.{of_method}
 use Rattle.record_walk.specs.Shown.{Shown, Surrounding}
 use Rattle.name_resolution.specs.declared.filter.ResolveNameFilter.TheVariants.{Message}
 use Rattle.name_resolution.specs.Resolution.{Resolution, kind_found}
-use Rattle.places.specs.Places.{part_inside}
+use Rattle.field_rules.specs.Places.{part_inside}
 use Rattle.linked_records.specs.Setting.{Setting, meaning}
 
 -- the index of a message

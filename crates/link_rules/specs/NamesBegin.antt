@@ -2,7 +2,7 @@
 use Rattle.std.specs.Prelude.{List}
 use Rattle.std.specs.List.{All}
 use Rattle.pool_types.specs.declared.contents.message.MessageDescriptorInner.{MessageDescriptorInner}
-use Rattle.places.specs.NamesBegin.{BeginsAtBoundary}
+use Rattle.field_rules.specs.NamesBegin.{BeginsAtBoundary}
 
 -- the name of a message does, and those of its fields and oneofs
 pub record MessageNamesBegin (m : MessageDescriptorInner) : Type 0 where

@@ -1,7 +1,7 @@
 -- What declarations are read with, and the faults that reading appends, where all else stays.
 use Rattle.std.specs.Prelude.{◌≡◌, List, map}
 use Rattle.pool_faults.specs.declared.fault.DescriptorErrorKind.{DescriptorErrorKind}
-use Rattle.places.specs.Tells.{Tells, named_files}
+use Rattle.field_rules.specs.Tells.{Tells, named_files}
 use Rattle.linked_records.specs.Setting.{Setting}
 use Rattle.link_rules.specs.declared.reading.Reading.{Reading}
 

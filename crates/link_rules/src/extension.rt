@@ -7,16 +7,14 @@ ghost use Rattle.link_rules.specs.Items.{bracketed, extension_item};
 ghost use Rattle.link_rules.specs.Messages.{message_found, message_meaning, or_missing};
 ghost use Rattle.link_rules.specs.Reading.{Reads, setting_of};
 ghost use Rattle.link_rules.specs.Short.{ShortFiles};
-ghost use Rattle.places.specs.Places.{shown_at};
+ghost use Rattle.field_rules.specs.Places.{shown_at};
 
 use crate::declared::{around_name, message_record};
 use crate::field::is_proto3;
 use crate::reading::Reading;
 use crate::references::message_found;
 use crate::types::type_and_default;
-use field_rules::{is_packed, item_number};
-use number_rules::check_extension_number;
-use places::{Owner, Place, identity};
+use field_rules::{Owner, Place, check_extension_number, identity, is_packed, item_number};
 use plain_data::Text;
 use pool_types::{ExtensionDescriptorInner, KindIndex};
 use name_resolution::{ResolveNameResult, cardinality_of};

@@ -5,10 +5,10 @@ ghost use Rattle.record_walk.specs.Counts.{fits_list, lists_fit};
 ghost use Rattle.record_walk.specs.Protos.{of_file};
 ghost use Rattle.link_rules.specs.Imports.{missing_file, missing_files, index_fault, import_faults};
 ghost use Rattle.link_rules.specs.Reading.{Reads, setting_of};
-ghost use Rattle.places.specs.Tells.{Tells};
+ghost use Rattle.field_rules.specs.Tells.{Tells};
 
 use crate::reading::Reading;
-use places::Findings;
+use field_rules::Findings;
 use plain_data::Text;
 use pool_faults::DescriptorErrorKind;
 use proto_types::{FileDescriptorProto, tag};

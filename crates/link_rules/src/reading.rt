@@ -4,11 +4,11 @@ ghost use Rattle.name_resolution.specs.References.{reference_fault};
 ghost use Rattle.name_resolution.specs.Resolution.{resolution_in};
 ghost use Rattle.linked_records.specs.Setting.{meaning};
 ghost use Rattle.linked_records.specs.SettingCode.{setting_in};
-ghost use Rattle.places.specs.Tells.{Tells, named_files};
+ghost use Rattle.field_rules.specs.Tells.{Tells, named_files};
 
 use linked_records::Setting;
 use name_tables::{FileNames, HashedNames};
-use places::{Findings, Place};
+use field_rules::{Findings, Place};
 use name_resolution::{ResolveNameFilter, ResolveNameResult};
 use std::alloc::AllocError;
 

@@ -6,13 +6,13 @@ ghost use Rattle.name_resolution.specs.References.{reference_fault};
 ghost use Rattle.link_rules.specs.Broken.{faults_of_methods, method_faults, service_faults};
 ghost use Rattle.link_rules.specs.Items.{service_item, method_item, method_items};
 ghost use Rattle.link_rules.specs.Messages.{message_found, message_index, method_at, or_missing};
-ghost use Rattle.places.specs.Places.{inside_of, service_at};
+ghost use Rattle.field_rules.specs.Places.{inside_of, service_at};
 ghost use Rattle.linked_records.specs.Setting.{meaning};
 ghost use Rattle.link_rules.specs.Reading.{Reads, setting_of};
 
 use crate::reading::Reading;
 use crate::references::message_found;
-use places::{Place, identity, identity_inside};
+use field_rules::{Place, identity, identity_inside};
 use plain_data::Items;
 use name_resolution::ResolveNameFilter;
 use pool_types::{MethodDescriptorInner, ServiceDescriptorInner};

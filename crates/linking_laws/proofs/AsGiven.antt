@@ -14,7 +14,7 @@ use Rattle.name_resolution.specs.declared.filter.ResolveNameFilter.TheVariants.{
 use Rattle.name_resolution.specs.Kinds.{named_kind, simple_kind}
 use Rattle.name_resolution.specs.References.{reference_fault}
 use Rattle.name_resolution.specs.Resolution.{Resolution, found, invalid_type, not_imported, shadowed, not_found, kind_found}
-use Rattle.default_rules.specs.Defaults.{MeantEnum, default_faults}
+use Rattle.field_rules.specs.Defaults.{MeantEnum, default_faults}
 use Rattle.link_rules.specs.Defaults.{default_by, enum_found, field_default, field_default_faults, no_enum_meant, type_enum}
 use Rattle.link_rules.specs.Definitions.{message_record}
 use Rattle.link_rules.specs.Extensions.{number_faults}

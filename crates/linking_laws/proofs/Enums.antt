@@ -8,10 +8,10 @@ use Rattle.proto_types.specs.declared.records.enumeration.EnumValueDescriptorPro
 use Rattle.proto_types.specs.Readers.{number_of}
 use Rattle.proto_types.specs.declared.file.FileDescriptorProto.{FileDescriptorProto}
 use Rattle.record_walk.specs.Shown.{Shown}
-use Rattle.places.specs.Each.{each}
-use Rattle.enum_rules.specs.Items.{allows_alias}
-use Rattle.enum_rules.specs.Ranges.{reserves}
-use Rattle.enum_rules.specs.Values.{again_faults, reserved_fault, reserved_faults, value_faults, values_faults}
+use Rattle.field_rules.specs.Each.{each}
+use Rattle.field_rules.specs.EnumItems.{allows_alias}
+use Rattle.field_rules.specs.EnumRanges.{reserves}
+use Rattle.field_rules.specs.EnumValues.{again_faults, reserved_fault, reserved_faults, value_faults, values_faults}
 use Rattle.link_rules.specs.Broken.{Faults}
 use Rattle.linking_laws.proofs.Numbered.{both-empty, none-listed}
 use Rattle.linking_laws.proofs.Typed.{no-fault}

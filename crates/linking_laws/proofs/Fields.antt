@@ -10,9 +10,9 @@ use Rattle.proto_types.specs.declared.message.DescriptorProto.{DescriptorProto, 
 use Rattle.pool_faults.specs.declared.fault.DescriptorErrorKind.TheVariants.{InvalidOneofIndex}
 use Rattle.record_walk.specs.Changed.{Changes}
 use Rattle.record_walk.specs.Shown.{Shown, inside}
-use Rattle.places.specs.Each.{each}
-use Rattle.places.specs.Places.{field_at}
-use Rattle.number_rules.specs.Numbers.{field_number_faults}
+use Rattle.field_rules.specs.Each.{each}
+use Rattle.field_rules.specs.Places.{field_at}
+use Rattle.field_rules.specs.Numbers.{field_number_faults}
 use Rattle.field_rules.specs.Again.{again_faults}
 use Rattle.field_rules.specs.Oneofs.{oneof_faults}
 use Rattle.link_rules.specs.Broken.{Faults, Owner, field_faults, own_faults}

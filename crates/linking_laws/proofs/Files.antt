@@ -8,7 +8,7 @@ use Rattle.pool_faults.specs.declared.fault.DescriptorErrorKind.{DescriptorError
 use Rattle.record_walk.specs.declared.counts.Counts.{Counts}
 use Rattle.record_walk.specs.Changed.{Changes, changed_file}
 use Rattle.record_walk.specs.Declarations.{file_walk}
-use Rattle.places.specs.Each.{each}
+use Rattle.field_rules.specs.Each.{each}
 use Rattle.link_rules.specs.Broken.{Faults, owner_faults}
 use Rattle.link_rules.specs.Imports.{index_fault, missing_file, missing_files}
 use Rattle.link_rules.specs.Items.{file_item}

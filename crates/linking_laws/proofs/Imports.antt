@@ -5,7 +5,7 @@ use Rattle.std.specs.List.{flat_map}
 use Rattle.proto_types.specs.Lists.{only_if}
 use Rattle.proto_types.specs.declared.file.FileDescriptorProto.{FileDescriptorProto}
 use Rattle.pool_faults.specs.declared.fault.DescriptorErrorKind.{DescriptorErrorKind}
-use Rattle.places.specs.Each.{each}
+use Rattle.field_rules.specs.Each.{each}
 use Rattle.link_rules.specs.Broken.{Faults}
 use Rattle.link_rules.specs.Imports.{import_faults, index_fault, missing_file, missing_files}
 use Rattle.linked_records.specs.Setting.{Setting}

@@ -18,12 +18,12 @@ use Rattle.record_walk.specs.Changed.{Changes}
 use Rattle.record_walk.specs.Protos.{of_oneof}
 use Rattle.record_walk.specs.Shown.{Shown, Surrounding, inside}
 use Rattle.syntax_rules.specs.Syntaxes.{is_proto3}
-use Rattle.places.specs.Each.{each}
-use Rattle.places.specs.Identities.{identity, named_at}
-use Rattle.places.specs.Places.{field_at, part_inside}
+use Rattle.field_rules.specs.Each.{each}
+use Rattle.field_rules.specs.Identities.{identity, named_at}
+use Rattle.field_rules.specs.Places.{field_at, part_inside}
 use Rattle.field_rules.specs.Encoding.{is_packed, supports_presence}
 use Rattle.field_rules.specs.Maps.{by_json_name, by_name, by_number}
-use Rattle.field_rules.specs.Numbers.{item_number}
+use Rattle.field_rules.specs.DuplicateNumbers.{item_number}
 use Rattle.field_rules.specs.Oneofs.{members}
 use Rattle.link_rules.specs.Broken.{Faults, field_faults}
 use Rattle.link_rules.specs.Defaults.{field_default, field_default_faults}

@@ -5,7 +5,7 @@ use Rattle.proto_types.specs.Computed.{literals}
 use Rattle.proto_types.specs.declared.message.DescriptorProto.{DescriptorProto, DescriptorProto', out-DescriptorProto}
 use Rattle.record_walk.specs.Changed.{Changes, changed_fields, changed_message}
 use Rattle.record_walk.specs.Shown.{Shown, inside}
-use Rattle.places.specs.Identities.{named_at}
+use Rattle.field_rules.specs.Identities.{named_at}
 use Rattle.field_rules.specs.Maps.{by_json_name, by_name, by_number}
 use Rattle.link_rules.specs.Broken.{message_faults}
 use Rattle.link_rules.specs.Items.{field_items, message_item, oneof_items}

@@ -11,10 +11,10 @@ use Rattle.proto_types.specs.declared.message.ExtensionRange.{ExtensionRange}
 use Rattle.proto_types.specs.declared.message.ReservedRange.{ReservedRange}
 use Rattle.pool_types.specs.declared.contents.definition.Definition.{Definition}
 use Rattle.record_walk.specs.Shown.{Shown}
-use Rattle.number_rules.specs.FieldNumbers.{is_valid_number}
-use Rattle.places.specs.Each.{each}
-use Rattle.number_rules.specs.Numbers.{by_extendee, extension_number_faults, extension_range_faults, field_number_faults, invalid_faults, outside_faults, reserved_fault, reserved_faults}
-use Rattle.number_rules.specs.Ranges.{extends, reserves}
+use Rattle.field_rules.specs.FieldNumbers.{is_valid_number}
+use Rattle.field_rules.specs.Each.{each}
+use Rattle.field_rules.specs.Numbers.{by_extendee, extension_number_faults, extension_range_faults, field_number_faults, invalid_faults, outside_faults, reserved_fault, reserved_faults}
+use Rattle.field_rules.specs.Ranges.{extends, reserves}
 use Rattle.link_rules.specs.Extensions.{defined_at}
 use Rattle.linked_records.specs.Setting.{Setting}
 use Rattle.linking_laws.specs.Laws.{RangesStay, SameRanges}

@@ -10,7 +10,7 @@ use Rattle.proto_types.specs.Readers.{text_of}
 use Rattle.record_walk.specs.Changed.{Changes, changed_methods, changed_service}
 use Rattle.record_walk.specs.Shown.{Shown, inside}
 use Rattle.name_resolution.specs.References.{reference_fault}
-use Rattle.places.specs.Each.{each}
+use Rattle.field_rules.specs.Each.{each}
 use Rattle.link_rules.specs.Broken.{Faults, method_faults, service_faults}
 use Rattle.link_rules.specs.Items.{method_item, service_item}
 use Rattle.linked_records.specs.Linked.{linked_method, linking}

@@ -16,8 +16,8 @@ use Rattle.record_walk.specs.Counts.{counted, counting}
 use Rattle.record_walk.specs.Declarations.{enums_walk, file_walk, in_file, message_end, message_front, message_walk, messages_walk, nested_walk, service_walk, services_walk}
 use Rattle.record_walk.specs.Protos.{of_extension, of_message, of_service}
 use Rattle.record_walk.specs.Shown.{Shown, Surrounding, inside, row, shown}
-use Rattle.places.specs.Each.{each}
-use Rattle.places.specs.Places.{field_at}
+use Rattle.field_rules.specs.Each.{each}
+use Rattle.field_rules.specs.Places.{field_at}
 use Rattle.link_rules.specs.Broken.{Faults, field_faults, owner_faults}
 use Rattle.linked_records.specs.Linked.{linked, linked_extension, linked_field, linking}
 use Rattle.linked_records.specs.Setting.{Setting}

@@ -33,7 +33,7 @@ use Rattle.name_resolution.specs.Visibility.{file_at, seen_from}
 use Rattle.link_rules.specs.Defaults.{field_default, field_default_faults}
 use Rattle.link_rules.specs.Definitions.{enum_record, message_record}
 use Rattle.link_rules.specs.FieldTypes.{field_kind, type_faults}
-use Rattle.enum_rules.specs.Values.{values_faults}
+use Rattle.field_rules.specs.EnumValues.{values_faults}
 use Rattle.link_rules.specs.Broken.{extension_faults, message_faults, owner_faults, service_faults}
 use Rattle.link_rules.specs.Imports.{import_faults}
 use Rattle.link_rules.specs.Items.{extension_item, file_item, message_item, service_item}

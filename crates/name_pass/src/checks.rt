@@ -7,7 +7,7 @@ ghost use Rattle.syntax_rules.specs.CamelCase.{message_own_faults};
 ghost use Rattle.syntax_rules.specs.Enumeration.{enum_faults};
 ghost use Rattle.syntax_rules.specs.Syntaxes.{syntax_faults};
 
-use places::Findings;
+use field_rules::Findings;
 use pool_faults::DescriptorErrorKind;
 use pool_types::FileDescriptorInner;
 use proto_types::{DescriptorProto, EnumDescriptorProto, FileDescriptorProto};

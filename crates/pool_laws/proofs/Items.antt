@@ -10,8 +10,8 @@ use Rattle.record_walk.specs.Declarations.{declarations, file_walk}
 use Rattle.record_walk.specs.Protos.{Proto, of_message, of_service, of_enum, of_extension, as_enum, as_extension, as_message, as_service}
 use Rattle.record_walk.specs.Shown.{Shown, of_kind}
 use Rattle.record_walk.proofs.Paths.{one-file}
-use Rattle.enum_rules.specs.Items.{enum_item}
-use Rattle.places.specs.Each.{each}
+use Rattle.field_rules.specs.EnumItems.{enum_item}
+use Rattle.field_rules.specs.Each.{each}
 use Rattle.link_rules.specs.Broken.{owner_faults}
 use Rattle.link_rules.specs.Items.{extension_item, file_item, message_item, service_item}
 use Rattle.linked_records.specs.Setting.{Setting}

@@ -12,8 +12,8 @@ use Rattle.pool_types.specs.declared.contents.message.MessageDescriptorInner.{Me
 use Rattle.record_walk.specs.Counts.{counted, counts_in, no_counts}
 use Rattle.record_walk.specs.Protos.{Proto, as_enum, as_extension, as_file, as_message, as_service}
 use Rattle.record_walk.specs.Shown.{Shown, of_kind}
-use Rattle.enum_rules.specs.Items.{enum_item}
-use Rattle.places.specs.Each.{each}
+use Rattle.field_rules.specs.EnumItems.{enum_item}
+use Rattle.field_rules.specs.Each.{each}
 use Rattle.link_rules.specs.Items.{extension_item, file_item, message_item, service_item}
 use Rattle.linked_records.specs.Setting.{Setting}
 use Rattle.linking_laws.specs.Laws.{unchanged}

@@ -6,7 +6,7 @@ use Rattle.pool_types.specs.Contents.{Contents}
 use Rattle.record_walk.specs.Protos.{as_extension, as_message}
 use Rattle.record_walk.specs.Shown.{of_kind}
 use Rattle.name_resolution.proofs.Fronts.{no_dot}
-use Rattle.places.specs.Each.{each}
+use Rattle.field_rules.specs.Each.{each}
 use Rattle.link_rules.specs.Items.{extension_item, message_item}
 use Rattle.growing_pool.specs.Extended.{extended_by, extending}
 use Rattle.name_pass.specs.Entered.{entries, file_entries}

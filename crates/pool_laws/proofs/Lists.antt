@@ -4,7 +4,7 @@ use Rattle.std.proofs.lemmas.List.{length-append}
 use Rattle.std.specs.List.{AllByRecursion}
 use Rattle.pool_types.specs.declared.contents.extension.ExtensionDescriptorInner.{ExtensionDescriptorInner}
 use Rattle.pool_types.specs.declared.contents.message.MessageDescriptorInner.{MessageDescriptorInner}
-use Rattle.places.specs.Each.{each}
+use Rattle.field_rules.specs.Each.{each}
 use Rattle.growing_pool.specs.Extended.{extended_by, extending}
 use Rattle.growing_pool.proofs.Each.{each-append, each-same, each-twice, length-each}
 use Rattle.descriptor_pool.proofs.Extendees.{extending-append, extending-none}

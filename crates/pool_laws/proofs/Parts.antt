@@ -21,7 +21,7 @@ use Rattle.record_walk.specs.Counts.{counted, counts_in, no_counts}
 use Rattle.record_walk.specs.Declarations.{declarations}
 use Rattle.record_walk.specs.Shown.{Shown}
 use Rattle.record_walk.proofs.Appended.{declarations-append}
-use Rattle.places.specs.Each.{each}
+use Rattle.field_rules.specs.Each.{each}
 use Rattle.link_rules.specs.Broken.{owner_faults}
 use Rattle.linked_records.specs.Setting.{Setting, seen_by}
 use Rattle.link_rules.proofs.Owners.{owners-tell}

@@ -25,8 +25,8 @@ use Rattle.record_walk.specs.Protos.{Proto, as_enum, as_extension, as_message, a
 use Rattle.record_walk.specs.Shown.{Shown, of_kind}
 use Rattle.record_walk.proofs.Changed.{declare-changed}
 use Rattle.syntax_rules.specs.Syntaxes.{syntax_at}
-use Rattle.enum_rules.specs.Items.{enum_item}
-use Rattle.places.specs.Each.{each}
+use Rattle.field_rules.specs.EnumItems.{enum_item}
+use Rattle.field_rules.specs.Each.{each}
 use Rattle.link_rules.specs.Broken.{owner_faults, second_pass}
 use Rattle.link_rules.specs.Items.{extension_item, file_item, message_item, service_item}
 use Rattle.linked_records.specs.Linked.{linking}

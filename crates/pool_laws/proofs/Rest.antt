@@ -21,7 +21,7 @@ use Rattle.record_walk.specs.Declarations.{declarations}
 use Rattle.record_walk.specs.Leads.{leads}
 use Rattle.record_walk.specs.Shown.{Shown}
 use Rattle.name_resolution.specs.Resolution.{resolution}
-use Rattle.places.specs.Each.{each}
+use Rattle.field_rules.specs.Each.{each}
 use Rattle.syntax_rules.specs.Syntaxes.{syntax_at, syntax_of}
 use Rattle.link_rules.specs.Broken.{owner_faults}
 use Rattle.link_rules.specs.Definitions.{around_name, record_of}

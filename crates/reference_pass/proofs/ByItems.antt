@@ -48,8 +48,8 @@ use Rattle.name_resolution.specs.Kinds.{is_match, named_kind, simple_kind}
 use Rattle.name_resolution.specs.Resolution.{Resolution, found, invalid_type, not_imported, shadowed, not_found, kind_found}
 use Rattle.name_resolution.proofs.Named.{IsNamed, resolution-named}
 use Rattle.name_resolution.proofs.Wanted.{IsWanted, resolution-wanted}
-use Rattle.places.specs.Each.{each}
-use Rattle.places.specs.Places.{field_at}
+use Rattle.field_rules.specs.Each.{each}
+use Rattle.field_rules.specs.Places.{field_at}
 use Rattle.linked_records.specs.Linked.{linked, linked_extension, linked_field, linked_method, linking, resolved, type_number, typed}
 use Rattle.linked_records.specs.Setting.{Setting, seen_by}
 use Rattle.link_rules.specs.FieldTypes.{field_kind, type_meaning}

@@ -9,7 +9,7 @@ use Rattle.record_walk.specs.Progress.{Progress}
 use Rattle.record_walk.specs.Protos.{of_file, of_message, of_enum, of_service, of_extension}
 use Rattle.record_walk.specs.Shown.{Shown}
 use Rattle.link_rules.specs.Broken.{Faults, owner_faults}
-use Rattle.enum_rules.specs.Items.{enum_item}
+use Rattle.field_rules.specs.EnumItems.{enum_item}
 use Rattle.link_rules.specs.Items.{message_item, service_item, extension_item}
 use Rattle.linked_records.specs.Setting.{Setting}
 

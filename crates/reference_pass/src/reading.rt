@@ -4,9 +4,9 @@ ghost use Rattle.std.specs.Prelude.{◌≡◌, ◌++◌, true, IfOk, OnOk, map};
 ghost use Rattle.record_walk.specs.Counts.{lists_fit};
 ghost use Rattle.record_walk.specs.FullNames.{EndsWithName};
 ghost use Rattle.record_walk.specs.Protos.{of_enum, of_extension, of_file, of_message, of_service};
-ghost use Rattle.places.specs.Places.{enum_at, message_at, service_at, shown_at};
-ghost use Rattle.enum_rules.specs.Items.{enum_item};
-ghost use Rattle.enum_rules.specs.Values.{values_faults};
+ghost use Rattle.field_rules.specs.Places.{enum_at, message_at, service_at, shown_at};
+ghost use Rattle.field_rules.specs.EnumItems.{enum_item};
+ghost use Rattle.field_rules.specs.EnumValues.{values_faults};
 ghost use Rattle.linked_records.specs.SettingCode.{setting_in};
 ghost use Rattle.link_rules.specs.Broken.{extension_faults, message_faults, service_faults};
 ghost use Rattle.link_rules.specs.Imports.{import_faults};
@@ -16,7 +16,7 @@ ghost use Rattle.link_rules.specs.Short.{ShortFiles};
 
 use link_rules::Reading;
 use linked_records::Setting;
-use places::{Findings, Place};
+use field_rules::{Findings, Place};
 use pool_faults::DescriptorErrorKind;
 use pool_types::{EnumDescriptorInner, ExtensionDescriptorInner, FileDescriptorInner, MessageDescriptorInner, ServiceDescriptorInner};
 use proto_types::{DescriptorProto, EnumDescriptorProto, FieldDescriptorProto, FileDescriptorProto, ServiceDescriptorProto};
@@ -153,5 +153,5 @@ pub(crate) fn read_enum(
         files,
         faults,
     };
-    enum_rules::read_enum(&mut findings, place, enumeration)
+    field_rules::read_enum(&mut findings, place, enumeration)
 }

@@ -5,7 +5,7 @@ ghost use Rattle.link_rules.specs.Short.{ShortFiles};
 use crate::items::NewItems;
 use crate::reading::{check_imports, read_enum, read_extension, read_message, read_service};
 use linked_records::Setting;
-use places::Place;
+use field_rules::Place;
 use pool_faults::DescriptorErrorKind;
 use proto_types::{DescriptorProto, EnumDescriptorProto, EnumValueDescriptorProto, FieldDescriptorProto, FileDescriptorProto, MethodDescriptorProto, OneofDescriptorProto, ServiceDescriptorProto};
 use record_walk::Visitor;

@@ -4,11 +4,11 @@ ghost use Rattle.std.specs.Str.{bytes_eq};
 ghost use Rattle.record_walk.specs.Counts.{fits_list, lists_fit};
 ghost use Rattle.record_walk.specs.Protos.{of_message};
 ghost use Rattle.pool_faults.specs.Labels.{label_in};
-ghost use Rattle.places.specs.Tells.{Tells, named_files};
+ghost use Rattle.field_rules.specs.Tells.{Tells, named_files};
 ghost use Rattle.syntax_rules.specs.CamelCase.{camel_case_key, name_path, camel_case_fault, camel_case_faults, message_own_faults};
 
 use crate::syntax::syntax_at;
-use places::Findings;
+use field_rules::Findings;
 use plain_data::Text;
 use pool_faults::{DescriptorErrorKind, Label};
 use pool_types::Syntax;

@@ -1,9 +1,9 @@
 ghost use Rattle.std.specs.Prelude.{OnOk};
-ghost use Rattle.places.specs.Tells.{Tells, named_files};
+ghost use Rattle.field_rules.specs.Tells.{Tells, named_files};
 ghost use Rattle.syntax_rules.specs.Enumeration.{enum_faults};
 
 use crate::syntax::syntax_at;
-use places::Findings;
+use field_rules::Findings;
 use pool_faults::DescriptorErrorKind;
 use pool_types::Syntax;
 use proto_types::{EnumDescriptorProto, tag};

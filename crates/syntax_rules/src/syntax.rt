@@ -1,9 +1,9 @@
 ghost use Rattle.std.specs.Prelude.{◌≡◌, OnOk, map};
-ghost use Rattle.places.specs.Tells.{Tells, named_files};
+ghost use Rattle.field_rules.specs.Tells.{Tells, named_files};
 ghost use Rattle.std.specs.Option.{option_copied};
 ghost use Rattle.syntax_rules.specs.Syntaxes.{known_syntax, syntax_of, syntax_at, syntax_faults};
 
-use places::Findings;
+use field_rules::Findings;
 use plain_data::Text;
 use pool_faults::DescriptorErrorKind;
 use pool_types::{FileDescriptorInner, Syntax};

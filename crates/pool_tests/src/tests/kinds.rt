@@ -1,6 +1,6 @@
 //! Kinds of types and of definitions, and the numbers of fields.
 
-use number_rules::is_valid_number;
+use field_rules::is_valid_number;
 use name_resolution::{ResolveNameFilter, cardinality_of, named_kind, simple_kind};
 use pool_types::{Cardinality, DefinitionKind, KindIndex};
 use proto_types::{FieldLabel, FieldType};

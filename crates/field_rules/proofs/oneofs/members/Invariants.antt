@@ -1,5 +1,5 @@
 use Rattle.std.proofs.Common.{◌≡◌, take}
-use Rattle.places.specs.Each.{each}
+use Rattle.field_rules.specs.Each.{each}
 use Rattle.field_rules.specs.Oneofs.{members}
 use Rattle.field_rules.proofs.oneofs.members.Given as goal
 

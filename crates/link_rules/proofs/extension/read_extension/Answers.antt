@@ -3,9 +3,9 @@ use Rattle.pool_types.specs.declared.kinds.KindIndex.TheVariants.{Double}
 use Rattle.record_walk.specs.Protos.{of_extension}
 use Rattle.record_walk.specs.Shown.{Shown}
 use Rattle.field_rules.specs.Encoding.{is_packed}
-use Rattle.field_rules.specs.Numbers.{item_number}
-use Rattle.places.specs.Identities.{named_at}
-use Rattle.places.specs.Places.{shown_at}
+use Rattle.field_rules.specs.DuplicateNumbers.{item_number}
+use Rattle.field_rules.specs.Identities.{named_at}
+use Rattle.field_rules.specs.Places.{shown_at}
 use Rattle.name_resolution.specs.Kinds.{cardinality_of}
 use Rattle.syntax_rules.specs.Syntaxes.{is_proto3, syntax_at}
 use Rattle.link_rules.specs.Defaults.{field_default, field_default_faults}

@@ -4,8 +4,8 @@ use Rattle.proto_types.specs.declared.message.DescriptorProto.{out-DescriptorPro
 use Rattle.record_walk.specs.Protos.{of_field}
 use Rattle.record_walk.specs.Shown.{Shown}
 use Rattle.field_rules.specs.Oneofs.{oneof_faults}
-use Rattle.number_rules.specs.Numbers.{field_number_faults}
-use Rattle.places.specs.Places.{message_at, shown_at}
+use Rattle.field_rules.specs.Numbers.{field_number_faults}
+use Rattle.field_rules.specs.Places.{message_at, shown_at}
 use Rattle.link_rules.specs.Broken.{Faults}
 use Rattle.link_rules.specs.Defaults.{field_default, field_default_faults}
 use Rattle.link_rules.specs.FieldTypes.{field_kind, type_faults}

@@ -1,6 +1,6 @@
 use Rattle.std.proofs.Common.{rules, FitsSigned, w32, to_z-of_z, ap, ◌∙◌}
 use Rattle.field_rules.specs.Encoding.{is_packed, supports_presence}
-use Rattle.field_rules.specs.Numbers.{item_number}
+use Rattle.field_rules.specs.DuplicateNumbers.{item_number}
 use Rattle.name_resolution.specs.Kinds.{cardinality_of}
 use Rattle.link_rules.proofs.field.item_at.Goals as goal
 

@@ -11,9 +11,9 @@ use Rattle.proto_types.specs.Names.{join}
 use Rattle.proto_types.specs.Readers.{text_of}
 use Rattle.record_walk.specs.Protos.{of_field}
 use Rattle.record_walk.specs.Shown.{Shown, step}
-use Rattle.places.specs.Identities.{identity, named_at}
-use Rattle.places.specs.NamesBegin.{BeginsAtBoundary}
-use Rattle.places.specs.Places.{field_at, inside_of, message_at}
+use Rattle.field_rules.specs.Identities.{identity, named_at}
+use Rattle.field_rules.specs.NamesBegin.{BeginsAtBoundary}
+use Rattle.field_rules.specs.Places.{field_at, inside_of, message_at}
 use Rattle.link_rules.specs.Broken.{Owner, own_faults}
 use Rattle.link_rules.specs.Defaults.{field_default}
 use Rattle.link_rules.specs.FieldTypes.{field_kind}

@@ -1,6 +1,6 @@
 use Rattle.std.proofs.Common.{take}
 use Rattle.std.specs.List.{flat_map}
-use Rattle.places.specs.Tells.{Tells}
+use Rattle.field_rules.specs.Tells.{Tells}
 use Rattle.link_rules.specs.Imports.{index_fault}
 use Rattle.link_rules.proofs.imports.check_indexes.Given as goal
 

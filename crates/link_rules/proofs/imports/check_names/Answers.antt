@@ -1,6 +1,6 @@
 use Rattle.std.proofs.Common.{refl}
 use Rattle.link_rules.specs.Imports.{missing_file}
-use Rattle.places.proofs.Each.{short-list}
+use Rattle.field_rules.proofs.Each.{short-list}
 use Rattle.link_rules.proofs.Readings.{reads-next}
 use Rattle.link_rules.proofs.imports.check_names.Goals as goal
 

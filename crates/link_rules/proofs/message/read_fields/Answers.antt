@@ -10,9 +10,9 @@ use Rattle.field_rules.specs.Again.{again_faults}
 use Rattle.link_rules.specs.Broken.{Owner, field_faults}
 use Rattle.link_rules.specs.Items.{field_item}
 use Rattle.link_rules.specs.Reading.{setting_of}
-use Rattle.places.specs.NamesBegin.{BeginsAtBoundary}
-use Rattle.places.specs.Places.{field_at, inside_of, message_at}
-use Rattle.places.proofs.Each.{each-next}
+use Rattle.field_rules.specs.NamesBegin.{BeginsAtBoundary}
+use Rattle.field_rules.specs.Places.{field_at, inside_of, message_at}
+use Rattle.field_rules.proofs.Each.{each-next}
 use Rattle.link_rules.proofs.Entries.{found-again}
 use Rattle.link_rules.proofs.Readings.{reads-as, reads-next, reads-told, reads-two, same-setting}
 use Rattle.link_rules.proofs.message.read_fields.Goals as goal

@@ -5,8 +5,8 @@ use Rattle.field_rules.specs.MapsOf.{AreMapsOf}
 use Rattle.link_rules.specs.Broken.{faults_of_fields}
 use Rattle.link_rules.specs.Items.{field_items}
 use Rattle.link_rules.specs.Reading.{Reads, setting_of}
-use Rattle.places.specs.NamesBegin.{BeginsAtBoundary}
-use Rattle.places.specs.Places.{inside_of, message_at}
+use Rattle.field_rules.specs.NamesBegin.{BeginsAtBoundary}
+use Rattle.field_rules.specs.Places.{inside_of, message_at}
 use Rattle.link_rules.proofs.message.read_fields.Given as goal
 
 -- the fields so far are read, and entered

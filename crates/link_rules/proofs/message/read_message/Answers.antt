@@ -1,5 +1,5 @@
 use Rattle.std.proofs.Common.{ap, ◌∙◌}
-use Rattle.places.specs.Identities.{named_at}
+use Rattle.field_rules.specs.Identities.{named_at}
 use Rattle.link_rules.proofs.message.read_message.Goals as goal
 
 -- each part of the item is as it is read

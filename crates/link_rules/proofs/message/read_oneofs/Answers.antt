@@ -11,10 +11,10 @@ use Rattle.record_walk.specs.Protos.{of_oneof}
 use Rattle.record_walk.specs.Shown.{step}
 use Rattle.field_rules.specs.Oneofs.{members}
 use Rattle.link_rules.specs.Items.{oneof_item}
-use Rattle.places.specs.Identities.{named_at}
-use Rattle.places.specs.NamesBegin.{BeginsAtBoundary}
-use Rattle.places.specs.Places.{inside_of, part_inside}
-use Rattle.places.proofs.Each.{each-next}
+use Rattle.field_rules.specs.Identities.{named_at}
+use Rattle.field_rules.specs.NamesBegin.{BeginsAtBoundary}
+use Rattle.field_rules.specs.Places.{inside_of, part_inside}
+use Rattle.field_rules.proofs.Each.{each-next}
 use Rattle.field_rules.proofs.Listed.{length-each}
 use Rattle.link_rules.proofs.Entries.{made-at}
 use Rattle.link_rules.proofs.message.read_oneofs.Goals as goal

@@ -7,8 +7,8 @@ use Rattle.proto_types.specs.Names.{join}
 use Rattle.proto_types.specs.declared.tag.method.TheConstants as method
 use Rattle.proto_types.specs.declared.tag.service.TheConstants.{METHOD}
 use Rattle.record_walk.specs.Shown.{step}
-use Rattle.places.specs.Identities.{identity, named_at}
-use Rattle.places.specs.Places.{inside_of}
+use Rattle.field_rules.specs.Identities.{identity, named_at}
+use Rattle.field_rules.specs.Places.{inside_of}
 use Rattle.linked_records.specs.Setting.{Setting, meaning}
 use Rattle.link_rules.specs.Broken.{Faults}
 use Rattle.link_rules.specs.Messages.{message_found, method_at, or_missing}

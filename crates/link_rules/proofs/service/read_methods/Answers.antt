@@ -4,8 +4,8 @@ use Rattle.link_rules.specs.Broken.{method_faults}
 use Rattle.link_rules.specs.Items.{method_item}
 use Rattle.link_rules.specs.Messages.{method_at}
 use Rattle.link_rules.specs.Reading.{setting_of}
-use Rattle.places.specs.Places.{inside_of}
-use Rattle.places.proofs.Each.{each-next, short-list}
+use Rattle.field_rules.specs.Places.{inside_of}
+use Rattle.field_rules.proofs.Each.{each-next, short-list}
 use Rattle.link_rules.proofs.Readings.{reads-next, same-setting}
 use Rattle.link_rules.proofs.service.read_methods.Goals as goal
 

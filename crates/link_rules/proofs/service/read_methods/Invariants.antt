@@ -2,7 +2,7 @@ use Rattle.std.proofs.Common.{◌≡◌, take}
 use Rattle.link_rules.specs.Broken.{faults_of_methods}
 use Rattle.link_rules.specs.Items.{method_items}
 use Rattle.link_rules.specs.Reading.{Reads, setting_of}
-use Rattle.places.specs.Places.{inside_of}
+use Rattle.field_rules.specs.Places.{inside_of}
 use Rattle.link_rules.proofs.service.read_methods.Given as goal
 
 -- the methods so far are read

@@ -8,8 +8,8 @@ use Rattle.name_resolution.specs.declared.filter.ResolveNameFilter.TheVariants.{
 use Rattle.name_resolution.specs.Kinds.{named_kind}
 use Rattle.name_resolution.specs.References.{reference_fault}
 use Rattle.name_resolution.specs.Resolution.{kind_found, resolution_in}
-use Rattle.places.specs.Places.{shown_at}
-use Rattle.default_rules.specs.Defaults.{default_faults}
+use Rattle.field_rules.specs.Places.{shown_at}
+use Rattle.field_rules.specs.Defaults.{default_faults}
 use Rattle.linked_records.specs.Setting.{meaning}
 use Rattle.link_rules.specs.Defaults.{default_by, enum_found}
 use Rattle.link_rules.specs.FieldTypes.{type_meaning}

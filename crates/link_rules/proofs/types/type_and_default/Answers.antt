@@ -7,7 +7,7 @@ use Rattle.record_walk.specs.Protos.{of_field}
 use Rattle.record_walk.specs.Shown.{Shown}
 use Rattle.name_resolution.specs.Kinds.{named_kind, simple_kind}
 use Rattle.name_resolution.specs.Resolution.{kind_found}
-use Rattle.places.specs.Places.{shown_at}
+use Rattle.field_rules.specs.Places.{shown_at}
 use Rattle.linked_records.specs.Setting.{Setting}
 use Rattle.link_rules.specs.Defaults.{default_by, enum_found, field_default, no_enum_meant}
 use Rattle.link_rules.specs.FieldTypes.{type_meaning}

@@ -3,8 +3,8 @@ use Rattle.std.specs.HashMap.{get_by_text}
 use Rattle.std.specs.List.{enumerate_from}
 use Rattle.std.specs.Option.{option_map}
 use Rattle.std.specs.Str.{bytes_eq}
-use Rattle.places.specs.Tells.{named_files}
-use Rattle.places.proofs.Tells.{same-files, tells-as, tells-none, tells-two}
+use Rattle.field_rules.specs.Tells.{named_files}
+use Rattle.field_rules.proofs.Tells.{same-files, tells-as, tells-none, tells-two}
 use Rattle.syntax_rules.specs.CamelCase.{camel_case_fault, camel_case_key, key_at}
 use Rattle.syntax_rules.proofs.CamelCase.{told-next}
 use Rattle.syntax_rules.proofs.Holders.{held-before, none-before, holders-next, entries-next, short-list}

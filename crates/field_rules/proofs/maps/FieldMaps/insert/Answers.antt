@@ -9,10 +9,10 @@ use Rattle.proto_types.specs.Empty.{no_field}
 use Rattle.proto_types.specs.Lists.{listed}
 use Rattle.proto_types.specs.declared.message.DescriptorProto.{out-DescriptorProto}
 use Rattle.record_walk.proofs.Listings.{on-ok}
-use Rattle.places.specs.Tells.{Tells, named_files}
-use Rattle.places.proofs.Tells.{same-files, tells-as, tells-two}
+use Rattle.field_rules.specs.Tells.{Tells, named_files}
+use Rattle.field_rules.proofs.Tells.{same-files, tells-as, tells-two}
 use Rattle.field_rules.specs.Again.{again_faults, number_again}
-use Rattle.field_rules.specs.Numbers.{item_number}
+use Rattle.field_rules.specs.DuplicateNumbers.{item_number}
 use Rattle.field_rules.specs.Same.{same_number, same_json_name}
 use Rattle.field_rules.proofs.Again.{number-told, json_name-told, next-maps, short-numbers, short-json_names}
 use Rattle.field_rules.proofs.maps.FieldMaps.insert.Goals as goal

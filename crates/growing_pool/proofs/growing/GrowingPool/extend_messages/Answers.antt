@@ -1,7 +1,7 @@
 use Rattle.std.proofs.Common.{◌≡◌, ◌≤◌, ◌<◌, length, ap, sym, refl, ◌∙◌, arith, get_or}
 use Rattle.std.proofs.lemmas.List.{length-take-le}
 use Rattle.pool_types.specs.Contents.{Contents}
-use Rattle.places.specs.Each.{each}
+use Rattle.field_rules.specs.Each.{each}
 use Rattle.growing_pool.specs.Growing.{first_extension, with_extension}
 use Rattle.pool_inner.specs.Held.{contents_in}
 use Rattle.growing_pool.specs.declared.growing.GrowingPool.{GrowingPool}

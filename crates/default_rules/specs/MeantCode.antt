@@ -1,6 +1,0 @@
--- An enum that a type names, as the program has it.
-use Rattle.default_rules.specs.declared.meant.MeantEnum.{MeantEnum as Borrowed}
-use Rattle.default_rules.specs.Defaults.{MeantEnum}
-
-abbrev pub meant_in : Borrowed → MeantEnum
-meant_in m = record { full_name = m.full_name.now; values = m.values.now }

@@ -1,8 +1,0 @@
-use Rattle.std.proofs.Common.{◌≡◌, take}
-use Rattle.plain_data.specs.Maps.{inserted}
-use Rattle.enum_rules.specs.Items.{names_of}
-use Rattle.enum_rules.proofs.tables.value_names.Given as goal
-
--- the names so far are put in
-abbrev pub invariant-loop-position : goal.invariant-loop-position
-invariant-loop-position l = l.names ≡ inserted (names_of (take l.position l.values))

@@ -1,7 +1,0 @@
-use Rattle.std.proofs.Common.{rules}
-use Rattle.enum_rules.proofs.Sorting.{sorted_is}
-use Rattle.enum_rules.proofs.tables.value_numbers.Goals as goal
-
--- a sort makes the sorted pairs
-pub returns : goal.returns
-returns c = rw (← c.in_ok-pairs.ensures) (search (rules, sorted_is))

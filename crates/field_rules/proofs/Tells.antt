@@ -1,0 +1,41 @@
+-- What checks find, one after another.
+use Rattle.std.proofs.Common.{◌≡◌, ◌<◌, ◌+◌, ℕ, List, [], ◌++◌, length, map, take, get_or, refl, ap, subst, sym, ◌∙◌, append_assoc, append-nil}
+use Rattle.std.specs.List.{flat_map}
+use Rattle.proto_types.specs.declared.file.FileDescriptorProto.{FileDescriptorProto}
+use Rattle.pool_faults.specs.declared.fault.DescriptorErrorKind.{DescriptorErrorKind}
+use Rattle.field_rules.specs.declared.findings.Findings.{Findings}
+use Rattle.field_rules.specs.Each.{each}
+use Rattle.field_rules.specs.Tells.{Tells, named_files}
+use Rattle.field_rules.proofs.Each.{all-next}
+
+-- no fault
+pub tells-none : (found : Findings) → Tells found found []
+tells-none found = record { told = sym (append-nil found.faults.now.items); files = refl; reference = refl }
+
+-- labels name the same files
+pub same-files : {a b : Findings} {fs : List DescriptorErrorKind} → Tells a b fs → named_files b ≡ named_files a
+same-files first = ap (λ files. map (λ f. f.raw) files.now) first.files
+
+-- the same faults, as they are said otherwise
+pub tells-as : {a b : Findings} {fs gs : List DescriptorErrorKind} → fs ≡ gs → Tells a b fs → Tells a b gs
+tells-as {a} {b} is tells = subst (Tells a b) is tells
+
+-- two checks
+pub tells-two : {a b c : Findings} {fs gs : List DescriptorErrorKind} → Tells a b fs → Tells b c gs → Tells a c (fs ++ gs)
+tells-two {a} {b} {c} {fs} {gs} first second = record {
+  told = second.told ∙ ap (λ xs. xs ++ gs) first.told ∙ append_assoc a.faults.now.items fs gs;
+  files = second.files ∙ first.files;
+  reference = second.reference ∙ first.reference;
+}
+
+-- three checks
+pub tells-three : {a b c d : Findings} {fs gs hs : List DescriptorErrorKind} → Tells a b fs → Tells b c gs → Tells c d hs → Tells a d (fs ++ gs ++ hs)
+tells-three first second third = tells-two (tells-two first second) third
+
+-- the entries of a list up to a position, and the one there
+pub tells-next : {X : Type 0} {a b c : Findings} {fs : List DescriptorErrorKind} (make : List FileDescriptorProto → ℕ → X → List DescriptorErrorKind) (xs : List X) (i : ℕ) (x : X) → i < length xs → x ≡ get_or xs i x
+    → Tells a b (flat_map (λ ys. ys) (each (make (named_files a)) 0 (take i xs))) → fs ≡ make (named_files b) i x → Tells b c fs
+    → Tells a c (flat_map (λ ys. ys) (each (make (named_files a)) 0 (take (i + 1) xs)))
+tells-next {X} {a} make xs i x below is so_far told next =
+    tells-as (sym (all-next (make (named_files a)) xs i x below is))
+    (tells-two so_far (tells-as (told ∙ ap (λ files. make files i x) (same-files so_far)) next))

@@ -1,0 +1,11 @@
+use Rattle.std.proofs.Common.{take}
+use Rattle.field_rules.specs.Places.{enum_at}
+use Rattle.field_rules.specs.Tells.{Tells, named_files}
+use Rattle.field_rules.specs.EnumValues.{reserved_faults}
+use Rattle.field_rules.proofs.enum_ranges.check_reserved.Given as goal
+
+-- the ranges so far are checked
+abbrev pub invariant-loop-index : goal.invariant-loop-index
+invariant-loop-index l =
+    Tells l.initial.findings l.findings
+    (reserved_faults (named_files l.initial.findings) (enum_at l.place l.enumeration) l.position l.number (take l.index l.enumeration.reserved_range))

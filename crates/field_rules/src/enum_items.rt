@@ -1,0 +1,88 @@
+ghost use Rattle.std.specs.Prelude.{◌≡◌, true, IfOk, OnOk};
+ghost use Rattle.record_walk.specs.Counts.{lists_fit};
+ghost use Rattle.record_walk.specs.FullNames.{EndsWithName};
+ghost use Rattle.record_walk.specs.Protos.{of_enum};
+ghost use Rattle.field_rules.specs.Places.{enum_at};
+ghost use Rattle.field_rules.specs.Tells.{Tells, named_files};
+ghost use Rattle.field_rules.specs.EnumItems.{enum_item, value_items};
+ghost use Rattle.field_rules.specs.EnumValues.{values_faults};
+
+use crate::enum_tables::{value_names, value_numbers};
+use crate::enum_values::{allows_alias, check_values};
+use crate::{Findings, Place, identity, identity_beside};
+use plain_data::Items;
+use pool_types::{EnumDescriptorInner, EnumValueDescriptorInner};
+use proto_types::{EnumDescriptorProto, tag};
+use std::alloc::{AllocError, Global};
+
+/// The item of an enum, with its values, which are named beside it, and their tables. What the
+/// numbers of its values break is appended to `faults`, one value after another.
+///
+/// # Errors
+/// `AllocError` where memory was refused.
+pub fn read_enum(
+    findings: &mut Findings,
+    place: Place,
+    enumeration: &EnumDescriptorProto,
+) -> Result<EnumDescriptorInner, AllocError>
+    requires short { lists_fit (of_enum enumeration.now) ≡ true }
+    requires ends { EndsWithName (enum_at place enumeration.now) }
+    ensures item { IfOk result (λ item. item
+        ≡ enum_item (enum_at place.entry enumeration.now) enumeration.now) }
+    ensures faults { OnOk result (Tells findings.old findings.new
+        (values_faults (named_files findings.old)
+        (enum_at place.entry enumeration.now) enumeration.now)) }
+{
+    check_values(findings, place, enumeration)?;
+    enum_item(findings.alloc, place, enumeration)
+}
+
+fn enum_item(
+    alloc: Global,
+    place: Place,
+    enumeration: &EnumDescriptorProto,
+) -> Result<EnumDescriptorInner, AllocError>
+    requires short { lists_fit (of_enum enumeration.now) ≡ true }
+    requires ends { EndsWithName (enum_at place enumeration.now) }
+    ensures { IfOk result (λ item. item
+        ≡ enum_item (enum_at place.entry enumeration.now) enumeration.now) }
+{
+    let values = enumeration.value.as_slice();
+    Ok(EnumDescriptorInner {
+        id: identity(alloc, place, enumeration.name())?,
+        parent: place.parent,
+        values: Items::from_vec(read_values(alloc, place, enumeration)?),
+        value_numbers: Items::from_vec(value_numbers(alloc, values)?),
+        value_names: value_names(alloc, values)?,
+        allow_alias: allows_alias(enumeration),
+    })
+}
+
+fn read_values(
+    alloc: Global,
+    place: Place,
+    enumeration: &EnumDescriptorProto,
+) -> Result<Vec<EnumValueDescriptorInner>, AllocError>
+    requires short { lists_fit (of_enum enumeration.now) ≡ true }
+    requires ends { EndsWithName (enum_at place enumeration.now) }
+    ensures { IfOk result (λ items. items.items
+        ≡ value_items (enum_at place.entry enumeration.now) enumeration.now.value) }
+{
+    let mut items = Vec::new(alloc);
+    let own_name = enumeration.name();
+    for (position, value) in enumeration.value.as_slice().iter().enumerate() {
+        let id = identity_beside(
+            alloc,
+            place,
+            own_name,
+            tag::enum_::VALUE,
+            position,
+            value.name(),
+        )?;
+        items.push(EnumValueDescriptorInner {
+            id,
+            number: value.number(),
+        })?;
+    }
+    Ok(items)
+}

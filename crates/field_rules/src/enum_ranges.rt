@@ -1,0 +1,76 @@
+ghost use Rattle.std.specs.Prelude.{◌≡◌, ◌<◌, ◌^◌, true, IfOk, OnOk};
+ghost use Rattle.pool_faults.specs.declared.fault.DescriptorErrorKind.TheVariants.{EnumNumberInReservedRange};
+ghost use Rattle.proto_types.specs.declared.tag.enum_.TheConstants.{VALUE, RESERVED_RANGE};
+ghost use Rattle.proto_types.specs.declared.tag.enum_value.TheConstants.{NUMBER};
+ghost use Rattle.proto_types.specs.Readers.{number_of};
+ghost use Rattle.record_walk.specs.Counts.{fits_list};
+ghost use Rattle.field_rules.specs.Labels.{entry_label, entry_part_label};
+ghost use Rattle.field_rules.specs.Places.{enum_at};
+ghost use Rattle.field_rules.specs.Tells.{Tells, named_files};
+ghost use Rattle.field_rules.specs.EnumRanges.{reserves};
+ghost use Rattle.field_rules.specs.EnumValues.{reserved_faults};
+
+use crate::{Findings, Place};
+use pool_faults::DescriptorErrorKind;
+use proto_types::{EnumDescriptorProto, EnumReservedRange, tag};
+use std::alloc::AllocError;
+
+/// Appends to `faults` one for each reserved range of an enum that holds the number of its value
+/// with this position.
+pub(crate) fn check_reserved(
+    findings: &mut Findings,
+    place: Place,
+    enumeration: &EnumDescriptorProto,
+    position: usize,
+    number: i32,
+) -> Result<(), AllocError>
+    requires short { fits_list enumeration.now.reserved_range ≡ true }
+    requires position { position < 2 ^ 31 }
+    ensures { OnOk result (Tells findings.old findings.new
+        (reserved_faults (named_files findings.old) (enum_at place.entry enumeration.now)
+        position number enumeration.now.reserved_range)) }
+{
+    for (index, range) in enumeration.reserved_range.as_slice().iter().enumerate() {
+        if reserves(range, number) {
+            let fault = reserved_fault(findings, place, position, number, (index, range))?;
+            findings.push(fault)?;
+        }
+    }
+    Ok(())
+}
+
+/// Whether a reserved range holds a number, as it does its start and its end.
+fn reserves(range: &EnumReservedRange, number: i32) -> bool
+    ensures { result ≡ reserves number range.now }
+{
+    range.start() <= number && number <= range.end()
+}
+
+/// The fault of the number of the value with a position, and of a reserved range, given with its
+/// own.
+fn reserved_fault(
+    findings: &Findings,
+    place: Place,
+    position: usize,
+    number: i32,
+    entry: (usize, &EnumReservedRange),
+) -> Result<DescriptorErrorKind, AllocError>
+    requires position { position < 2 ^ 31 }
+    requires index { entry.0 < 2 ^ 31 }
+    ensures { IfOk result (λ fault. fault ≡ EnumNumberInReservedRange number
+        (number_of entry.entry.1.now.start) (number_of entry.entry.1.now.«end»)
+        (entry_label (named_files findings.now) place.entry.file place.entry.path.now
+        RESERVED_RANGE entry.entry.0)
+        (entry_part_label (named_files findings.now) place.entry.file place.entry.path.now
+        VALUE position NUMBER)) }
+{
+    let (index, range) = entry;
+    let (values, part) = (tag::enum_::VALUE, tag::enum_value::NUMBER);
+    Ok(DescriptorErrorKind::EnumNumberInReservedRange {
+        number,
+        start: range.start(),
+        end: range.end(),
+        defined: findings.entry_label(place, tag::enum_::RESERVED_RANGE, index)?,
+        found: findings.entry_part_label(place, values, position, part)?,
+    })
+}

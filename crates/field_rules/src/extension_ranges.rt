@@ -1,0 +1,143 @@
+ghost use Rattle.std.specs.Prelude.{◌≡◌, ◌<◌, ◌^◌, true, length, is_some};
+ghost use Rattle.std.specs.Prelude.{if◌then◌else◌, IfOk, IfSome, OnOk};
+ghost use Rattle.std.specs.List.{list_any, position_from};
+ghost use Rattle.proto_types.specs.declared.message.DescriptorProto.{out-DescriptorProto};
+ghost use Rattle.record_walk.specs.Counts.{fits_list};
+ghost use Rattle.proto_types.specs.Readers.{number_of};
+ghost use Rattle.field_rules.specs.Tells.{Tells, named_files};
+ghost use Rattle.field_rules.specs.At.{any_at};
+ghost use Rattle.field_rules.specs.Bounds.{extension_bounds};
+ghost use Rattle.field_rules.specs.Numbers.{extension_range_fault, extension_range_faults};
+ghost use Rattle.field_rules.specs.Numbers.{outside_faults};
+ghost use Rattle.field_rules.specs.Ranges.{extends};
+
+use number_ranges::NumberRanges;
+use crate::{Findings, Owner, Place};
+use plain_data::Text;
+use pool_faults::DescriptorErrorKind;
+use proto_types::{ExtensionRange, FieldDescriptorProto, tag};
+use std::alloc::AllocError;
+
+/// Appends to `faults` what the number of a field breaks by the extension ranges of its message:
+/// that the first of them holds it; or, of a field that has an extendee, that none does.
+pub(crate) fn check_left_to_extensions(
+    findings: &mut Findings,
+    owner: Owner,
+    ranges: &NumberRanges,
+    place: Place,
+    field: &FieldDescriptorProto,
+) -> Result<(), AllocError>
+    requires fits { fits_list (out-DescriptorProto owner.message.now).extension_range ≡ true }
+    requires ranges { ranges.now
+        ≡ extension_bounds (out-DescriptorProto owner.message.now).extension_range }
+    ensures { OnOk result (Tells findings.old findings.new (if is_some field.now.extendee
+        then outside_faults (named_files findings.old) (any_at place.entry)
+        (number_of field.now.number) (any_at owner.entry.place)
+        (out-DescriptorProto owner.entry.message.now).extension_range
+        else extension_range_faults (named_files findings.old) (any_at place.entry)
+        (number_of field.now.number) (any_at owner.entry.place)
+        (out-DescriptorProto owner.entry.message.now).extension_range)) }
+{
+    let number = field.number();
+    let holder = ranges.first_from(0, number);
+    if field.extendee.is_some() {
+        check_outside(findings, owner, place, number, holder.is_some())
+    } else {
+        check_inside(findings, owner, holder, place, number)
+    }
+}
+
+/// Appends to `faults` that of a number that no extension range of a message holds, by whether one
+/// does.
+pub(crate) fn check_outside(
+    findings: &mut Findings,
+    owner: Owner,
+    place: Place,
+    number: i32,
+    is_inside: bool,
+) -> Result<(), AllocError>
+    requires { is_inside ≡ list_any (extends number)
+        (out-DescriptorProto owner.message.now).extension_range }
+    ensures { OnOk result (Tells findings.old findings.new
+        (outside_faults (named_files findings.old) (any_at place.entry) number
+        (any_at owner.entry.place)
+        (out-DescriptorProto owner.entry.message.now).extension_range)) }
+{
+    if !is_inside {
+        let message = Text::from_str(findings.alloc, owner.place.full_name)?;
+        let found = findings.part_label(place, tag::field::NUMBER)?;
+        findings.push(DescriptorErrorKind::ExtensionNumberOutOfRange {
+            number,
+            message,
+            found,
+        })?;
+    }
+    Ok(())
+}
+
+/// Appends to `faults` that of the first extension range of a message that holds the number, if one
+/// does.
+fn check_inside(
+    findings: &mut Findings,
+    owner: Owner,
+    holder: Option<usize>,
+    place: Place,
+    number: i32,
+) -> Result<(), AllocError>
+    requires fits { fits_list (out-DescriptorProto owner.message.now).extension_range ≡ true }
+    requires holder { holder ≡ position_from (extends number) 0
+        (out-DescriptorProto owner.message.now).extension_range }
+    requires there { IfSome holder (λ found. found
+        < length (out-DescriptorProto owner.message.now).extension_range) }
+    ensures { OnOk result (Tells findings.old findings.new
+        (extension_range_faults (named_files findings.old) (any_at place.entry) number
+        (any_at owner.entry.place)
+        (out-DescriptorProto owner.entry.message.now).extension_range)) }
+{
+    if let Some(position) = holder {
+        let entry = (
+            position,
+            &owner.message.extension_range.as_slice()[position],
+        );
+        let fault = extension_range_fault(findings, owner.place, entry, place, number)?;
+        findings.push(fault)?;
+    }
+    Ok(())
+}
+
+/// The fault of an extension range, given with its position, that holds the number of a field.
+fn extension_range_fault(
+    findings: &Findings,
+    owner: Place,
+    entry: (usize, &ExtensionRange),
+    place: Place,
+    number: i32,
+) -> Result<DescriptorErrorKind, AllocError>
+    requires { entry.0 < 2 ^ 31 }
+    ensures { IfOk result (λ fault. fault
+        ≡ extension_range_fault (named_files findings.now) (any_at place.entry) number
+        (any_at owner.entry) (entry.entry.0, entry.entry.1.now)) }
+{
+    let (position, range) = entry;
+    Ok(DescriptorErrorKind::FieldNumberInExtensionRange {
+        number,
+        start: range.start(),
+        end: range.end(),
+        defined: findings.entry_label(owner, tag::message::EXTENSION_RANGE, position)?,
+        found: findings.part_label(place, tag::field::NUMBER)?,
+    })
+}
+
+/// Whether one of the extension ranges holds a number.
+pub(crate) fn any_extends(ranges: &[ExtensionRange], number: i32) -> bool
+    ensures { result ≡ list_any (extends number) ranges.now }
+{
+    ranges.iter().any(|range| extends(range, number))
+}
+
+/// Whether an extension range holds a number.
+fn extends(range: &ExtensionRange, number: i32) -> bool
+    ensures { result ≡ extends number range.now }
+{
+    range.start() <= number && number < range.end()
+}

@@ -1,0 +1,99 @@
+ghost use Rattle.std.specs.Prelude.{◌≡◌, ◌++◌, ◌<◌, ◌^◌, IfOk};
+ghost use Rattle.proto_types.specs.Names.{join};
+ghost use Rattle.record_walk.specs.FullNames.{EndsWith};
+ghost use Rattle.record_walk.specs.Shown.{step};
+ghost use Rattle.field_rules.specs.Identities.{named_at};
+ghost use Rattle.field_rules.specs.NamesBegin.{BeginsAtBoundary};
+ghost use Rattle.field_rules.specs.Places.{before_ending};
+
+use crate::Place;
+use plain_data::{Items, Text};
+use pool_types::Identity;
+use record_walk::entry_path;
+use proto_types::join;
+use std::alloc::{AllocError, Global};
+
+/// Where a declaration stands that has this name, which ends its full name.
+///
+/// # Errors
+/// `AllocError` where memory was refused.
+pub fn identity(alloc: Global, place: Place, name: &str) -> Result<Identity, AllocError>
+    ensures id { IfOk result (λ id. id
+        ≡ named_at place.entry.file place.entry.path.now place.entry.full_name.now name.now) }
+    ensures begins { IfOk result (λ id. EndsWith place.entry.full_name.now name.now
+        → BeginsAtBoundary id) }
+{
+    let path = Items::from_slice(alloc, place.path)?;
+    let full_name = Text::from_str(alloc, place.full_name)?;
+    Ok(named_at(place.file, path, full_name, name))
+}
+
+/// Where an entry of a list of a declaration stands that is named inside it. The tag is the list's
+/// field number in descriptor.proto, and positions count from 0.
+///
+/// # Errors
+/// `AllocError` where memory was refused.
+pub fn identity_inside(
+    alloc: Global,
+    place: Place,
+    tag: i32,
+    position: usize,
+    name: &str,
+) -> Result<Identity, AllocError>
+    requires { position < 2 ^ 31 }
+    ensures id { IfOk result (λ id. id ≡ named_at place.entry.file
+        (step place.entry.path.now tag position)
+        (join place.entry.full_name.now name.now) name.now) }
+    ensures begins { IfOk result (λ id. BeginsAtBoundary id) }
+{
+    let path = Items::from_vec(entry_path(alloc, place.path, tag, position)?);
+    let full_name = Text::from_string(join(alloc, place.full_name, name)?);
+    Ok(named_at(place.file, path, full_name, name))
+}
+
+/// Where an entry of a list of a declaration stands that is named beside it. The declaration's own
+/// name ends its full name. The tag is the list's field number in descriptor.proto, and positions
+/// count from 0.
+///
+/// # Errors
+/// `AllocError` where memory was refused.
+pub fn identity_beside(
+    alloc: Global,
+    place: Place,
+    own_name: &str,
+    tag: i32,
+    position: usize,
+    name: &str,
+) -> Result<Identity, AllocError>
+    requires position { position < 2 ^ 31 }
+    requires ends { EndsWith place.full_name.now own_name.now }
+    ensures { IfOk result (λ id. id ≡ named_at place.entry.file
+        (step place.entry.path.now tag position)
+        (before_ending place.entry.full_name.now own_name.now ++ name.now) name.now) }
+{
+    let path = Items::from_vec(entry_path(alloc, place.path, tag, position)?);
+    let around = front(place.full_name, own_name);
+    let full_name = Text::from_string(format!(in alloc; "{around}{name}")?);
+    Ok(named_at(place.file, path, full_name, name))
+}
+
+/// Where a declaration of this full name stands, which ends with its name.
+fn named_at(file: u32, path: Items<i32>, full_name: Text, name: &str) -> Identity
+    ensures id { result ≡ named_at file path full_name name.now }
+    ensures begins { EndsWith full_name name.now → BeginsAtBoundary result }
+{
+    Identity {
+        file,
+        path,
+        name_index: full_name.as_str().len().saturating_sub(name.len()),
+        full_name,
+    }
+}
+
+/// The text before its ending.
+fn front<'a>(text: &'a str, ending: &str) -> &'a str
+    requires { EndsWith text.now ending.now }
+    ensures { result.now ≡ before_ending text.now ending.now }
+{
+    &text[..text.len() - ending.len()]
+}

@@ -1,0 +1,67 @@
+ghost use Rattle.std.specs.Prelude.{◌≡◌, true, OnOk};
+ghost use Rattle.record_walk.specs.Counts.{lists_fit};
+ghost use Rattle.record_walk.specs.Protos.{of_message, of_field, of_extension};
+ghost use Rattle.field_rules.specs.Places.{message_at, shown_at};
+ghost use Rattle.field_rules.specs.Tells.{Tells, named_files};
+ghost use Rattle.field_rules.specs.Bounds.{AreRangesOf};
+ghost use Rattle.field_rules.specs.Numbers.{field_number_faults, extension_number_faults};
+
+use crate::extension_ranges::{any_extends, check_left_to_extensions, check_outside};
+use crate::message_ranges::MessageRanges;
+use crate::reserved::{check_reserved_by, check_reserved_ranges, check_valid};
+use crate::{Findings, Owner, Place};
+use proto_types::FieldDescriptorProto;
+use std::alloc::AllocError;
+
+/// Appends to `faults` what the number of a field breaks that stands in a message
+/// (descriptor.proto on `number`, `reserved_range` and `extension_range`, and the protobuf language
+/// rules on field numbers): that no field may have it, each reserved range of the message that
+/// holds it, and then the first extension range that does; or, of a field that has an extendee,
+/// even an empty one, that none does. The ranges are those of the message.
+///
+/// # Errors
+/// `AllocError` where memory was refused.
+pub fn check_field_number(
+    findings: &mut Findings,
+    owner: Owner,
+    ranges: &MessageRanges,
+    place: Place,
+    field: &FieldDescriptorProto,
+) -> Result<(), AllocError>
+    requires short { lists_fit (of_message owner.message.now) ≡ true }
+    requires ranges { AreRangesOf ranges.now owner.message.now }
+    ensures { OnOk result (Tells findings.old findings.new
+        (field_number_faults (named_files findings.old)
+        (message_at owner.entry.place owner.entry.message.now) owner.entry.message.now
+        (shown_at place.entry (of_field field.now)) field.now)) }
+{
+    let number = field.number();
+    check_valid(findings, place, number)?;
+    check_reserved_by(findings, owner, &ranges.reserved, place, number)?;
+    check_left_to_extensions(findings, owner, &ranges.extension, place, field)
+}
+
+/// Appends to `faults` what the number of an extension breaks, by the record of the message that it
+/// extends: that no field may have it, each reserved range of the message that holds it, and that
+/// none of its extension ranges does.
+///
+/// # Errors
+/// `AllocError` where memory was refused.
+pub fn check_extension_number(
+    findings: &mut Findings,
+    owner: Owner,
+    place: Place,
+    extension: &FieldDescriptorProto,
+) -> Result<(), AllocError>
+    requires { lists_fit (of_message owner.message.now) ≡ true }
+    ensures { OnOk result (Tells findings.old findings.new
+        (extension_number_faults (named_files findings.old)
+        (message_at owner.entry.place owner.entry.message.now) owner.entry.message.now
+        (shown_at place.entry (of_extension extension.now)) extension.now)) }
+{
+    let number = extension.number();
+    check_valid(findings, place, number)?;
+    check_reserved_ranges(findings, owner, place, number)?;
+    let is_inside = any_extends(owner.message.extension_range.as_slice(), number);
+    check_outside(findings, owner, place, number, is_inside)
+}

@@ -1,0 +1,113 @@
+ghost use Rattle.std.specs.Prelude.{◌≡◌, ◌<◌, ◌^◌, true, OnOk};
+ghost use Rattle.proto_types.specs.declared.message.DescriptorProto.{out-DescriptorProto};
+ghost use Rattle.record_walk.specs.Counts.{fits_list};
+ghost use Rattle.field_rules.specs.Tells.{Tells, named_files};
+ghost use Rattle.field_rules.specs.At.{any_at};
+ghost use Rattle.field_rules.specs.Bounds.{reserved_bounds};
+ghost use Rattle.field_rules.specs.Numbers.{invalid_faults, reserved_fault, reserved_faults};
+ghost use Rattle.field_rules.specs.Ranges.{reserves};
+
+use crate::field_number::is_valid_number;
+use number_ranges::NumberRanges;
+use crate::{Findings, Owner, Place};
+use pool_faults::DescriptorErrorKind;
+use proto_types::{ReservedRange, tag};
+use std::alloc::AllocError;
+
+/// Appends to `faults` that of a number that no field may have.
+pub(crate) fn check_valid(
+    findings: &mut Findings,
+    place: Place,
+    number: i32,
+) -> Result<(), AllocError>
+    ensures { OnOk result (Tells findings.old findings.new
+        (invalid_faults (named_files findings.old) (any_at place.entry) number)) }
+{
+    if !is_valid_number(number) {
+        let found = findings.part_label(place, tag::field::NUMBER)?;
+        findings.push(DescriptorErrorKind::InvalidFieldNumber { number, found })?;
+    }
+    Ok(())
+}
+
+/// Appends to `faults` one for each reserved range of a message that holds the number.
+pub(crate) fn check_reserved_ranges(
+    findings: &mut Findings,
+    owner: Owner,
+    place: Place,
+    number: i32,
+) -> Result<(), AllocError>
+    requires { fits_list (out-DescriptorProto owner.message.now).reserved_range ≡ true }
+    ensures { OnOk result (Tells findings.old findings.new
+        (reserved_faults (named_files findings.old) (any_at place.entry) number
+        (any_at owner.entry.place)
+        (out-DescriptorProto owner.entry.message.now).reserved_range)) }
+{
+    for (position, range) in owner.message.reserved_range.as_slice().iter().enumerate() {
+        let entry = (position, range);
+        check_reserved_range(findings, owner.place, entry, place, number)?;
+    }
+    Ok(())
+}
+
+/// The same as `check_reserved_ranges`, by the ranges in order: only those are looked at that hold the
+/// number.
+pub(crate) fn check_reserved_by(
+    findings: &mut Findings,
+    owner: Owner,
+    ranges: &NumberRanges,
+    place: Place,
+    number: i32,
+) -> Result<(), AllocError>
+    requires fits { fits_list (out-DescriptorProto owner.message.now).reserved_range ≡ true }
+    requires ranges { ranges.now
+        ≡ reserved_bounds (out-DescriptorProto owner.message.now).reserved_range }
+    ensures { OnOk result (Tells findings.old findings.new
+        (reserved_faults (named_files findings.old) (any_at place.entry) number
+        (any_at owner.entry.place)
+        (out-DescriptorProto owner.entry.message.now).reserved_range)) }
+{
+    let list = owner.message.reserved_range.as_slice();
+    let mut from = 0;
+    while let Some(position) = ranges.first_from(from, number) {
+        let entry = (position, &list[position]);
+        check_reserved_range(findings, owner.place, entry, place, number)?;
+        from = position + 1;
+    }
+    Ok(())
+}
+
+/// Appends to `faults` that of a reserved range of a message, given with its position, that holds
+/// the number.
+fn check_reserved_range(
+    findings: &mut Findings,
+    owner: Place,
+    entry: (usize, &ReservedRange),
+    place: Place,
+    number: i32,
+) -> Result<(), AllocError>
+    requires { entry.0 < 2 ^ 31 }
+    ensures { OnOk result (Tells findings.old findings.new
+        (reserved_fault (named_files findings.old) (any_at place.entry) number
+        (any_at owner.entry) entry.entry.0 entry.entry.1.now)) }
+{
+    let (position, range) = entry;
+    if reserves(range, number) {
+        let fault = DescriptorErrorKind::FieldNumberInReservedRange {
+            number,
+            start: range.start(),
+            end: range.end(),
+            defined: findings.entry_label(owner, tag::message::RESERVED_RANGE, position)?,
+            found: findings.part_label(place, tag::field::NUMBER)?,
+        };
+        findings.push(fault)?;
+    }
+    Ok(())
+}
+
+/// Whether a reserved range holds a number.
+fn reserves(range: &ReservedRange, number: i32) -> bool
+    ensures { result ≡ reserves number range.now }
+{
+    range.start() <= number && number < range.end()
+}

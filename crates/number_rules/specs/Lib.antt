@@ -1,5 +1,0 @@
-pub mod FieldNumbers
-pub mod Ranges
-pub mod Numbers
-pub mod At
-pub mod Bounds

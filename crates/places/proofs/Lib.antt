@@ -1,3 +1,0 @@
-pub mod NamesBegin
-pub mod Each
-pub mod Tells

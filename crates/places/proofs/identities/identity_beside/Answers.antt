@@ -1,5 +1,0 @@
-use Rattle.std.proofs.Common.{rules}
-use Rattle.places.proofs.identities.identity_beside.Goals as goal
-
-pub returns : goal.returns
-returns c = search rules
