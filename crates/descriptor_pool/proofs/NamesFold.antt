@@ -11,7 +11,7 @@ use Rattle.record_walk.specs.Protos.{Proto, of_file, of_message, of_field, of_on
 use Rattle.record_walk.specs.Shown.{Shown}
 use Rattle.pool_types.specs.Contents.{Contents}
 use Rattle.proto_types.specs.declared.file.FileDescriptorProto.{FileDescriptorProto}
-use Rattle.syntax_rules.specs.Syntaxes.{syntax_faults}
+use Rattle.name_pass.specs.Syntaxes.{syntax_faults}
 use Rattle.link_rules.specs.Broken.{Faults}
 use Rattle.name_pass.specs.Entered.{entries_of, entries, file_entries_of, file_entries}
 use Rattle.name_pass.specs.FirstPass.{holder, holder_faults, clashes, file_name_faults, file_faults, own_faults, first_faults, first_pass}

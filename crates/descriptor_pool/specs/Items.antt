@@ -6,7 +6,7 @@ use Rattle.pool_types.specs.Contents.{Contents}
 use Rattle.pool_types.specs.declared.contents.file.FileDescriptorInner.{FileDescriptorInner}
 use Rattle.field_rules.specs.Each.{each}
 use Rattle.record_walk.specs.Declarations.{declarations}
-use Rattle.syntax_rules.specs.Syntaxes.{syntax_of}
+use Rattle.name_pass.specs.Syntaxes.{syntax_of}
 use Rattle.pool_inner.specs.Held.{contents_in}
 use Rattle.growing_pool.specs.declared.growing.GrowingPool.{GrowingPool}
 use Rattle.growing_pool.specs.Growing.{new_records}

@@ -13,7 +13,7 @@ use record_walk::Counts;
 use std::alloc::{AllocError, Global};
 use std::collections::BTreeSet;
 use std::mem;
-use syntax_rules::syntax_of;
+use name_pass::syntax_of;
 
 /// What a pool holds while a batch is linked into it, and how much it had before.
 #[derive(Drop)]

@@ -26,7 +26,7 @@ use Rattle.link_rules.specs.Defaults.{field_default}
 use Rattle.record_walk.specs.Protos.{of_oneof}
 use Rattle.record_walk.specs.Shown.{Shown, Surrounding, inside}
 use Rattle.name_resolution.specs.Kinds.{cardinality_of}
-use Rattle.syntax_rules.specs.Syntaxes.{syntax_of, syntax_at, is_proto3}
+use Rattle.name_pass.specs.Syntaxes.{syntax_of, syntax_at, is_proto3}
 use Rattle.field_rules.specs.Encoding.{is_packed, supports_presence}
 use Rattle.field_rules.specs.Maps.{by_number, by_name, by_json_name}
 use Rattle.field_rules.specs.DuplicateNumbers.{item_number}

@@ -12,7 +12,7 @@ ghost use Rattle.link_rules.specs.Items.{field_item, item_at};
 ghost use Rattle.link_rules.specs.Reading.{Reads, setting_of};
 ghost use Rattle.field_rules.specs.NamesBegin.{BeginsAtBoundary};
 ghost use Rattle.field_rules.specs.Places.{field_at, inside_of, message_at, shown_at};
-ghost use Rattle.syntax_rules.specs.Syntaxes.{is_proto3, syntax_at};
+ghost use Rattle.name_pass.specs.Syntaxes.{is_proto3, syntax_at};
 
 use crate::reading::Reading;
 use crate::types::type_and_default;
@@ -22,7 +22,7 @@ use pool_types::{DefaultValue, FieldDescriptorInner, Identity, KindIndex, Syntax
 use name_resolution::cardinality_of;
 use proto_types::{FieldDescriptorProto, OneofDescriptorProto, tag};
 use std::alloc::AllocError;
-use syntax_rules::syntax_at;
+use name_pass::syntax_at;
 
 /// The item of the field of a message with a position. What the field breaks by itself is appended
 /// to `faults`: its number, its type, its default value, its oneof.

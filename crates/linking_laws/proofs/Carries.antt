@@ -7,7 +7,7 @@ use Rattle.proto_types.specs.Lists.{listed}
 use Rattle.proto_types.specs.Readers.{text_of}
 use Rattle.record_walk.specs.Changed.{Changes}
 use Rattle.record_walk.specs.Shown.{Shown}
-use Rattle.syntax_rules.specs.Syntaxes.{syntax_at}
+use Rattle.name_pass.specs.Syntaxes.{syntax_at}
 use Rattle.name_resolution.specs.References.{reference_fault}
 use Rattle.link_rules.specs.Defaults.{field_default, field_default_faults}
 use Rattle.link_rules.specs.Extensions.{extendee_faults, number_faults}

@@ -8,7 +8,7 @@ use Rattle.record_walk.specs.Shown.{Shown}
 use Rattle.name_resolution.specs.declared.filter.ResolveNameFilter.TheVariants.{FieldType as AnyType}
 use Rattle.name_resolution.specs.Resolution.{Resolution}
 use Rattle.name_resolution.specs.Kinds.{cardinality_of}
-use Rattle.syntax_rules.specs.Syntaxes.{is_proto3}
+use Rattle.name_pass.specs.Syntaxes.{is_proto3}
 use Rattle.field_rules.specs.Identities.{named_at}
 use Rattle.field_rules.specs.Encoding.{is_packed}
 use Rattle.field_rules.specs.DuplicateNumbers.{item_number}

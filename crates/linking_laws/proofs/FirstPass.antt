@@ -26,9 +26,9 @@ use Rattle.record_walk.specs.Changed.{Changes, KeepNames, changed, changed_messa
 use Rattle.record_walk.specs.Protos.{Proto, of_file, of_message, of_field, of_oneof, of_service, of_method, of_enum, of_value, of_extension}
 use Rattle.record_walk.specs.Shown.{Shown}
 use Rattle.name_resolution.specs.Kinds.{is_package}
-use Rattle.syntax_rules.specs.CamelCase.{Placed, camel_case_faults, camel_case_key, key_at, message_own_faults, shared_key_faults}
-use Rattle.syntax_rules.specs.Enumeration.{first_number_path}
-use Rattle.syntax_rules.specs.Syntaxes.{is_proto3, known_syntax, syntax_at, syntax_faults}
+use Rattle.name_pass.specs.CamelCase.{Placed, camel_case_faults, camel_case_key, key_at, message_own_faults, shared_key_faults}
+use Rattle.name_pass.specs.Enumeration.{first_number_path}
+use Rattle.name_pass.specs.Syntaxes.{is_proto3, known_syntax, syntax_at, syntax_faults}
 use Rattle.name_pass.specs.Entered.{entries, entries_of, file_entries}
 use Rattle.name_pass.specs.FirstPass.{clashes, file_faults, file_name_faults, first_faults, holder, holder_faults, own_faults}
 use Rattle.linking_laws.proofs.Messages.{parts-of}

@@ -17,7 +17,7 @@ use Rattle.pool_types.specs.declared.contents.oneof.OneofDescriptorInner.{OneofD
 use Rattle.record_walk.specs.Changed.{Changes}
 use Rattle.record_walk.specs.Protos.{of_oneof}
 use Rattle.record_walk.specs.Shown.{Shown, Surrounding, inside}
-use Rattle.syntax_rules.specs.Syntaxes.{is_proto3}
+use Rattle.name_pass.specs.Syntaxes.{is_proto3}
 use Rattle.field_rules.specs.Each.{each}
 use Rattle.field_rules.specs.Identities.{identity, named_at}
 use Rattle.field_rules.specs.Places.{field_at, part_inside}

@@ -25,7 +25,7 @@ use Rattle.record_walk.specs.Declarations.{file_walk}
 use Rattle.record_walk.specs.Changed.{Changes, changed, changed_message, changed_service}
 use Rattle.record_walk.specs.Protos.{Proto, of_extension, of_file, of_message, of_service}
 use Rattle.record_walk.specs.Shown.{Shown}
-use Rattle.syntax_rules.specs.Syntaxes.{syntax_at}
+use Rattle.name_pass.specs.Syntaxes.{syntax_at}
 use Rattle.name_resolution.specs.declared.filter.ResolveNameFilter.{ResolveNameFilter}
 use Rattle.name_resolution.specs.References.{reference_fault}
 use Rattle.name_resolution.specs.Resolution.{found, resolution}

@@ -1,3 +1,6 @@
+pub mod Keys
+pub mod Holders
+pub mod CamelCase
 pub mod Fronts
 pub mod Packages
 pub mod Entering

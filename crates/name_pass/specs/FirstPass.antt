@@ -17,9 +17,9 @@ use Rattle.proto_types.specs.Readers.{text_of}
 use Rattle.record_walk.specs.Protos.{of_file, of_message, of_enum}
 use Rattle.record_walk.specs.Shown.{Shown}
 use Rattle.name_resolution.specs.Kinds.{is_package}
-use Rattle.syntax_rules.specs.Syntaxes.{syntax_faults}
-use Rattle.syntax_rules.specs.CamelCase.{message_own_faults}
-use Rattle.syntax_rules.specs.Enumeration.{enum_faults}
+use Rattle.name_pass.specs.Syntaxes.{syntax_faults}
+use Rattle.name_pass.specs.CamelCase.{message_own_faults}
+use Rattle.name_pass.specs.Enumeration.{enum_faults}
 use Rattle.name_pass.specs.Entered.{entries_of, entries, file_entries}
 
 -- what a name means already: what is known, else what the first entry before it says

@@ -12,9 +12,9 @@ use Rattle.proto_types.specs.Readers.{text_of}
 use Rattle.record_walk.specs.Shown.{Shown}
 use Rattle.name_tables.specs.Entries.{Entry, names_with}
 use Rattle.record_walk.specs.Counts.{lists_fit}
-use Rattle.syntax_rules.specs.Syntaxes.{syntax_faults}
-use Rattle.syntax_rules.specs.CamelCase.{message_own_faults}
-use Rattle.syntax_rules.specs.Enumeration.{enum_faults}
+use Rattle.name_pass.specs.Syntaxes.{syntax_faults}
+use Rattle.name_pass.specs.CamelCase.{message_own_faults}
+use Rattle.name_pass.specs.Enumeration.{enum_faults}
 use Rattle.name_pass.specs.Entered.{entries_of}
 use Rattle.name_pass.specs.FirstPass.{holder_faults, file_name_faults}
 

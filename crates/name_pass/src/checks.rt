@@ -3,9 +3,9 @@
 ghost use Rattle.std.specs.Prelude.{◌≡◌, ◌++◌, true, OnOk, map};
 ghost use Rattle.record_walk.specs.Counts.{lists_fit};
 ghost use Rattle.record_walk.specs.Protos.{of_message};
-ghost use Rattle.syntax_rules.specs.CamelCase.{message_own_faults};
-ghost use Rattle.syntax_rules.specs.Enumeration.{enum_faults};
-ghost use Rattle.syntax_rules.specs.Syntaxes.{syntax_faults};
+ghost use Rattle.name_pass.specs.CamelCase.{message_own_faults};
+ghost use Rattle.name_pass.specs.Enumeration.{enum_faults};
+ghost use Rattle.name_pass.specs.Syntaxes.{syntax_faults};
 
 use field_rules::Findings;
 use pool_faults::DescriptorErrorKind;
@@ -29,7 +29,7 @@ pub(crate) fn check_syntax(
         files,
         faults,
     };
-    syntax_rules::check_syntax(&mut findings, index, file)
+    crate::check_syntax(&mut findings, index, file)
 }
 
 /// Appends to `faults` what the names of the fields of a message break, at a path of the file with
@@ -51,7 +51,7 @@ pub(crate) fn check_camel_case_names(
         files,
         faults,
     };
-    syntax_rules::check_camel_case_names(&mut findings, file, path, message)
+    crate::check_camel_case_names(&mut findings, file, path, message)
 }
 
 /// Appends to `faults` what the first value of an enum breaks, at a path of the file with an index.
@@ -71,5 +71,5 @@ pub(crate) fn check_enum_values(
         files,
         faults,
     };
-    syntax_rules::check_enum_values(&mut findings, file, path, enumeration)
+    crate::check_enum_values(&mut findings, file, path, enumeration)
 }

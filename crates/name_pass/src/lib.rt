@@ -1,7 +1,13 @@
 //! The first pass: the names of declarations, and what these break by themselves.
 #![tactic(auto)]
 
+mod camel_case;
 mod checks;
+mod enumeration;
 mod names;
+mod syntax;
 
+pub use camel_case::check_camel_case_names;
+pub use enumeration::check_enum_values;
 pub use names::NameVisitor;
+pub use syntax::{check_syntax, known_syntax, syntax_at, syntax_of};

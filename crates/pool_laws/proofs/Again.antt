@@ -23,7 +23,7 @@ use Rattle.record_walk.specs.Leads.{leads}
 use Rattle.record_walk.specs.Protos.{as_enum, as_message}
 use Rattle.record_walk.specs.Shown.{Shown}
 use Rattle.record_walk.proofs.Paths.{one-file}
-use Rattle.syntax_rules.specs.Syntaxes.{syntax_at, syntax_of}
+use Rattle.name_pass.specs.Syntaxes.{syntax_at, syntax_of}
 use Rattle.field_rules.specs.Each.{each}
 use Rattle.link_rules.specs.Broken.{Faults, owner_faults}
 use Rattle.link_rules.specs.Definitions.{around_name, message_record, record_of}

@@ -28,7 +28,7 @@ use Rattle.record_walk.specs.Walking.{within_file}
 use Rattle.record_walk.proofs.Walks.{IsInside, within-all}
 use Rattle.name_resolution.specs.declared.filter.ResolveNameFilter.{ResolveNameFilter}
 use Rattle.name_resolution.specs.Resolution.{found, resolution}
-use Rattle.syntax_rules.specs.Syntaxes.{syntax_of}
+use Rattle.name_pass.specs.Syntaxes.{syntax_of}
 use Rattle.link_rules.specs.Broken.{owner_faults}
 use Rattle.link_rules.specs.Definitions.{around_name, message_record, record_of}
 use Rattle.linked_records.specs.Setting.{Setting, meaning, seen_by}

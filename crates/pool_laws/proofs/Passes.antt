@@ -8,7 +8,7 @@ use Rattle.pool_types.specs.Contents.{ByText, Contents}
 use Rattle.name_tables.specs.Entries.{first_of}
 use Rattle.record_walk.specs.Changed.{Changes, KeepNames, changed}
 use Rattle.record_walk.specs.Shown.{Shown}
-use Rattle.syntax_rules.specs.Syntaxes.{syntax_at}
+use Rattle.name_pass.specs.Syntaxes.{syntax_at}
 use Rattle.link_rules.specs.Broken.{owner_faults}
 use Rattle.linked_records.specs.Linked.{linking}
 use Rattle.linked_records.specs.Setting.{Setting}

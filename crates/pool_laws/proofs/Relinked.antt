@@ -24,7 +24,7 @@ use Rattle.record_walk.specs.Fits.{counts_with}
 use Rattle.record_walk.specs.Protos.{Proto, as_enum, as_extension, as_message, as_service}
 use Rattle.record_walk.specs.Shown.{Shown, of_kind}
 use Rattle.record_walk.proofs.Changed.{declare-changed}
-use Rattle.syntax_rules.specs.Syntaxes.{syntax_at}
+use Rattle.name_pass.specs.Syntaxes.{syntax_at}
 use Rattle.field_rules.specs.EnumItems.{enum_item}
 use Rattle.field_rules.specs.Each.{each}
 use Rattle.link_rules.specs.Broken.{owner_faults, second_pass}

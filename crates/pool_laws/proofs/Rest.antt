@@ -22,7 +22,7 @@ use Rattle.record_walk.specs.Leads.{leads}
 use Rattle.record_walk.specs.Shown.{Shown}
 use Rattle.name_resolution.specs.Resolution.{resolution}
 use Rattle.field_rules.specs.Each.{each}
-use Rattle.syntax_rules.specs.Syntaxes.{syntax_at, syntax_of}
+use Rattle.name_pass.specs.Syntaxes.{syntax_at, syntax_of}
 use Rattle.link_rules.specs.Broken.{owner_faults}
 use Rattle.link_rules.specs.Definitions.{around_name, record_of}
 use Rattle.link_rules.specs.Items.{file_item}

@@ -27,7 +27,7 @@ use Rattle.record_walk.specs.Walking.{Room, WithinLimits, within_file}
 use Rattle.record_walk.proofs.Counted.{counted-append, counted-plus}
 use Rattle.record_walk.proofs.Room.{room-fits}
 use Rattle.record_walk.proofs.Tallies.{declarations-tally}
-use Rattle.syntax_rules.specs.Syntaxes.{syntax_faults}
+use Rattle.name_pass.specs.Syntaxes.{syntax_faults}
 use Rattle.linking_laws.proofs.FirstPass.{holder-more}
 use Rattle.linking_laws.proofs.Numbered.{both-empty}
 use Rattle.name_pass.specs.Entered.{entries, entries_of, file_entries, file_entries_of}

@@ -7,7 +7,7 @@ use Rattle.field_rules.specs.DuplicateNumbers.{item_number}
 use Rattle.field_rules.specs.Identities.{named_at}
 use Rattle.field_rules.specs.Places.{shown_at}
 use Rattle.name_resolution.specs.Kinds.{cardinality_of}
-use Rattle.syntax_rules.specs.Syntaxes.{is_proto3, syntax_at}
+use Rattle.name_pass.specs.Syntaxes.{is_proto3, syntax_at}
 use Rattle.link_rules.specs.Defaults.{field_default, field_default_faults}
 use Rattle.link_rules.specs.Extensions.{extendee_faults, number_faults}
 use Rattle.link_rules.specs.FieldTypes.{field_kind, type_faults}

@@ -3,7 +3,7 @@ use Rattle.std.proofs.lemmas.Result.{on_ok_weaker}
 use Rattle.pool_types.specs.declared.contents.file.FileDescriptorInner.{FileDescriptorInner}
 use Rattle.record_walk.specs.Protos.{of_enum}
 use Rattle.record_walk.specs.Shown.{Shown, shown_as}
-use Rattle.syntax_rules.specs.Enumeration.{enum_faults}
+use Rattle.name_pass.specs.Enumeration.{enum_faults}
 use Rattle.name_pass.specs.State.{records_of}
 use Rattle.name_pass.proofs.Showing.{shown-own}
 use Rattle.name_pass.proofs.names.NameVisitorVisitor.visit_enum.Goals as goal

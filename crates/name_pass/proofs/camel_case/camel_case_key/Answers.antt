@@ -2,8 +2,8 @@ use Rattle.std.proofs.Common.{◌==◌, not, map, filter, ap, sym, ◌∙◌, ru
 use Rattle.std.specs.Char.{to_ascii_lowercase}
 use Rattle.std.proofs.lemmas.List.Elements.{filter_from_retain}
 use lib.Utf8.{encodes}
-use Rattle.syntax_rules.proofs.Keys.{filter-encodes}
-use Rattle.syntax_rules.proofs.camel_case.camel_case_key.Goals as goal
+use Rattle.name_pass.proofs.Keys.{filter-encodes}
+use Rattle.name_pass.proofs.camel_case.camel_case_key.Goals as goal
 
 -- the bytes that stay are those of the characters that stay
 pub returns : goal.returns

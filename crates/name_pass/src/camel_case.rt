@@ -5,7 +5,7 @@ ghost use Rattle.record_walk.specs.Counts.{fits_list, lists_fit};
 ghost use Rattle.record_walk.specs.Protos.{of_message};
 ghost use Rattle.pool_faults.specs.Labels.{label_in};
 ghost use Rattle.field_rules.specs.Tells.{Tells, named_files};
-ghost use Rattle.syntax_rules.specs.CamelCase.{camel_case_key, name_path, camel_case_fault, camel_case_faults, message_own_faults};
+ghost use Rattle.name_pass.specs.CamelCase.{camel_case_key, name_path, camel_case_fault, camel_case_faults, message_own_faults};
 
 use crate::syntax::syntax_at;
 use field_rules::Findings;

@@ -14,7 +14,7 @@ use Rattle.record_walk.specs.Shown.{step}
 use Rattle.pool_faults.specs.Labels.{label_in}
 use Rattle.pool_faults.specs.declared.fault.DescriptorErrorKind.{DescriptorErrorKind}
 use Rattle.pool_faults.specs.declared.fault.DescriptorErrorKind.TheVariants.{DuplicateFieldCamelCaseName}
-use Rattle.syntax_rules.specs.Syntaxes.{syntax_at, is_proto3}
+use Rattle.name_pass.specs.Syntaxes.{syntax_at, is_proto3}
 
 -- a field with its position in its message
 abbrev pub Placed : Type 0

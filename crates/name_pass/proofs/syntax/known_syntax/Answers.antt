@@ -1,5 +1,5 @@
 use Rattle.std.proofs.Common.{rules}
-use Rattle.syntax_rules.proofs.syntax.known_syntax.Goals as goal
+use Rattle.name_pass.proofs.syntax.known_syntax.Goals as goal
 
 pub returns-in-None : goal.returns-in-None
 returns-in-None c = search rules

@@ -1,6 +1,6 @@
 use Rattle.std.proofs.Common.{arith, rules}
 use Rattle.std.proofs.lemmas.Grind.{common_steps}
-use Rattle.syntax_rules.proofs.enumeration.check_enum_values.Goals as goal
+use Rattle.name_pass.proofs.enumeration.check_enum_values.Goals as goal
 
 pub returns-else-eq : goal.returns-else-eq
 returns-else-eq c = search rules

@@ -1,5 +1,5 @@
 use Rattle.std.proofs.Common.{rules}
-use Rattle.syntax_rules.proofs.syntax.syntax_of.Goals as goal
+use Rattle.name_pass.proofs.syntax.syntax_of.Goals as goal
 
 pub returns : goal.returns
 returns c = search rules

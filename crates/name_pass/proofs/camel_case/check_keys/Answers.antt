@@ -5,11 +5,11 @@ use Rattle.std.specs.Option.{option_map}
 use Rattle.std.specs.Str.{bytes_eq}
 use Rattle.field_rules.specs.Tells.{named_files}
 use Rattle.field_rules.proofs.Tells.{same-files, tells-as, tells-none, tells-two}
-use Rattle.syntax_rules.specs.CamelCase.{camel_case_fault, camel_case_key, key_at}
-use Rattle.syntax_rules.proofs.CamelCase.{told-next}
-use Rattle.syntax_rules.proofs.Holders.{held-before, none-before, holders-next, entries-next, short-list}
-use Rattle.syntax_rules.proofs.camel_case.check_keys.Goals as goal
-use Rattle.syntax_rules.proofs.camel_case.check_keys.Goals.{then-first-position+in_ok-fault+in_ok-push, else-first-position}
+use Rattle.name_pass.specs.CamelCase.{camel_case_fault, camel_case_key, key_at}
+use Rattle.name_pass.proofs.CamelCase.{told-next}
+use Rattle.name_pass.proofs.Holders.{held-before, none-before, holders-next, entries-next, short-list}
+use Rattle.name_pass.proofs.camel_case.check_keys.Goals as goal
+use Rattle.name_pass.proofs.camel_case.check_keys.Goals.{then-first-position+in_ok-fault+in_ok-push, else-first-position}
 
 -- another field that holds the key stands before this one
 pub bounds-fields-first : goal.bounds-fields-first

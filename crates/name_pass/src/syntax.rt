@@ -1,7 +1,7 @@
 ghost use Rattle.std.specs.Prelude.{◌≡◌, OnOk, map};
 ghost use Rattle.field_rules.specs.Tells.{Tells, named_files};
 ghost use Rattle.std.specs.Option.{option_copied};
-ghost use Rattle.syntax_rules.specs.Syntaxes.{known_syntax, syntax_of, syntax_at, syntax_faults};
+ghost use Rattle.name_pass.specs.Syntaxes.{known_syntax, syntax_of, syntax_at, syntax_faults};
 
 use field_rules::Findings;
 use plain_data::Text;

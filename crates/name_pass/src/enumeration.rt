@@ -1,6 +1,6 @@
 ghost use Rattle.std.specs.Prelude.{OnOk};
 ghost use Rattle.field_rules.specs.Tells.{Tells, named_files};
-ghost use Rattle.syntax_rules.specs.Enumeration.{enum_faults};
+ghost use Rattle.name_pass.specs.Enumeration.{enum_faults};
 
 use crate::syntax::syntax_at;
 use field_rules::Findings;

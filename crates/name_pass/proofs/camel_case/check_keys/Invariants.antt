@@ -4,8 +4,8 @@ use Rattle.std.specs.List.{enumerate_from}
 use Rattle.std.specs.Option.{option_map}
 use Rattle.std.specs.Str.{bytes_eq}
 use Rattle.field_rules.specs.Tells.{Tells, named_files}
-use Rattle.syntax_rules.specs.CamelCase.{key_at, camel_case_faults}
-use Rattle.syntax_rules.proofs.camel_case.check_keys.Given as goal
+use Rattle.name_pass.specs.CamelCase.{key_at, camel_case_faults}
+use Rattle.name_pass.proofs.camel_case.check_keys.Given as goal
 
 -- each key of the fields so far is held by the earliest, and their faults are told
 abbrev pub invariant-loop-position : goal.invariant-loop-position

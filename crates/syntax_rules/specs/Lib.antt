@@ -1,3 +1,0 @@
-pub mod Syntaxes
-pub mod CamelCase
-pub mod Enumeration
