@@ -5,9 +5,9 @@ use Rattle.std.proofs.lemmas.List.{drop-map, length-drop, length-map, length-tak
 use Rattle.pool_types.specs.declared.contents.file.FileDescriptorInner.{FileDescriptorInner}
 use Rattle.proto_types.specs.declared.file.FileDescriptorProto.{FileDescriptorProto}
 use Rattle.record_walk.specs.Counts.{counts_in}
-use Rattle.growing_pool.specs.declared.growing.GrowingPool.{GrowingPool}
-use Rattle.growing_pool.specs.Extended.{cut}
-use Rattle.growing_pool.specs.Growing.{kept_in, records_from}
+use Rattle.pool_contents.specs.declared.growing.GrowingPool.{GrowingPool}
+use Rattle.pool_contents.specs.Extended.{cut}
+use Rattle.pool_contents.specs.Growing.{kept_in, records_from}
 
 base-is : (p : GrowingPool) → counts_in (kept_in p) ≡ p.base
 base-is p = λ i. record {

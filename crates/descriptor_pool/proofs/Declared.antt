@@ -29,7 +29,7 @@ use Rattle.link_rules.specs.Items.{file_item, message_item, service_item, extens
 use Rattle.linked_records.specs.Linked.{linking, linked_field, typed}
 use Rattle.linked_records.specs.Setting.{Setting, meaning}
 use Rattle.name_pass.specs.Entered.{entries_of, entries, file_entries_of, file_entries}
-use Rattle.growing_pool.proofs.Each.{each-map}
+use Rattle.pool_contents.proofs.Each.{each-map}
 use Rattle.descriptor_pool.specs.Behind.{with_items}
 
 -- the names that the files of a pool enter

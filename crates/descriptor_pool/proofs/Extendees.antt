@@ -30,8 +30,8 @@ use Rattle.link_rules.specs.FieldTypes.{type_faults}
 use Rattle.link_rules.specs.Items.{extension_item, message_item}
 use Rattle.link_rules.specs.Messages.{message_found, message_meaning, or_missing}
 use Rattle.linked_records.specs.Setting.{Setting, seen_by}
-use Rattle.growing_pool.specs.Extended.{extended_by, extending}
-use Rattle.growing_pool.proofs.Each.{each-append, each-same, each-twice, length-each}
+use Rattle.pool_contents.specs.Extended.{extended_by, extending}
+use Rattle.pool_contents.proofs.Each.{each-append, each-same, each-twice, length-each}
 use Rattle.proto_types.specs.declared.file.FileDescriptorProto.{FileDescriptorProto}
 use Rattle.descriptor_pool.specs.Behind.{declared_behind, linked_behind, references_behind, setting_behind}
 use Rattle.descriptor_pool.specs.Extensions.{ExtendeesLieIn, ListsAreWhole}

@@ -12,10 +12,10 @@ use Rattle.link_rules.specs.Items.{file_item}
 use Rattle.linked_records.specs.Linked.{linked}
 use Rattle.linked_records.specs.Setting.{Setting, seen_by}
 use Rattle.reference_pass.specs.Linking.{linked_item}
-use Rattle.growing_pool.specs.declared.growing.GrowingPool.{GrowingPool}
-use Rattle.growing_pool.specs.Growing.{files_seeing, first_new, seeing}
-use Rattle.growing_pool.specs.Unlinked.{unlinked}
-use Rattle.growing_pool.proofs.Each.{each-append, length-each}
+use Rattle.pool_contents.specs.declared.growing.GrowingPool.{GrowingPool}
+use Rattle.pool_contents.specs.Growing.{files_seeing, first_new, seeing}
+use Rattle.pool_contents.specs.Unlinked.{unlinked}
+use Rattle.pool_contents.proofs.Each.{each-append, length-each}
 use Rattle.descriptor_pool.specs.Items.{HasImports}
 
 -- the entry behind a front

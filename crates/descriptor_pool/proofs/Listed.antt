@@ -10,8 +10,8 @@ use Rattle.pool_types.specs.declared.contents.message.MessageDescriptorInner.{Me
 use Rattle.record_walk.specs.Counts.{counts_in}
 use Rattle.record_walk.proofs.Counted.{counts_are}
 use Rattle.link_rules.specs.NamesBegin.{MessageNamesBegin, NamesBegin}
-use Rattle.growing_pool.specs.Extended.{extended_by, extending, with_extended}
-use Rattle.growing_pool.proofs.Each.{all-each, length-each}
+use Rattle.pool_contents.specs.Extended.{extended_by, extending, with_extended}
+use Rattle.pool_contents.proofs.Each.{all-each, length-each}
 
 -- there are as many of each kind
 pub counts-extended : (first : ℕ) (p : Contents) → counts_in (with_extended first p) ≡ counts_in p

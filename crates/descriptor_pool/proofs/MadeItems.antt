@@ -11,9 +11,9 @@ use Rattle.linked_records.specs.Setting.{Setting}
 use Rattle.reference_pass.specs.Against.{setting_with}
 use Rattle.reference_pass.specs.Linking.{ItemLists, ItemsAre, linked_item, lists_in}
 use Rattle.reference_pass.specs.declared.items.NewItems.{NewItems}
-use Rattle.pool_inner.specs.Held.{contents_in}
-use Rattle.growing_pool.specs.declared.growing.GrowingPool.{GrowingPool}
-use Rattle.growing_pool.specs.Growing.{before_items, kept_in, new_records, records_from}
+use Rattle.pool_contents.specs.Held.{contents_in}
+use Rattle.pool_contents.specs.declared.growing.GrowingPool.{GrowingPool}
+use Rattle.pool_contents.specs.Growing.{before_items, kept_in, new_records, records_from}
 use Rattle.descriptor_pool.specs.Behind.{with_items}
 use Rattle.descriptor_pool.specs.Items.{HasImports, HasItems, LinksNew, with_linked, with_new_items}
 use Rattle.descriptor_pool.proofs.Bases.{same-base}

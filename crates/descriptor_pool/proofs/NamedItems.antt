@@ -35,7 +35,7 @@ use Rattle.field_rules.specs.EnumItems.{enum_item}
 use Rattle.link_rules.specs.Items.{extension_item, message_item, service_item}
 use Rattle.linked_records.specs.Setting.{Setting}
 use Rattle.name_pass.specs.Entered.{definition_kind, entries, entries_of, package_entry, packages}
-use Rattle.growing_pool.specs.Extended.{extended_by, with_extended}
+use Rattle.pool_contents.specs.Extended.{extended_by, with_extended}
 use Rattle.reference_pass.specs.Linking.{HasItem, IsNamedBy, ItemLists, ItemsAre, lists_in, message_name}
 use Rattle.descriptor_pool.specs.Behind.{declared_behind, linked_behind, setting_behind, with_items, with_names}
 use Rattle.descriptor_pool.specs.Pool.{Made, empty, linked_to, new_files}

@@ -11,10 +11,10 @@ use Rattle.record_walk.specs.Walking.{WithinLimits}
 use Rattle.record_walk.specs.declared.counts.Counts.{Counts}
 use Rattle.proto_types.specs.declared.file.FileDescriptorProto.{FileDescriptorProto}
 use Rattle.descriptor_pool.specs.Behind.{names_behind, references_behind, linked_behind}
-use Rattle.growing_pool.specs.Extended.{extended_by}
+use Rattle.pool_contents.specs.Extended.{extended_by}
 use Rattle.descriptor_pool.specs.Outcome.{IsLinked}
 use Rattle.descriptor_pool.specs.Pool.{Batch, new_files}
-use Rattle.growing_pool.proofs.Extending.{extended-by-none}
+use Rattle.pool_contents.proofs.Extending.{extended-by-none}
 
 -- counts within the limits stay so where nothing comes
 few_fit : (c : Counts) → WithinLimits c → IsOk (counts_with c [])

@@ -9,11 +9,11 @@ use Rattle.pool_types.specs.Contents.{Contents, files_of}
 use Rattle.pool_types.specs.declared.contents.file.FileDescriptorInner.{FileDescriptorInner}
 use Rattle.proto_types.specs.declared.file.FileDescriptorProto.{FileDescriptorProto}
 use Rattle.field_rules.specs.Each.{each}
-use Rattle.growing_pool.specs.declared.growing.GrowingPool.{GrowingPool}
+use Rattle.pool_contents.specs.declared.growing.GrowingPool.{GrowingPool}
 use Rattle.descriptor_pool.specs.Behind.{declared_behind, seen_behind, with_names}
-use Rattle.growing_pool.specs.Growing.{files_seeing, first_new, kept_in, seeing}
-use Rattle.pool_inner.specs.Held.{contents_in}
-use Rattle.growing_pool.proofs.Each.{each-all, each-append, each-map, each-same}
+use Rattle.pool_contents.specs.Growing.{files_seeing, first_new, kept_in, seeing}
+use Rattle.pool_contents.specs.Held.{contents_in}
+use Rattle.pool_contents.proofs.Each.{each-all, each-append, each-map, each-same}
 
 -- a list of which no entry is read
 each-length : {X Y Z : Type 0} (g : X → Y) (h : ℕ → Z) (i : ℕ) (xs : List X) → each (λ n _. h n) i xs ≡ each (λ n _. h n) i (map g xs)

@@ -31,7 +31,7 @@ use Rattle.link_rules.specs.Short.{ShortFiles}
 use Rattle.name_pass.specs.Entered.{entries, file_entries}
 use Rattle.record_lists.specs.References.{Reference, references_in}
 use Rattle.descriptor_pool.specs.Invariant.{IsPool}
-use Rattle.pool_inner.specs.Held.{ListsLieIn, NamesLieIn}
+use Rattle.pool_contents.specs.Held.{ListsLieIn, NamesLieIn}
 use Rattle.descriptor_pool.specs.Pool.{Batch, Made, empty, linked_to, Fits, new_files, faults_of_references, link}
 use Rattle.descriptor_pool.specs.Behind.{declared_behind, linked_behind, setting_behind, with_items, with_names}
 use Rattle.descriptor_pool.specs.References.{AllResolved}

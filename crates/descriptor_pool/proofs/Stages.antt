@@ -24,18 +24,18 @@ use Rattle.record_walk.specs.declared.counts.Counts.{Counts}
 use Rattle.record_walk.specs.Counts.{counts_in}
 use Rattle.record_walk.specs.Declarations.{declarations}
 use Rattle.link_rules.specs.Broken.{Faults, second_pass}
-use Rattle.growing_pool.specs.declared.growing.GrowingPool.{GrowingPool}
+use Rattle.pool_contents.specs.declared.growing.GrowingPool.{GrowingPool}
 use Rattle.descriptor_pool.specs.declared.error.BuildError.{BuildError}
 use Rattle.descriptor_pool.specs.declared.error.BuildError.TheVariants.{TooMany, Descriptor, OutOfMemory}
 use Rattle.descriptor_pool.specs.Behind.{names_behind, references_behind, first_of_both, setting_behind, linked_behind, with_items, with_names}
-use Rattle.growing_pool.specs.Extended.{with_extended}
+use Rattle.pool_contents.specs.Extended.{with_extended}
 use Rattle.name_pass.specs.FirstPass.{first_pass}
-use Rattle.growing_pool.specs.Growing.{before_items, files_seeing, first_extension, kept_in, new_records}
-use Rattle.growing_pool.specs.Unlinked.{unlinked}
-use Rattle.pool_inner.specs.Held.{contents_in}
+use Rattle.pool_contents.specs.Growing.{before_items, files_seeing, first_extension, kept_in, new_records}
+use Rattle.pool_contents.specs.Unlinked.{unlinked}
+use Rattle.pool_contents.specs.Held.{contents_in}
 use Rattle.descriptor_pool.specs.Tells.{TellsAll, TellsFaults}
 use Rattle.reference_pass.specs.Against.{setting_with}
-use Rattle.growing_pool.proofs.Seeing.{raws-stay}
+use Rattle.pool_contents.proofs.Seeing.{raws-stay}
 use Rattle.descriptor_pool.proofs.Seeing.{seen-are}
 
 raws-unlinked : (new : List FileDescriptorProto) → map (λ f. f.raw) (map unlinked new) ≡ new

@@ -16,7 +16,7 @@ use Rattle.field_rules.specs.EnumItems.{enum_item}
 use Rattle.link_rules.specs.Items.{file_item, message_item, service_item, extension_item}
 use Rattle.linked_records.specs.Setting.{Setting}
 use Rattle.name_pass.specs.Entered.{entries, file_entries}
-use Rattle.growing_pool.specs.Extended.{with_extended}
+use Rattle.pool_contents.specs.Extended.{with_extended}
 use Rattle.name_pass.specs.FirstPass.{first_pass}
 
 -- numbered on from the pool's counts

@@ -4,7 +4,7 @@ use Rattle.std.specs.List.{All}
 use Rattle.field_rules.specs.Each.{each}
 use Rattle.pool_types.specs.Contents.{Contents}
 use Rattle.pool_types.specs.declared.contents.message.MessageDescriptorInner.{MessageDescriptorInner}
-use Rattle.growing_pool.specs.Extended.{extending}
+use Rattle.pool_contents.specs.Extended.{extending}
 
 -- the indexes of all extensions of a pool that extend the message with an index, in rising order
 abbrev pub extensions_of : Contents → ℕ → List ℕ

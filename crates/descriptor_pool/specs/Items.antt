@@ -7,9 +7,9 @@ use Rattle.pool_types.specs.declared.contents.file.FileDescriptorInner.{FileDesc
 use Rattle.field_rules.specs.Each.{each}
 use Rattle.record_walk.specs.Declarations.{declarations}
 use Rattle.name_pass.specs.Syntaxes.{syntax_of}
-use Rattle.pool_inner.specs.Held.{contents_in}
-use Rattle.growing_pool.specs.declared.growing.GrowingPool.{GrowingPool}
-use Rattle.growing_pool.specs.Growing.{new_records}
+use Rattle.pool_contents.specs.Held.{contents_in}
+use Rattle.pool_contents.specs.declared.growing.GrowingPool.{GrowingPool}
+use Rattle.pool_contents.specs.Growing.{new_records}
 use Rattle.reference_pass.specs.Linking.{ItemsAre, linked_item, lists_in}
 use Rattle.record_walk.specs.Protos.{as_message, as_enum, as_service, as_extension}
 use Rattle.record_walk.specs.Shown.{Shown, of_kind}

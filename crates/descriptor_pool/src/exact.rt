@@ -1,4 +1,4 @@
-ghost use Rattle.pool_inner.specs.Equality.{contents-exact};
+ghost use Rattle.pool_contents.specs.Equality.{contents-exact};
 
 use crate::DescriptorPool;
 use plain_data::ExactEq;

@@ -3,7 +3,7 @@ ghost use Rattle.std.specs.Option.{option_copied};
 
 use crate::build::link;
 use crate::error::BuildError;
-use pool_inner::DescriptorPoolInner;
+use pool_contents::DescriptorPoolInner;
 use pool_types::{Definition, EnumDescriptor, EnumDescriptorInner, ExtensionDescriptor, ExtensionDescriptorInner, FileDescriptor, FileDescriptorInner, MessageDescriptor, MessageDescriptorInner, ServiceDescriptor, ServiceDescriptorInner};
 use proto_types::FileDescriptorProto;
 use record_walk::Counts;
@@ -25,7 +25,7 @@ impl Model for DescriptorPool {
 
     ghost coded = { contents_code };
 
-    ghost use Rattle.pool_inner.specs.Held.{contents_in};
+    ghost use Rattle.pool_contents.specs.Held.{contents_in};
     ghost use Rattle.descriptor_pool.specs.Invariant.{IsPool};
 
     ghost view = { λ p. contents_in p.inner };
@@ -39,7 +39,7 @@ impl DescriptorPool {
     ghost use Rattle.record_walk.specs.Fits.{counts_with};
     ghost use Rattle.descriptor_pool.specs.Extensions.{ExtendeesLieIn, ListsAreWhole};
     ghost use Rattle.descriptor_pool.specs.Invariant.{IsPool};
-    ghost use Rattle.pool_inner.specs.LookUps.{definition_named};
+    ghost use Rattle.pool_contents.specs.LookUps.{definition_named};
     ghost use Rattle.link_rules.specs.NamesBegin.{MessageNamesBegin};
     ghost use Rattle.descriptor_pool.specs.Outcome.{Outcome};
     ghost use Rattle.descriptor_pool.specs.Pool.{new_files};
@@ -188,7 +188,7 @@ impl DescriptorPool {
 
 /// Two pools are equal where their contents are.
 impl PartialEq for DescriptorPool {
-    ghost use Rattle.pool_inner.specs.Equality.{contents_eq, contents-per};
+    ghost use Rattle.pool_contents.specs.Equality.{contents_eq, contents-per};
 
     ghost eq = { contents_eq };
 

@@ -22,8 +22,8 @@ use Rattle.linking_laws.proofs.Carries.{Carries}
 use Rattle.linking_laws.proofs.Imports.{all-stay}
 use Rattle.linking_laws.proofs.Still.{all-rest}
 use Rattle.linking_laws.proofs.Unchanged.{declarations-unchanged, files-unchanged}
-use Rattle.growing_pool.specs.Extended.{extended_by}
-use Rattle.growing_pool.proofs.Each.{each-append, length-each}
+use Rattle.pool_contents.specs.Extended.{extended_by}
+use Rattle.pool_contents.proofs.Each.{each-append, length-each}
 use Rattle.descriptor_pool.specs.Behind.{declared_behind, linked_behind, references_behind, with_names}
 use Rattle.descriptor_pool.proofs.Declared.{items-of-files}
 use Rattle.descriptor_pool.proofs.Extendees.{Whole, drop-front, link-whole}

@@ -8,7 +8,7 @@ use Rattle.record_walk.specs.Shown.{of_kind}
 use Rattle.name_resolution.proofs.Fronts.{no_dot}
 use Rattle.field_rules.specs.Each.{each}
 use Rattle.link_rules.specs.Items.{extension_item, message_item}
-use Rattle.growing_pool.specs.Extended.{extended_by, extending}
+use Rattle.pool_contents.specs.Extended.{extended_by, extending}
 use Rattle.name_pass.specs.Entered.{entries, file_entries}
 use Rattle.descriptor_pool.specs.Behind.{declared_behind, setting_behind}
 use Rattle.descriptor_pool.specs.Pool.{new_files}

@@ -5,8 +5,8 @@ use Rattle.std.specs.List.{AllByRecursion}
 use Rattle.pool_types.specs.declared.contents.extension.ExtensionDescriptorInner.{ExtensionDescriptorInner}
 use Rattle.pool_types.specs.declared.contents.message.MessageDescriptorInner.{MessageDescriptorInner}
 use Rattle.field_rules.specs.Each.{each}
-use Rattle.growing_pool.specs.Extended.{extended_by, extending}
-use Rattle.growing_pool.proofs.Each.{each-append, each-same, each-twice, length-each}
+use Rattle.pool_contents.specs.Extended.{extended_by, extending}
+use Rattle.pool_contents.proofs.Each.{each-append, each-same, each-twice, length-each}
 use Rattle.descriptor_pool.proofs.Extendees.{extending-append, extending-none}
 
 module _ (old first second : List ExtensionDescriptorInner) (before later : List MessageDescriptorInner) (below : AllByRecursion (λ x. x.extendee < length before) first) where

@@ -28,7 +28,7 @@ use Rattle.link_rules.proofs.Owners.{owners-tell}
 use Rattle.linking_laws.specs.Laws.{ImportsStay, NamesFiles}
 use Rattle.linking_laws.proofs.Numbered.{both-empty}
 use Rattle.linking_laws.proofs.SeenStays.{seen-stays}
-use Rattle.growing_pool.proofs.Each.{each-append, each-same, length-each}
+use Rattle.pool_contents.proofs.Each.{each-append, each-same, length-each}
 use Rattle.name_pass.specs.Entered.{file_entries, file_entries_of}
 use Rattle.descriptor_pool.specs.Behind.{declared_behind, references_behind, setting_behind, with_names}
 use Rattle.descriptor_pool.proofs.Files.{file-names-before, names-behind-before}

@@ -36,8 +36,8 @@ use Rattle.linking_laws.specs.Laws.{Rereads}
 use Rattle.linking_laws.proofs.AsLinked.{linked-carried}
 use Rattle.linking_laws.proofs.Carries.{Carries}
 use Rattle.linking_laws.proofs.Imports.{all-stay}
-use Rattle.growing_pool.specs.Extended.{extended_by, with_extended}
-use Rattle.growing_pool.proofs.Each.{each-all, each-append, each-map, each-same}
+use Rattle.pool_contents.specs.Extended.{extended_by, with_extended}
+use Rattle.pool_contents.proofs.Each.{each-all, each-append, each-map, each-same}
 use Rattle.name_pass.specs.FirstPass.{first_faults, first_pass, holder}
 use Rattle.descriptor_pool.specs.Behind.{declared_behind, linked_behind, names_behind, references_behind, setting_behind, with_items, with_names}
 use Rattle.descriptor_pool.specs.Extensions.{ListsAreWhole}

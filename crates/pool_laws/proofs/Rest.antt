@@ -33,7 +33,7 @@ use Rattle.linking_laws.specs.Laws.{Stands, unchanged}
 use Rattle.linking_laws.proofs.AsGiven.{given-carried}
 use Rattle.linking_laws.proofs.Declarations.{all-mean}
 use Rattle.linking_laws.proofs.Unchanged.{declarations-unchanged, unchanged-keeps}
-use Rattle.growing_pool.proofs.Each.{each-map, each-same}
+use Rattle.pool_contents.proofs.Each.{each-map, each-same}
 use Rattle.name_pass.specs.Entered.{entries, file_entries}
 use Rattle.name_pass.specs.FirstPass.{first_faults}
 use Rattle.descriptor_pool.specs.Behind.{declared_behind, linked_behind, names_behind, references_behind, setting_behind, with_items, with_names}

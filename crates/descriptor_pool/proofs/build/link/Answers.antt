@@ -3,10 +3,10 @@ use Rattle.std.specs.Result.{is_err}
 use Rattle.record_walk.proofs.Listings.{on-ok}
 use Rattle.pool_types.specs.Contents.{Contents}
 use Rattle.link_rules.specs.NamesBegin.{NamesBegin}
-use Rattle.growing_pool.specs.declared.growing.GrowingPool.{GrowingPool}
-use Rattle.pool_inner.specs.declared.inner.DescriptorPoolInner.{DescriptorPoolInner}
+use Rattle.pool_contents.specs.declared.growing.GrowingPool.{GrowingPool}
+use Rattle.pool_contents.specs.declared.inner.DescriptorPoolInner.{DescriptorPoolInner}
 use Rattle.descriptor_pool.specs.Behind.{faults_behind, linked_behind}
-use Rattle.pool_inner.specs.Held.{contents_in}
+use Rattle.pool_contents.specs.Held.{contents_in}
 use Rattle.descriptor_pool.specs.Tells.{TellsAll}
 use Rattle.descriptor_pool.proofs.Passed.{after-ok, after-err}
 use Rattle.descriptor_pool.proofs.build.link.Goals as goal

@@ -1,7 +1,7 @@
 use Rattle.std.proofs.Common.{subst, sym, ◌∙◌, rules}
 use Rattle.descriptor_pool.specs.Behind.{names_behind, references_behind}
 use Rattle.descriptor_pool.specs.Tells.{TellsAll, TellsFaults}
-use Rattle.pool_inner.specs.Held.{contents_in}
+use Rattle.pool_contents.specs.Held.{contents_in}
 use Rattle.descriptor_pool.proofs.Passed.{ok-is, tells-err}
 use Rattle.descriptor_pool.proofs.Stages.{before-seen, begin-seen, counts-added, counts-seen, few-files, imports-seen, items-seen, made-seen, names-told, places-lie, references-told, short-seen, told-first, told-second}
 use Rattle.descriptor_pool.proofs.build.link_new.Goals as goal

@@ -6,8 +6,8 @@ use Rattle.record_walk.specs.declared.counts.Counts.{Counts}
 use Rattle.record_walk.specs.Counts.{counted}
 use Rattle.record_walk.specs.Declarations.{declarations}
 use Rattle.record_walk.proofs.Room.{room-fits}
-use Rattle.growing_pool.specs.Extended.{with_extended}
-use Rattle.growing_pool.specs.Growing.{before_items, first_extension, new_records}
+use Rattle.pool_contents.specs.Extended.{with_extended}
+use Rattle.pool_contents.specs.Growing.{before_items, first_extension, new_records}
 use Rattle.reference_pass.specs.Against.{setting_with}
 use Rattle.descriptor_pool.specs.Behind.{with_items}
 use Rattle.descriptor_pool.proofs.Declared.{counts-with}

@@ -10,7 +10,7 @@ use Rattle.linked_records.specs.SettingCode.{setting_in}
 use Rattle.link_rules.specs.Broken.{second_pass}
 use Rattle.reference_pass.specs.Against.{setting_with}
 use Rattle.reference_pass.specs.Steps.{ReferenceState}
-use Rattle.growing_pool.specs.Growing.{new_records}
+use Rattle.pool_contents.specs.Growing.{new_records}
 use Rattle.descriptor_pool.specs.Items.{HasItems}
 use Rattle.descriptor_pool.specs.Tells.{TellsFaults}
 use Rattle.descriptor_pool.proofs.Bases.{rest-records}

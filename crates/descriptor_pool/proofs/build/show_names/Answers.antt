@@ -5,7 +5,7 @@ use Rattle.std.specs.List.{fold}
 use Rattle.proto_types.specs.declared.file.FileDescriptorProto.{FileDescriptorProto}
 use Rattle.record_walk.specs.Declarations.{declarations}
 use Rattle.name_pass.specs.Steps.{CanBeEntered, name_step, state_at}
-use Rattle.growing_pool.specs.Growing.{records_from}
+use Rattle.pool_contents.specs.Growing.{records_from}
 use Rattle.descriptor_pool.proofs.Bases.{rest-records}
 use Rattle.descriptor_pool.proofs.Files.{declarations-entered}
 use Rattle.descriptor_pool.proofs.Passed.{names-end, names-stay, file-names-stay}

@@ -4,7 +4,7 @@ use Rattle.pool_types.specs.Contents.{Contents}
 use Rattle.proto_types.specs.declared.file.FileDescriptorProto.{FileDescriptorProto}
 use Rattle.record_walk.specs.Counts.{counts_in}
 use Rattle.record_walk.specs.Fits.{counts_with}
-use Rattle.pool_inner.specs.Held.{contents_in}
+use Rattle.pool_contents.specs.Held.{contents_in}
 use Rattle.descriptor_pool.specs.Outcome.{Outcome, IsLinked}
 use Rattle.descriptor_pool.specs.Pool.{new_files, counts_after}
 use Rattle.descriptor_pool.proofs.Grown.{IsBehind, fits_of, outcome_behind, pool_behind}

@@ -1,3 +1,0 @@
-pub mod Extended
-pub mod Growing
-pub mod Unlinked

@@ -1,0 +1,62 @@
+use Rattle.std.proofs.Common.{◌≡◌, ◌≤◌, ◌<◌, length, ap, sym, refl, ◌∙◌, arith, get_or}
+use Rattle.std.proofs.lemmas.List.{length-take-le}
+use Rattle.pool_types.specs.Contents.{Contents}
+use Rattle.field_rules.specs.Each.{each}
+use Rattle.pool_contents.specs.Growing.{first_extension, with_extension}
+use Rattle.pool_contents.specs.Held.{contents_in}
+use Rattle.pool_contents.specs.declared.growing.GrowingPool.{GrowingPool}
+use Rattle.pool_contents.proofs.Each.{one}
+use Rattle.pool_contents.proofs.Extending.{extended_between, extended-all, extended-next, extended-none}
+use Rattle.pool_contents.proofs.growing.GrowingPool.extend_messages.Goals as goal
+
+first-is : (p : GrowingPool) → first_extension p ≡ p.base.extensions
+first-is p = length-take-le p.base.extensions p.inner.extensions.items p.extensions_within
+
+pub loop-index-init : goal.loop-index-init
+loop-index-init c =
+    let p = c.args.self.now in
+    let xs = p.inner.extensions.items in
+    let ms = p.inner.messages.items in
+    let none = ap (λ end. extended_between (first_extension p) end xs ms) (sym (first-is p)) ∙ extended-none (first_extension p) xs ms in
+    record {
+      is = λ i. record (contents_in p.inner) { messages = sym none i };
+      kept = refl;
+    }
+
+-- there are as many extensions as there were
+pub index-requires : goal.index-requires
+index-requires c =
+    let many = ap (λ (x : Contents). length x.extensions) c.loop-index.invariant.is in
+    omega (arith, many, c.loop-index-test.true, c.len-index-end.ensures)
+
+pub extend_message-requires : goal.extend_message-requires
+extend_message-requires c =
+    let p = c.args.self.now in
+    let same = ap (λ (x : Contents). length x.extensions) c.loop-index.invariant.kept in
+    omega (arith, same, first-is p, c.loop-index.auto.index)
+
+-- one more is
+pub loop-index-preserved : goal.loop-index-preserved
+loop-index-preserved c =
+    let p = c.args.self.now in
+    let q = c.loop-index.self in
+    let k = c.loop-index.index in
+    let x = c.index.result.now in
+    let xs = p.inner.extensions.items in
+    let ms = p.inner.messages.items in
+    let is = c.loop-index.invariant.is in
+    let from : first_extension p ≤ k = omega (arith, first-is p, c.loop-index.auto.index) in
+    let below : k < length xs = omega (arith, c.loop-index-test.true, c.len-index-end.ensures) in
+    let read : x ≡ get_or xs k x = c.index.ensures ∙ ap (λ (y : Contents). get_or y.extensions k x) is in
+    let next = ap (λ (y : Contents). each (one (with_extension k) x.extendee) 0 y.messages) is ∙ extended-next (first_extension p) xs ms k x from below read in
+    record {
+      is = c.in_ok-extend_message.ensures.ok ∙ (λ i. record (is i) { messages = next i });
+      kept = c.extend_message.ensures.kept ∙ c.loop-index.invariant.kept;
+    }
+
+pub returns-clause-ok : goal.returns-clause-ok
+returns-clause-ok c =
+    let p = c.args.self.now in
+    let xs = p.inner.extensions.items in
+    let all = extended-all (first_extension p) xs p.inner.messages.items c.loop-index.index (omega (arith, c.loop-index-test.false, c.len-index-end.ensures)) in
+    c.loop-index.invariant.is ∙ (λ i. record (contents_in p.inner) { messages = all i })

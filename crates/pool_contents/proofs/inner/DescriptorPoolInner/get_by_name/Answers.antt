@@ -1,0 +1,5 @@
+use Rattle.std.proofs.Common.{rules}
+use Rattle.pool_contents.proofs.inner.DescriptorPoolInner.get_by_name.Goals as goal
+
+pub returns : goal.returns
+returns c = search rules

@@ -1,0 +1,74 @@
+-- A pool while a batch is linked into it.
+use Rattle.std.specs.Prelude.{ℕ, ◌==◌, nat_le, List, [], ◌∷◌, ◌++◌, length, map, take, drop, if◌then◌else◌}
+use Rattle.std.specs.FinMap as finite
+use Rattle.std.specs.List.{filter_map}
+use Rattle.pool_types.specs.Contents.{Contents, files_of}
+use Rattle.pool_types.specs.declared.contents.file.FileDescriptorInner.{FileDescriptorInner}
+use Rattle.pool_types.specs.declared.contents.message.MessageDescriptorInner.{MessageDescriptorInner}
+use Rattle.proto_types.specs.declared.file.FileDescriptorProto.{FileDescriptorProto}
+use Rattle.name_resolution.specs.Visibility.{seen_from}
+use Rattle.field_rules.specs.Each.{each}
+use Rattle.name_tables.specs.NameTables.{without_files_from, file_names_before}
+use Rattle.pool_contents.specs.declared.growing.GrowingPool.{GrowingPool}
+use Rattle.pool_contents.specs.Extended.{cut}
+use Rattle.pool_contents.specs.Held.{contents_in}
+
+-- what a roll-back leaves: all that was there before, and no extension that came in the lists of messages
+abbrev pub kept_in : GrowingPool → Contents
+kept_in p = record {
+  files = take p.base.files p.inner.files.items;
+  messages = map (cut p.base.extensions) (take p.base.messages p.inner.messages.items);
+  enums = take p.base.enums p.inner.enums.items;
+  services = take p.base.services p.inner.services.items;
+  extensions = take p.base.extensions p.inner.extensions.items;
+  names = without_files_from p.base.files p.inner.names;
+  file_names = file_names_before p.base.files p.inner.file_names;
+}
+
+-- the index of the first file that came
+abbrev pub first_new : GrowingPool → ℕ
+first_new p = length (kept_in p).files
+
+-- the records of files from an index on
+abbrev pub records_from : ℕ → List FileDescriptorInner → List FileDescriptorProto
+records_from first files = map (λ f. f.raw) (drop first files)
+
+-- the records of the files that came
+abbrev pub new_records : GrowingPool → List FileDescriptorProto
+new_records p = records_from p.base.files p.inner.files.items
+
+-- the index of the first extension that came
+abbrev pub first_extension : GrowingPool → ℕ
+first_extension p = length (kept_in p).extensions
+
+-- a message with one more extension behind the others
+abbrev pub with_extension : ℕ → MessageDescriptorInner → MessageDescriptorInner
+with_extension extension m = record m { extensions = m.extensions ++ extension ∷ [] }
+
+-- all messages, where the one with an index has one more extension
+abbrev pub message_extended : GrowingPool → ℕ → ℕ → List MessageDescriptorInner
+message_extended p message extension =
+    each (λ n m. if n == message then with_extension extension m else m) 0 p.inner.messages.items
+
+-- the files that the file with an index sees, of all that there are
+abbrev pub seen_in : GrowingPool → ℕ → List ℕ
+seen_in p n = seen_from (files_of (contents_in p.inner)) (finite.get p.inner.file_names) n
+
+-- a file, by its index, with the files that it imports and those that it sees
+abbrev pub seeing : GrowingPool → ℕ → FileDescriptorInner → FileDescriptorInner
+seeing p n f = record f {
+  dependencies = filter_map (finite.get p.inner.file_names) f.raw.dependency;
+  transitive_dependencies = record { keys = seen_in p n };
+}
+
+-- all files, where the one with an index has those that it sees
+abbrev pub file_seeing : GrowingPool → ℕ → List FileDescriptorInner
+file_seeing p file = each (λ n f. if n == file then seeing p file f else f) 0 p.inner.files.items
+
+-- all files, where each that came has those that it sees
+abbrev pub files_seeing : GrowingPool → List FileDescriptorInner
+files_seeing p = each (λ n f. if nat_le (first_new p) n then seeing p n f else f) 0 p.inner.files.items
+
+-- all that there is by now, but of files only those that were there before
+abbrev pub before_items : GrowingPool → Contents
+before_items p = record (contents_in p.inner) { files = (kept_in p).files }

@@ -1,0 +1,6 @@
+pub mod Held
+pub mod LookUps
+pub mod Equality
+pub mod Extended
+pub mod Growing
+pub mod Unlinked

@@ -1,5 +1,0 @@
-use Rattle.std.proofs.Common.{rules}
-use Rattle.pool_inner.proofs.inner.DescriptorPoolInner.clone.Goals as goal
-
-pub returns : goal.returns
-returns c = search rules

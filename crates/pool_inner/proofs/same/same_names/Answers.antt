@@ -1,6 +1,0 @@
-use Rattle.std.proofs.lemmas.Bool.Decides.{same_from_decides}
-use Rattle.pool_inner.specs.Equality.{names-exact}
-use Rattle.pool_inner.proofs.same.same_names.Goals as goal
-
-pub returns : goal.returns
-returns c = same_from_decides c.same.result _ c.same.ensures (names-exact c.args.names.now c.args.others.now)

@@ -1,3 +1,0 @@
-pub mod Held
-pub mod LookUps
-pub mod Equality
