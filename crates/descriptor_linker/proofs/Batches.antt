@@ -7,7 +7,7 @@ use Rattle.record_walk.specs.Counts.{counts_in}
 use Rattle.record_walk.proofs.Listings.{on-ok}
 use Rattle.pool_types.specs.Contents.{Contents}
 use Rattle.pool_faults.specs.declared.error.DescriptorError.{DescriptorError}
-use Rattle.link_rules.specs.Broken.{Faults}
+use Rattle.reference_pass.specs.Broken.{Faults}
 use Rattle.descriptor_pool.specs.Behind.{first_of_both}
 use Rattle.descriptor_pool.specs.Pool.{Batch, faults, faults_of_names, faults_of_references, counts_after}
 use Rattle.descriptor_pool.specs.Outcome.{IsLinked, IsRefused, Outcome}

@@ -25,9 +25,9 @@ use Rattle.record_walk.proofs.Paths.{one-file}
 use Rattle.record_walk.proofs.Walks.{IsInside, within-all}
 use Rattle.field_rules.specs.Each.{each}
 use Rattle.field_rules.specs.EnumItems.{enum_item}
-use Rattle.link_rules.specs.Items.{file_item, message_item, service_item, extension_item}
-use Rattle.linked_records.specs.Linked.{linking, linked_field, typed}
-use Rattle.linked_records.specs.Setting.{Setting, meaning}
+use Rattle.reference_pass.specs.Items.{file_item, message_item, service_item, extension_item}
+use Rattle.reference_pass.specs.Linked.{linking, linked_field, typed}
+use Rattle.reference_pass.specs.Setting.{Setting, meaning}
 use Rattle.name_pass.specs.Entered.{entries_of, entries, file_entries_of, file_entries}
 use Rattle.pool_contents.proofs.Each.{each-map}
 use Rattle.descriptor_pool.specs.Behind.{with_items}

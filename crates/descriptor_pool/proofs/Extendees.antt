@@ -23,13 +23,13 @@ use Rattle.name_resolution.specs.References.{reference_fault}
 use Rattle.name_resolution.specs.Resolution.{Resolution, found, invalid_type, not_imported, shadowed, not_found}
 use Rattle.name_resolution.proofs.Named.{IsNamed, resolution-named}
 use Rattle.name_resolution.proofs.Wanted.{IsWanted, resolution-wanted}
-use Rattle.link_rules.specs.Broken.{second_faults}
-use Rattle.link_rules.specs.Defaults.{field_default_faults}
-use Rattle.link_rules.specs.Extensions.{extendee_faults, number_faults}
-use Rattle.link_rules.specs.FieldTypes.{type_faults}
-use Rattle.link_rules.specs.Items.{extension_item, message_item}
-use Rattle.link_rules.specs.Messages.{message_found, message_meaning, or_missing}
-use Rattle.linked_records.specs.Setting.{Setting, seen_by}
+use Rattle.reference_pass.specs.Broken.{second_faults}
+use Rattle.reference_pass.specs.Defaults.{field_default_faults}
+use Rattle.reference_pass.specs.Extensions.{extendee_faults, number_faults}
+use Rattle.reference_pass.specs.FieldTypes.{type_faults}
+use Rattle.reference_pass.specs.Items.{extension_item, message_item}
+use Rattle.reference_pass.specs.Messages.{message_found, message_meaning, or_missing}
+use Rattle.reference_pass.specs.Setting.{Setting, seen_by}
 use Rattle.pool_contents.specs.Extended.{extended_by, extending}
 use Rattle.pool_contents.proofs.Each.{each-append, each-same, each-twice, length-each}
 use Rattle.proto_types.specs.declared.file.FileDescriptorProto.{FileDescriptorProto}

@@ -7,8 +7,8 @@ use Rattle.record_walk.specs.Counts.{counts_in}
 use Rattle.record_walk.specs.Fits.{counts_with}
 use Rattle.record_walk.specs.Walking.{WithinLimits}
 use Rattle.record_walk.proofs.Room.{room-fits}
-use Rattle.link_rules.specs.Broken.{Faults}
-use Rattle.link_rules.specs.NamesBegin.{NamesBegin}
+use Rattle.reference_pass.specs.Broken.{Faults}
+use Rattle.reference_pass.specs.NamesBegin.{NamesBegin}
 use Rattle.descriptor_pool.specs.declared.error.BuildError.{BuildError}
 use Rattle.descriptor_pool.specs.declared.error.BuildError.TheVariants.{TooMany, Descriptor, OutOfMemory}
 use Rattle.descriptor_pool.specs.Behind.{declared_behind, setting_behind, faults_behind, first_of_both, linked_behind, with_items, with_names}

@@ -8,9 +8,9 @@ use Rattle.std.specs.List.{AllByRecursion, filter_map}
 use Rattle.pool_types.specs.declared.contents.file.FileDescriptorInner.{FileDescriptorInner}
 use Rattle.proto_types.specs.declared.file.FileDescriptorProto.{FileDescriptorProto}
 use Rattle.field_rules.specs.Each.{each}
-use Rattle.link_rules.specs.Items.{file_item}
-use Rattle.linked_records.specs.Linked.{linked}
-use Rattle.linked_records.specs.Setting.{Setting, seen_by}
+use Rattle.reference_pass.specs.Items.{file_item}
+use Rattle.reference_pass.specs.Linked.{linked}
+use Rattle.reference_pass.specs.Setting.{Setting, seen_by}
 use Rattle.reference_pass.specs.Linking.{linked_item}
 use Rattle.pool_contents.specs.declared.growing.GrowingPool.{GrowingPool}
 use Rattle.pool_contents.specs.Growing.{files_seeing, first_new, seeing}

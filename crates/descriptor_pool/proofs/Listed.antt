@@ -9,7 +9,7 @@ use Rattle.pool_types.specs.declared.contents.extension.ExtensionDescriptorInner
 use Rattle.pool_types.specs.declared.contents.message.MessageDescriptorInner.{MessageDescriptorInner}
 use Rattle.record_walk.specs.Counts.{counts_in}
 use Rattle.record_walk.proofs.Counted.{counts_are}
-use Rattle.link_rules.specs.NamesBegin.{MessageNamesBegin, NamesBegin}
+use Rattle.reference_pass.specs.NamesBegin.{MessageNamesBegin, NamesBegin}
 use Rattle.pool_contents.specs.Extended.{extended_by, extending, with_extended}
 use Rattle.pool_contents.proofs.Each.{all-each, length-each}
 

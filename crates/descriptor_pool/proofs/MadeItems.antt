@@ -6,8 +6,8 @@ use Rattle.pool_types.specs.Contents.{Contents}
 use Rattle.field_rules.specs.Each.{each}
 use Rattle.record_walk.specs.Declarations.{declarations}
 use Rattle.record_walk.specs.Shown.{Shown}
-use Rattle.link_rules.specs.Items.{file_item}
-use Rattle.linked_records.specs.Setting.{Setting}
+use Rattle.reference_pass.specs.Items.{file_item}
+use Rattle.reference_pass.specs.Setting.{Setting}
 use Rattle.reference_pass.specs.Against.{setting_with}
 use Rattle.reference_pass.specs.Linking.{ItemLists, ItemsAre, linked_item, lists_in}
 use Rattle.reference_pass.specs.declared.items.NewItems.{NewItems}

@@ -32,8 +32,8 @@ use Rattle.record_walk.specs.Shown.{Shown, of_kind}
 use Rattle.record_walk.proofs.Indexes.{indexes-count-on}
 use Rattle.record_walk.proofs.Room.{room-fits}
 use Rattle.field_rules.specs.EnumItems.{enum_item}
-use Rattle.link_rules.specs.Items.{extension_item, message_item, service_item}
-use Rattle.linked_records.specs.Setting.{Setting}
+use Rattle.reference_pass.specs.Items.{extension_item, message_item, service_item}
+use Rattle.reference_pass.specs.Setting.{Setting}
 use Rattle.name_pass.specs.Entered.{definition_kind, entries, entries_of, package_entry, packages}
 use Rattle.pool_contents.specs.Extended.{extended_by, with_extended}
 use Rattle.reference_pass.specs.Linking.{HasItem, IsNamedBy, ItemLists, ItemsAre, lists_in, message_name}

@@ -12,7 +12,7 @@ use Rattle.record_walk.specs.Shown.{Shown}
 use Rattle.pool_types.specs.Contents.{Contents}
 use Rattle.proto_types.specs.declared.file.FileDescriptorProto.{FileDescriptorProto}
 use Rattle.name_pass.specs.Syntaxes.{syntax_faults}
-use Rattle.link_rules.specs.Broken.{Faults}
+use Rattle.reference_pass.specs.Broken.{Faults}
 use Rattle.name_pass.specs.Entered.{entries_of, entries, file_entries_of, file_entries}
 use Rattle.name_pass.specs.FirstPass.{holder, holder_faults, clashes, file_name_faults, file_faults, own_faults, first_faults, first_pass}
 use Rattle.name_pass.specs.Steps.{NameState, entered, file_step, name_step, own_step, state_at}

@@ -24,13 +24,13 @@ use Rattle.name_resolution.specs.Kinds.{simple_kind}
 use Rattle.name_resolution.specs.References.{reference_fault}
 use Rattle.name_resolution.specs.Resolution.{Resolution, found, invalid_type, not_imported, shadowed, not_found}
 use Rattle.name_resolution.proofs.Named.{IsNamed, resolution-named}
-use Rattle.link_rules.specs.Broken.{Faults, Owner, field_faults, own_faults, message_of, second_faults, second_pass}
-use Rattle.link_rules.specs.Defaults.{field_default_faults}
-use Rattle.link_rules.specs.Extensions.{extendee_faults, number_faults}
-use Rattle.link_rules.specs.FieldTypes.{type_meaning, type_faults}
-use Rattle.linked_records.specs.Linked.{resolved, typed, linking}
-use Rattle.link_rules.specs.Messages.{message_meaning}
-use Rattle.linked_records.specs.Setting.{Setting, seen_by}
+use Rattle.reference_pass.specs.Broken.{Faults, Owner, field_faults, own_faults, message_of, second_faults, second_pass}
+use Rattle.reference_pass.specs.Defaults.{field_default_faults}
+use Rattle.reference_pass.specs.Extensions.{extendee_faults, number_faults}
+use Rattle.reference_pass.specs.FieldTypes.{type_meaning, type_faults}
+use Rattle.reference_pass.specs.Linked.{resolved, typed, linking}
+use Rattle.reference_pass.specs.Messages.{message_meaning}
+use Rattle.reference_pass.specs.Setting.{Setting, seen_by}
 use Rattle.std.specs.BTreeSet.{contains_by}
 use Rattle.std.specs.Ordering.{nat_cmp}
 use Rattle.record_lists.specs.References.{Reference, reference_in, references_in}

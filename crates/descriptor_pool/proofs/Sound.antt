@@ -25,9 +25,9 @@ use Rattle.record_walk.specs.Declarations.{declarations}
 use Rattle.name_tables.specs.Entries.{Entry, first_of, names, names_with}
 use Rattle.name_tables.specs.NameTables.{AllBefore, FileNamesBefore}
 use Rattle.name_tables.proofs.Entries.{get-with, with-names}
-use Rattle.link_rules.specs.Items.{extension_item, message_item}
-use Rattle.linked_records.specs.Linked.{linking}
-use Rattle.link_rules.specs.Short.{ShortFiles}
+use Rattle.reference_pass.specs.Items.{extension_item, message_item}
+use Rattle.reference_pass.specs.Linked.{linking}
+use Rattle.reference_pass.specs.Short.{ShortFiles}
 use Rattle.name_pass.specs.Entered.{entries, file_entries}
 use Rattle.record_lists.specs.References.{Reference, references_in}
 use Rattle.descriptor_pool.specs.Invariant.{IsPool}

@@ -7,9 +7,9 @@ use Rattle.name_tables.specs.Entries.{names_with}
 use Rattle.name_tables.specs.NameTables.{FileNamesBefore}
 use Rattle.record_walk.specs.Fits.{counts_with}
 use Rattle.record_walk.specs.Shown.{Shown}
-use Rattle.linked_records.specs.Setting.{Setting}
-use Rattle.link_rules.specs.NamesBegin.{NamesBegin}
-use Rattle.link_rules.specs.Short.{ShortFiles}
+use Rattle.reference_pass.specs.Setting.{Setting}
+use Rattle.reference_pass.specs.NamesBegin.{NamesBegin}
+use Rattle.reference_pass.specs.Short.{ShortFiles}
 use Rattle.name_pass.specs.Entered.{file_entries}
 use Rattle.reference_pass.specs.Linking.{ItemsAre, lists_in}
 use Rattle.descriptor_pool.specs.Items.{HasImports}
@@ -23,7 +23,7 @@ use Rattle.pool_types.specs.Contents.{Contents, files_of}
 use Rattle.record_walk.specs.declared.counts.Counts.{Counts}
 use Rattle.record_walk.specs.Counts.{counts_in}
 use Rattle.record_walk.specs.Declarations.{declarations}
-use Rattle.link_rules.specs.Broken.{Faults, second_pass}
+use Rattle.reference_pass.specs.Broken.{Faults, second_pass}
 use Rattle.pool_contents.specs.declared.growing.GrowingPool.{GrowingPool}
 use Rattle.descriptor_pool.specs.declared.error.BuildError.{BuildError}
 use Rattle.descriptor_pool.specs.declared.error.BuildError.TheVariants.{TooMany, Descriptor, OutOfMemory}

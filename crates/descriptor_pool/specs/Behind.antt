@@ -10,11 +10,11 @@ use Rattle.record_walk.specs.Counts.{counts_in}
 use Rattle.record_walk.specs.Declarations.{declarations}
 use Rattle.record_walk.specs.Protos.{as_file, as_message, as_enum, as_service, as_extension}
 use Rattle.record_walk.specs.Shown.{Shown, of_kind}
-use Rattle.link_rules.specs.Broken.{Faults, second_pass}
+use Rattle.reference_pass.specs.Broken.{Faults, second_pass}
 use Rattle.field_rules.specs.Each.{each}
 use Rattle.field_rules.specs.EnumItems.{enum_item}
-use Rattle.link_rules.specs.Items.{file_item, message_item, service_item, extension_item}
-use Rattle.linked_records.specs.Setting.{Setting}
+use Rattle.reference_pass.specs.Items.{file_item, message_item, service_item, extension_item}
+use Rattle.reference_pass.specs.Setting.{Setting}
 use Rattle.name_pass.specs.Entered.{entries, file_entries}
 use Rattle.pool_contents.specs.Extended.{with_extended}
 use Rattle.name_pass.specs.FirstPass.{first_pass}

@@ -4,7 +4,7 @@ use Rattle.record_walk.specs.Counts.{no_counts, counted, counts_in}
 use Rattle.record_walk.specs.Declarations.{declarations}
 use Rattle.record_walk.specs.Walking.{WithinLimits}
 use Rattle.pool_types.specs.Contents.{Contents, files_of}
-use Rattle.link_rules.specs.NamesBegin.{NamesBegin}
+use Rattle.reference_pass.specs.NamesBegin.{NamesBegin}
 use Rattle.descriptor_pool.specs.Pool.{Made}
 
 -- the contents are made, their counts are those of what the files declare and are within the limits, and each name begins

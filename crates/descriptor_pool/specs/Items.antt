@@ -14,8 +14,8 @@ use Rattle.reference_pass.specs.Linking.{ItemsAre, linked_item, lists_in}
 use Rattle.record_walk.specs.Protos.{as_message, as_enum, as_service, as_extension}
 use Rattle.record_walk.specs.Shown.{Shown, of_kind}
 use Rattle.field_rules.specs.EnumItems.{enum_item}
-use Rattle.link_rules.specs.Items.{message_item, service_item, extension_item}
-use Rattle.linked_records.specs.Setting.{Setting}
+use Rattle.reference_pass.specs.Items.{message_item, service_item, extension_item}
+use Rattle.reference_pass.specs.Setting.{Setting}
 use Rattle.reference_pass.specs.declared.items.NewItems.{NewItems}
 
 -- these are the items of declarations

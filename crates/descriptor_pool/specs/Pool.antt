@@ -10,7 +10,7 @@ use Rattle.pool_types.specs.Contents.{Contents, no_contents}
 use Rattle.record_walk.specs.Counts.{counts_in}
 use Rattle.record_walk.specs.Fits.{counts_with}
 use Rattle.proto_types.specs.Readers.{text_of}
-use Rattle.link_rules.specs.Broken.{Faults}
+use Rattle.reference_pass.specs.Broken.{Faults}
 use Rattle.descriptor_pool.specs.Behind.{names_behind, references_behind, first_of_both, linked_behind}
 
 abbrev pub Batch : Type 0

@@ -40,7 +40,7 @@ impl DescriptorPool {
     ghost use Rattle.descriptor_pool.specs.Extensions.{ExtendeesLieIn, ListsAreWhole};
     ghost use Rattle.descriptor_pool.specs.Invariant.{IsPool};
     ghost use Rattle.pool_contents.specs.LookUps.{definition_named};
-    ghost use Rattle.link_rules.specs.NamesBegin.{MessageNamesBegin};
+    ghost use Rattle.reference_pass.specs.NamesBegin.{MessageNamesBegin};
     ghost use Rattle.descriptor_pool.specs.Outcome.{Outcome};
     ghost use Rattle.descriptor_pool.specs.Pool.{new_files};
     ghost use Rattle.descriptor_pool.specs.References.{AllResolved};

@@ -15,13 +15,13 @@ use Rattle.name_resolution.specs.Kinds.{named_kind, simple_kind}
 use Rattle.name_resolution.specs.References.{reference_fault}
 use Rattle.name_resolution.specs.Resolution.{Resolution, found, invalid_type, not_imported, shadowed, not_found, kind_found}
 use Rattle.field_rules.specs.Defaults.{MeantEnum, default_faults}
-use Rattle.link_rules.specs.Defaults.{default_by, enum_found, field_default, field_default_faults, no_enum_meant, type_enum}
-use Rattle.link_rules.specs.Definitions.{message_record}
-use Rattle.link_rules.specs.Extensions.{number_faults}
-use Rattle.link_rules.specs.FieldTypes.{field_kind, type_faults, type_meaning}
-use Rattle.linked_records.specs.Linked.{linked_field, resolved, typed}
-use Rattle.link_rules.specs.Messages.{message_found, message_meaning}
-use Rattle.linked_records.specs.Setting.{Setting}
+use Rattle.reference_pass.specs.Defaults.{default_by, enum_found, field_default, field_default_faults, no_enum_meant, type_enum}
+use Rattle.reference_pass.specs.Definitions.{message_record}
+use Rattle.reference_pass.specs.Extensions.{number_faults}
+use Rattle.reference_pass.specs.FieldTypes.{field_kind, type_faults, type_meaning}
+use Rattle.reference_pass.specs.Linked.{linked_field, resolved, typed}
+use Rattle.reference_pass.specs.Messages.{message_found, message_meaning}
+use Rattle.reference_pass.specs.Setting.{Setting}
 use Rattle.linking_laws.specs.Laws.{IsDefaulted, IsMessageName, IsTyped, Stands, unchanged}
 use Rattle.linking_laws.proofs.Carries.{Carries, CarriesMethods, NamedThere}
 use Rattle.linking_laws.proofs.Defaulted.{no-default-fault}

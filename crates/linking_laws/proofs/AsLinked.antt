@@ -8,11 +8,11 @@ use Rattle.record_walk.specs.Shown.{Shown}
 use Rattle.name_resolution.specs.declared.filter.ResolveNameFilter.TheVariants.{Message}
 use Rattle.name_resolution.specs.References.{reference_fault}
 use Rattle.name_resolution.specs.Resolution.{Resolution, found, invalid_type, not_imported, shadowed, not_found}
-use Rattle.link_rules.specs.Definitions.{message_record}
-use Rattle.link_rules.specs.Extensions.{number_faults}
-use Rattle.linked_records.specs.Linked.{linking, resolved}
-use Rattle.link_rules.specs.Messages.{message_meaning}
-use Rattle.linked_records.specs.Setting.{Setting}
+use Rattle.reference_pass.specs.Definitions.{message_record}
+use Rattle.reference_pass.specs.Extensions.{number_faults}
+use Rattle.reference_pass.specs.Linked.{linking, resolved}
+use Rattle.reference_pass.specs.Messages.{message_meaning}
+use Rattle.reference_pass.specs.Setting.{Setting}
 use Rattle.linking_laws.specs.Laws.{Grows, Rereads}
 use Rattle.linking_laws.proofs.Carries.{Carries, CarriesMethods}
 use Rattle.linking_laws.proofs.Defaulted.{defaulted-again}

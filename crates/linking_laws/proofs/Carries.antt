@@ -9,12 +9,12 @@ use Rattle.record_walk.specs.Changed.{Changes}
 use Rattle.record_walk.specs.Shown.{Shown}
 use Rattle.name_pass.specs.Syntaxes.{syntax_at}
 use Rattle.name_resolution.specs.References.{reference_fault}
-use Rattle.link_rules.specs.Defaults.{field_default, field_default_faults}
-use Rattle.link_rules.specs.Extensions.{extendee_faults, number_faults}
-use Rattle.link_rules.specs.FieldTypes.{field_kind, type_faults}
-use Rattle.linked_records.specs.Linked.{linked_field, resolved}
-use Rattle.link_rules.specs.Messages.{message_found, message_meaning}
-use Rattle.linked_records.specs.Setting.{Setting, seen_by}
+use Rattle.reference_pass.specs.Defaults.{field_default, field_default_faults}
+use Rattle.reference_pass.specs.Extensions.{extendee_faults, number_faults}
+use Rattle.reference_pass.specs.FieldTypes.{field_kind, type_faults}
+use Rattle.reference_pass.specs.Linked.{linked_field, resolved}
+use Rattle.reference_pass.specs.Messages.{message_found, message_meaning}
+use Rattle.reference_pass.specs.Setting.{Setting, seen_by}
 use Rattle.linking_laws.specs.Laws.{IsDefaulted, IsMessageName, IsTyped}
 use Rattle.linking_laws.proofs.Kept.{retyped}
 

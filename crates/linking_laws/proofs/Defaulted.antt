@@ -16,10 +16,10 @@ use Rattle.name_resolution.specs.Kinds.{simple_kind}
 use Rattle.name_resolution.specs.References.{reference_fault}
 use Rattle.name_resolution.specs.Resolution.{Resolution, found, invalid_type, not_imported, shadowed, not_found}
 use Rattle.field_rules.specs.Defaults.{MeantEnum, default_fault, default_faults, value_of}
-use Rattle.link_rules.specs.Defaults.{default_by, enum_found, field_default, field_default_faults, no_enum_meant, type_enum}
-use Rattle.link_rules.specs.FieldTypes.{field_kind, type_faults, type_meaning}
-use Rattle.linked_records.specs.Linked.{linked_field, typed}
-use Rattle.linked_records.specs.Setting.{Setting}
+use Rattle.reference_pass.specs.Defaults.{default_by, enum_found, field_default, field_default_faults, no_enum_meant, type_enum}
+use Rattle.reference_pass.specs.FieldTypes.{field_kind, type_faults, type_meaning}
+use Rattle.reference_pass.specs.Linked.{linked_field, typed}
+use Rattle.reference_pass.specs.Setting.{Setting}
 use Rattle.linking_laws.specs.Laws.{EnumsStay, Grows, IsDefaulted}
 use Rattle.linking_laws.proofs.Looked.{IsLooked, looked-named, resolution-looked}
 use Rattle.linking_laws.proofs.Typed.{found-again, no-fault, seen, typed-again}

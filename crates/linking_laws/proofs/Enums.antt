@@ -12,7 +12,7 @@ use Rattle.field_rules.specs.Each.{each}
 use Rattle.field_rules.specs.EnumItems.{allows_alias}
 use Rattle.field_rules.specs.EnumRanges.{reserves}
 use Rattle.field_rules.specs.EnumValues.{again_faults, reserved_fault, reserved_faults, value_faults, values_faults}
-use Rattle.link_rules.specs.Broken.{Faults}
+use Rattle.reference_pass.specs.Broken.{Faults}
 use Rattle.linking_laws.proofs.Numbered.{both-empty, none-listed}
 use Rattle.linking_laws.proofs.Typed.{no-fault}
 

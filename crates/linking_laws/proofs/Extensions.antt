@@ -12,14 +12,14 @@ use Rattle.name_pass.specs.Syntaxes.{is_proto3}
 use Rattle.field_rules.specs.Identities.{named_at}
 use Rattle.field_rules.specs.Encoding.{is_packed}
 use Rattle.field_rules.specs.DuplicateNumbers.{item_number}
-use Rattle.link_rules.specs.Broken.{extension_faults}
-use Rattle.link_rules.specs.Defaults.{field_default_faults}
-use Rattle.link_rules.specs.Extensions.{extendee_faults, number_faults}
-use Rattle.link_rules.specs.FieldTypes.{type_faults}
-use Rattle.link_rules.specs.Items.{extension_item}
-use Rattle.linked_records.specs.Linked.{linked_extension, typed}
-use Rattle.link_rules.specs.Messages.{message_meaning, or_missing}
-use Rattle.linked_records.specs.Setting.{Setting, meaning}
+use Rattle.reference_pass.specs.Broken.{extension_faults}
+use Rattle.reference_pass.specs.Defaults.{field_default_faults}
+use Rattle.reference_pass.specs.Extensions.{extendee_faults, number_faults}
+use Rattle.reference_pass.specs.FieldTypes.{type_faults}
+use Rattle.reference_pass.specs.Items.{extension_item}
+use Rattle.reference_pass.specs.Linked.{linked_extension, typed}
+use Rattle.reference_pass.specs.Messages.{message_meaning, or_missing}
+use Rattle.reference_pass.specs.Setting.{Setting, meaning}
 use Rattle.linking_laws.specs.Laws.{IsExtension, extension_at_place}
 use Rattle.linking_laws.proofs.Carries.{Carries}
 use Rattle.linking_laws.proofs.Numbered.{both-empty}

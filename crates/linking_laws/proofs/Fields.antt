@@ -15,10 +15,10 @@ use Rattle.field_rules.specs.Places.{field_at}
 use Rattle.field_rules.specs.Numbers.{field_number_faults}
 use Rattle.field_rules.specs.Again.{again_faults}
 use Rattle.field_rules.specs.Oneofs.{oneof_faults}
-use Rattle.link_rules.specs.Broken.{Faults, Owner, field_faults, own_faults}
-use Rattle.link_rules.specs.Defaults.{field_default_faults}
-use Rattle.link_rules.specs.FieldTypes.{type_faults}
-use Rattle.linked_records.specs.Setting.{Setting}
+use Rattle.reference_pass.specs.Broken.{Faults, Owner, field_faults, own_faults}
+use Rattle.reference_pass.specs.Defaults.{field_default_faults}
+use Rattle.reference_pass.specs.FieldTypes.{type_faults}
+use Rattle.reference_pass.specs.Setting.{Setting}
 use Rattle.linking_laws.specs.Laws.{SameRanges}
 use Rattle.linking_laws.proofs.Again.{again-still}
 use Rattle.linking_laws.proofs.Carries.{Carries}

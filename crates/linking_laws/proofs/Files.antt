@@ -9,10 +9,10 @@ use Rattle.record_walk.specs.declared.counts.Counts.{Counts}
 use Rattle.record_walk.specs.Changed.{Changes, changed_file}
 use Rattle.record_walk.specs.Declarations.{file_walk}
 use Rattle.field_rules.specs.Each.{each}
-use Rattle.link_rules.specs.Broken.{Faults, owner_faults}
-use Rattle.link_rules.specs.Imports.{index_fault, missing_file, missing_files}
-use Rattle.link_rules.specs.Items.{file_item}
-use Rattle.linked_records.specs.Setting.{Setting}
+use Rattle.reference_pass.specs.Broken.{Faults, owner_faults}
+use Rattle.reference_pass.specs.Imports.{index_fault, missing_file, missing_files}
+use Rattle.reference_pass.specs.Items.{file_item}
+use Rattle.reference_pass.specs.Setting.{Setting}
 use Rattle.linking_laws.specs.Laws.{IsFile, NamesStay}
 use Rattle.linking_laws.proofs.Carries.{Carries}
 use Rattle.linking_laws.proofs.Imports.{imports-still}

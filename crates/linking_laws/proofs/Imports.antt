@@ -6,9 +6,9 @@ use Rattle.proto_types.specs.Lists.{only_if}
 use Rattle.proto_types.specs.declared.file.FileDescriptorProto.{FileDescriptorProto}
 use Rattle.pool_faults.specs.declared.fault.DescriptorErrorKind.{DescriptorErrorKind}
 use Rattle.field_rules.specs.Each.{each}
-use Rattle.link_rules.specs.Broken.{Faults}
-use Rattle.link_rules.specs.Imports.{import_faults, index_fault, missing_file, missing_files}
-use Rattle.linked_records.specs.Setting.{Setting}
+use Rattle.reference_pass.specs.Broken.{Faults}
+use Rattle.reference_pass.specs.Imports.{import_faults, index_fault, missing_file, missing_files}
+use Rattle.reference_pass.specs.Setting.{Setting}
 use Rattle.linking_laws.specs.Laws.{NamesStay}
 use Rattle.linking_laws.proofs.Numbered.{both-empty}
 

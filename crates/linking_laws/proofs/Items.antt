@@ -25,11 +25,11 @@ use Rattle.field_rules.specs.Encoding.{is_packed, supports_presence}
 use Rattle.field_rules.specs.Maps.{by_json_name, by_name, by_number}
 use Rattle.field_rules.specs.DuplicateNumbers.{item_number}
 use Rattle.field_rules.specs.Oneofs.{members}
-use Rattle.link_rules.specs.Broken.{Faults, field_faults}
-use Rattle.link_rules.specs.Defaults.{field_default, field_default_faults}
-use Rattle.link_rules.specs.FieldTypes.{field_kind, type_faults}
-use Rattle.link_rules.specs.Items.{field_item, item_of_kind, oneof_items}
-use Rattle.linked_records.specs.Setting.{Setting}
+use Rattle.reference_pass.specs.Broken.{Faults, field_faults}
+use Rattle.reference_pass.specs.Defaults.{field_default, field_default_faults}
+use Rattle.reference_pass.specs.FieldTypes.{field_kind, type_faults}
+use Rattle.reference_pass.specs.Items.{field_item, item_of_kind, oneof_items}
+use Rattle.reference_pass.specs.Setting.{Setting}
 use Rattle.linking_laws.proofs.Carries.{Carries}
 use Rattle.linking_laws.proofs.Fields.{carried, kept, renamed, breaks-nothing}
 use Rattle.linking_laws.proofs.Numbered.{both-empty}

@@ -4,8 +4,8 @@ use Rattle.proto_types.specs.Readers.{text_of}
 use Rattle.proto_types.specs.declared.records.field.FieldDescriptorProto.{FieldDescriptorProto}
 use Rattle.name_resolution.specs.declared.filter.ResolveNameFilter.TheVariants.{FieldType as AnyType}
 use Rattle.name_resolution.specs.Resolution.{Resolution}
-use Rattle.linked_records.specs.Linked.{linked_field, typed}
-use Rattle.linked_records.specs.Setting.{Setting, meaning}
+use Rattle.reference_pass.specs.Linked.{linked_field, typed}
+use Rattle.reference_pass.specs.Setting.{Setting, meaning}
 
 -- a field with the type name and the type of another
 abbrev pub retyped : FieldDescriptorProto → FieldDescriptorProto → FieldDescriptorProto

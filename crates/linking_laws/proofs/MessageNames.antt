@@ -6,9 +6,9 @@ use Rattle.record_walk.specs.Shown.{Shown}
 use Rattle.name_resolution.specs.declared.filter.ResolveNameFilter.TheVariants.{Message}
 use Rattle.name_resolution.specs.References.{reference_fault}
 use Rattle.name_resolution.specs.Resolution.{Resolution, found, invalid_type, not_imported, shadowed, not_found}
-use Rattle.linked_records.specs.Linked.{resolved}
-use Rattle.link_rules.specs.Messages.{message_found, message_meaning}
-use Rattle.linked_records.specs.Setting.{Setting}
+use Rattle.reference_pass.specs.Linked.{resolved}
+use Rattle.reference_pass.specs.Messages.{message_found, message_meaning}
+use Rattle.reference_pass.specs.Setting.{Setting}
 use Rattle.linking_laws.specs.Laws.{Grows, IsMessageName}
 use Rattle.linking_laws.proofs.Typed.{found-again}
 

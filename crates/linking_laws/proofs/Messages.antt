@@ -7,9 +7,9 @@ use Rattle.record_walk.specs.Changed.{Changes, changed_fields, changed_message}
 use Rattle.record_walk.specs.Shown.{Shown, inside}
 use Rattle.field_rules.specs.Identities.{named_at}
 use Rattle.field_rules.specs.Maps.{by_json_name, by_name, by_number}
-use Rattle.link_rules.specs.Broken.{message_faults}
-use Rattle.link_rules.specs.Items.{field_items, message_item, oneof_items}
-use Rattle.linked_records.specs.Setting.{Setting}
+use Rattle.reference_pass.specs.Broken.{message_faults}
+use Rattle.reference_pass.specs.Items.{field_items, message_item, oneof_items}
+use Rattle.reference_pass.specs.Setting.{Setting}
 use Rattle.linking_laws.specs.Laws.{IsMessage, SameRanges, message_at_place}
 use Rattle.linking_laws.proofs.Carries.{Carries}
 use Rattle.linking_laws.proofs.Fields.{fields-again}

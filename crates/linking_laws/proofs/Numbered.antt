@@ -15,8 +15,8 @@ use Rattle.field_rules.specs.FieldNumbers.{is_valid_number}
 use Rattle.field_rules.specs.Each.{each}
 use Rattle.field_rules.specs.Numbers.{by_extendee, extension_number_faults, extension_range_faults, field_number_faults, invalid_faults, outside_faults, reserved_fault, reserved_faults}
 use Rattle.field_rules.specs.Ranges.{extends, reserves}
-use Rattle.link_rules.specs.Extensions.{defined_at}
-use Rattle.linked_records.specs.Setting.{Setting}
+use Rattle.reference_pass.specs.Extensions.{defined_at}
+use Rattle.reference_pass.specs.Setting.{Setting}
 use Rattle.linking_laws.specs.Laws.{RangesStay, SameRanges}
 use Rattle.linking_laws.proofs.Typed.{no-fault}
 

@@ -11,11 +11,11 @@ use Rattle.record_walk.specs.Changed.{Changes, changed_methods, changed_service}
 use Rattle.record_walk.specs.Shown.{Shown, inside}
 use Rattle.name_resolution.specs.References.{reference_fault}
 use Rattle.field_rules.specs.Each.{each}
-use Rattle.link_rules.specs.Broken.{Faults, method_faults, service_faults}
-use Rattle.link_rules.specs.Items.{method_item, service_item}
-use Rattle.linked_records.specs.Linked.{linked_method, linking}
-use Rattle.link_rules.specs.Messages.{message_meaning, method_at, or_missing}
-use Rattle.linked_records.specs.Setting.{Setting}
+use Rattle.reference_pass.specs.Broken.{Faults, method_faults, service_faults}
+use Rattle.reference_pass.specs.Items.{method_item, service_item}
+use Rattle.reference_pass.specs.Linked.{linked_method, linking}
+use Rattle.reference_pass.specs.Messages.{message_meaning, method_at, or_missing}
+use Rattle.reference_pass.specs.Setting.{Setting}
 use Rattle.linking_laws.specs.Laws.{IsService, service_at_place}
 use Rattle.linking_laws.proofs.Carries.{CarriesMethods}
 use Rattle.linking_laws.proofs.Numbered.{both-empty}

@@ -18,9 +18,9 @@ use Rattle.record_walk.specs.Protos.{of_extension, of_message, of_service}
 use Rattle.record_walk.specs.Shown.{Shown, Surrounding, inside, row, shown}
 use Rattle.field_rules.specs.Each.{each}
 use Rattle.field_rules.specs.Places.{field_at}
-use Rattle.link_rules.specs.Broken.{Faults, field_faults, owner_faults}
-use Rattle.linked_records.specs.Linked.{linked, linked_extension, linked_field, linking}
-use Rattle.linked_records.specs.Setting.{Setting}
+use Rattle.reference_pass.specs.Broken.{Faults, field_faults, owner_faults}
+use Rattle.reference_pass.specs.Linked.{linked, linked_extension, linked_field, linking}
+use Rattle.reference_pass.specs.Setting.{Setting}
 use Rattle.linking_laws.proofs.Carries.{Carries}
 use Rattle.linking_laws.proofs.Extensions.{extension-carried}
 use Rattle.linking_laws.proofs.Fields.{carried, kept, breaks-nothing}

@@ -21,9 +21,9 @@ use Rattle.name_resolution.specs.declared.filter.ResolveNameFilter.TheVariants.{
 use Rattle.name_resolution.specs.Kinds.{is_match, named_kind, simple_kind}
 use Rattle.name_resolution.specs.References.{reference_fault}
 use Rattle.name_resolution.specs.Resolution.{Resolution, found, invalid_type, not_imported, shadowed, not_found, kind_found, look}
-use Rattle.link_rules.specs.FieldTypes.{field_kind, type_faults, type_meaning}
-use Rattle.linked_records.specs.Linked.{linked_field, type_number, typed}
-use Rattle.linked_records.specs.Setting.{Setting, meaning, seen_by}
+use Rattle.reference_pass.specs.FieldTypes.{field_kind, type_faults, type_meaning}
+use Rattle.reference_pass.specs.Linked.{linked_field, type_number, typed}
+use Rattle.reference_pass.specs.Setting.{Setting, meaning, seen_by}
 use Rattle.linking_laws.specs.Laws.{Grows, IsTyped}
 use Rattle.linking_laws.proofs.Looked.{IsLooked, look-again, resolution-looked}
 

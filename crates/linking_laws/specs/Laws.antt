@@ -30,16 +30,16 @@ use Rattle.name_resolution.specs.declared.filter.ResolveNameFilter.{ResolveNameF
 use Rattle.name_resolution.specs.References.{reference_fault}
 use Rattle.name_resolution.specs.Resolution.{found, resolution}
 use Rattle.name_resolution.specs.Visibility.{file_at, seen_from}
-use Rattle.link_rules.specs.Defaults.{field_default, field_default_faults}
-use Rattle.link_rules.specs.Definitions.{enum_record, message_record}
-use Rattle.link_rules.specs.FieldTypes.{field_kind, type_faults}
+use Rattle.reference_pass.specs.Defaults.{field_default, field_default_faults}
+use Rattle.reference_pass.specs.Definitions.{enum_record, message_record}
+use Rattle.reference_pass.specs.FieldTypes.{field_kind, type_faults}
 use Rattle.field_rules.specs.EnumValues.{values_faults}
-use Rattle.link_rules.specs.Broken.{extension_faults, message_faults, owner_faults, service_faults}
-use Rattle.link_rules.specs.Imports.{import_faults}
-use Rattle.link_rules.specs.Items.{extension_item, file_item, message_item, service_item}
-use Rattle.linked_records.specs.Linked.{linked, linked_extension, linked_field, linking, resolved}
-use Rattle.link_rules.specs.Messages.{message_found, message_meaning}
-use Rattle.linked_records.specs.Setting.{Setting, meaning, seen_by}
+use Rattle.reference_pass.specs.Broken.{extension_faults, message_faults, owner_faults, service_faults}
+use Rattle.reference_pass.specs.Imports.{import_faults}
+use Rattle.reference_pass.specs.Items.{extension_item, file_item, message_item, service_item}
+use Rattle.reference_pass.specs.Linked.{linked, linked_extension, linked_field, linking, resolved}
+use Rattle.reference_pass.specs.Messages.{message_found, message_meaning}
+use Rattle.reference_pass.specs.Setting.{Setting, meaning, seen_by}
 
 -- each name that means a file means one of them
 abbrev pub NamesFiles : List FileDescriptorProto → (List ℕ → Option ℕ) → Type 0

@@ -25,11 +25,11 @@ use Rattle.record_walk.specs.Shown.{Shown}
 use Rattle.record_walk.proofs.Paths.{one-file}
 use Rattle.name_pass.specs.Syntaxes.{syntax_at, syntax_of}
 use Rattle.field_rules.specs.Each.{each}
-use Rattle.link_rules.specs.Broken.{Faults, owner_faults}
-use Rattle.link_rules.specs.Definitions.{around_name, message_record, record_of}
-use Rattle.link_rules.specs.Imports.{import_faults, index_fault, missing_file, missing_files}
-use Rattle.linked_records.specs.Linked.{linking}
-use Rattle.linked_records.specs.Setting.{Setting, seen_by}
+use Rattle.reference_pass.specs.Broken.{Faults, owner_faults}
+use Rattle.reference_pass.specs.Definitions.{around_name, message_record, record_of}
+use Rattle.reference_pass.specs.Imports.{import_faults, index_fault, missing_file, missing_files}
+use Rattle.reference_pass.specs.Linked.{linking}
+use Rattle.reference_pass.specs.Setting.{Setting, seen_by}
 use Rattle.linking_laws.specs.Laws.{ImportsStay, NamesFiles, RangesStay, Rereads}
 use Rattle.linking_laws.proofs.Numbered.{both-empty}
 use Rattle.linking_laws.proofs.SeenStays.{seen-stays}

@@ -29,10 +29,10 @@ use Rattle.record_walk.proofs.Walks.{IsInside, within-all}
 use Rattle.name_resolution.specs.declared.filter.ResolveNameFilter.{ResolveNameFilter}
 use Rattle.name_resolution.specs.Resolution.{found, resolution}
 use Rattle.name_pass.specs.Syntaxes.{syntax_of}
-use Rattle.link_rules.specs.Broken.{owner_faults}
-use Rattle.link_rules.specs.Definitions.{around_name, message_record, record_of}
-use Rattle.linked_records.specs.Setting.{Setting, meaning, seen_by}
-use Rattle.link_rules.proofs.Owners.{owners-tell}
+use Rattle.reference_pass.specs.Broken.{owner_faults}
+use Rattle.reference_pass.specs.Definitions.{around_name, message_record, record_of}
+use Rattle.reference_pass.specs.Setting.{Setting, meaning, seen_by}
+use Rattle.reference_pass.proofs.Owners.{owners-tell}
 use Rattle.linking_laws.specs.Laws.{ImportsMean, NamesStay, RangesStay, ReferenceStands, Stands, unchanged}
 use Rattle.linking_laws.proofs.AsGiven.{given-carried}
 use Rattle.linking_laws.proofs.Fewer.{found-fewer}

@@ -12,9 +12,9 @@ use Rattle.record_walk.specs.Shown.{Shown, of_kind}
 use Rattle.record_walk.proofs.Paths.{one-file}
 use Rattle.field_rules.specs.EnumItems.{enum_item}
 use Rattle.field_rules.specs.Each.{each}
-use Rattle.link_rules.specs.Broken.{owner_faults}
-use Rattle.link_rules.specs.Items.{extension_item, file_item, message_item, service_item}
-use Rattle.linked_records.specs.Setting.{Setting}
+use Rattle.reference_pass.specs.Broken.{owner_faults}
+use Rattle.reference_pass.specs.Items.{extension_item, file_item, message_item, service_item}
+use Rattle.reference_pass.specs.Setting.{Setting}
 use Rattle.linking_laws.specs.Laws.{NamesStay}
 use Rattle.linking_laws.proofs.Carries.{Carries}
 use Rattle.linking_laws.proofs.Extensions.{extension-carried}

@@ -14,8 +14,8 @@ use Rattle.record_walk.specs.Protos.{Proto, as_enum, as_extension, as_file, as_m
 use Rattle.record_walk.specs.Shown.{Shown, of_kind}
 use Rattle.field_rules.specs.EnumItems.{enum_item}
 use Rattle.field_rules.specs.Each.{each}
-use Rattle.link_rules.specs.Items.{extension_item, file_item, message_item, service_item}
-use Rattle.linked_records.specs.Setting.{Setting}
+use Rattle.reference_pass.specs.Items.{extension_item, file_item, message_item, service_item}
+use Rattle.reference_pass.specs.Setting.{Setting}
 use Rattle.linking_laws.specs.Laws.{unchanged}
 use Rattle.linking_laws.proofs.AsGiven.{given-carried}
 use Rattle.linking_laws.proofs.Carries.{Carries}

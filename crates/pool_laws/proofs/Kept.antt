@@ -7,7 +7,7 @@ use Rattle.record_walk.specs.Protos.{as_extension, as_message}
 use Rattle.record_walk.specs.Shown.{of_kind}
 use Rattle.name_resolution.proofs.Fronts.{no_dot}
 use Rattle.field_rules.specs.Each.{each}
-use Rattle.link_rules.specs.Items.{extension_item, message_item}
+use Rattle.reference_pass.specs.Items.{extension_item, message_item}
 use Rattle.pool_contents.specs.Extended.{extended_by, extending}
 use Rattle.name_pass.specs.Entered.{entries, file_entries}
 use Rattle.descriptor_pool.specs.Behind.{declared_behind, setting_behind}

@@ -22,9 +22,9 @@ use Rattle.record_walk.specs.Declarations.{declarations}
 use Rattle.record_walk.specs.Shown.{Shown}
 use Rattle.record_walk.proofs.Appended.{declarations-append}
 use Rattle.field_rules.specs.Each.{each}
-use Rattle.link_rules.specs.Broken.{owner_faults}
-use Rattle.linked_records.specs.Setting.{Setting, seen_by}
-use Rattle.link_rules.proofs.Owners.{owners-tell}
+use Rattle.reference_pass.specs.Broken.{owner_faults}
+use Rattle.reference_pass.specs.Setting.{Setting, seen_by}
+use Rattle.reference_pass.proofs.Owners.{owners-tell}
 use Rattle.linking_laws.specs.Laws.{ImportsStay, NamesFiles}
 use Rattle.linking_laws.proofs.Numbered.{both-empty}
 use Rattle.linking_laws.proofs.SeenStays.{seen-stays}

@@ -9,9 +9,9 @@ use Rattle.name_tables.specs.Entries.{first_of}
 use Rattle.record_walk.specs.Changed.{Changes, KeepNames, changed}
 use Rattle.record_walk.specs.Shown.{Shown}
 use Rattle.name_pass.specs.Syntaxes.{syntax_at}
-use Rattle.link_rules.specs.Broken.{owner_faults}
-use Rattle.linked_records.specs.Linked.{linking}
-use Rattle.linked_records.specs.Setting.{Setting}
+use Rattle.reference_pass.specs.Broken.{owner_faults}
+use Rattle.reference_pass.specs.Linked.{linking}
+use Rattle.reference_pass.specs.Setting.{Setting}
 use Rattle.linking_laws.specs.Laws.{ImportsMean, Rereads}
 use Rattle.linking_laws.proofs.AsLinked.{linked-carried}
 use Rattle.linking_laws.proofs.Carries.{Carries}

@@ -27,11 +27,11 @@ use Rattle.record_walk.proofs.Changed.{declare-changed}
 use Rattle.name_pass.specs.Syntaxes.{syntax_at}
 use Rattle.field_rules.specs.EnumItems.{enum_item}
 use Rattle.field_rules.specs.Each.{each}
-use Rattle.link_rules.specs.Broken.{owner_faults, second_pass}
-use Rattle.link_rules.specs.Items.{extension_item, file_item, message_item, service_item}
-use Rattle.linked_records.specs.Linked.{linking}
-use Rattle.linked_records.specs.Setting.{Setting}
-use Rattle.link_rules.proofs.Owners.{owners-tell}
+use Rattle.reference_pass.specs.Broken.{owner_faults, second_pass}
+use Rattle.reference_pass.specs.Items.{extension_item, file_item, message_item, service_item}
+use Rattle.reference_pass.specs.Linked.{linking}
+use Rattle.reference_pass.specs.Setting.{Setting}
+use Rattle.reference_pass.proofs.Owners.{owners-tell}
 use Rattle.linking_laws.specs.Laws.{Rereads}
 use Rattle.linking_laws.proofs.AsLinked.{linked-carried}
 use Rattle.linking_laws.proofs.Carries.{Carries}

@@ -23,12 +23,12 @@ use Rattle.record_walk.specs.Shown.{Shown}
 use Rattle.name_resolution.specs.Resolution.{resolution}
 use Rattle.field_rules.specs.Each.{each}
 use Rattle.name_pass.specs.Syntaxes.{syntax_at, syntax_of}
-use Rattle.link_rules.specs.Broken.{owner_faults}
-use Rattle.link_rules.specs.Definitions.{around_name, record_of}
-use Rattle.link_rules.specs.Items.{file_item}
-use Rattle.linked_records.specs.Linked.{linking}
-use Rattle.linked_records.specs.Setting.{Setting, seen_by}
-use Rattle.link_rules.proofs.Owners.{owners-tell}
+use Rattle.reference_pass.specs.Broken.{owner_faults}
+use Rattle.reference_pass.specs.Definitions.{around_name, record_of}
+use Rattle.reference_pass.specs.Items.{file_item}
+use Rattle.reference_pass.specs.Linked.{linking}
+use Rattle.reference_pass.specs.Setting.{Setting, seen_by}
+use Rattle.reference_pass.proofs.Owners.{owners-tell}
 use Rattle.linking_laws.specs.Laws.{Stands, unchanged}
 use Rattle.linking_laws.proofs.AsGiven.{given-carried}
 use Rattle.linking_laws.proofs.Declarations.{all-mean}

@@ -50,11 +50,11 @@ use Rattle.name_resolution.proofs.Named.{IsNamed, resolution-named}
 use Rattle.name_resolution.proofs.Wanted.{IsWanted, resolution-wanted}
 use Rattle.field_rules.specs.Each.{each}
 use Rattle.field_rules.specs.Places.{field_at}
-use Rattle.linked_records.specs.Linked.{linked, linked_extension, linked_field, linked_method, linking, resolved, type_number, typed}
-use Rattle.linked_records.specs.Setting.{Setting, seen_by}
-use Rattle.link_rules.specs.FieldTypes.{field_kind, type_meaning}
-use Rattle.link_rules.specs.Items.{extension_item, field_item, field_items, method_item, method_items}
-use Rattle.link_rules.specs.Messages.{message_found, message_meaning, method_at, or_missing}
+use Rattle.reference_pass.specs.Linked.{linked, linked_extension, linked_field, linked_method, linking, resolved, type_number, typed}
+use Rattle.reference_pass.specs.Setting.{Setting, seen_by}
+use Rattle.reference_pass.specs.FieldTypes.{field_kind, type_meaning}
+use Rattle.reference_pass.specs.Items.{extension_item, field_item, field_items, method_item, method_items}
+use Rattle.reference_pass.specs.Messages.{message_found, message_meaning, method_at, or_missing}
 use Rattle.reference_pass.specs.declared.linking.NextItems.{NextItems}
 use Rattle.reference_pass.specs.Linking.{ItemLists, HasItem, IsNamedBy, ItemsAre, Links, LinksFields, LinksFile, LinksFiles, LinksMethods, NamesMeanItems, enum_name, kind_name, kind_number, linked_item, message_name, method_by, next_of, reference_by, typed_by, with_type}
 

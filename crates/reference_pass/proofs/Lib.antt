@@ -1,1 +1,6 @@
+pub mod Entries
+pub mod Made
+pub mod Readings
+pub mod Found
+pub mod Owners
 pub mod ByItems

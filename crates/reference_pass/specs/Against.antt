@@ -1,7 +1,7 @@
 -- What the second pass reads declarations against.
 use Rattle.std.specs.Prelude.{map}
 use Rattle.pool_contents.specs.declared.inner.DescriptorPoolInner.{DescriptorPoolInner}
-use Rattle.linked_records.specs.Setting.{Setting}
+use Rattle.reference_pass.specs.Setting.{Setting}
 
 -- what is read against the files and the names of a pool, each file with those that it sees
 abbrev pub setting_with : DescriptorPoolInner → Setting

@@ -1,3 +1,17 @@
+pub mod Setting
+pub mod SettingCode
+pub mod Linked
+pub mod FieldTypes
+pub mod Messages
+pub mod Short
+pub mod Definitions
+pub mod Extensions
+pub mod Defaults
+pub mod Imports
+pub mod Items
+pub mod Broken
+pub mod NamesBegin
+pub mod Reading
 pub mod Against
 pub mod Steps
 pub mod State

@@ -33,9 +33,9 @@ use Rattle.record_walk.specs.Declarations.{declarations, file_walk}
 use Rattle.record_walk.specs.Protos.{of_message, of_service, of_extension}
 use Rattle.record_walk.specs.Shown.{Shown, Surrounding, inside}
 use Rattle.field_rules.specs.Each.{each}
-use Rattle.linked_records.specs.Linked.{linked, linked_field, linked_method}
-use Rattle.linked_records.specs.Setting.{Setting}
-use Rattle.link_rules.specs.Items.{extension_item, field_items, method_items}
+use Rattle.reference_pass.specs.Linked.{linked, linked_field, linked_method}
+use Rattle.reference_pass.specs.Setting.{Setting}
+use Rattle.reference_pass.specs.Items.{extension_item, field_items, method_items}
 use Rattle.reference_pass.specs.declared.linking.Linker.{Linker}
 use Rattle.reference_pass.specs.declared.linking.NextItems.{NextItems}
 

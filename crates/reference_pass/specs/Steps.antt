@@ -8,10 +8,10 @@ use Rattle.pool_types.specs.Contents.{no_contents}
 use Rattle.record_walk.specs.Progress.{Progress}
 use Rattle.record_walk.specs.Protos.{of_file, of_message, of_enum, of_service, of_extension}
 use Rattle.record_walk.specs.Shown.{Shown}
-use Rattle.link_rules.specs.Broken.{Faults, owner_faults}
+use Rattle.reference_pass.specs.Broken.{Faults, owner_faults}
 use Rattle.field_rules.specs.EnumItems.{enum_item}
-use Rattle.link_rules.specs.Items.{message_item, service_item, extension_item}
-use Rattle.linked_records.specs.Setting.{Setting}
+use Rattle.reference_pass.specs.Items.{message_item, service_item, extension_item}
+use Rattle.reference_pass.specs.Setting.{Setting}
 
 -- the new items, and the faults so far
 pub record ReferenceState : Type 0 where

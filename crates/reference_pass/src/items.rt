@@ -1,7 +1,7 @@
 //! The items that the second pass makes.
 
 ghost use Rattle.std.specs.Prelude.{◌≡◌, ◌++◌, ◌∷◌, [], OnOk};
-ghost use Rattle.link_rules.specs.NamesBegin.{MessageNamesBegin, NamesBegin};
+ghost use Rattle.reference_pass.specs.NamesBegin.{MessageNamesBegin, NamesBegin};
 
 use pool_types::{EnumDescriptorInner, ExtensionDescriptorInner, MessageDescriptorInner, ServiceDescriptorInner};
 use std::alloc::{AllocError, Global};

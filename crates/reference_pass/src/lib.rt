@@ -2,11 +2,27 @@
 //! and how their records are linked.
 #![tactic(auto)]
 
+mod declared;
+mod extension;
+mod field;
+mod imports;
 mod items;
 mod linking;
+mod message;
+mod owner_reading;
 mod reading;
+mod references;
 mod resolve;
+mod service;
+mod setting;
+mod types;
 
+pub use extension::read_extension;
+pub use imports::check_imports;
 pub use items::NewItems;
 pub use linking::{Linker, NextItems};
+pub use message::read_message;
+pub use reading::Reading;
 pub use resolve::ResolveVisitor;
+pub use service::read_service;
+pub use setting::Setting;

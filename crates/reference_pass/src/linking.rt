@@ -11,7 +11,7 @@ ghost use Rattle.record_walk.specs.Counts.{counted};
 ghost use Rattle.record_walk.specs.Declarations.{message_walk, messages_walk, service_walk, services_walk};
 ghost use Rattle.record_walk.specs.Protos.{of_extension};
 ghost use Rattle.record_walk.specs.Shown.{row, shown};
-ghost use Rattle.linked_records.specs.Linked.{linking, linked_extension};
+ghost use Rattle.reference_pass.specs.Linked.{linking, linked_extension};
 ghost use Rattle.reference_pass.specs.Linking.{Links, LinksFields, LinksFile, LinksFiles, LinksMethods, lists_of};
 ghost use Rattle.reference_pass.specs.Linking.{enum_name, kind_name, kind_number, message_name, method_by, next_of, reference_by, typed_by};
 

@@ -1,157 +1,128 @@
-//! The items of declarations, each read with a reading of its own.
+ghost use Rattle.std.specs.Prelude.{◌≡◌, ◌++◌, ◌∷◌, [], IfOk, OnOk};
+ghost use Rattle.proto_types.specs.Lists.{listed};
+ghost use Rattle.name_resolution.specs.References.{reference_fault};
+ghost use Rattle.name_resolution.specs.Resolution.{resolution_in};
+ghost use Rattle.reference_pass.specs.Setting.{meaning};
+ghost use Rattle.reference_pass.specs.SettingCode.{setting_in};
+ghost use Rattle.field_rules.specs.Tells.{Tells, named_files};
 
-ghost use Rattle.std.specs.Prelude.{◌≡◌, ◌++◌, true, IfOk, OnOk, map};
-ghost use Rattle.record_walk.specs.Counts.{lists_fit};
-ghost use Rattle.record_walk.specs.FullNames.{EndsWithName};
-ghost use Rattle.record_walk.specs.Protos.{of_enum, of_extension, of_file, of_message, of_service};
-ghost use Rattle.field_rules.specs.Places.{enum_at, message_at, service_at, shown_at};
-ghost use Rattle.field_rules.specs.EnumItems.{enum_item};
-ghost use Rattle.field_rules.specs.EnumValues.{values_faults};
-ghost use Rattle.linked_records.specs.SettingCode.{setting_in};
-ghost use Rattle.link_rules.specs.Broken.{extension_faults, message_faults, service_faults};
-ghost use Rattle.link_rules.specs.Imports.{import_faults};
-ghost use Rattle.link_rules.specs.Items.{extension_item, message_item, service_item};
-ghost use Rattle.link_rules.specs.NamesBegin.{MessageNamesBegin};
-ghost use Rattle.link_rules.specs.Short.{ShortFiles};
-
-use link_rules::Reading;
-use linked_records::Setting;
+use crate::Setting;
+use name_tables::{FileNames, HashedNames};
 use field_rules::{Findings, Place};
-use pool_faults::DescriptorErrorKind;
-use pool_types::{EnumDescriptorInner, ExtensionDescriptorInner, FileDescriptorInner, MessageDescriptorInner, ServiceDescriptorInner};
-use proto_types::{DescriptorProto, EnumDescriptorProto, FieldDescriptorProto, FileDescriptorProto, ServiceDescriptorProto};
-use std::alloc::{AllocError, Global};
+use name_resolution::{ResolveNameFilter, ResolveNameResult};
+use std::alloc::AllocError;
 
-/// Appends to `faults` what the imports of the file with an index break.
-pub(crate) fn check_imports(
-    alloc: Global,
-    setting: Setting,
-    index: u32,
-    file: &FileDescriptorProto,
-    faults: &mut Vec<DescriptorErrorKind>,
+/// What declarations are read with: the files that labels name, the faults that are found, and what
+/// names mean.
+#[derive(Drop)]
+pub struct Reading<'a> {
+    pub findings: Findings<'a>,
+    pub names: &'a HashedNames,
+    pub file_names: &'a FileNames,
+}
+
+impl<'a> Reading<'a> {
+    ghost use Rattle.reference_pass.specs.Reading.{Reads, setting_of};
+
+    /// What declarations are read against.
+    pub(crate) fn setting(&self) -> Setting<'a>
+        ensures { setting_in result ≡ setting_of self.now }
+    {
+        Setting {
+            files: self.findings.files,
+            names: self.names,
+            file_names: self.file_names,
+        }
+    }
+
+    /// What a name means that a declaration writes.
+    ///
+    /// # Errors
+    /// `AllocError` where memory was refused.
+    pub fn resolve(
+        &self,
+        place: Place,
+        filter: ResolveNameFilter,
+        written: &str,
+    ) -> Result<ResolveNameResult<'a>, AllocError>
+        ensures { IfOk result (λ r. resolution_in r
+            ≡ meaning (setting_of self.now) place.entry.file place.entry.full_name.now
+            filter written.now) }
+    {
+        let alloc = self.findings.alloc;
+        self.setting()
+            .meaning(alloc, place.file, place.full_name, filter, written)
+    }
+
+    /// The same of the part of a declaration with a tag. Where it isn't found, that is appended to
+    /// `faults`.
+    ///
+    /// # Errors
+    /// `AllocError` where memory was refused.
+    pub fn resolve_checked(
+        &mut self,
+        place: Place,
+        tag: i32,
+        filter: ResolveNameFilter,
+        written: &str,
+    ) -> Result<ResolveNameResult<'a>, AllocError>
+        ensures meaning { IfOk result (λ r. resolution_in r
+            ≡ meaning (setting_of self.old) place.entry.file place.entry.full_name.now
+            filter written.now) }
+        ensures faults { OnOk result (Reads self.old self.new
+            (listed (reference_fault (setting_of self.old).files written.now place.entry.file
+            (place.entry.path.now ++ tag ∷ []) (meaning (setting_of self.old)
+            place.entry.file place.entry.full_name.now filter written.now)))) }
+    {
+        let meaning = self.resolve(place, filter, written)?;
+        check_found(&mut self.findings, place, tag, written, &meaning)?;
+        Ok(meaning)
+    }
+
+    /// What the part of a declaration with a tag means, which names a message. Where it names none,
+    /// that is appended to `faults`.
+    ///
+    /// # Errors
+    /// `AllocError` where memory was refused.
+    pub fn resolve_message(
+        &mut self,
+        place: Place,
+        tag: i32,
+        written: &str,
+    ) -> Result<ResolveNameResult<'a>, AllocError>
+        ensures meaning { IfOk result (λ r. resolution_in r
+            ≡ meaning (setting_of self.old) place.entry.file place.entry.full_name.now
+            ResolveNameFilter.Message written.now) }
+        ensures faults { OnOk result (Reads self.old self.new
+            (listed (reference_fault (setting_of self.old).files written.now place.entry.file
+            (place.entry.path.now ++ tag ∷ []) (meaning (setting_of self.old)
+            place.entry.file place.entry.full_name.now ResolveNameFilter.Message written.now)))) }
+    {
+        self.resolve_checked(place, tag, ResolveNameFilter::Message, written)
+    }
+}
+
+/// Appends to `faults` that of a reference, in the part of a declaration with a tag, which isn't
+/// found.
+fn check_found(
+    findings: &mut Findings,
+    place: Place,
+    tag: i32,
+    written: &str,
+    meaning: &ResolveNameResult,
 ) -> Result<(), AllocError>
-    requires { lists_fit (of_file file.now) ≡ true }
-    ensures { OnOk result (faults.new.items ≡ faults.old.items
-        ++ import_faults (setting_in setting.entry) index file.now) }
+    ensures { OnOk result (Tells findings.old findings.new
+        (listed (reference_fault (named_files findings.old) written.now place.entry.file
+        (place.entry.path.now ++ tag ∷ []) (resolution_in meaning.now)))) }
 {
-    let mut reading = Reading {
-        findings: Findings {
-            alloc,
-            files: setting.files,
-            faults,
-        },
-        names: setting.names,
-        file_names: setting.file_names,
-    };
-    link_rules::check_imports(&mut reading, index, file)
-}
-
-/// The item of a message. What it breaks is appended to `faults`.
-pub(crate) fn read_message(
-    alloc: Global,
-    setting: Setting,
-    place: Place,
-    message: &DescriptorProto,
-    faults: &mut Vec<DescriptorErrorKind>,
-) -> Result<MessageDescriptorInner, AllocError>
-    requires { lists_fit (of_message message.now) ≡ true }
-    ensures item { IfOk result (λ item. item
-        ≡ message_item (setting_in setting.entry)
-        (message_at place.entry message.now) message.now) }
-    ensures begins { IfOk result (λ item.
-        EndsWithName (message_at place.entry message.now) → MessageNamesBegin item) }
-    ensures faults { OnOk result (faults.new.items ≡ faults.old.items
-        ++ message_faults (setting_in setting.entry)
-        (message_at place.entry message.now) message.now) }
-{
-    let mut reading = Reading {
-        findings: Findings {
-            alloc,
-            files: setting.files,
-            faults,
-        },
-        names: setting.names,
-        file_names: setting.file_names,
-    };
-    link_rules::read_message(&mut reading, place, message)
-}
-
-/// The item of a service. What it breaks is appended to `faults`.
-pub(crate) fn read_service(
-    alloc: Global,
-    setting: Setting,
-    place: Place,
-    service: &ServiceDescriptorProto,
-    faults: &mut Vec<DescriptorErrorKind>,
-) -> Result<ServiceDescriptorInner, AllocError>
-    requires { lists_fit (of_service service.now) ≡ true }
-    ensures item { IfOk result (λ item. item
-        ≡ service_item (setting_in setting.entry)
-        (service_at place.entry service.now) service.now) }
-    ensures faults { OnOk result (faults.new.items ≡ faults.old.items
-        ++ service_faults (setting_in setting.entry)
-        (service_at place.entry service.now) service.now) }
-{
-    let mut reading = Reading {
-        findings: Findings {
-            alloc,
-            files: setting.files,
-            faults,
-        },
-        names: setting.names,
-        file_names: setting.file_names,
-    };
-    link_rules::read_service(&mut reading, place, service)
-}
-
-/// The item of an extension. What it breaks is appended to `faults`.
-pub(crate) fn read_extension(
-    alloc: Global,
-    setting: Setting,
-    place: Place,
-    extension: &FieldDescriptorProto,
-    faults: &mut Vec<DescriptorErrorKind>,
-) -> Result<ExtensionDescriptorInner, AllocError>
-    requires { ShortFiles (setting_in setting).files }
-    ensures item { IfOk result (λ item. item
-        ≡ extension_item (setting_in setting.entry)
-        (shown_at place.entry (of_extension extension.now)) extension.now) }
-    ensures faults { OnOk result (faults.new.items ≡ faults.old.items
-        ++ extension_faults (setting_in setting.entry)
-        (shown_at place.entry (of_extension extension.now)) extension.now) }
-{
-    let mut reading = Reading {
-        findings: Findings {
-            alloc,
-            files: setting.files,
-            faults,
-        },
-        names: setting.names,
-        file_names: setting.file_names,
-    };
-    link_rules::read_extension(&mut reading, place, extension)
-}
-
-/// The item of an enum. What it breaks is appended to `faults`.
-pub(crate) fn read_enum(
-    alloc: Global,
-    files: &[FileDescriptorInner],
-    place: Place,
-    enumeration: &EnumDescriptorProto,
-    faults: &mut Vec<DescriptorErrorKind>,
-) -> Result<EnumDescriptorInner, AllocError>
-    requires short { lists_fit (of_enum enumeration.now) ≡ true }
-    requires ends { EndsWithName (enum_at place enumeration.now) }
-    ensures item { IfOk result (λ item. item
-        ≡ enum_item (enum_at place.entry enumeration.now) enumeration.now) }
-    ensures faults { OnOk result (faults.new.items ≡ faults.old.items
-        ++ values_faults (map (λ f. f.raw) files.now)
-        (enum_at place.entry enumeration.now) enumeration.now) }
-{
-    let mut findings = Findings {
-        alloc,
-        files,
-        faults,
-    };
-    field_rules::read_enum(&mut findings, place, enumeration)
+    if meaning.is_found() {
+        return Ok(());
+    }
+    let (alloc, files) = (findings.alloc, findings.files);
+    let mut path = Vec::from_slice(alloc, place.path)?;
+    path.push(tag)?;
+    if let Some(fault) = meaning.fault(alloc, written, files, place.file, &path)? {
+        findings.push(fault)?;
+    }
+    Ok(())
 }

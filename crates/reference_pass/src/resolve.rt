@@ -1,10 +1,10 @@
 ghost use Rattle.std.specs.Prelude.{map};
-ghost use Rattle.link_rules.specs.NamesBegin.{NamesBegin};
-ghost use Rattle.link_rules.specs.Short.{ShortFiles};
+ghost use Rattle.reference_pass.specs.NamesBegin.{NamesBegin};
+ghost use Rattle.reference_pass.specs.Short.{ShortFiles};
 
 use crate::items::NewItems;
-use crate::reading::{check_imports, read_enum, read_extension, read_message, read_service};
-use linked_records::Setting;
+use crate::owner_reading::{check_imports, read_enum, read_extension, read_message, read_service};
+use crate::Setting;
 use field_rules::Place;
 use pool_faults::DescriptorErrorKind;
 use proto_types::{DescriptorProto, EnumDescriptorProto, EnumValueDescriptorProto, FieldDescriptorProto, FileDescriptorProto, MethodDescriptorProto, OneofDescriptorProto, ServiceDescriptorProto};
@@ -32,7 +32,7 @@ impl Visitor for ResolveVisitor<'_> {
     ghost use Rattle.std.specs.Prelude.{[]};
     ghost use Rattle.pool_types.specs.Contents.{no_contents};
     ghost use Rattle.record_walk.specs.FullNames.{CanBeRead, front-read};
-    ghost use Rattle.linked_records.specs.SettingCode.{setting_in};
+    ghost use Rattle.reference_pass.specs.SettingCode.{setting_in};
     ghost use Rattle.reference_pass.specs.Steps.{reference_progress, reference_step};
     ghost use Rattle.reference_pass.specs.State.{state_of};
 

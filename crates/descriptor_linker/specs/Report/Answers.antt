@@ -4,7 +4,7 @@ use Rattle.std.specs.Option.{option_map_or}
 use Rattle.proto_types.specs.Readers.{text_of}
 use Rattle.pool_types.specs.Contents.{Contents, no_contents, files_of}
 use Rattle.pool_faults.specs.Labels.{file_at}
-use Rattle.link_rules.specs.Broken.{Faults}
+use Rattle.reference_pass.specs.Broken.{Faults}
 use Rattle.pool_contents.specs.Equality.{contents_eq}
 use Rattle.pool_contents.specs.LookUps.{definition_named}
 use Rattle.script_answers.specs.Answers.{line, none_line, definition_line}

@@ -15,7 +15,7 @@ use Rattle.link_script.specs.declared.script.statement.Statement.{Statement}
 use Rattle.link_script.specs.declared.script.statement.Statement.TheVariants as say
 use Rattle.link_script.specs.declared.building.Open.{Open}
 use Rattle.link_script.specs.declared.building.Open.TheVariants as opened
-use Rattle.link_rules.specs.Broken.{Faults}
+use Rattle.reference_pass.specs.Broken.{Faults}
 use Rattle.descriptor_pool.specs.Pool.{Batch, faults, counts_after, link}
 use Rattle.link_script.specs.Building.{opened_by, stated_in, closed_in}
 use Rattle.script_answers.specs.Answers.{counts_line, refused_lines, too_many_line, walk_answer, refs_answer, fault_line}

@@ -2,7 +2,7 @@ use Rattle.std.proofs.Common.{◌≡◌, rules, true, Result, Ok, Err, OnOk, ap,
 use Rattle.std.specs.Result.{is_err}
 use Rattle.record_walk.proofs.Listings.{on-ok}
 use Rattle.pool_types.specs.Contents.{Contents}
-use Rattle.link_rules.specs.NamesBegin.{NamesBegin}
+use Rattle.reference_pass.specs.NamesBegin.{NamesBegin}
 use Rattle.pool_contents.specs.declared.growing.GrowingPool.{GrowingPool}
 use Rattle.pool_contents.specs.declared.inner.DescriptorPoolInner.{DescriptorPoolInner}
 use Rattle.descriptor_pool.specs.Behind.{faults_behind, linked_behind}

@@ -1,7 +1,7 @@
 use Rattle.std.proofs.Common.{◌++◌, length, ap, subst, sym, ◌∙◌, arith}
 use Rattle.std.proofs.lemmas.List.Elements.{All-append}
 use Rattle.pool_types.specs.Contents.{Contents}
-use Rattle.link_rules.specs.NamesBegin.{MessageNamesBegin, NamesBegin}
+use Rattle.reference_pass.specs.NamesBegin.{MessageNamesBegin, NamesBegin}
 use Rattle.record_walk.specs.declared.counts.Counts.{Counts}
 use Rattle.record_walk.specs.Counts.{counted}
 use Rattle.record_walk.specs.Declarations.{declarations}

@@ -5,9 +5,9 @@ use Rattle.record_walk.specs.declared.counts.Counts.{Counts}
 use Rattle.record_walk.specs.Declarations.{declarations}
 use Rattle.record_walk.specs.FullNames.{CanBeRead}
 use Rattle.record_walk.proofs.FullNames.{declarations-read}
-use Rattle.linked_records.specs.Setting.{Setting}
-use Rattle.linked_records.specs.SettingCode.{setting_in}
-use Rattle.link_rules.specs.Broken.{second_pass}
+use Rattle.reference_pass.specs.Setting.{Setting}
+use Rattle.reference_pass.specs.SettingCode.{setting_in}
+use Rattle.reference_pass.specs.Broken.{second_pass}
 use Rattle.reference_pass.specs.Against.{setting_with}
 use Rattle.reference_pass.specs.Steps.{ReferenceState}
 use Rattle.pool_contents.specs.Growing.{new_records}

@@ -1,5 +1,5 @@
 use Rattle.std.proofs.Common.{subst, ◌≡◌, []}
-use Rattle.link_rules.specs.Broken.{owner_faults}
+use Rattle.reference_pass.specs.Broken.{owner_faults}
 use Rattle.linking_laws.proofs.AsGiven.{given-carried}
 use Rattle.linking_laws.proofs.Declarations.{declaration-carried}
 use Rattle.linking_laws.proofs.Unchanged.{declaration-unchanged}

@@ -1,6 +1,6 @@
 use Rattle.std.proofs.Common.{subst}
 use Rattle.linking_laws.specs.Laws.{IsFile}
-use Rattle.link_rules.specs.Items.{file_item}
+use Rattle.reference_pass.specs.Items.{file_item}
 use Rattle.linking_laws.proofs.AsGiven.{given-carried}
 use Rattle.linking_laws.proofs.Files.{file-carried}
 use Rattle.linking_laws.proofs.Unchanged.{file-unchanged}

@@ -1,6 +1,6 @@
 use Rattle.std.proofs.Common.{subst}
 use Rattle.linking_laws.specs.Laws.{IsMessage, message_at_place}
-use Rattle.link_rules.specs.Items.{message_item}
+use Rattle.reference_pass.specs.Items.{message_item}
 use Rattle.linking_laws.proofs.AsGiven.{given-carried}
 use Rattle.linking_laws.proofs.Messages.{message-carried}
 use Rattle.linking_laws.proofs.Unchanged.{message-unchanged}

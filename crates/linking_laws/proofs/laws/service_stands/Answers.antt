@@ -1,7 +1,7 @@
 use Rattle.std.proofs.Common.{subst}
 use Rattle.linking_laws.specs.Laws.{IsService, service_at_place}
-use Rattle.link_rules.specs.Items.{service_item}
-use Rattle.linked_records.specs.Linked.{linking}
+use Rattle.reference_pass.specs.Items.{service_item}
+use Rattle.reference_pass.specs.Linked.{linking}
 use Rattle.record_walk.specs.Changed.{changed_service}
 use Rattle.linking_laws.proofs.AsGiven.{given-carried}
 use Rattle.linking_laws.proofs.Services.{service-carried}

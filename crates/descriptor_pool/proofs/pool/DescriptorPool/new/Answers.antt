@@ -2,7 +2,7 @@ use Rattle.std.proofs.Common.{refl, subst, sym, arith}
 use Rattle.std.proofs.lemmas.List.Elements.{All-nil}
 use Rattle.pool_types.specs.Contents.{no_contents}
 use Rattle.descriptor_pool.specs.Invariant.{IsPool}
-use Rattle.link_rules.specs.NamesBegin.{MessageNamesBegin}
+use Rattle.reference_pass.specs.NamesBegin.{MessageNamesBegin}
 use Rattle.descriptor_pool.specs.Pool.{empty}
 use Rattle.descriptor_pool.proofs.pool.DescriptorPool.new.Goals as goal
 

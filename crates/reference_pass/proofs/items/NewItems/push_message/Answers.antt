@@ -1,7 +1,7 @@
 use Rattle.std.proofs.Common.{subst, sym}
 use Rattle.std.proofs.lemmas.List.Elements.{All-push}
 use Rattle.std.specs.List.{All}
-use Rattle.link_rules.specs.NamesBegin.{MessageNamesBegin}
+use Rattle.reference_pass.specs.NamesBegin.{MessageNamesBegin}
 use Rattle.reference_pass.proofs.items.NewItems.push_message.Goals as goal
 
 -- the names of one more message begin where a character begins

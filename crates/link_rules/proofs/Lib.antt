@@ -1,5 +1,0 @@
-pub mod Entries
-pub mod Made
-pub mod Readings
-pub mod Found
-pub mod Owners

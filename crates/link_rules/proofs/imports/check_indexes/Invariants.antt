@@ -1,9 +1,0 @@
-use Rattle.std.proofs.Common.{take}
-use Rattle.std.specs.List.{flat_map}
-use Rattle.field_rules.specs.Tells.{Tells}
-use Rattle.link_rules.specs.Imports.{index_fault}
-use Rattle.link_rules.proofs.imports.check_indexes.Given as goal
-
--- what the indexes so far break is told
-abbrev pub invariant-loop-index : goal.invariant-loop-index
-invariant-loop-index l = Tells l.initial.findings l.findings (flat_map (index_fault l.imports) (take l.index-index l.indexes))

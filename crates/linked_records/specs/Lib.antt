@@ -1,3 +1,0 @@
-pub mod Setting
-pub mod SettingCode
-pub mod Linked

@@ -1,0 +1,49 @@
+-- What is read, one after another.
+use Rattle.std.proofs.Common.{◌≡◌, ◌<◌, ◌+◌, ℕ, List, [], ◌++◌, length, map, take, get_or, refl, ap, subst, sym, ◌∙◌}
+use Rattle.std.specs.List.{flat_map}
+use Rattle.field_rules.specs.declared.findings.Findings.{Findings}
+use Rattle.field_rules.specs.Each.{each}
+use Rattle.field_rules.specs.Tells.{Tells}
+use Rattle.field_rules.proofs.Each.{all-next}
+use Rattle.field_rules.proofs.Tells.{tells-none, tells-two}
+use Rattle.reference_pass.specs.Setting.{Setting}
+use Rattle.reference_pass.specs.declared.reading.Reading.{Reading}
+use Rattle.reference_pass.specs.Broken.{Faults}
+use Rattle.reference_pass.specs.Reading.{Reads, setting_of}
+
+-- no fault
+pub reads-none : (r : Reading) → Reads r r []
+reads-none r = record { findings = tells-none r.findings; names = refl; file_names = refl }
+
+-- the same faults, as they are said otherwise
+pub reads-as : {a b : Reading} {fs gs : Faults} → fs ≡ gs → Reads a b fs → Reads a b gs
+reads-as {a} {b} is reads = subst (Reads a b) is reads
+
+-- what a check of the findings alone appends
+pub reads-told : {r : Reading} {found : Findings} {fs : Faults} → Tells r.findings found fs → Reads r (record r { findings = found }) fs
+reads-told told = record { findings = told; names = refl; file_names = refl }
+
+-- declarations are read against the same
+pub same-setting : {a b : Reading} {fs : Faults} → Reads a b fs → setting_of b ≡ setting_of a
+same-setting reads = λ j. record {
+  files = map (λ f. f.raw) (reads.findings.files j).now;
+  names = (reads.names j).now;
+  file_names = (reads.file_names j).now;
+  seen = map (λ f. f.transitive_dependencies) (reads.findings.files j).now;
+}
+
+-- two readings
+pub reads-two : {a b c : Reading} {fs gs : Faults} → Reads a b fs → Reads b c gs → Reads a c (fs ++ gs)
+reads-two first second = record {
+  findings = tells-two first.findings second.findings;
+  names = second.names ∙ first.names;
+  file_names = second.file_names ∙ first.file_names;
+}
+
+-- the entries of a list up to a position, and the one there
+pub reads-next : {X : Type 0} {a b c : Reading} {fs : Faults} (make : Setting → ℕ → X → Faults) (xs : List X) (i : ℕ) (x : X) → i < length xs → x ≡ get_or xs i x
+    → Reads a b (flat_map (λ ys. ys) (each (make (setting_of a)) 0 (take i xs))) → fs ≡ make (setting_of b) i x → Reads b c fs
+    → Reads a c (flat_map (λ ys. ys) (each (make (setting_of a)) 0 (take (i + 1) xs)))
+reads-next {X} {a} make xs i x below is so_far told next =
+    reads-as (sym (all-next (make (setting_of a)) xs i x below is))
+    (reads-two so_far (reads-as (told ∙ ap (λ s. make s i x) (same-setting so_far)) next))

@@ -1,0 +1,52 @@
+use Rattle.std.proofs.lemmas.Grind.{common_steps}
+use Rattle.std.proofs.Common.{List, ◌<◌, length, get_or, subst, ◌++◌, ◌∷◌, [], ap, ◌∙◌, sym, refl, take, arith}
+use Rattle.std.proofs.lemmas.List.Elements.{All-push}
+use Rattle.std.specs.List.{All}
+use Rattle.proto_types.specs.Empty.{no_field}
+use Rattle.proto_types.specs.declared.records.field.FieldDescriptorProto.{FieldDescriptorProto}
+use Rattle.proto_types.specs.declared.message.DescriptorProto.{out-DescriptorProto}
+use Rattle.pool_types.specs.declared.contents.field.FieldDescriptorInner.{FieldDescriptorInner}
+use Rattle.field_rules.specs.Again.{again_faults}
+use Rattle.reference_pass.specs.Broken.{Owner, field_faults}
+use Rattle.reference_pass.specs.Items.{field_item}
+use Rattle.reference_pass.specs.Reading.{setting_of}
+use Rattle.field_rules.specs.NamesBegin.{BeginsAtBoundary}
+use Rattle.field_rules.specs.Places.{field_at, inside_of, message_at}
+use Rattle.field_rules.proofs.Each.{each-next}
+use Rattle.reference_pass.proofs.Entries.{found-again}
+use Rattle.reference_pass.proofs.Readings.{reads-as, reads-next, reads-told, reads-two, same-setting}
+use Rattle.reference_pass.proofs.message.read_fields.Goals as goal
+
+-- one more field is read, and entered
+pub loop-position-preserved : goal.loop-position-preserved
+loop-position-preserved c =
+    let s = setting_of c.args.reading.now in
+    let m = out-DescriptorProto c.args.owner.message.now in
+    let owner : Owner = (message_at c.args.owner.place c.args.owner.message.now, c.args.owner.message.now) in
+    let here = inside_of c.args.owner.place in
+    let i = c.loop-position.position in
+    let f = get_or m.field i no_field in
+    let below = subst (λ (xs : List FieldDescriptorProto). i < length xs) c.as_slice-fields.ensures c.loop-position-test.true in
+    let is = found-again m.field i no_field in
+    let so_far = c.loop-position.invariant.faults in
+    let own = c.in_ok-read_field.ensures.faults in
+    let item = c.in_ok-read_field.ensures.item ∙ ap (λ t. field_item t m.oneof_decl (field_at here i f) f) (same-setting so_far) in
+    let Begins : FieldDescriptorInner → Type 0 = λ g. BeginsAtBoundary g.id in
+    record {
+      items = c.in_ok-push.ensures.items ∙ (λ j. c.loop-position.invariant.items j ++ item j ∷ [])
+          ∙ sym (each-next (λ n g. field_item s m.oneof_decl (field_at here n g) g) m.field i f below is);
+      begin = subst (All Begins) (sym c.in_ok-push.ensures.items)
+          (All-push Begins c.loop-position.items.items c.in_ok-read_field.field-0 c.loop-position.invariant.begin c.in_ok-read_field.ensures.begins);
+      maps = c.in_ok-insert.ensures.maps;
+      faults = reads-next (λ t n g. field_faults t owner (field_at here n g) g) m.field i f below is so_far refl
+          (reads-two own (reads-as (ap (λ t. again_faults t.files owner.0.file owner.0.path (take i m.field) i f) (same-setting own)) (reads-told c.in_ok-insert.ensures.faults)));
+    }
+
+pub returns-clause-faults : goal.returns-clause-faults
+returns-clause-faults c = grind (arith, common_steps)
+
+pub returns-clause-items : goal.returns-clause-items
+returns-clause-items c = grind (arith, common_steps)
+
+pub returns-clause-maps : goal.returns-clause-maps
+returns-clause-maps c = grind (arith, common_steps)

@@ -1,0 +1,23 @@
+use Rattle.std.proofs.Common.{◌≡◌, take}
+use Rattle.std.specs.List.{All}
+use Rattle.proto_types.specs.declared.message.DescriptorProto.{out-DescriptorProto}
+use Rattle.field_rules.specs.MapsOf.{AreMapsOf}
+use Rattle.reference_pass.specs.Broken.{faults_of_fields}
+use Rattle.reference_pass.specs.Items.{field_items}
+use Rattle.reference_pass.specs.Reading.{Reads, setting_of}
+use Rattle.field_rules.specs.NamesBegin.{BeginsAtBoundary}
+use Rattle.field_rules.specs.Places.{inside_of, message_at}
+use Rattle.reference_pass.proofs.message.read_fields.Given as goal
+
+-- the fields so far are read, and entered
+abbrev pub invariant-loop-position : goal.invariant-loop-position
+invariant-loop-position l =
+    let s = setting_of l.initial.reading in
+    let m = l.owner.message.now in
+    let so_far = take l.position (out-DescriptorProto m).field in
+    record {
+      items : l.items.items ≡ field_items s (out-DescriptorProto m).oneof_decl (inside_of l.owner.place) so_far;
+      begin : All (λ f. BeginsAtBoundary f.id) l.items.items;
+      maps : AreMapsOf l.maps so_far;
+      faults : Reads l.initial.reading l.reading (faults_of_fields s (message_at l.owner.place m, m) so_far);
+    }

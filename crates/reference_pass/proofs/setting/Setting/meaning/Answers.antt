@@ -1,0 +1,24 @@
+use Rattle.std.proofs.Common.{◌≡◌, Bor, Option, None, Some, IfOk, [], ap, refl, subst, ◌∙◌}
+use Rattle.std.specs.BTreeSet.{contains_by}
+use Rattle.std.specs.Option.{option_copied, unwrap_or}
+use Rattle.std.specs.Ordering.{nat_cmp}
+use Rattle.name_resolution.specs.Resolution.{resolution, resolution_in}
+use Rattle.reference_pass.specs.Setting.{seen_by}
+use Rattle.reference_pass.specs.SettingCode.{setting_in}
+use Rattle.reference_pass.proofs.setting.Setting.meaning.Goals as goal
+
+given-copied : {X : Type 0} (o : Option (Bor X)) (other : Bor X) → (unwrap_or o other).now ≡ unwrap_or (option_copied o) other.now
+given-copied None other = refl
+given-copied (Some b) other = refl
+
+-- the files that are seen are those of the setting
+pub returns : goal.returns
+returns c =
+    let s = setting_in c.args.self in
+    let nothing = c.new-nothing.result in
+    let none : nothing ≡ record { keys = [] } = λ i. record { keys = c.new-nothing.ensures.empty i } in
+    let seen : c.unwrap_or-visible.result.now ≡ seen_by s c.args.file =
+    ap (λ b. b.now) c.unwrap_or-visible.ensures ∙ given-copied c.visible.result _
+    ∙ (λ i. unwrap_or (c.visible.ensures i) (none i)) in
+    subst (λ visible. IfOk c.resolve_name.result (λ r. resolution_in r
+    ≡ resolution c.args.self.names.now (λ n. contains_by (nat_cmp n) visible) c.args.filter c.args.scope.now c.args.written.now)) seen c.resolve_name.ensures

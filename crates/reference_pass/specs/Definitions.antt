@@ -1,0 +1,32 @@
+-- What is declared under the full name that was found: its definition, and its record.
+use Rattle.std.specs.Prelude.{ℕ, ◌-◌, ℤ, List, length, take, slice_get}
+use Rattle.std.specs.Option.{option_and_then}
+use Rattle.std.specs.declared.option.Option.{Option}
+use Rattle.std.specs.declared.option.Option.TheVariants.{None, Some}
+use Rattle.proto_types.specs.declared.records.enumeration.EnumDescriptorProto.{EnumDescriptorProto}
+use Rattle.proto_types.specs.declared.message.DescriptorProto.{DescriptorProto}
+use Rattle.pool_types.specs.declared.contents.definition.Definition.{Definition}
+use Rattle.record_walk.specs.Leads.{leads}
+use Rattle.record_walk.specs.Protos.{Proto, as_message, as_enum}
+use Rattle.name_resolution.specs.Resolution.{Resolution, found}
+use Rattle.reference_pass.specs.Setting.{Setting}
+
+-- the full name that was found, and its definition
+abbrev pub found_as : Resolution → Option (List ℕ × Definition)
+found_as (found name def) = Some (name, def)
+found_as _ = None
+
+-- the path of a declaration, by that of its name
+abbrev pub around_name : List ℤ → List ℤ
+around_name path = take (length path - 1) path
+
+-- the record at the path of a definition
+abbrev pub record_of : Setting → Definition → Option Proto
+record_of s def = option_and_then (λ f. leads f (around_name def.path)) (slice_get s.files def.file)
+
+-- of a message, and of an enum
+abbrev pub message_record : Setting → Definition → Option DescriptorProto
+message_record s def = option_and_then as_message (record_of s def)
+
+abbrev pub enum_record : Setting → Definition → Option EnumDescriptorProto
+enum_record s def = option_and_then as_enum (record_of s def)

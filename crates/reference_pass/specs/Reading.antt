@@ -1,0 +1,21 @@
+-- What declarations are read with, and the faults that reading appends, where all else stays.
+use Rattle.std.specs.Prelude.{◌≡◌, List, map}
+use Rattle.pool_faults.specs.declared.fault.DescriptorErrorKind.{DescriptorErrorKind}
+use Rattle.field_rules.specs.Tells.{Tells, named_files}
+use Rattle.reference_pass.specs.Setting.{Setting}
+use Rattle.reference_pass.specs.declared.reading.Reading.{Reading}
+
+-- what declarations are read against
+abbrev pub setting_of : Reading → Setting
+setting_of r = record {
+  files = named_files r.findings;
+  names = r.names.now;
+  file_names = r.file_names.now;
+  seen = map (λ f. f.transitive_dependencies) r.findings.files.now;
+}
+
+-- that faults were appended to those found before, and no more
+pub record Reads (old new : Reading) (faults : List DescriptorErrorKind) : Type 0 where
+  pub findings : Tells old.findings new.findings faults
+  pub names : new.names ≡ old.names
+  pub file_names : new.file_names ≡ old.file_names

@@ -1,0 +1,125 @@
+ghost use Rattle.std.specs.Prelude.{◌≡◌, ◌++◌, IfOk, OnOk};
+ghost use Rattle.name_resolution.specs.Resolution.{resolution_in};
+ghost use Rattle.record_walk.specs.Protos.{of_extension};
+ghost use Rattle.reference_pass.specs.Broken.{extension_faults};
+ghost use Rattle.reference_pass.specs.Extensions.{extendee_faults, number_faults};
+ghost use Rattle.reference_pass.specs.Items.{bracketed, extension_item};
+ghost use Rattle.reference_pass.specs.Messages.{message_found, message_meaning, or_missing};
+ghost use Rattle.reference_pass.specs.Reading.{Reads, setting_of};
+ghost use Rattle.reference_pass.specs.Short.{ShortFiles};
+ghost use Rattle.field_rules.specs.Places.{shown_at};
+
+use crate::declared::{around_name, message_record};
+use crate::field::is_proto3;
+use crate::reading::Reading;
+use crate::references::message_found;
+use crate::types::type_and_default;
+use field_rules::{Owner, Place, check_extension_number, identity, is_packed, item_number};
+use plain_data::Text;
+use pool_types::{ExtensionDescriptorInner, KindIndex};
+use name_resolution::{ResolveNameResult, cardinality_of};
+use proto_types::{FieldDescriptorProto, tag};
+use std::alloc::{AllocError, Global};
+
+/// The item of an extension. What it breaks is appended to `faults`: that its extendee is no
+/// message; else what its number breaks by the record of that message; its type; its default value.
+/// No list of the files that it is read against is longer than a pool allows.
+///
+/// # Errors
+/// `AllocError` where memory was refused.
+pub fn read_extension(
+    reading: &mut Reading,
+    place: Place,
+    extension: &FieldDescriptorProto,
+) -> Result<ExtensionDescriptorInner, AllocError>
+    requires { ShortFiles (setting_of reading.old).files }
+    ensures item { IfOk result (λ item. item
+        ≡ extension_item (setting_of reading.old)
+        (shown_at place.entry (of_extension extension.now)) extension.now) }
+    ensures faults { OnOk result (Reads reading.old reading.new
+        (extension_faults (setting_of reading.old)
+        (shown_at place.entry (of_extension extension.now)) extension.now)) }
+{
+    let id = identity(reading.findings.alloc, place, extension.name())?;
+    let json_name = bracketed(reading.findings.alloc, place.full_name)?;
+    let extendee = read_extendee(reading, place, extension)?;
+    let (kind, default) = type_and_default(reading, place, extension)?;
+    let kind = kind.unwrap_or(KindIndex::Double);
+    Ok(ExtensionDescriptorInner {
+        id,
+        parent: place.parent,
+        number: item_number(extension.number()),
+        json_name,
+        extendee,
+        kind,
+        is_packed: is_packed(is_proto3(reading, place.file), kind, extension),
+        cardinality: cardinality_of(extension.label()),
+        default,
+    })
+}
+
+/// The index of the message that is extended, or the largest number where none is found. That, or
+/// what the number breaks by the record of the message, is appended to `faults`.
+fn read_extendee(
+    reading: &mut Reading,
+    place: Place,
+    extension: &FieldDescriptorProto,
+) -> Result<u32, AllocError>
+    requires { ShortFiles (setting_of reading.old).files }
+    ensures index { IfOk result (λ index. index
+        ≡ or_missing (message_found (message_meaning (setting_of reading.old)
+        (shown_at place.entry (of_extension extension.now)) extension.now.extendee))) }
+    ensures faults { OnOk result (Reads reading.old reading.new
+        (extendee_faults (setting_of reading.old)
+        (shown_at place.entry (of_extension extension.now)) extension.now
+        ++ number_faults (setting_of reading.old)
+        (shown_at place.entry (of_extension extension.now)) extension.now
+        (message_meaning (setting_of reading.old)
+        (shown_at place.entry (of_extension extension.now)) extension.now.extendee))) }
+{
+    let extendee = extension.extendee();
+    let meaning = reading.resolve_message(place, tag::field::EXTENDEE, extendee)?;
+    check_number(reading, &meaning, place, extension)?;
+    Ok(message_found(&meaning))
+}
+
+/// Appends to `faults` what the number of an extension breaks, by the record of the message that
+/// was found.
+fn check_number(
+    reading: &mut Reading,
+    extendee: &ResolveNameResult,
+    place: Place,
+    extension: &FieldDescriptorProto,
+) -> Result<(), AllocError>
+    requires { ShortFiles (setting_of reading.old).files }
+    ensures { OnOk result (Reads reading.old reading.new
+        (number_faults (setting_of reading.old)
+        (shown_at place.entry (of_extension extension.now)) extension.now
+        (resolution_in extendee.now))) }
+{
+    let ResolveNameResult::Found { name, def } = extendee else {
+        return Ok(());
+    };
+    let Some(message) = message_record(reading.setting(), def) else {
+        return Ok(());
+    };
+    let owner = Place {
+        file: def.file,
+        parent: None,
+        index: 0,
+        path: around_name(def.path.as_slice()),
+        full_name: name.as_str(),
+    };
+    let owner = Owner {
+        place: owner,
+        message,
+    };
+    check_extension_number(&mut reading.findings, owner, place, extension)
+}
+
+/// A text in square brackets.
+fn bracketed(alloc: Global, text: &str) -> Result<Text, AllocError>
+    ensures { IfOk result (λ t. t ≡ bracketed text.now) }
+{
+    Ok(Text::from_string(format!(in alloc; "[{text}]")?))
+}

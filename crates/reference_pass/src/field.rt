@@ -1,0 +1,133 @@
+ghost use Rattle.std.specs.Prelude.{◌≡◌, ◌<◌, true, IfOk, OnOk, length, get_or, unwrap_or};
+ghost use Rattle.pool_types.specs.declared.kinds.KindIndex.TheVariants.{Double};
+ghost use Rattle.proto_types.specs.Empty.{no_field};
+ghost use Rattle.proto_types.specs.declared.message.DescriptorProto.{out-DescriptorProto};
+ghost use Rattle.record_walk.specs.Counts.{lists_fit};
+ghost use Rattle.record_walk.specs.Protos.{of_field, of_message};
+ghost use Rattle.field_rules.specs.Bounds.{AreRangesOf};
+ghost use Rattle.reference_pass.specs.Broken.{own_faults};
+ghost use Rattle.reference_pass.specs.Defaults.{field_default};
+ghost use Rattle.reference_pass.specs.FieldTypes.{field_kind};
+ghost use Rattle.reference_pass.specs.Items.{field_item, item_at};
+ghost use Rattle.reference_pass.specs.Reading.{Reads, setting_of};
+ghost use Rattle.field_rules.specs.NamesBegin.{BeginsAtBoundary};
+ghost use Rattle.field_rules.specs.Places.{field_at, inside_of, message_at, shown_at};
+ghost use Rattle.name_pass.specs.Syntaxes.{is_proto3, syntax_at};
+
+use crate::reading::Reading;
+use crate::types::type_and_default;
+use field_rules::{MessageRanges, Owner, Place, check_field_number, check_oneof_index, identity_inside, is_packed, item_number, oneof_of, supports_presence};
+use plain_data::duplicate_given;
+use pool_types::{DefaultValue, FieldDescriptorInner, Identity, KindIndex, Syntax};
+use name_resolution::cardinality_of;
+use proto_types::{FieldDescriptorProto, OneofDescriptorProto, tag};
+use std::alloc::AllocError;
+use name_pass::syntax_at;
+
+/// The item of the field of a message with a position. What the field breaks by itself is appended
+/// to `faults`: its number, its type, its default value, its oneof.
+pub(crate) fn read_field(
+    reading: &mut Reading,
+    owner: Owner,
+    ranges: &MessageRanges,
+    position: usize,
+) -> Result<FieldDescriptorInner, AllocError>
+    requires short { lists_fit (of_message owner.message.now) ≡ true }
+    requires ranges { AreRangesOf ranges.now owner.message.now }
+    requires there { position < length (out-DescriptorProto owner.message.now).field }
+    ensures item { IfOk result (λ item. item
+        ≡ field_item (setting_of reading.old)
+        (out-DescriptorProto owner.entry.message.now).oneof_decl
+        (field_at (inside_of owner.entry.place) position
+        (get_or (out-DescriptorProto owner.entry.message.now).field position no_field))
+        (get_or (out-DescriptorProto owner.entry.message.now).field position no_field)) }
+    ensures begins { IfOk result (λ item. BeginsAtBoundary item.id) }
+    ensures faults { OnOk result (Reads reading.old reading.new
+        (own_faults (setting_of reading.old)
+        (message_at owner.entry.place owner.entry.message.now, owner.entry.message.now)
+        (field_at (inside_of owner.entry.place) position
+        (get_or (out-DescriptorProto owner.entry.message.now).field position no_field))
+        (get_or (out-DescriptorProto owner.entry.message.now).field position no_field))) }
+{
+    let alloc = reading.findings.alloc;
+    let around = owner.place;
+    let field = &owner.message.field.as_slice()[position];
+    let id = identity_inside(alloc, around, tag::message::FIELD, position, field.name())?;
+    let place = Place {
+        file: around.file,
+        parent: Some(around.index),
+        index: position as u32,
+        path: id.path.as_slice(),
+        full_name: id.full_name.as_str(),
+    };
+    let (kind, default) = check_field(reading, owner, ranges, place, field)?;
+    let oneofs = owner.message.oneof_decl.as_slice();
+    item_at(reading, oneofs, id, field, kind, default)
+}
+
+/// The kind of the type of a field of a message and its default value, where one is given; where
+/// the type has a fault, a number stands in for it. What the field breaks by itself is appended to
+/// `faults`.
+fn check_field(
+    reading: &mut Reading,
+    owner: Owner,
+    ranges: &MessageRanges,
+    place: Place,
+    field: &FieldDescriptorProto,
+) -> Result<(KindIndex, Option<DefaultValue>), AllocError>
+    requires short { lists_fit (of_message owner.message.now) ≡ true }
+    requires ranges { AreRangesOf ranges.now owner.message.now }
+    ensures kind { IfOk result (λ t. t.0
+        ≡ unwrap_or (field_kind (setting_of reading.old)
+        (shown_at place.entry (of_field field.now)) field.now) Double) }
+    ensures default { IfOk result (λ t. t.1
+        ≡ field_default (setting_of reading.old)
+        (shown_at place.entry (of_field field.now)) field.now) }
+    ensures faults { OnOk result (Reads reading.old reading.new
+        (own_faults (setting_of reading.old)
+        (message_at owner.entry.place owner.entry.message.now, owner.entry.message.now)
+        (shown_at place.entry (of_field field.now)) field.now)) }
+{
+    let oneofs = owner.message.oneof_decl.as_slice();
+    check_field_number(&mut reading.findings, owner, ranges, place, field)?;
+    let (kind, default) = type_and_default(reading, place, field)?;
+    check_oneof_index(&mut reading.findings, oneofs, field)?;
+    Ok((kind.unwrap_or(KindIndex::Double), default))
+}
+
+/// The item of a field with an identity, whose type is of a kind, with a default value.
+fn item_at(
+    reading: &Reading,
+    oneofs: &[OneofDescriptorProto],
+    id: Identity,
+    field: &FieldDescriptorProto,
+    kind: KindIndex,
+    default: Option<DefaultValue>,
+) -> Result<FieldDescriptorInner, AllocError>
+    ensures { IfOk result (λ item. item
+        ≡ item_at (setting_of reading.now) oneofs.now id field.now kind default) }
+{
+    let alloc = reading.findings.alloc;
+    let is_proto3 = is_proto3(reading, id.file);
+    Ok(FieldDescriptorInner {
+        id,
+        number: item_number(field.number()),
+        json_name: duplicate_given(alloc, &field.json_name)?,
+        kind,
+        oneof: oneof_of(oneofs, field),
+        is_packed: is_packed(is_proto3, kind, field),
+        supports_presence: supports_presence(is_proto3, kind, field),
+        cardinality: cardinality_of(field.label()),
+        default,
+    })
+}
+
+/// Whether the file with an index is written in proto3.
+pub(crate) fn is_proto3(reading: &Reading, file: u32) -> bool
+    ensures { result ≡ is_proto3 (syntax_at (setting_of reading.now).files file) }
+{
+    match syntax_at(reading.findings.files, file) {
+        Syntax::Proto2 => false,
+        Syntax::Proto3 => true,
+    }
+}

@@ -1,0 +1,116 @@
+ghost use Rattle.std.specs.Prelude.{◌≡◌, true, [], IfOk, OnOk};
+ghost use Rattle.std.specs.List.{All};
+ghost use Rattle.proto_types.specs.declared.message.DescriptorProto.{out-DescriptorProto};
+ghost use Rattle.record_walk.specs.Counts.{lists_fit};
+ghost use Rattle.record_walk.specs.FullNames.{EndsWithName};
+ghost use Rattle.record_walk.specs.Protos.{of_message};
+ghost use Rattle.field_rules.specs.MapsOf.{AreMapsOf};
+ghost use Rattle.field_rules.specs.Bounds.{AreRangesOf};
+ghost use Rattle.reference_pass.specs.Broken.{faults_of_fields, message_faults};
+ghost use Rattle.reference_pass.specs.Items.{field_items, message_item, oneof_items};
+ghost use Rattle.field_rules.specs.NamesBegin.{BeginsAtBoundary};
+ghost use Rattle.reference_pass.specs.NamesBegin.{MessageNamesBegin};
+ghost use Rattle.field_rules.specs.Places.{inside_of, message_at};
+ghost use Rattle.reference_pass.specs.Reading.{Reads, setting_of};
+
+use crate::field::read_field;
+use crate::reading::Reading;
+use field_rules::{FieldMaps, MessageRanges, Owner, Place, identity, identity_inside, members};
+use plain_data::Items;
+use pool_types::{FieldDescriptorInner, MessageDescriptorInner, OneofDescriptorInner};
+use proto_types::{DescriptorProto, tag};
+use std::alloc::{AllocError, Global};
+
+/// The item of a message, with its fields, its oneofs and its maps, before what extends it is known.
+/// What its fields break is appended to `faults`, one field after another: its number, its type, its
+/// default value, its oneof, and that an earlier field has its number or its JSON name.
+///
+/// # Errors
+/// `AllocError` where memory was refused.
+pub fn read_message(
+    reading: &mut Reading,
+    place: Place,
+    message: &DescriptorProto,
+) -> Result<MessageDescriptorInner, AllocError>
+    requires { lists_fit (of_message message.now) ≡ true }
+    ensures item { IfOk result (λ item. item
+        ≡ message_item (setting_of reading.old)
+        (message_at place.entry message.now) message.now) }
+    ensures begins { IfOk result (λ item.
+        EndsWithName (message_at place.entry message.now) → MessageNamesBegin item) }
+    ensures faults { OnOk result (Reads reading.old reading.new
+        (message_faults (setting_of reading.old)
+        (message_at place.entry message.now) message.now)) }
+{
+    let alloc = reading.findings.alloc;
+    let id = identity(alloc, place, message.name())?;
+    let mut maps = FieldMaps::new(alloc);
+    let ranges = MessageRanges::new(alloc, message)?;
+    let fields = read_fields(reading, Owner { place, message }, &ranges, &mut maps)?;
+    let oneofs = read_oneofs(alloc, place, message)?;
+    Ok(MessageDescriptorInner {
+        id,
+        parent: place.parent,
+        extensions: Items::new(alloc),
+        fields: Items::from_vec(fields),
+        field_numbers: maps.numbers,
+        field_names: maps.names,
+        field_json_names: maps.json_names,
+        oneofs: Items::from_vec(oneofs),
+    })
+}
+
+/// The items of the fields of a message, which are entered into its maps.
+fn read_fields(
+    reading: &mut Reading,
+    owner: Owner,
+    ranges: &MessageRanges,
+    maps: &mut FieldMaps,
+) -> Result<Vec<FieldDescriptorInner>, AllocError>
+    requires short { lists_fit (of_message owner.message.now) ≡ true }
+    requires ranges { AreRangesOf ranges.now owner.message.now }
+    requires maps { AreMapsOf maps.old [] }
+    ensures items { IfOk result (λ items. items.items
+        ≡ field_items (setting_of reading.old)
+        (out-DescriptorProto owner.entry.message.now).oneof_decl
+        (inside_of owner.entry.place) (out-DescriptorProto owner.entry.message.now).field) }
+    ensures begin { IfOk result (λ items. All (λ f. BeginsAtBoundary f.id) items.items) }
+    ensures maps { OnOk result (AreMapsOf maps.new
+        (out-DescriptorProto owner.entry.message.now).field) }
+    ensures faults { OnOk result (Reads reading.old reading.new
+        (faults_of_fields (setting_of reading.old)
+        (message_at owner.entry.place owner.entry.message.now, owner.entry.message.now)
+        (out-DescriptorProto owner.entry.message.now).field)) }
+{
+    let fields = owner.message.field.as_slice();
+    let mut items = Vec::new(reading.findings.alloc);
+    for position in 0..fields.len() {
+        items.push(read_field(reading, owner, ranges, position)?)?;
+        maps.insert(&mut reading.findings, owner, position)?;
+    }
+    Ok(items)
+}
+
+/// The items of the oneofs of a message, each with the positions of its fields.
+fn read_oneofs(
+    alloc: Global,
+    place: Place,
+    message: &DescriptorProto,
+) -> Result<Vec<OneofDescriptorInner>, AllocError>
+    requires { lists_fit (of_message message.now) ≡ true }
+    ensures items { IfOk result (λ items. items.items
+        ≡ oneof_items (out-DescriptorProto message.now).field (inside_of place.entry)
+        (out-DescriptorProto message.now).oneof_decl) }
+    ensures begin { IfOk result (λ items. All (λ o. BeginsAtBoundary o.id) items.items) }
+{
+    let oneofs = message.oneof_decl.as_slice();
+    let lists = members(alloc, oneofs, message.field.as_slice())?;
+    let mut items = Vec::new(alloc);
+    for (position, oneof) in oneofs.iter().enumerate() {
+        let tag = tag::message::ONEOF_DECL;
+        let id = identity_inside(alloc, place, tag, position, oneof.name())?;
+        let fields = Items::from_slice(alloc, lists[position].as_slice())?;
+        items.push(OneofDescriptorInner { id, fields })?;
+    }
+    Ok(items)
+}

@@ -1,0 +1,26 @@
+ghost use Rattle.std.specs.Prelude.{◌≡◌};
+ghost use Rattle.name_resolution.specs.Resolution.{resolution_in};
+ghost use Rattle.reference_pass.specs.Messages.{message_found, message_index, or_missing};
+
+use name_resolution::ResolveNameResult;
+use pool_types::DefinitionKind;
+
+/// The index of the message that was found, or the largest number where none was.
+pub(crate) fn message_found(meaning: &ResolveNameResult) -> u32
+    ensures { result ≡ or_missing (message_found (resolution_in meaning.now)) }
+{
+    match meaning {
+        ResolveNameResult::Found { def, .. } => message_index(def.kind).unwrap_or(u32::MAX),
+        _ => u32::MAX,
+    }
+}
+
+/// The index of a message.
+fn message_index(kind: DefinitionKind) -> Option<u32>
+    ensures { result ≡ message_index kind }
+{
+    match kind {
+        DefinitionKind::Message(index) => Some(index),
+        _ => None,
+    }
+}

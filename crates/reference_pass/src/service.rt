@@ -1,0 +1,124 @@
+ghost use Rattle.std.specs.Prelude.{◌≡◌, ◌<◌, ◌^◌, ◌++◌, [], ◌∷◌, true, IfOk, OnOk};
+ghost use Rattle.proto_types.specs.Lists.{listed};
+ghost use Rattle.record_walk.specs.Counts.{fits_list, lists_fit};
+ghost use Rattle.record_walk.specs.Protos.{of_service};
+ghost use Rattle.name_resolution.specs.References.{reference_fault};
+ghost use Rattle.reference_pass.specs.Broken.{faults_of_methods, method_faults, service_faults};
+ghost use Rattle.reference_pass.specs.Items.{service_item, method_item, method_items};
+ghost use Rattle.reference_pass.specs.Messages.{message_found, message_index, method_at, or_missing};
+ghost use Rattle.field_rules.specs.Places.{inside_of, service_at};
+ghost use Rattle.reference_pass.specs.Setting.{meaning};
+ghost use Rattle.reference_pass.specs.Reading.{Reads, setting_of};
+
+use crate::reading::Reading;
+use crate::references::message_found;
+use field_rules::{Place, identity, identity_inside};
+use plain_data::Items;
+use name_resolution::ResolveNameFilter;
+use pool_types::{MethodDescriptorInner, ServiceDescriptorInner};
+use proto_types::{MethodDescriptorProto, ServiceDescriptorProto, tag};
+use std::alloc::AllocError;
+
+/// The item of a service, with its methods. What these break is appended to `faults`, one method
+/// after another, its input before its output.
+///
+/// # Errors
+/// `AllocError` where memory was refused.
+pub fn read_service(
+    reading: &mut Reading,
+    place: Place,
+    service: &ServiceDescriptorProto,
+) -> Result<ServiceDescriptorInner, AllocError>
+    requires { lists_fit (of_service service.now) ≡ true }
+    ensures item { IfOk result (λ item. item
+        ≡ service_item (setting_of reading.old)
+        (service_at place.entry service.now) service.now) }
+    ensures faults { OnOk result (Reads reading.old reading.new
+        (service_faults (setting_of reading.old)
+        (service_at place.entry service.now) service.now)) }
+{
+    let methods = read_methods(reading, place, service.method.as_slice())?;
+    Ok(ServiceDescriptorInner {
+        id: identity(reading.findings.alloc, place, service.name())?,
+        methods: Items::from_vec(methods),
+    })
+}
+
+fn read_methods(
+    reading: &mut Reading,
+    service: Place,
+    methods: &[MethodDescriptorProto],
+) -> Result<Vec<MethodDescriptorInner>, AllocError>
+    requires { fits_list methods.now ≡ true }
+    ensures items { IfOk result (λ items. items.items
+        ≡ method_items (setting_of reading.old) (inside_of service.entry) methods.now) }
+    ensures faults { OnOk result (Reads reading.old reading.new
+        (faults_of_methods (setting_of reading.old) (inside_of service.entry) methods.now)) }
+{
+    let mut items = Vec::new(reading.findings.alloc);
+    for (position, method) in methods.iter().enumerate() {
+        items.push(read_method(reading, service, position, method)?)?;
+    }
+    Ok(items)
+}
+
+/// The item of the method of a service with a position. What the method breaks is appended to
+/// `faults`.
+fn read_method(
+    reading: &mut Reading,
+    service: Place,
+    position: usize,
+    method: &MethodDescriptorProto,
+) -> Result<MethodDescriptorInner, AllocError>
+    requires { position < 2 ^ 31 }
+    ensures item { IfOk result (λ item. item
+        ≡ method_item (setting_of reading.old)
+        (method_at (inside_of service.entry) position method.now) method.now) }
+    ensures faults { OnOk result (Reads reading.old reading.new
+        (method_faults (setting_of reading.old)
+        (method_at (inside_of service.entry) position method.now) method.now)) }
+{
+    let alloc = reading.findings.alloc;
+    let id = identity_inside(
+        alloc,
+        service,
+        tag::service::METHOD,
+        position,
+        method.name(),
+    )?;
+    let place = Place {
+        file: service.file,
+        parent: Some(service.index),
+        index: position as u32,
+        path: id.path.as_slice(),
+        full_name: id.full_name.as_str(),
+    };
+    let input = message_index(reading, place, tag::method::INPUT_TYPE, method.input_type())?;
+    let output = message_index(
+        reading,
+        place,
+        tag::method::OUTPUT_TYPE,
+        method.output_type(),
+    )?;
+    Ok(MethodDescriptorInner { id, input, output })
+}
+
+/// The index of the message that the part of a method with a tag names; where it names none, that
+/// is appended to `faults`.
+fn message_index(
+    reading: &mut Reading,
+    place: Place,
+    tag: i32,
+    written: &str,
+) -> Result<u32, AllocError>
+    ensures index { IfOk result (λ index. index
+        ≡ or_missing (message_found (meaning (setting_of reading.old)
+        place.entry.file place.entry.full_name.now ResolveNameFilter.Message written.now))) }
+    ensures faults { OnOk result (Reads reading.old reading.new
+        (listed (reference_fault (setting_of reading.old).files written.now place.entry.file
+        (place.entry.path.now ++ tag ∷ []) (meaning (setting_of reading.old)
+        place.entry.file place.entry.full_name.now ResolveNameFilter.Message written.now)))) }
+{
+    let meaning = reading.resolve_message(place, tag, written)?;
+    Ok(message_found(&meaning))
+}

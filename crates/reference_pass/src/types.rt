@@ -1,0 +1,203 @@
+ghost use Rattle.std.specs.Prelude.{◌≡◌, ◌++◌, [], ◌∷◌, not, is_some, IfOk, OnOk};
+ghost use Rattle.std.specs.Option.{option_and_then, option_map_or};
+ghost use Rattle.proto_types.specs.declared.tag.field.TheConstants.{TYPE_NAME};
+ghost use Rattle.proto_types.specs.Lists.{listed, only_if};
+ghost use Rattle.proto_types.specs.Readers.{text_of, type_of};
+ghost use Rattle.pool_faults.specs.declared.fault.DescriptorErrorKind.TheVariants.{MissingRequiredField};
+ghost use Rattle.field_rules.specs.Labels.{part_label};
+ghost use Rattle.field_rules.specs.Tells.{Tells, named_files};
+ghost use Rattle.record_walk.specs.Protos.{of_field};
+ghost use Rattle.name_resolution.specs.Kinds.{named_kind, simple_kind};
+ghost use Rattle.name_resolution.specs.References.{reference_fault};
+ghost use Rattle.name_resolution.specs.Resolution.{kind_found, resolution_in};
+ghost use Rattle.field_rules.specs.DefaultEnumCode.{meant_in};
+ghost use Rattle.field_rules.specs.Defaults.{default_faults};
+ghost use Rattle.reference_pass.specs.Defaults.{default_by, enum_found, field_default};
+ghost use Rattle.reference_pass.specs.Defaults.{field_default_faults, no_enum_meant};
+ghost use Rattle.reference_pass.specs.FieldTypes.{field_kind, type_faults, type_meaning};
+ghost use Rattle.reference_pass.specs.Reading.{Reads, setting_of};
+ghost use Rattle.field_rules.specs.Places.{shown_at};
+ghost use Rattle.reference_pass.specs.SettingCode.{setting_in};
+
+use crate::declared::enum_record;
+use crate::reading::Reading;
+use field_rules::{Findings, MeantEnum, Place, read_default};
+use crate::Setting;
+use plain_data::Text;
+use pool_faults::DescriptorErrorKind;
+use pool_types::{DefaultValue, KindIndex};
+use name_resolution::{ResolveNameFilter, ResolveNameResult, named_kind, simple_kind};
+use proto_types::{FieldDescriptorProto, FieldType, tag};
+use std::alloc::AllocError;
+
+/// The kind of the type of a field or an extension, where it has one, and the default value, where
+/// one is given. What these break is appended to `faults`, the type before the default.
+pub(crate) fn type_and_default(
+    reading: &mut Reading,
+    place: Place,
+    field: &FieldDescriptorProto,
+) -> Result<(Option<KindIndex>, Option<DefaultValue>), AllocError>
+    ensures kind { IfOk result (λ t. t.0
+        ≡ field_kind (setting_of reading.old)
+        (shown_at place.entry (of_field field.now)) field.now) }
+    ensures default { IfOk result (λ t. t.1
+        ≡ field_default (setting_of reading.old)
+        (shown_at place.entry (of_field field.now)) field.now) }
+    ensures faults { OnOk result (Reads reading.old reading.new
+        (type_faults (setting_of reading.old)
+        (shown_at place.entry (of_field field.now)) field.now
+        ++ field_default_faults (setting_of reading.old)
+        (shown_at place.entry (of_field field.now)) field.now)) }
+{
+    if field.type_name().is_empty() {
+        written_type(&mut reading.findings, place, field)
+    } else {
+        named_type(reading, place, field)
+    }
+}
+
+/// The kind of a type that a field names by its number, and the default value.
+fn written_type(
+    findings: &mut Findings,
+    place: Place,
+    field: &FieldDescriptorProto,
+) -> Result<(Option<KindIndex>, Option<DefaultValue>), AllocError>
+    ensures kind { IfOk result (λ t. t.0 ≡ simple_kind (type_of field.now.type_)) }
+    ensures default { IfOk result (λ t. t.1
+        ≡ default_by (simple_kind (type_of field.now.type_)) no_enum_meant
+        field.now.default_value) }
+    ensures faults { OnOk result (Tells findings.old findings.new
+        (only_if (not (is_some (simple_kind (type_of field.now.type_))))
+        (MissingRequiredField (part_label (named_files findings.old) place.entry.file
+        place.entry.path.now TYPE_NAME))
+        ++ option_map_or (λ k. default_faults (named_files findings.old) place.entry.file
+        place.entry.path.now k no_enum_meant field.now.default_value)
+        (simple_kind (type_of field.now.type_)) [])) }
+{
+    let kind = simple_kind(field.field_type());
+    if kind.is_none() {
+        let label = findings.part_label(place, tag::field::TYPE_NAME)?;
+        findings.push(DescriptorErrorKind::MissingRequiredField { label })?;
+    }
+    let default = kind_default(findings, place, kind, no_enum(), &field.default_value)?;
+    Ok((kind, default))
+}
+
+/// The kind of the definition that the type name of a field means, and the default value.
+fn named_type(
+    reading: &mut Reading,
+    place: Place,
+    field: &FieldDescriptorProto,
+) -> Result<(Option<KindIndex>, Option<DefaultValue>), AllocError>
+    ensures kind { IfOk result (λ t. t.0
+        ≡ option_and_then (named_kind (type_of field.now.type_))
+        (kind_found (type_meaning (setting_of reading.old)
+        (shown_at place.entry (of_field field.now)) field.now))) }
+    ensures default { IfOk result (λ t. t.1
+        ≡ default_by (option_and_then (named_kind (type_of field.now.type_))
+        (kind_found (type_meaning (setting_of reading.old)
+        (shown_at place.entry (of_field field.now)) field.now)))
+        (enum_found (setting_of reading.old) (type_meaning (setting_of reading.old)
+        (shown_at place.entry (of_field field.now)) field.now)) field.now.default_value) }
+    ensures faults { OnOk result (Reads reading.old reading.new
+        (listed (reference_fault (setting_of reading.old).files (text_of field.now.type_name)
+        place.entry.file (place.entry.path.now ++ TYPE_NAME ∷ [])
+        (type_meaning (setting_of reading.old)
+        (shown_at place.entry (of_field field.now)) field.now))
+        ++ option_map_or (λ k. default_faults (setting_of reading.old).files place.entry.file
+        place.entry.path.now k (enum_found (setting_of reading.old)
+        (type_meaning (setting_of reading.old)
+        (shown_at place.entry (of_field field.now)) field.now)) field.now.default_value)
+        (option_and_then (named_kind (type_of field.now.type_))
+        (kind_found (type_meaning (setting_of reading.old)
+        (shown_at place.entry (of_field field.now)) field.now))) [])) }
+{
+    let (tag, filter) = (tag::field::TYPE_NAME, ResolveNameFilter::FieldType);
+    let meaning = reading.resolve_checked(place, tag, filter, field.type_name())?;
+    let kind = meant_kind(field.field_type(), &meaning);
+    let default = named_default(reading, place, kind, &meaning, &field.default_value)?;
+    Ok((kind, default))
+}
+
+/// The kind of a field of a written type whose type name has a meaning.
+fn meant_kind(written: FieldType, meaning: &ResolveNameResult) -> Option<KindIndex>
+    ensures { result ≡ option_and_then (named_kind written)
+        (kind_found (resolution_in meaning.now)) }
+{
+    match meaning {
+        ResolveNameResult::Found { def, .. } => named_kind(written, def.kind),
+        _ => None,
+    }
+}
+
+/// The default value of a field or an extension whose type name has a meaning, if one is given.
+fn named_default(
+    reading: &mut Reading,
+    place: Place,
+    kind: Option<KindIndex>,
+    meaning: &ResolveNameResult,
+    given: &Option<Text>,
+) -> Result<Option<DefaultValue>, AllocError>
+    ensures value { IfOk result (λ value. value
+        ≡ default_by kind (enum_found (setting_of reading.old) (resolution_in meaning.now))
+        given.now) }
+    ensures faults { OnOk result (Reads reading.old reading.new
+        (option_map_or (λ k. default_faults (setting_of reading.old).files place.entry.file
+        place.entry.path.now k
+        (enum_found (setting_of reading.old) (resolution_in meaning.now)) given.now) kind [])) }
+{
+    if given.is_none() {
+        return Ok(None);
+    }
+    let meant = enum_found(reading.setting(), meaning);
+    kind_default(&mut reading.findings, place, kind, meant, given)
+}
+
+/// The default value of a field or an extension, if one is given. Where it is none of the kind of
+/// the type, that is appended to `faults`; where the type has no kind, it isn't read.
+fn kind_default(
+    findings: &mut Findings,
+    place: Place,
+    kind: Option<KindIndex>,
+    meant: MeantEnum,
+    given: &Option<Text>,
+) -> Result<Option<DefaultValue>, AllocError>
+    ensures value { IfOk result (λ value. value
+        ≡ default_by kind (meant_in meant.entry) given.now) }
+    ensures faults { OnOk result (Tells findings.old findings.new
+        (option_map_or (λ k. default_faults (named_files findings.old) place.entry.file
+        place.entry.path.now k (meant_in meant.entry) given.now) kind [])) }
+{
+    match kind {
+        Some(kind) => read_default(findings, place, kind, meant, given),
+        None => Ok(None),
+    }
+}
+
+/// The enum that was found, or none.
+fn enum_found<'n, 'v>(setting: Setting<'v>, meaning: &'n ResolveNameResult) -> MeantEnum<'n, 'v>
+    ensures { meant_in result
+        ≡ enum_found (setting_in setting.entry) (resolution_in meaning.now) }
+{
+    let ResolveNameResult::Found { name, def } = meaning else {
+        return no_enum();
+    };
+    let values = match enum_record(setting, def) {
+        Some(found) => found.value.as_slice(),
+        None => &[],
+    };
+    MeantEnum {
+        full_name: name.as_str(),
+        values,
+    }
+}
+
+/// No enum.
+fn no_enum<'n, 'v>() -> MeantEnum<'n, 'v>
+    ensures { meant_in result ≡ no_enum_meant }
+{
+    MeantEnum {
+        full_name: "",
+        values: &[],
+    }
+}
