@@ -30,9 +30,9 @@ use Rattle.reference_pass.specs.Definitions.{around_name, message_record, record
 use Rattle.reference_pass.specs.Imports.{import_faults, index_fault, missing_file, missing_files}
 use Rattle.reference_pass.specs.Linked.{linking}
 use Rattle.reference_pass.specs.Setting.{Setting, seen_by}
-use Rattle.linking_laws.specs.Laws.{ImportsStay, NamesFiles, RangesStay, Rereads}
-use Rattle.linking_laws.proofs.Numbered.{both-empty}
-use Rattle.linking_laws.proofs.SeenStays.{seen-stays}
+use Rattle.pool_laws.specs.SettingLaws.{ImportsStay, NamesFiles, RangesStay, Rereads}
+use Rattle.pool_laws.proofs.Numbered.{both-empty}
+use Rattle.pool_laws.proofs.SeenStays.{seen-stays}
 use Rattle.name_pass.specs.Entered.{entries, file_entries}
 use Rattle.descriptor_pool.specs.Behind.{declared_behind, linked_behind, setting_behind, with_names}
 use Rattle.descriptor_pool.proofs.Declared.{files-linked, known_file_names, known_names}

@@ -33,11 +33,11 @@ use Rattle.reference_pass.specs.Broken.{owner_faults}
 use Rattle.reference_pass.specs.Definitions.{around_name, message_record, record_of}
 use Rattle.reference_pass.specs.Setting.{Setting, meaning, seen_by}
 use Rattle.reference_pass.proofs.Owners.{owners-tell}
-use Rattle.linking_laws.specs.Laws.{ImportsMean, NamesStay, RangesStay, ReferenceStands, Stands, unchanged}
-use Rattle.linking_laws.proofs.AsGiven.{given-carried}
-use Rattle.linking_laws.proofs.Fewer.{found-fewer}
-use Rattle.linking_laws.proofs.Looked.{IsLooked, looked-seen, resolution-looked}
-use Rattle.linking_laws.proofs.Unchanged.{declarations-unchanged, unchanged-keeps}
+use Rattle.pool_laws.specs.SettingLaws.{ImportsMean, NamesStay, RangesStay, ReferenceStands, Stands, unchanged}
+use Rattle.pool_laws.proofs.AsGiven.{given-carried}
+use Rattle.pool_laws.proofs.Fewer.{found-fewer}
+use Rattle.pool_laws.proofs.Looked.{IsLooked, looked-seen, resolution-looked}
+use Rattle.pool_laws.proofs.Unchanged.{declarations-unchanged, unchanged-keeps}
 use Rattle.name_pass.specs.Entered.{file_entries, file_entries_of}
 use Rattle.name_pass.specs.FirstPass.{first_faults}
 use Rattle.descriptor_pool.specs.Behind.{declared_behind, names_behind, references_behind, with_names}

@@ -15,13 +15,13 @@ use Rattle.field_rules.specs.Each.{each}
 use Rattle.reference_pass.specs.Broken.{owner_faults}
 use Rattle.reference_pass.specs.Items.{extension_item, file_item, message_item, service_item}
 use Rattle.reference_pass.specs.Setting.{Setting}
-use Rattle.linking_laws.specs.Laws.{NamesStay}
-use Rattle.linking_laws.proofs.Carries.{Carries}
-use Rattle.linking_laws.proofs.Extensions.{extension-carried}
-use Rattle.linking_laws.proofs.Files.{file-carried}
-use Rattle.linking_laws.proofs.Messages.{message-carried}
-use Rattle.linking_laws.proofs.Numbered.{both-empty}
-use Rattle.linking_laws.proofs.Services.{service-carried}
+use Rattle.pool_laws.specs.SettingLaws.{NamesStay}
+use Rattle.pool_laws.proofs.Carries.{Carries}
+use Rattle.pool_laws.proofs.Extensions.{extension-carried}
+use Rattle.pool_laws.proofs.Files.{file-carried}
+use Rattle.pool_laws.proofs.Messages.{message-carried}
+use Rattle.pool_laws.proofs.Numbered.{both-empty}
+use Rattle.pool_laws.proofs.Services.{service-carried}
 use Rattle.pool_laws.proofs.Again.{first-of-files}
 
 -- of a list of declarations, the first by itself

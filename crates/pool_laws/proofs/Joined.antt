@@ -16,12 +16,12 @@ use Rattle.field_rules.specs.EnumItems.{enum_item}
 use Rattle.field_rules.specs.Each.{each}
 use Rattle.reference_pass.specs.Items.{extension_item, file_item, message_item, service_item}
 use Rattle.reference_pass.specs.Setting.{Setting}
-use Rattle.linking_laws.specs.Laws.{unchanged}
-use Rattle.linking_laws.proofs.AsGiven.{given-carried}
-use Rattle.linking_laws.proofs.Carries.{Carries}
-use Rattle.linking_laws.proofs.Imports.{all-stay}
-use Rattle.linking_laws.proofs.Still.{all-rest}
-use Rattle.linking_laws.proofs.Unchanged.{declarations-unchanged, files-unchanged}
+use Rattle.pool_laws.specs.SettingLaws.{unchanged}
+use Rattle.pool_laws.proofs.AsGiven.{given-carried}
+use Rattle.pool_laws.proofs.Carries.{Carries}
+use Rattle.pool_laws.proofs.Imports.{all-stay}
+use Rattle.pool_laws.proofs.Still.{all-rest}
+use Rattle.pool_laws.proofs.Unchanged.{declarations-unchanged, files-unchanged}
 use Rattle.pool_contents.specs.Extended.{extended_by}
 use Rattle.pool_contents.proofs.Each.{each-append, length-each}
 use Rattle.descriptor_pool.specs.Behind.{declared_behind, linked_behind, references_behind, with_names}

@@ -25,9 +25,9 @@ use Rattle.field_rules.specs.Each.{each}
 use Rattle.reference_pass.specs.Broken.{owner_faults}
 use Rattle.reference_pass.specs.Setting.{Setting, seen_by}
 use Rattle.reference_pass.proofs.Owners.{owners-tell}
-use Rattle.linking_laws.specs.Laws.{ImportsStay, NamesFiles}
-use Rattle.linking_laws.proofs.Numbered.{both-empty}
-use Rattle.linking_laws.proofs.SeenStays.{seen-stays}
+use Rattle.pool_laws.specs.SettingLaws.{ImportsStay, NamesFiles}
+use Rattle.pool_laws.proofs.Numbered.{both-empty}
+use Rattle.pool_laws.proofs.SeenStays.{seen-stays}
 use Rattle.pool_contents.proofs.Each.{each-append, each-same, length-each}
 use Rattle.name_pass.specs.Entered.{file_entries, file_entries_of}
 use Rattle.descriptor_pool.specs.Behind.{declared_behind, references_behind, setting_behind, with_names}

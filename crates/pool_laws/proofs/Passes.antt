@@ -12,12 +12,12 @@ use Rattle.name_pass.specs.Syntaxes.{syntax_at}
 use Rattle.reference_pass.specs.Broken.{owner_faults}
 use Rattle.reference_pass.specs.Linked.{linking}
 use Rattle.reference_pass.specs.Setting.{Setting}
-use Rattle.linking_laws.specs.Laws.{ImportsMean, Rereads}
-use Rattle.linking_laws.proofs.AsLinked.{linked-carried}
-use Rattle.linking_laws.proofs.Carries.{Carries}
-use Rattle.linking_laws.proofs.Declarations.{all-mean, declaration-carried}
-use Rattle.linking_laws.proofs.FirstPass.{first-again, holder-more}
-use Rattle.linking_laws.proofs.Numbered.{both-empty}
+use Rattle.pool_laws.specs.SettingLaws.{ImportsMean, Rereads}
+use Rattle.pool_laws.proofs.AsLinked.{linked-carried}
+use Rattle.pool_laws.proofs.Carries.{Carries}
+use Rattle.pool_laws.proofs.Declarations.{all-mean, declaration-carried}
+use Rattle.pool_laws.proofs.FirstPass.{first-again, holder-more}
+use Rattle.pool_laws.proofs.Numbered.{both-empty}
 use Rattle.name_pass.specs.Entered.{entries, file_entries, file_entries_of}
 use Rattle.name_pass.specs.FirstPass.{first_faults, holder}
 use Rattle.std.proofs.lemmas.Grind.{flat_map-append}

@@ -32,10 +32,10 @@ use Rattle.reference_pass.specs.Items.{extension_item, file_item, message_item, 
 use Rattle.reference_pass.specs.Linked.{linking}
 use Rattle.reference_pass.specs.Setting.{Setting}
 use Rattle.reference_pass.proofs.Owners.{owners-tell}
-use Rattle.linking_laws.specs.Laws.{Rereads}
-use Rattle.linking_laws.proofs.AsLinked.{linked-carried}
-use Rattle.linking_laws.proofs.Carries.{Carries}
-use Rattle.linking_laws.proofs.Imports.{all-stay}
+use Rattle.pool_laws.specs.SettingLaws.{Rereads}
+use Rattle.pool_laws.proofs.AsLinked.{linked-carried}
+use Rattle.pool_laws.proofs.Carries.{Carries}
+use Rattle.pool_laws.proofs.Imports.{all-stay}
 use Rattle.pool_contents.specs.Extended.{extended_by, with_extended}
 use Rattle.pool_contents.proofs.Each.{each-all, each-append, each-map, each-same}
 use Rattle.name_pass.specs.FirstPass.{first_faults, first_pass, holder}

@@ -29,10 +29,10 @@ use Rattle.reference_pass.specs.Items.{file_item}
 use Rattle.reference_pass.specs.Linked.{linking}
 use Rattle.reference_pass.specs.Setting.{Setting, seen_by}
 use Rattle.reference_pass.proofs.Owners.{owners-tell}
-use Rattle.linking_laws.specs.Laws.{Stands, unchanged}
-use Rattle.linking_laws.proofs.AsGiven.{given-carried}
-use Rattle.linking_laws.proofs.Declarations.{all-mean}
-use Rattle.linking_laws.proofs.Unchanged.{declarations-unchanged, unchanged-keeps}
+use Rattle.pool_laws.specs.SettingLaws.{Stands, unchanged}
+use Rattle.pool_laws.proofs.AsGiven.{given-carried}
+use Rattle.pool_laws.proofs.Declarations.{all-mean}
+use Rattle.pool_laws.proofs.Unchanged.{declarations-unchanged, unchanged-keeps}
 use Rattle.pool_contents.proofs.Each.{each-map, each-same}
 use Rattle.name_pass.specs.Entered.{entries, file_entries}
 use Rattle.name_pass.specs.FirstPass.{first_faults}

@@ -28,8 +28,8 @@ use Rattle.record_walk.proofs.Counted.{counted-append, counted-plus}
 use Rattle.record_walk.proofs.Room.{room-fits}
 use Rattle.record_walk.proofs.Tallies.{declarations-tally}
 use Rattle.name_pass.specs.Syntaxes.{syntax_faults}
-use Rattle.linking_laws.proofs.FirstPass.{holder-more}
-use Rattle.linking_laws.proofs.Numbered.{both-empty}
+use Rattle.pool_laws.proofs.FirstPass.{holder-more}
+use Rattle.pool_laws.proofs.Numbered.{both-empty}
 use Rattle.name_pass.specs.Entered.{entries, entries_of, file_entries, file_entries_of}
 use Rattle.name_pass.specs.FirstPass.{clashes, file_faults, file_name_faults, first_faults, holder, own_faults}
 use Rattle.descriptor_pool.specs.Behind.{linked_behind, names_behind, references_behind}

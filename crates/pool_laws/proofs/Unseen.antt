@@ -23,9 +23,9 @@ use Rattle.record_walk.specs.Shown.{Shown, file_shown}
 use Rattle.record_walk.specs.Walking.{within_file}
 use Rattle.record_walk.proofs.Appended.{declarations-append}
 use Rattle.record_walk.proofs.Walks.{IsInside, within-all}
-use Rattle.linking_laws.specs.Laws.{SeenAmong}
-use Rattle.linking_laws.proofs.Fewer.{all-mapped}
-use Rattle.linking_laws.proofs.Still.{all-front}
+use Rattle.pool_laws.specs.SettingLaws.{SeenAmong}
+use Rattle.pool_laws.proofs.Fewer.{all-mapped}
+use Rattle.pool_laws.proofs.Still.{all-front}
 use Rattle.name_pass.specs.Entered.{entries, entries_of, package_entry, packages}
 use Rattle.descriptor_pool.specs.Behind.{declared_behind}
 use Rattle.descriptor_pool.specs.Invariant.{IsPool}

@@ -18,7 +18,7 @@ use Rattle.record_walk.specs.Declarations.{file_walk}
 use Rattle.record_walk.specs.Protos.{name_of}
 use Rattle.record_walk.specs.Walking.{within_file}
 use Rattle.name_pass.specs.Entered.{entries}
-use Rattle.linking_laws.specs.Laws.{SeenAmong}
+use Rattle.pool_laws.specs.SettingLaws.{SeenAmong}
 use Rattle.descriptor_pool.specs.Behind.{declared_behind, with_names}
 use Rattle.descriptor_pool.specs.Pool.{Accepts, Batch, Fits, has_file, link, new_files}
 

@@ -1,1 +1,2 @@
+pub mod SettingLaws
 pub mod Laws

@@ -1,6 +1,0 @@
-use Rattle.linking_laws.proofs.AsLinked.{linked-carried}
-use Rattle.linking_laws.proofs.Messages.{message-carried}
-use Rattle.linking_laws.proofs.laws.message_read_again.Goals as goal
-
-pub returns : goal.returns
-returns c = λ s t again. message-carried (linked-carried s t again)

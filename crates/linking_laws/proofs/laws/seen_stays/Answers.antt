@@ -1,5 +1,0 @@
-use Rattle.linking_laws.proofs.SeenStays.{seen-stays}
-use Rattle.linking_laws.proofs.laws.seen_stays.Goals as goal
-
-pub returns : goal.returns
-returns c = λ files more before after within within_all stays a here. seen-stays files more before after within within_all stays a here

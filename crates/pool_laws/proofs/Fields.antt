@@ -1,0 +1,95 @@
+-- The fields of a message that is carried to another setting: they break nothing.
+use Rattle.std.proofs.Common.{◌≡◌, ◌<◌, ℕ, suc, not, is_some, List, [], ◌∷◌, ◌++◌, map, take, refl, ap, ◌∙◌}
+use Rattle.std.specs.List.{flat_map, take-map}
+use Rattle.std.specs.Option.{option_map_or}
+use Rattle.proto_types.specs.declared.records.field.FieldDescriptorProto.{FieldDescriptorProto}
+use Rattle.proto_types.specs.Lists.{at, only_if}
+use Rattle.proto_types.specs.Names.{join}
+use Rattle.proto_types.specs.Readers.{text_of}
+use Rattle.proto_types.specs.declared.message.DescriptorProto.{DescriptorProto, out-DescriptorProto}
+use Rattle.pool_faults.specs.declared.fault.DescriptorErrorKind.TheVariants.{InvalidOneofIndex}
+use Rattle.record_walk.specs.Changed.{Changes}
+use Rattle.record_walk.specs.Shown.{Shown, inside}
+use Rattle.field_rules.specs.Each.{each}
+use Rattle.field_rules.specs.Places.{field_at}
+use Rattle.field_rules.specs.Numbers.{field_number_faults}
+use Rattle.field_rules.specs.Again.{again_faults}
+use Rattle.field_rules.specs.Oneofs.{oneof_faults}
+use Rattle.reference_pass.specs.Broken.{Faults, Owner, field_faults, own_faults}
+use Rattle.reference_pass.specs.Defaults.{field_default_faults}
+use Rattle.reference_pass.specs.FieldTypes.{type_faults}
+use Rattle.reference_pass.specs.Setting.{Setting}
+use Rattle.pool_laws.specs.SettingLaws.{SameRanges}
+use Rattle.pool_laws.proofs.SettingAgain.{again-still}
+use Rattle.pool_laws.proofs.Carries.{Carries}
+use Rattle.pool_laws.proofs.Numbered.{both-empty, field-numbered}
+
+-- a field that breaks nothing: nothing of its own, by its number, its type, its default value and its oneof
+pub record BreaksNothing (s : Setting) (owner : Owner) (d : Shown) (f : FieldDescriptorProto) : Type 0 where
+  pub number : field_number_faults s.files owner.0 owner.1 d f ≡ []
+  pub typed : type_faults s d f ≡ []
+  pub default : field_default_faults s d f ≡ []
+  pub oneof : oneof_faults (out-DescriptorProto owner.1).oneof_decl f ≡ []
+  pub other : again_faults s.files owner.0.file owner.0.path (take d.index (out-DescriptorProto owner.1).field) d.index f ≡ []
+
+pub breaks-nothing : (s : Setting) (owner : Owner) (d : Shown) (f : FieldDescriptorProto) → field_faults s owner d f ≡ [] → BreaksNothing s owner d f
+breaks-nothing s owner d f none =
+    let number = field_number_faults s.files owner.0 owner.1 d f in
+    let typed = type_faults s d f in
+    let default = field_default_faults s d f in
+    let parts = both-empty (own_faults s owner d f) (again_faults s.files owner.0.file owner.0.path (take d.index (out-DescriptorProto owner.1).field) d.index f) none in
+    let three = both-empty (number ++ typed ++ default) (oneof_faults (out-DescriptorProto owner.1).oneof_decl f) parts.0 in
+    let two = both-empty (number ++ typed) default three.0 in
+    let one = both-empty number typed two.0 in
+    record { number = one.0; typed = one.1; default = two.1; oneof = three.1; other = parts.1 }
+
+module _ {s t : Setting} {c : Changes} {many : ℕ} (carries : Carries s t c many) (d : Shown) (below : d.file < many) where
+  -- a field of the message as it is carried
+  abbrev pub carried : FieldDescriptorProto → FieldDescriptorProto
+  carried f = c.field d.file (join d.full_name (text_of f.name)) f
+
+  pub kept : (f : FieldDescriptorProto) → carried f ≡ record f { type_name = (carried f).type_name; type_ = (carried f).type_ }
+  kept f = carries.kept d.file (join d.full_name (text_of f.name)) f
+
+  -- a carried field where it stands, by the name that it had
+  abbrev pub renamed : (i : ℕ) (f : FieldDescriptorProto) → List ℕ → Shown
+  renamed i f name = record (field_at (inside d) i (carried f)) { full_name = join d.full_name name }
+
+  module _ (m k : DescriptorProto) (ranges : SameRanges m k) (oneofs : (out-DescriptorProto k).oneof_decl ≡ (out-DescriptorProto m).oneof_decl)
+      (fields : (out-DescriptorProto k).field ≡ map carried (out-DescriptorProto m).field) where
+    field-again : (i : ℕ) (f : FieldDescriptorProto) → field_faults s (d, m) (field_at (inside d) i f) f ≡ [] → field_faults t (d, k) (field_at (inside d) i (carried f)) (carried f) ≡ []
+    field-again i f none =
+        let fs = (out-DescriptorProto m).field in
+        let here = field_at (inside d) i f in
+        let again = field_at (inside d) i (carried f) in
+        let parts = breaks-nothing s (d, m) here f none in
+        let name = ap (λ (x : FieldDescriptorProto). text_of x.name) (kept f) in
+        let index = ap (λ (x : FieldDescriptorProto). x.oneof_index) (kept f) in
+        let numbered : field_number_faults t.files d k again (carried f) ≡ [] =
+        field-numbered s.files t.files d d here again m k f (carried f) ranges (ap (λ (x : FieldDescriptorProto). x.number) (kept f)) (ap (λ (x : FieldDescriptorProto). x.extendee) (kept f)) parts.number in
+        let typed_still : type_faults t again (carried f) ≡ [] =
+        (λ j. type_faults t (renamed i f (name j)) (carried f)) ∙ (carries.typed here below f parts.typed).faults in
+        let default_still : field_default_faults t again (carried f) ≡ [] =
+        (λ j. field_default_faults t (renamed i f (name j)) (carried f)) ∙ (carries.defaulted here below f parts.typed parts.default).faults in
+        let oneof_still : oneof_faults (out-DescriptorProto k).oneof_decl (carried f) ≡ [] =
+        (λ j. option_map_or (λ n. only_if (not (is_some (at (oneofs j) n))) InvalidOneofIndex) (index j) []) ∙ parts.oneof in
+        let no_other : again_faults t.files d.file d.path (take i (out-DescriptorProto k).field) i (carried f) ≡ [] =
+        ap (λ earlier. again_faults t.files d.file d.path earlier i (carried f)) (ap (take i) fields ∙ take-map carried i fs)
+        ∙ again-still s.files t.files d.file d.path carried (λ x. ap (λ (y : FieldDescriptorProto). y.number) (kept x)) (λ x. ap (λ (y : FieldDescriptorProto). y.json_name) (kept x)) (take i fs) i f parts.other in
+        λ j. (numbered j ++ typed_still j ++ default_still j ++ oneof_still j) ++ no_other j
+
+    each-again : (i : ℕ) (fs : List FieldDescriptorProto)
+        → flat_map (λ (faults : Faults). faults) (each (λ i f. field_faults s (d, m) (field_at (inside d) i f) f) i fs) ≡ []
+        → flat_map (λ (faults : Faults). faults) (each (λ i f. field_faults t (d, k) (field_at (inside d) i f) f) i (map carried fs)) ≡ []
+    each-again i [] none = refl
+    each-again i (f ∷ fs) none =
+        let parts = both-empty (field_faults s (d, m) (field_at (inside d) i f) f)
+        (flat_map (λ (faults : Faults). faults) (each (λ i f. field_faults s (d, m) (field_at (inside d) i f) f) (suc i) fs)) none in
+        λ j. field-again i f parts.0 j ++ each-again (suc i) fs parts.1 j
+
+    -- what the fields of the message break, where the carried ones are read
+    pub fields-again : flat_map (λ (faults : Faults). faults) (each (λ i f. field_faults s (d, m) (field_at (inside d) i f) f) 0 (out-DescriptorProto m).field) ≡ []
+        → flat_map (λ (faults : Faults). faults) (each (λ i f. field_faults t (d, k) (field_at (inside d) i f) f) 0 (out-DescriptorProto k).field) ≡ []
+    fields-again none =
+        ap (λ fs. flat_map (λ (faults : Faults). faults) (each (λ i f. field_faults t (d, k) (field_at (inside d) i f) f) 0 fs)) fields
+        ∙ each-again 0 (out-DescriptorProto m).field none

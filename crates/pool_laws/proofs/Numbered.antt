@@ -1,0 +1,96 @@
+-- The number of a field or an extension that breaks nothing breaks nothing where it stands elsewhere, and other files are cited.
+use Rattle.std.proofs.Common.{◌≡◌, ℕ, ℤ, suc, Bool, true, false, not, is_some, if◌then◌else◌, Option, None, Some, List, [], ◌∷◌, ◌++◌, refl, ◌∙◌}
+use Rattle.std.specs.List.{find, enumerate_from, flat_map, list_any}
+use Rattle.std.specs.Option.{option_map, option_map_or}
+use Rattle.proto_types.specs.declared.records.field.FieldDescriptorProto.{FieldDescriptorProto}
+use Rattle.proto_types.specs.Lists.{listed}
+use Rattle.proto_types.specs.Readers.{number_of}
+use Rattle.proto_types.specs.declared.file.FileDescriptorProto.{FileDescriptorProto}
+use Rattle.proto_types.specs.declared.message.DescriptorProto.{DescriptorProto, out-DescriptorProto}
+use Rattle.proto_types.specs.declared.message.ExtensionRange.{ExtensionRange}
+use Rattle.proto_types.specs.declared.message.ReservedRange.{ReservedRange}
+use Rattle.pool_types.specs.declared.contents.definition.Definition.{Definition}
+use Rattle.record_walk.specs.Shown.{Shown}
+use Rattle.field_rules.specs.FieldNumbers.{is_valid_number}
+use Rattle.field_rules.specs.Each.{each}
+use Rattle.field_rules.specs.Numbers.{by_extendee, extension_number_faults, extension_range_faults, field_number_faults, invalid_faults, outside_faults, reserved_fault, reserved_faults}
+use Rattle.field_rules.specs.Ranges.{extends, reserves}
+use Rattle.reference_pass.specs.Extensions.{defined_at}
+use Rattle.reference_pass.specs.Setting.{Setting}
+use Rattle.pool_laws.specs.SettingLaws.{RangesStay, SameRanges}
+use Rattle.pool_laws.proofs.Typed.{no-fault}
+
+-- where both parts of a list hold nothing
+pub both-empty : {X : Type 0} (xs ys : List X) → xs ++ ys ≡ [] → (xs ≡ []) × (ys ≡ [])
+both-empty [] ys none = (refl, none)
+both-empty (x ∷ xs) ys none = absurd (cc)
+
+-- what is listed of nothing
+pub none-listed : {X Y : Type 0} (o : Option X) (f g : X → Y) → listed (option_map f o) ≡ [] → listed (option_map g o) ≡ []
+none-listed None f g none = refl
+none-listed (Some x) f g none = absurd (cc)
+
+module _ (fs gs : List FileDescriptorProto) (owner other d e : Shown) (n : ℤ) where
+  invalid-again : invalid_faults fs d n ≡ [] → invalid_faults gs e n ≡ []
+  invalid-again none = no-fault (not (is_valid_number n)) _ _ none
+
+  each-reserved : (k : ℕ) (ranges : List ReservedRange) → flat_map (λ faults. faults) (each (reserved_fault fs d n owner) k ranges) ≡ []
+      → flat_map (λ faults. faults) (each (reserved_fault gs e n other) k ranges) ≡ []
+  each-reserved k [] none = refl
+  each-reserved k (range ∷ ranges) none =
+      let parts = both-empty (reserved_fault fs d n owner k range) (flat_map (λ faults. faults) (each (reserved_fault fs d n owner) (suc k) ranges)) none in
+      let here : reserved_fault gs e n other k range ≡ [] = no-fault (reserves n range) _ _ parts.0 in
+      λ i. here i ++ each-reserved (suc k) ranges parts.1 i
+
+  outside-again : (ranges : List ExtensionRange) → outside_faults fs d n owner ranges ≡ [] → outside_faults gs e n other ranges ≡ []
+  outside-again ranges none = no-fault (not (list_any (extends n) ranges)) _ _ none
+
+  within-again : (ranges : List ExtensionRange) → extension_range_faults fs d n owner ranges ≡ [] → extension_range_faults gs e n other ranges ≡ []
+  within-again ranges none = none-listed (find (λ x. extends n x.1) (enumerate_from 0 ranges)) _ _ none
+
+  by-kind : (extended : Bool) (ranges : List ExtensionRange)
+      → (if extended then outside_faults fs d n owner ranges else extension_range_faults fs d n owner ranges) ≡ []
+      → (if extended then outside_faults gs e n other ranges else extension_range_faults gs e n other ranges) ≡ []
+  by-kind true ranges none = outside-again ranges none
+  by-kind false ranges none = within-again ranges none
+
+  by-ranges : (extended : Bool) (reserved : List ReservedRange) (ranges : List ExtensionRange)
+      → invalid_faults fs d n ++ reserved_faults fs d n owner reserved
+      ++ (if extended then outside_faults fs d n owner ranges else extension_range_faults fs d n owner ranges) ≡ []
+      → invalid_faults gs e n ++ reserved_faults gs e n other reserved
+      ++ (if extended then outside_faults gs e n other ranges else extension_range_faults gs e n other ranges) ≡ []
+  by-ranges extended reserved ranges none =
+      let last = if extended then outside_faults fs d n owner ranges else extension_range_faults fs d n owner ranges in
+      let first = both-empty (invalid_faults fs d n ++ reserved_faults fs d n owner reserved) last none in
+      let rest = both-empty (invalid_faults fs d n) (reserved_faults fs d n owner reserved) first.0 in
+      λ i. invalid-again rest.0 i ++ each-reserved 0 reserved rest.1 i ++ by-kind extended ranges first.1 i
+
+  pub by-extendee-again : (m k : DescriptorProto) → SameRanges m k → by_extendee fs d n owner m ≡ [] → by_extendee gs e n other k ≡ []
+  by-extendee-again m k same none =
+      (λ i. invalid_faults gs e n ++ reserved_faults gs e n other (same.reserved i) ++ outside_faults gs e n other (same.extensions i))
+      ∙ by-ranges true (out-DescriptorProto m).reserved_range (out-DescriptorProto m).extension_range none
+
+pub field-numbered : (fs gs : List FileDescriptorProto) (owner other d e : Shown) (m k : DescriptorProto) (f g : FieldDescriptorProto)
+    → SameRanges m k → g.number ≡ f.number → g.extendee ≡ f.extendee
+    → field_number_faults fs owner m d f ≡ [] → field_number_faults gs other k e g ≡ []
+field-numbered fs gs owner other d e m k f g same number extendee none =
+    (λ i. let n = number_of (number i) in invalid_faults gs e n ++ reserved_faults gs e n other (same.reserved i)
+    ++ (if is_some (extendee i) then outside_faults gs e n other (same.extensions i) else extension_range_faults gs e n other (same.extensions i)))
+    ∙ by-ranges fs gs owner other d e (number_of f.number) (is_some f.extendee) (out-DescriptorProto m).reserved_range (out-DescriptorProto m).extension_range none
+
+pub extension-numbered : (fs gs : List FileDescriptorProto) (owner other d e : Shown) (m k : DescriptorProto) (f g : FieldDescriptorProto)
+    → SameRanges m k → g.number ≡ f.number
+    → extension_number_faults fs owner m d f ≡ [] → extension_number_faults gs other k e g ≡ []
+extension-numbered fs gs owner other d e m k f g same number none =
+    (λ i. by_extendee gs e (number_of (number i)) other k) ∙ by-extendee-again fs gs owner other d e (number_of f.number) m k same none
+
+-- the number of an extension, by the record of the message that it extends, if it has one
+module _ (s t : Setting) (d : Shown) (x y : FieldDescriptorProto) (number : y.number ≡ x.number) where
+  pub numbered-by : (name : List ℕ) (def : Definition) (old now : Option DescriptorProto) → RangesStay old now
+      → option_map_or (λ m. extension_number_faults s.files (defined_at name def m) m d x) old [] ≡ []
+      → option_map_or (λ m. extension_number_faults t.files (defined_at name def m) m d y) now [] ≡ []
+  numbered-by name def None None stay none = refl
+  numbered-by name def None (Some m) stay none = absurd stay
+  numbered-by name def (Some m) None stay none = absurd stay
+  numbered-by name def (Some m) (Some k) stay none =
+      extension-numbered s.files t.files (defined_at name def m) (defined_at name def k) d d m k x y stay number none
