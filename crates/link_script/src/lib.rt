@@ -2,7 +2,9 @@
 #![tactic(auto)]
 
 mod building;
+mod files;
 mod script;
 
 pub use building::Open;
+pub use files::files_of;
 pub use script::{Block, Keyword, Script, ScriptError, ScriptFault, ScriptReader, Statement, read_script};

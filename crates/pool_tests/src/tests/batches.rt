@@ -2,7 +2,7 @@
 
 use descriptor_pool::{BuildError, DescriptorPool};
 use pool_types::{DefinitionKind, ExtensionDescriptor, MessageDescriptor};
-use script_files::files_of;
+use link_script::files_of;
 use std::alloc::{AllocError, Global};
 use std::process::Abort;
 use std::test::Fail;

@@ -5,7 +5,7 @@ use pool_faults::{DescriptorError, DescriptorErrorKind, Labelled};
 use descriptor_pool::BuildError;
 use plain_data::Text;
 use record_walk::CountKind;
-use script_files::files_of;
+use link_script::files_of;
 use std::alloc::{AllocError, Global};
 use std::fmt::Write;
 use std::test::Fail;

@@ -4,7 +4,7 @@ use super::batches::FIRST;
 use descriptor_pool::{BuildError, DescriptorPool};
 use pool_types::{Cardinality, FieldDescriptorInner, FileDescriptor, FileDescriptorInner, KindIndex, MessageDescriptor, MessageDescriptorInner};
 use proto_types::FieldDescriptorProto;
-use script_files::files_of;
+use link_script::files_of;
 use std::alloc::{AllocError, Global};
 use std::fmt::Write;
 use std::process::Abort;

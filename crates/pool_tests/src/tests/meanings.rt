@@ -5,7 +5,7 @@ use plain_data::Items;
 use pool_faults::{Label, Labelled, label_at};
 use name_resolution::{CandidateParents, ResolveNameFilter, ResolveNameResult, resolve_name};
 use pool_types::{Definition, DefinitionKind, FileDescriptorInner, Syntax};
-use script_files::files_of;
+use link_script::files_of;
 use std::alloc::{AllocError, Global};
 use std::collections::BTreeSet;
 use std::fmt::Write;

@@ -5,7 +5,7 @@ use super::{items::pool_of, values::tell_value};
 use descriptor_pool::{BuildError, DescriptorPool};
 use pool_types::{EnumDescriptor, EnumDescriptorInner, FieldDescriptorInner, MessageDescriptor, MessageDescriptorInner, ServiceDescriptor, ServiceDescriptorInner};
 use proto_types::{DescriptorProto, FileDescriptorProto};
-use script_files::files_of;
+use link_script::files_of;
 use std::alloc::{AllocError, Global};
 use std::fmt::Write;
 use std::test::Fail;

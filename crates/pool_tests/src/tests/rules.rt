@@ -5,7 +5,7 @@ use pool_faults::{DescriptorError, DescriptorErrorKind, Label, Labelled};
 use descriptor_pool::{BuildError, DescriptorPool};
 use plain_data::Text;
 use proto_types::FileDescriptorProto;
-use script_files::files_of;
+use link_script::files_of;
 use std::alloc::{AllocError, Global};
 use std::fmt::Write;
 use std::process::Abort;

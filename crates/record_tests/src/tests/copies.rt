@@ -4,7 +4,7 @@ use super::whole::{Record, WHOLE_SCRIPT, options};
 use plain_data::{Duplicate, ExactEq, Items, duplicate_given, same};
 use pool_types::{FileDescriptorInner, Syntax};
 use proto_types::{DescriptorProto, EnumOptions, FieldOptions, FileDescriptorProto, FileDescriptorSet, Options, SourceCodeInfo, Unread};
-use script_files::files_of;
+use link_script::files_of;
 use std::alloc::{AllocError, Global};
 use std::collections::BTreeSet;
 use std::process::Abort;

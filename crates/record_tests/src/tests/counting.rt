@@ -2,7 +2,7 @@
 
 use proto_types::FileDescriptorProto;
 use record_walk::{CountKind, Counts};
-use script_files::files_of;
+use link_script::files_of;
 use std::process::Abort;
 use std::test::Fail;
 

@@ -3,7 +3,7 @@
 use super::counting::{EVERY_KIND, NONE};
 use proto_types::FileDescriptorProto;
 use record_walk::{declared_indexes, declared_paths};
-use script_files::files_of;
+use link_script::files_of;
 use std::alloc::{AllocError, Global};
 use std::process::Abort;
 use std::test::Fail;

@@ -3,7 +3,7 @@
 use super::whole::{Record, WHOLE_SCRIPT};
 use plain_data::Text;
 use proto_types::{DescriptorProto, EnumDescriptorProto, EnumOptions, EnumValueDescriptorProto, ExtensionRange, FieldDescriptorProto, FileDescriptorProto, MethodDescriptorProto, OneofDescriptorProto, ReservedRange, ServiceDescriptorProto, SourceCodeInfo};
-use script_files::files_of;
+use link_script::files_of;
 use std::alloc::{AllocError, Global};
 use std::fmt::Write;
 use std::process::Abort;

@@ -4,7 +4,7 @@ use super::counting::{EVERY_KIND, NONE};
 use record_lists::{Lister, list_declarations};
 use proto_types::FileDescriptorProto;
 use record_walk::{Counts, Declaration, visit};
-use script_files::files_of;
+use link_script::files_of;
 use std::alloc::{AllocError, Global};
 use std::fmt::Write;
 use std::process::Abort;

@@ -8,7 +8,7 @@ use super::counting::{EVERY_KIND, NONE};
 use record_lists::Lister;
 use proto_types::{DescriptorProto, EnumDescriptorProto, EnumValueDescriptorProto, FieldDescriptorProto, FileDescriptorProto, MethodDescriptorProto, OneofDescriptorProto, ServiceDescriptorProto};
 use record_walk::{Visitor, visit, visit_each};
-use script_files::files_of;
+use link_script::files_of;
 use std::alloc::{AllocError, Global};
 use std::cell::Cell;
 use std::process::Abort;

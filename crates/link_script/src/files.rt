@@ -1,7 +1,4 @@
-//! The files that the statements of a script declare.
-#![tactic(auto)]
-
-use link_script::{Open, Script, Statement, read_script};
+use crate::{Open, Script, Statement, read_script};
 use proto_types::FileDescriptorProto;
 use std::alloc::{AllocError, Global};
 
