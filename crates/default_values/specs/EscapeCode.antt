@@ -27,8 +27,11 @@ Next = Result (Option (ℕ × List ℕ)) EscapeFault
 -- the byte with which a text begins, as it is or as an escape
 abbrev pub next_byte : List ℕ → Next
 next_byte [] = Ok None
-next_byte (c ∷ t) = if is_backslash c then result_map_both Some (λ f. f) (one_escape t) else Ok (Some (c, t))
+next_byte (c ∷ t) = if is_backslash c then result_map_both Some (λ f. f) (one_escape t)
+    else Ok (Some (c, t))
 
 -- and as the code has it
 abbrev pub next_in : Result (Option (ℕ × Bor (List ℕ))) EscapeFault → Next
-next_in next = result_map_both (λ (o : Option (ℕ × Bor (List ℕ))). option_map (λ one. (one.0, one.1.now)) o) (λ f. f) next
+next_in next =
+    result_map_both (λ (o : Option (ℕ × Bor (List ℕ))). option_map (λ one. (one.0, one.1.now)) o)
+    (λ f. f) next

@@ -21,9 +21,11 @@ is_octal c = is_digit c 8
 abbrev pub is_hex : ℕ → Bool
 is_hex c = is_digit c 16
 
--- the letters `a b f n r t v` of C, and a backslash, `?`, `'` and `"` for themselves, each with its byte
+-- the letters `a b f n r t v` of C, and a backslash, `?`, `'` and `"` for themselves, each with its
+-- byte
 abbrev pub letters : List (ℕ × ℕ)
-letters = (97, 7) ∷ (98, 8) ∷ (102, 12) ∷ (110, 10) ∷ (114, 13) ∷ (116, 9) ∷ (118, 11) ∷ (92, 92) ∷ (63, 63) ∷ (39, 39) ∷ (34, 34) ∷ []
+letters = (97, 7) ∷ (98, 8) ∷ (102, 12) ∷ (110, 10) ∷ (114, 13) ∷ (116, 9) ∷ (118, 11) ∷ (92, 92)
+    ∷ (63, 63) ∷ (39, 39) ∷ (34, 34) ∷ []
 
 -- what the first entry of a letter gives
 abbrev pub value_in : List (ℕ × ℕ) → ℕ → Option ℕ
@@ -45,15 +47,22 @@ starts_octal (c ∷ _) = is_octal c
 -- a text, and the bytes that it stands for
 pub data Escaped : List ℕ → List ℕ → Type 0 where
   nothing : Escaped [] []
-  itself : {c : ℕ} {t out : List ℕ} → IsFalse (is_backslash c) → Escaped t out → Escaped (c ∷ t) (c ∷ out)
-  letter : {s c v : ℕ} {t out : List ℕ} → IsTrue (is_backslash s) → letter_value c ≡ Some v → Escaped t out → Escaped (s ∷ c ∷ t) (v ∷ out)
-  octal_one : {s a v : ℕ} {t out : List ℕ} → IsTrue (is_backslash s) → IsTrue (is_octal a) → IsFalse (starts_octal t)
+  itself : {c : ℕ} {t out : List ℕ} → IsFalse (is_backslash c) → Escaped t out
+      → Escaped (c ∷ t) (c ∷ out)
+  letter : {s c v : ℕ} {t out : List ℕ} → IsTrue (is_backslash s) → letter_value c ≡ Some v
+      → Escaped t out → Escaped (s ∷ c ∷ t) (v ∷ out)
+  octal_one : {s a v : ℕ} {t out : List ℕ} → IsTrue (is_backslash s) → IsTrue (is_octal a)
+      → IsFalse (starts_octal t)
       → v ≡ digit_value a → Escaped t out → Escaped (s ∷ a ∷ t) (v ∷ out)
-  octal_two : {s a b v : ℕ} {t out : List ℕ} → IsTrue (is_backslash s) → IsTrue (is_octal a) → IsTrue (is_octal b) → IsFalse (starts_octal t)
+  octal_two : {s a b v : ℕ} {t out : List ℕ} → IsTrue (is_backslash s) → IsTrue (is_octal a)
+      → IsTrue (is_octal b) → IsFalse (starts_octal t)
       → v ≡ onto 8 (digit_value a) b → Escaped t out → Escaped (s ∷ a ∷ b ∷ t) (v ∷ out)
-  octal_three : {s a b c v : ℕ} {t out : List ℕ} → IsTrue (is_backslash s) → IsTrue (is_octal a) → IsTrue (is_octal b) → IsTrue (is_octal c)
-      → v ≡ onto 8 (onto 8 (digit_value a) b) c → v ≤ 255 → Escaped t out → Escaped (s ∷ a ∷ b ∷ c ∷ t) (v ∷ out)
-  hexadecimal : {s x a b v : ℕ} {t out : List ℕ} → IsTrue (is_backslash s) → IsTrue (is_hex_mark x) → IsTrue (is_hex a) → IsTrue (is_hex b)
+  octal_three : {s a b c v : ℕ} {t out : List ℕ} → IsTrue (is_backslash s) → IsTrue (is_octal a)
+      → IsTrue (is_octal b) → IsTrue (is_octal c)
+      → v ≡ onto 8 (onto 8 (digit_value a) b) c → v ≤ 255 → Escaped t out
+      → Escaped (s ∷ a ∷ b ∷ c ∷ t) (v ∷ out)
+  hexadecimal : {s x a b v : ℕ} {t out : List ℕ} → IsTrue (is_backslash s) → IsTrue (is_hex_mark x)
+      → IsTrue (is_hex a) → IsTrue (is_hex b)
       → v ≡ onto 16 (digit_value a) b → Escaped t out → Escaped (s ∷ x ∷ a ∷ b ∷ t) (v ∷ out)
 
 -- the byte of an escape and what follows it
@@ -64,12 +73,15 @@ One = Result (ℕ × List ℕ) EscapeFault
 abbrev pub hex_escape : List ℕ → One
 hex_escape [] = Err HexTooShort
 hex_escape (_ ∷ []) = Err HexTooShort
-hex_escape (a ∷ b ∷ t) = if is_hex a && is_hex b then Ok (onto 16 (digit_value a) b, t) else Err InvalidHex
+hex_escape (a ∷ b ∷ t) = if is_hex a && is_hex b then Ok (onto 16 (digit_value a) b, t)
+    else Err InvalidHex
 
 -- behind two octal digits of the number n: one more, if there is one
 abbrev pub octal_third : ℕ → List ℕ → One
 octal_third n [] = Ok (n, [])
-octal_third n (c ∷ t) = if is_octal c then (if nat_le (onto 8 n c) 255 then Ok (onto 8 n c, t) else Err OctalTooLarge) else Ok (n, c ∷ t)
+octal_third n (c ∷ t) = if is_octal c
+    then (if nat_le (onto 8 n c) 255 then Ok (onto 8 n c, t) else Err OctalTooLarge)
+    else Ok (n, c ∷ t)
 
 -- behind one octal digit n: up to two more
 abbrev pub octal_second : ℕ → List ℕ → One
@@ -91,7 +103,8 @@ one_escape (c ∷ t) =
 
 -- the fault f stands behind the first backslash that starts no escape
 abbrev pub EscapeRefused : List ℕ → EscapeFault → Type 0
-EscapeRefused t f = (u v out : List ℕ) × (s : ℕ) × (t ≡ u ++ s ∷ v) × IsTrue (is_backslash s) × Escaped u out × (one_escape v ≡ Err f)
+EscapeRefused t f = (u v out : List ℕ) × (s : ℕ) × (t ≡ u ++ s ∷ v) × IsTrue (is_backslash s)
+    × Escaped u out × (one_escape v ≡ Err f)
 
 -- the bytes of a text, or its leftmost fault
 abbrev pub Bytes : Type 0
@@ -112,7 +125,8 @@ abbrev pub unescaped_within : ℕ → List ℕ → Bytes
 unescaped_within zero t = Ok []
 unescaped_within (suc n) [] = Ok []
 unescaped_within (suc n) (c ∷ t) =
-    if is_backslash c then escape_then (λ rest. unescaped_within n rest) (one_escape t) else byte_before c (unescaped_within n t)
+    if is_backslash c then escape_then (λ rest. unescaped_within n rest) (one_escape t)
+    else byte_before c (unescaped_within n t)
 
 -- what a text gives
 abbrev pub unescaped : List ℕ → Bytes
@@ -120,15 +134,18 @@ unescaped t = unescaped_within (length t) t
 
 -- law: the function is the relation
 abbrev pub UnescapedIsEscaped : Type 0
-UnescapedIsEscaped = (t out : List ℕ) (f : EscapeFault) → ((unescaped t ≡ Ok out) ↔ Escaped t out) × ((unescaped t ≡ Err f) ↔ EscapeRefused t f)
+UnescapedIsEscaped = (t out : List ℕ) (f : EscapeFault)
+    → ((unescaped t ≡ Ok out) ↔ Escaped t out) × ((unescaped t ≡ Err f) ↔ EscapeRefused t f)
 
 -- law: a text that stands for bytes stands for no others, and is not refused
 abbrev pub EscapedIsOne : Type 0
-EscapedIsOne = (t out : List ℕ) → Escaped t out → ((other : List ℕ) → Escaped t other → other ≡ out) × ((f : EscapeFault) → EscapeRefused t f → ⊥)
+EscapedIsOne = (t out : List ℕ) → Escaped t out → ((other : List ℕ) → Escaped t other → other ≡ out)
+    × ((f : EscapeFault) → EscapeRefused t f → ⊥)
 
 -- law: a text that is refused is refused with one fault, and not for want of memory
 abbrev pub RefusedIsOne : Type 0
-RefusedIsOne = (t : List ℕ) (f : EscapeFault) → EscapeRefused t f → ((other : EscapeFault) → EscapeRefused t other → other ≡ f) × (f ≢ OutOfMemory)
+RefusedIsOne = (t : List ℕ) (f : EscapeFault) → EscapeRefused t f
+    → ((other : EscapeFault) → EscapeRefused t other → other ≡ f) × (f ≢ OutOfMemory)
 
 -- a refusal: of memory, or the leftmost fault
 abbrev pub IsRefusal : List ℕ → EscapeFault → Type 0

@@ -6,4 +6,5 @@ use Rattle.std.specs.declared.option.Option.TheVariants.{None, Some}
 
 -- the truth value that a text writes
 abbrev pub truth_value : List ℕ → Option Bool
-truth_value text = if bytes_eq text (codes "true") then Some true else (if bytes_eq text (codes "false") then Some false else None)
+truth_value text = if bytes_eq text (codes "true") then Some true
+    else (if bytes_eq text (codes "false") then Some false else None)

@@ -7,18 +7,18 @@ use Rattle.record_walk.specs.Counts.{counts_in}
 use Rattle.record_walk.proofs.Listings.{on-ok}
 use Rattle.pool_types.specs.Contents.{Contents}
 use Rattle.pool_faults.specs.declared.error.DescriptorError.{DescriptorError}
-use Rattle.reference_pass.specs.Broken.{Faults}
-use Rattle.descriptor_pool.specs.Behind.{first_of_both}
+use Rattle.reference_pass.specs.SecondPass.{Faults}
+use Rattle.descriptor_pool.specs.Linking.{first_of_both}
 use Rattle.descriptor_pool.specs.Pool.{Batch, faults, faults_of_names, faults_of_references, counts_after}
 use Rattle.descriptor_pool.specs.Outcome.{IsLinked, IsRefused, Outcome}
 use Rattle.descriptor_pool.specs.declared.error.BuildError.{BuildError}
 use Rattle.descriptor_pool.specs.declared.error.BuildError.TheVariants.{Descriptor}
 use Rattle.script_answers.specs.Answers.{counts_line, refused_lines}
-use Rattle.descriptor_linker.specs.Report.Session.{Session, tell, accepted_or, linking, link_step}
+use Rattle.descriptor_linker.specs.Report.Session.{Session, write, accepted_or, linking, link_step}
 
 -- the session with a pool and an empty batch, where a text is told
 abbrev behind : Session → Contents × List ℕ → Session
-behind s after = record (tell s after.1) { pool = after.0; batch = [] }
+behind s after = record (write s after.1) { pool = after.0; batch = [] }
 
 told-behind : (s : Session) (batch emptied : Batch) (new : Contents) (text told : List ℕ)
     → batch ≡ s.batch → emptied ≡ [] → linking s.pool batch (counts_after s.pool batch) ≡ (new, text) → told ≡ s.told ++ text

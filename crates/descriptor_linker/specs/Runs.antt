@@ -20,15 +20,20 @@ pub record HasBrokenIn (old new : Source) (before after : Sink) : Type 0 where
 -- a write failed, or took no byte, and a beginning of the report was written
 pub record HasBrokenOut (bytes : List ℕ) (before after : Sink) : Type 0 where
   pub stopped : (before.failures < after.failures) ⊎ (before.idle < after.idle)
-  pub began : (front rest : List ℕ) × (report (script bytes) ≡ front ++ rest) × Took before.bytes front after.bytes
+  pub began : (front rest : List ℕ) × (report (script bytes) ≡ front ++ rest)
+      × Took before.bytes front after.bytes
 
 -- a read failed, or a write failed or took no byte of some
 abbrev pub HasStopped : Source → Source → Sink → Sink → Type 0
-HasStopped old new before after = (old.failures < new.failures) ⊎ ((before.failures < after.failures) ⊎ (before.idle < after.idle))
+HasStopped old new before after = (old.failures < new.failures)
+    ⊎ ((before.failures < after.failures) ⊎ (before.idle < after.idle))
 
 -- how a run over these bytes may end
 abbrev pub RunsTo : List ℕ → Source → Source → Sink → Sink → Ending → Type 0
-RunsTo bytes old new before after ending.Whole = IsWhole bytes new before after × ((script bytes).fault ≡ None)
-RunsTo bytes old new before after ending.ScriptFault = IsWhole bytes new before after × ((script bytes).fault ≢ None)
+RunsTo bytes old new before after ending.Whole = IsWhole bytes new before after
+    × ((script bytes).fault ≡ None)
+RunsTo bytes old new before after ending.ScriptFault = IsWhole bytes new before after
+    × ((script bytes).fault ≢ None)
 RunsTo bytes old new before after ending.OutOfMemory = after.bytes ≡ before.bytes
-RunsTo bytes old new before after ending.Device = HasBrokenIn old new before after ⊎ HasBrokenOut bytes before after
+RunsTo bytes old new before after ending.Device = HasBrokenIn old new before after
+    ⊎ HasBrokenOut bytes before after

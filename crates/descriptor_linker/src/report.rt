@@ -9,7 +9,7 @@ mod relink;
 mod session;
 
 use link_script::{ScriptError, ScriptReader};
-use script_answers::tell_fault;
+use script_answers::write_fault;
 use session::Session;
 use std::alloc::{AllocError, Global};
 
@@ -33,7 +33,7 @@ pub fn report_of(alloc: Global, bytes: &[u8]) -> Result<Report, AllocError>
     let has_fault = match ended {
         Ok(()) => false,
         Err(ScriptError::Fault(line, fault)) => {
-            tell_fault(&mut text, line, fault)?;
+            write_fault(&mut text, line, fault)?;
             true
         }
         Err(ScriptError::OutOfMemory) => return Err(AllocError),

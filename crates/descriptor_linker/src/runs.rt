@@ -70,8 +70,8 @@ fn read_all<R: ScriptInput>(alloc: Global, input: &mut R) -> Result<Vec<u8>, Rea
     }
 }
 
-/// Writes all the bytes, in as many writes as it takes. The error comes where a write fails, or takes
-/// no byte: a beginning of the bytes is written then.
+/// Writes all the bytes, in as many writes as it takes. The error comes where a write fails, or
+/// takes no byte: a beginning of the bytes is written then.
 fn write_all<W: ReportOutput>(output: &mut W, bytes: &[u8]) -> io::Result<()>
     requires { (W.sink output.old).failures < failure_limit }
     ensures whole { OnOk result

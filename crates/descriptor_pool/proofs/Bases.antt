@@ -7,9 +7,9 @@ use Rattle.proto_types.specs.declared.file.FileDescriptorProto.{FileDescriptorPr
 use Rattle.record_walk.specs.Counts.{counts_in}
 use Rattle.pool_contents.specs.declared.growing.GrowingPool.{GrowingPool}
 use Rattle.pool_contents.specs.Extended.{cut}
-use Rattle.pool_contents.specs.Growing.{kept_in, records_from}
+use Rattle.pool_contents.specs.Growing.{rolled_back, records_from}
 
-base-is : (p : GrowingPool) → counts_in (kept_in p) ≡ p.base
+base-is : (p : GrowingPool) → counts_in (rolled_back p) ≡ p.base
 base-is p = λ i. record {
   files = length-take-le p.base.files p.inner.files.items p.files_within i;
   messages = (length-map (take p.base.messages p.inner.messages.items) (cut p.base.extensions) ∙ length-take-le p.base.messages p.inner.messages.items p.messages_within) i;
@@ -19,7 +19,7 @@ base-is p = λ i. record {
 }
 
 -- so it stays where that stays
-pub same-base : (p q : GrowingPool) → kept_in q ≡ kept_in p → q.base ≡ p.base
+pub same-base : (p q : GrowingPool) → rolled_back q ≡ rolled_back p → q.base ≡ p.base
 same-base p q kept = sym (base-is q) ∙ ap counts_in kept ∙ base-is p
 
 -- the rest of a list from a position on

@@ -23,14 +23,14 @@ use Rattle.record_walk.proofs.Changed.{counted-changed, declare-changed}
 use Rattle.record_walk.proofs.Counted.{counted-append, counts_are}
 use Rattle.record_walk.proofs.Paths.{one-file}
 use Rattle.record_walk.proofs.Walks.{IsInside, within-all}
-use Rattle.field_rules.specs.Each.{each}
+use Rattle.plain_data.specs.Each.{map_enumerated}
 use Rattle.field_rules.specs.EnumItems.{enum_item}
 use Rattle.reference_pass.specs.Items.{file_item, message_item, service_item, extension_item}
 use Rattle.reference_pass.specs.Linked.{linking, linked_field, typed}
-use Rattle.reference_pass.specs.Setting.{Setting, meaning}
+use Rattle.reference_pass.specs.Setting.{Setting, resolve}
 use Rattle.name_pass.specs.Entered.{entries_of, entries, file_entries_of, file_entries}
 use Rattle.pool_contents.proofs.Each.{each-map}
-use Rattle.descriptor_pool.specs.Behind.{with_items}
+use Rattle.descriptor_pool.specs.Linking.{with_items}
 
 -- the names that the files of a pool enter
 abbrev pub known_names : Contents → List Entry
@@ -46,7 +46,7 @@ entries-append ds es = flat_map-append entries_of ds es
 -- linking keeps the names of fields
 field-name : (s : Setting) (n : ℕ) (full_name : List ℕ) (f : FieldDescriptorProto) → text_of (linked_field s n full_name f).name ≡ text_of f.name
 field-name s n full_name f =
-    elim (text_of f.type_name) as (λ t. let g : FieldDescriptorProto = elim t [ [] ↦ f | _ ∷ _ ↦ typed (meaning s n full_name FieldType (text_of f.type_name)) f ] in text_of g.name ≡ text_of f.name)
+    elim (text_of f.type_name) as (λ t. let g : FieldDescriptorProto = elim t [ [] ↦ f | _ ∷ _ ↦ typed (resolve s n full_name FieldType (text_of f.type_name)) f ] in text_of g.name ≡ text_of f.name)
     [ [] ↦ refl | _ ∷ _ ↦ refl ]
 
 pub linking-keeps : (s : Setting) → KeepNames (linking s)
@@ -106,7 +106,7 @@ none-inside (d ∷ ds) all =
 
 -- what is made of files, each by its index
 pub items-of-files : {Y : Type 0} (make : ℕ → FileDescriptorProto → Y) (base : Counts) (fs : List FileDescriptorProto)
-    → map (λ e. make e.0.index e.1) (of_kind as_file (declarations base fs)) ≡ each make base.files fs
+    → map (λ e. make e.0.index e.1) (of_kind as_file (declarations base fs)) ≡ map_enumerated make base.files fs
 items-of-files make base [] = refl
 items-of-files make base (f ∷ fs) =
     let inside = within_file base.files base f in
@@ -116,9 +116,9 @@ items-of-files make base (f ∷ fs) =
     (λ here tag position index proto _. tt) (λ here tag position index proto _. tt) base f tt) in
     ap (λ xs. map (λ e. make e.0.index e.1) ((file_shown [] base.files f, f) ∷ xs))
     (filter_map-append (λ d. option_map (λ x. (d, x)) (as_file d.proto)) inside rest ∙ ap (λ xs. xs ++ of_kind as_file rest) none)
-    ∙ ap (λ ys. make base.files f ∷ ys) (items-of-files make next fs ∙ ap (λ n. each make n fs) (one-file base f))
+    ∙ ap (λ ys. make base.files f ∷ ys) (items-of-files make next fs ∙ ap (λ n. map_enumerated make n fs) (one-file base f))
 
-pub each-changed : (c : Changes) (index : ℕ) (fs : List FileDescriptorProto) → each (changed_file c) index fs ≡ changed_files c index fs
+pub each-changed : (c : Changes) (index : ℕ) (fs : List FileDescriptorProto) → map_enumerated (changed_file c) index fs ≡ changed_files c index fs
 each-changed c index [] = refl
 each-changed c index (f ∷ fs) = ap (λ gs. changed_file c index f ∷ gs) (each-changed c (suc index) fs)
 

@@ -8,10 +8,10 @@ use Rattle.std.specs.FinMap as finite
 use Rattle.std.specs.List.{AllByRecursion, enumerate_from, filter}
 use Rattle.std.specs.Option.{IfSome}
 use Rattle.std.specs.Ordering.{nat_cmp}
-use Rattle.field_rules.specs.Each.{each}
+use Rattle.plain_data.specs.Each.{map_enumerated}
 use Rattle.proto_types.specs.declared.records.field.FieldDescriptorProto.{FieldDescriptorProto}
 use Rattle.proto_types.specs.declared.tag.field.TheConstants as field
-use Rattle.proto_types.specs.Lists.{after_each, listed}
+use Rattle.plain_data.specs.Lists.{after_each, listed}
 use Rattle.proto_types.specs.Readers.{text_of}
 use Rattle.pool_types.specs.Contents.{Contents, no_contents}
 use Rattle.pool_types.specs.declared.contents.extension.ExtensionDescriptorInner.{ExtensionDescriptorInner}
@@ -23,17 +23,17 @@ use Rattle.name_resolution.specs.References.{reference_fault}
 use Rattle.name_resolution.specs.Resolution.{Resolution, found, invalid_type, not_imported, shadowed, not_found}
 use Rattle.name_resolution.proofs.Named.{IsNamed, resolution-named}
 use Rattle.name_resolution.proofs.Wanted.{IsWanted, resolution-wanted}
-use Rattle.reference_pass.specs.Broken.{second_faults}
+use Rattle.reference_pass.specs.SecondPass.{second_faults}
 use Rattle.reference_pass.specs.Defaults.{field_default_faults}
 use Rattle.reference_pass.specs.Extensions.{extendee_faults, number_faults}
 use Rattle.reference_pass.specs.FieldTypes.{type_faults}
 use Rattle.reference_pass.specs.Items.{extension_item, message_item}
-use Rattle.reference_pass.specs.Messages.{message_found, message_meaning, or_missing}
+use Rattle.reference_pass.specs.Messages.{message_found, resolve_message, index_or_max}
 use Rattle.reference_pass.specs.Setting.{Setting, seen_by}
 use Rattle.pool_contents.specs.Extended.{extended_by, extending}
 use Rattle.pool_contents.proofs.Each.{each-append, each-same, each-twice, length-each}
 use Rattle.proto_types.specs.declared.file.FileDescriptorProto.{FileDescriptorProto}
-use Rattle.descriptor_pool.specs.Behind.{declared_behind, linked_behind, references_behind, setting_behind}
+use Rattle.descriptor_pool.specs.Linking.{declared_with, linked_with, reference_faults, setting_with}
 use Rattle.descriptor_pool.specs.Extensions.{ExtendeesLieIn, ListsAreWhole}
 use Rattle.descriptor_pool.specs.Invariant.{IsPool}
 use Rattle.descriptor_pool.specs.Pool.{Made, empty, linked_to, new_files}
@@ -45,7 +45,7 @@ use Rattle.descriptor_pool.proofs.Wanted.{message-wanted}
 -- an extendee without a fault was found, and is one of the messages that names mean
 found-below : (s : Setting) (end : ℕ) (path : List ℤ) (file : ℕ) (written : List ℕ) (r : Resolution)
     → ((name : List ℕ) → IfSome (finite.get s.names name) (MeansBefore end)) → IsNamed s.names r → IsWanted Message r
-    → listed (reference_fault s.files written file path r) ≡ [] → or_missing (message_found r) < end
+    → listed (reference_fault s.files written file path r) ≡ [] → index_or_max (message_found r) < end
 found-below s end path file written (found name def) lie named wanted none =
     message-wanted end def.kind wanted (subst (λ got. IfSome got (MeansBefore end)) named (lie name))
 found-below s end path file written (invalid_type name def filter) lie named wanted none = absurd (cc)
@@ -57,7 +57,7 @@ module _ (s : Setting) (end : ℕ) (lie : (name : List ℕ) → IfSome (finite.g
   extendee-below : (d : Shown) (x : FieldDescriptorProto) → extendee_faults s d x ≡ [] → (extension_item s d x).extendee < end
   extendee-below d x none =
       let sees : ℕ → Bool = λ n. contains_by (nat_cmp n) (seen_by s d.file) in
-      found-below s end (d.path ++ field.EXTENDEE ∷ []) d.file (text_of x.extendee) (message_meaning s d x.extendee) lie
+      found-below s end (d.path ++ field.EXTENDEE ∷ []) d.file (text_of x.extendee) (resolve_message s d x.extendee) lie
       (resolution-named s.names sees Message d.full_name (text_of x.extendee)) (resolution-wanted s.names sees Message d.full_name (text_of x.extendee)) none
 
   abbrev items : List Shown → List ExtensionDescriptorInner
@@ -78,7 +78,7 @@ module _ (s : Setting) (end : ℕ) (lie : (name : List ℕ) → IfSome (finite.g
   one-below before file parent index path full_name (of_extension x) ds none rest =
       let d : Shown = record { file = file; parent = parent; index = index; path = path; full_name = full_name; proto = of_extension x } in
       let extendee = extendee_faults s d x in
-      let numbers = number_faults s d x (message_meaning s d x.extendee) in
+      let numbers = number_faults s d x (resolve_message s d x.extendee) in
       let types = type_faults s d x in
       let parts = no_items ((extendee ++ numbers) ++ types) (field_default_faults s d x) none in
       let first = no_items (extendee ++ numbers) types parts.0 in
@@ -124,7 +124,7 @@ drop-front [] ys = refl
 drop-front (x ∷ xs) ys = drop-front xs ys
 
 -- new entries, which are made alike
-pub each-made : {X Y Z : Type 0} (f : ℕ → Y → Z) (g : X → Y) (i : ℕ) (xs : List X) → each f i (map g xs) ≡ each (λ n x. f n (g x)) i xs
+pub each-made : {X Y Z : Type 0} (f : ℕ → Y → Z) (g : X → Y) (i : ℕ) (xs : List X) → map_enumerated f i (map g xs) ≡ map_enumerated (λ n x. f n (g x)) i xs
 each-made f g i [] = refl
 each-made f g i (x ∷ xs) = ap (λ rest. f i (g x) ∷ rest) (each-made f g (suc i) xs)
 
@@ -134,17 +134,17 @@ listing xs n m = record m { extensions = extending n 0 xs }
 
 -- old messages that list all old extensions, and new ones that list none, list all once the new extensions are put behind
 module _ {X : Type 0} (old new : List ExtensionDescriptorInner) (ms : List MessageDescriptorInner) (make : X → MessageDescriptorInner) (made : List X) (bare : (x : X) → (make x).extensions ≡ [])
-    (whole : ms ≡ each (listing old) 0 ms) (below : AllByRecursion (λ x. x.extendee < length ms) old) where
+    (whole : ms ≡ map_enumerated (listing old) 0 ms) (below : AllByRecursion (λ x. x.extendee < length ms) old) where
   abbrev more : ℕ → MessageDescriptorInner → MessageDescriptorInner
   more = extended_by (length old) new
 
-  first-more : each more 0 ms ≡ each (listing (old ++ new)) 0 ms
+  first-more : map_enumerated more 0 ms ≡ map_enumerated (listing (old ++ new)) 0 ms
   first-more =
-      ap (each more 0) whole
+      ap (map_enumerated more 0) whole
       ∙ each-twice more (listing old) 0 ms
       ∙ each-same (λ n m. more n (listing old n m)) (listing (old ++ new)) 0 ms (λ n m _ _ i. record m { extensions = sym (extending-behind n old new) i })
 
-  later-more : each more (0 + length ms) (map make made) ≡ each (listing (old ++ new)) (0 + length ms) (map make made)
+  later-more : map_enumerated more (0 + length ms) (map make made) ≡ map_enumerated (listing (old ++ new)) (0 + length ms) (map make made)
   later-more =
       each-made more make (0 + length ms) made
       ∙ each-same (λ n x. more n (make x)) (λ n x. listing (old ++ new) n (make x)) (0 + length ms) made
@@ -156,10 +156,10 @@ module _ {X : Type 0} (old new : List ExtensionDescriptorInner) (ms : List Messa
           (λ i. bare x i ++ extending n (length old) new)
           ∙ sym (extending-behind n old new ∙ ap (λ es. es ++ extending n (length old) new) (extending-none n 0 (length ms) old below (omega (arith, from))))
 
-  pub all-more : each more 0 (ms ++ map make made) ≡ each (listing (old ++ new)) 0 (each more 0 (ms ++ map make made))
+  pub all-more : map_enumerated more 0 (ms ++ map make made) ≡ map_enumerated (listing (old ++ new)) 0 (map_enumerated more 0 (ms ++ map make made))
   all-more =
       let all = ms ++ map make made in
-      let now : each more 0 all ≡ each (listing (old ++ new)) 0 all =
+      let now : map_enumerated more 0 all ≡ map_enumerated (listing (old ++ new)) 0 all =
       each-append more 0 ms (map make made) ∙ (λ i. first-more i ++ later-more i) ∙ sym (each-append (listing (old ++ new)) 0 ms (map make made)) in
       now ∙ sym (each-twice (listing (old ++ new)) more 0 all)
 
@@ -172,27 +172,27 @@ nothing-whole : Whole no_contents
 nothing-whole = record { lists = refl; extendees = All-nil (λ x. x.extendee < 0) }
 
 -- so it is behind new files that break nothing in the second pass
-pub link-whole : (q : Contents) (new : List FileDescriptorProto) → Known q → Whole q → references_behind q new ≡ [] → Whole (linked_behind q new)
+pub link-whole : (q : Contents) (new : List FileDescriptorProto) → Known q → Whole q → reference_faults q new ≡ [] → Whole (linked_with q new)
 link-whole q new known was none =
-    let s = setting_behind q new in
-    let ds = declared_behind q new in
+    let s = setting_with q new in
+    let ds = declared_with q new in
     let old = q.extensions in
     let came = map (λ e. extension_item s e.0 e.1) (of_kind as_extension ds) in
     let ms = q.messages in
     let make = λ (e : Shown × _). message_item s e.0 e.1 in
     let later = map make (of_kind as_message ds) in
-    let end = length (linked_behind q new).messages in
+    let end = length (linked_with q new).messages in
     let many : end ≡ length (ms ++ later) = length-each (extended_by (length old) (drop (length old) (old ++ came))) 0 (ms ++ later) in
     let more : length ms ≤ end = let sum = length-append ms later in omega (arith, many, sum) in
     let below = recursion_from_All (λ x. x.extendee < length ms) old was.extendees in
     let rest = drop-front old came in
     record {
-      lists = ap (λ xs. each (extended_by (length old) xs) 0 (ms ++ later)) rest
+      lists = ap (λ xs. map_enumerated (extended_by (length old) xs) 0 (ms ++ later)) rest
           ∙ all-more old came ms make (of_kind as_message ds) (λ _. refl) was.lists below
-          ∙ ap (λ xs. each (listing (old ++ came)) 0 (each (extended_by (length old) xs) 0 (ms ++ later))) (sym rest);
+          ∙ ap (λ xs. map_enumerated (listing (old ++ came)) 0 (map_enumerated (extended_by (length old) xs) 0 (ms ++ later))) (sym rest);
       extendees = All-append (λ x. x.extendee < end) old came
           (All-weaker (λ x. x.extendee < length ms) (λ x. x.extendee < end) (λ x here. omega (arith, here, more)) old was.extendees)
-          (All-from_recursion (λ x. x.extendee < end) came (all-below s end (messages-lie (linked_behind q new) (link-known q new known)) [] ds none));
+          (All-from_recursion (λ x. x.extendee < end) came (all-below s end (messages-lie (linked_with q new) (link-known q new known)) [] ds none));
     }
 
 pub made-whole : (p : Contents) → Made p → Whole p

@@ -7,11 +7,11 @@ use Rattle.record_walk.specs.Counts.{counts_in}
 use Rattle.record_walk.specs.Fits.{counts_with}
 use Rattle.record_walk.specs.Walking.{WithinLimits}
 use Rattle.record_walk.proofs.Room.{room-fits}
-use Rattle.reference_pass.specs.Broken.{Faults}
+use Rattle.reference_pass.specs.SecondPass.{Faults}
 use Rattle.reference_pass.specs.NamesBegin.{NamesBegin}
 use Rattle.descriptor_pool.specs.declared.error.BuildError.{BuildError}
 use Rattle.descriptor_pool.specs.declared.error.BuildError.TheVariants.{TooMany, Descriptor, OutOfMemory}
-use Rattle.descriptor_pool.specs.Behind.{declared_behind, setting_behind, faults_behind, first_of_both, linked_behind, with_items, with_names}
+use Rattle.descriptor_pool.specs.Linking.{declared_with, setting_with, batch_faults, first_of_both, linked_with, with_items, with_names}
 use Rattle.descriptor_pool.specs.Invariant.{IsPool}
 use Rattle.descriptor_pool.specs.Outcome.{Outcome}
 use Rattle.descriptor_pool.specs.Tells.{TellsAll, TellsFaults}
@@ -27,8 +27,8 @@ none_of_both (f ∷ fs) second none = absurd (search rules)
 
 -- the contents after new files were linked behind those of a pool, or were refused
 pub record IsBehind {U : Type 0} (p : Contents) (new : List FileDescriptorProto) (r : Result U BuildError) (q : Contents) : Type 0 where
-  pub ok : OnOk r (q ≡ linked_behind p new)
-  pub told : TellsAll r (faults_behind p new)
+  pub ok : OnOk r (q ≡ linked_with p new)
+  pub told : TellsAll r (batch_faults p new)
   pub err : OnErr r (q ≡ p)
   pub names : NamesBegin q.messages
 
@@ -46,22 +46,22 @@ module _ (p : Contents) (batch : Batch) (fits : Fits p batch) where
   told_outcome U (Descriptor error) told = record { fits = fits; all = told; unchanged = refl }
   told_outcome U OutOfMemory told = record { fits = fits; unchanged = refl }
 
-  pub outcome_behind : {U : Type 0} (r : Result U BuildError) (q : Contents) → IsBehind p (new_files p batch) r q → Outcome p batch r q
-  outcome_behind (Ok u) q behind = record { fits = fits; accepted = accepted behind.told; is = behind.ok }
-  outcome_behind {U} (Err error) q behind =
+  pub outcome_with : {U : Type 0} (r : Result U BuildError) (q : Contents) → IsBehind p (new_files p batch) r q → Outcome p batch r q
+  outcome_with (Ok u) q behind = record { fits = fits; accepted = accepted behind.told; is = behind.ok }
+  outcome_with {U} (Err error) q behind =
       let P : Contents → Type 0 = λ after. Outcome {U = U} p batch (Err error) after in subst P (sym behind.err) (told_outcome U error behind.told)
 
-  pub pool_behind : {U : Type 0} → IsPool p → (r : Result U BuildError) (q : Contents) → IsBehind p (new_files p batch) r q → IsPool q
-  pool_behind pool (Ok u) q behind =
+  pub pool_after : {U : Type 0} → IsPool p → (r : Result U BuildError) (q : Contents) → IsBehind p (new_files p batch) r q → IsPool q
+  pool_after pool (Ok u) q behind =
       let made = linked_to batch pool.made (accepted behind.told) fits behind.ok in
       let new = new_files p batch in
-      let ds = declared_behind p new in
-      let items = with_items (with_names p ds) (setting_behind p new) ds in
-      let counts = ap counts_in behind.ok ∙ counts-extended (length p.extensions) items ∙ counts-with (with_names p ds) (setting_behind p new) ds in
+      let ds = declared_with p new in
+      let items = with_items (with_names p ds) (setting_with p new) ds in
+      let counts = ap counts_in behind.ok ∙ counts-extended (length p.extensions) items ∙ counts-with (with_names p ds) (setting_with p new) ds in
       record {
         made = made;
         counts_are = (made-sound q made).known.counts_are;
         within = subst WithinLimits (sym counts) (room-fits (counts_in p) new fits).within;
         names_begin = behind.names;
       }
-  pool_behind pool (Err error) q behind = subst IsPool (sym behind.err) pool
+  pool_after pool (Err error) q behind = subst IsPool (sym behind.err) pool

@@ -6,7 +6,7 @@ use Rattle.record_walk.specs.declared.counts.Counts.{Counts}
 use Rattle.record_walk.specs.Declarations.{declarations}
 use Rattle.record_walk.specs.Protos.{Proto, of_file, of_message, of_field, of_oneof, of_service, of_method, of_enum, of_value, of_extension, as_message, as_enum, as_service, as_extension}
 use Rattle.record_walk.specs.Shown.{Shown, of_kind}
-use Rattle.reference_pass.specs.Broken.{owner_faults, second_pass}
+use Rattle.reference_pass.specs.SecondPass.{owner_faults, second_pass}
 use Rattle.field_rules.specs.EnumItems.{enum_item}
 use Rattle.reference_pass.specs.Items.{message_item, service_item, extension_item}
 use Rattle.reference_pass.specs.Setting.{Setting}

@@ -7,7 +7,7 @@ use Rattle.std.specs.FinMap as finite
 use Rattle.std.specs.List.{AllByRecursion, filter_map}
 use Rattle.pool_types.specs.declared.contents.file.FileDescriptorInner.{FileDescriptorInner}
 use Rattle.proto_types.specs.declared.file.FileDescriptorProto.{FileDescriptorProto}
-use Rattle.field_rules.specs.Each.{each}
+use Rattle.plain_data.specs.Each.{map_enumerated}
 use Rattle.reference_pass.specs.Items.{file_item}
 use Rattle.reference_pass.specs.Linked.{linked}
 use Rattle.reference_pass.specs.Setting.{Setting, seen_by}
@@ -28,7 +28,7 @@ one-longer front x = length-append front (x ∷ []) ∙ add-one (length front)
 
 module _ (s : Setting) where
   pub links-are : (front rest : List FileDescriptorInner) → s.seen ≡ map (λ f. f.transitive_dependencies) (front ++ rest) → AllByRecursion (HasImports s) rest
-      → each (linked_item s) (length front) rest ≡ each (file_item s) (length front) (map (λ f. f.raw) rest)
+      → map_enumerated (linked_item s) (length front) rest ≡ map_enumerated (file_item s) (length front) (map (λ f. f.raw) rest)
   links-are front [] seen ready = refl
   links-are front (f ∷ rest) seen ready =
       let n = length front in
@@ -43,14 +43,14 @@ module _ (s : Setting) where
       } in
       let longer = one-longer front f in
       let later = links-are (front ++ f ∷ []) rest (seen ∙ ap (map (λ f. f.transitive_dependencies)) (sym (append_assoc front (f ∷ []) rest))) ready.1 in
-      (λ i. here i ∷ (ap (λ m. each (linked_item s) m rest) (sym longer) ∙ later ∙ ap (λ m. each (file_item s) m (map (λ f. f.raw) rest)) longer) i)
+      (λ i. here i ∷ (ap (λ m. map_enumerated (linked_item s) m rest) (sym longer) ∙ later ∙ ap (λ m. map_enumerated (file_item s) m (map (λ f. f.raw) rest)) longer) i)
 
 -- new files that are given the files that they import and see have their syntax and their imports
 module _ (s : Setting) (r : GrowingPool) (names : s.file_names ≡ r.inner.file_names) where
   abbrev given : ℕ → FileDescriptorInner → FileDescriptorInner
   given n f = if nat_le (first_new r) n then seeing r n f else f
 
-  each-given : (n : ℕ) (new : List FileDescriptorProto) → first_new r ≤ n → AllByRecursion (HasImports s) (each given n (map unlinked new))
+  each-given : (n : ℕ) (new : List FileDescriptorProto) → first_new r ≤ n → AllByRecursion (HasImports s) (map_enumerated given n (map unlinked new))
   each-given n [] from = tt
   each-given n (f ∷ fs) from =
       let behind : nat_le (first_new r) n ≡ true = grind (arith, nat_tests) in
@@ -61,9 +61,9 @@ module _ (s : Setting) (r : GrowingPool) (names : s.file_names ≡ r.inner.file_
       → first_new r ≡ length old → base ≡ length old → AllByRecursion (HasImports s) (drop base (files_seeing r))
   have-imports base old new files first base-is =
       let start : 0 + length old ≡ length old = omega arith in
-      let all : drop base (files_seeing r) ≡ each given (0 + length old) (map unlinked new) =
-      (λ i. drop (base-is i) (each given 0 (files i)))
+      let all : drop base (files_seeing r) ≡ map_enumerated given (0 + length old) (map unlinked new) =
+      (λ i. drop (base-is i) (map_enumerated given 0 (files i)))
       ∙ ap (drop (length old)) (each-append given 0 old (map unlinked new))
-      ∙ ap (λ n. drop n (each given 0 old ++ each given (0 + length old) (map unlinked new))) (sym (length-each given 0 old))
-      ∙ drop-append_seam (each given 0 old) (each given (0 + length old) (map unlinked new)) in
+      ∙ ap (λ n. drop n (map_enumerated given 0 old ++ map_enumerated given (0 + length old) (map unlinked new))) (sym (length-each given 0 old))
+      ∙ drop-append_seam (map_enumerated given 0 old) (map_enumerated given (0 + length old) (map unlinked new)) in
       subst (AllByRecursion (HasImports s)) (sym all) (each-given (0 + length old) new (omega (arith, first)))

@@ -3,7 +3,7 @@
 use Rattle.std.proofs.Common.{◌≡◌, ◌≤◌, ◌<◌, ◌+◌, ◌==◌, ℕ, true, false, cond, List, [], ◌∷◌, ◌++◌, length, map, drop, refl, arith}
 use Rattle.std.proofs.lemmas.List.Elements.{All-append, All-from_recursion, All-weaker}
 use Rattle.std.specs.List.{All, AllByRecursion, enumerate_from, filter}
-use Rattle.field_rules.specs.Each.{each}
+use Rattle.plain_data.specs.Each.{map_enumerated}
 use Rattle.pool_types.specs.Contents.{Contents}
 use Rattle.pool_types.specs.declared.contents.extension.ExtensionDescriptorInner.{ExtensionDescriptorInner}
 use Rattle.pool_types.specs.declared.contents.message.MessageDescriptorInner.{MessageDescriptorInner}
@@ -38,7 +38,7 @@ abbrev pub ListsLieBefore : ℕ → List MessageDescriptorInner → Type 0
 ListsLieBefore end ms = All (λ m. All (λ extension. extension < end) m.extensions) ms
 
 pub lists-extended : (end first : ℕ) (xs : List ExtensionDescriptorInner) (ms : List MessageDescriptorInner) → first + length xs ≤ end → ListsLieBefore end ms
-    → ListsLieBefore end (each (extended_by first xs) 0 ms)
+    → ListsLieBefore end (map_enumerated (extended_by first xs) 0 ms)
 lists-extended end first xs ms within all =
     let Before : ℕ → Type 0 = λ extension. extension < end in
     let Lies : MessageDescriptorInner → Type 0 = λ m. All Before m.extensions in

@@ -3,18 +3,18 @@ use Rattle.std.proofs.Common.{◌≡◌, List, ◌++◌, map, take, drop, ap, sy
 use Rattle.std.proofs.lemmas.List.{length-take-le, take-append-drop}
 use Rattle.std.specs.List.{AllByRecursion}
 use Rattle.pool_types.specs.Contents.{Contents}
-use Rattle.field_rules.specs.Each.{each}
+use Rattle.plain_data.specs.Each.{map_enumerated}
 use Rattle.record_walk.specs.Declarations.{declarations}
 use Rattle.record_walk.specs.Shown.{Shown}
 use Rattle.reference_pass.specs.Items.{file_item}
 use Rattle.reference_pass.specs.Setting.{Setting}
-use Rattle.reference_pass.specs.Against.{setting_with}
+use Rattle.reference_pass.specs.Against.{setting_against}
 use Rattle.reference_pass.specs.Linking.{ItemLists, ItemsAre, linked_item, lists_in}
 use Rattle.reference_pass.specs.declared.items.NewItems.{NewItems}
-use Rattle.pool_contents.specs.Held.{contents_in}
+use Rattle.pool_contents.specs.Inner.{contents_in}
 use Rattle.pool_contents.specs.declared.growing.GrowingPool.{GrowingPool}
-use Rattle.pool_contents.specs.Growing.{before_items, kept_in, new_records, records_from}
-use Rattle.descriptor_pool.specs.Behind.{with_items}
+use Rattle.pool_contents.specs.Growing.{before_items, rolled_back, new_records, records_from}
+use Rattle.descriptor_pool.specs.Linking.{with_items}
 use Rattle.descriptor_pool.specs.Items.{HasImports, HasItems, LinksNew, with_linked, with_new_items}
 use Rattle.descriptor_pool.proofs.Bases.{same-base}
 use Rattle.descriptor_pool.proofs.Declared.{items-of-files}
@@ -22,7 +22,7 @@ use Rattle.descriptor_pool.proofs.LinkedFiles.{links-are}
 
 module _ (p : GrowingPool) where
   abbrev s : Setting
-  s = setting_with p.inner
+  s = setting_against p.inner
 
   abbrev ds : List Shown
   ds = declarations p.base (new_records p)
@@ -45,10 +45,10 @@ module _ (p : GrowingPool) where
       let first = length-take-le p.base.files fs p.files_within in
       let seen = ap (map (λ f. f.transitive_dependencies)) (sym (take-append-drop p.base.files fs)) in
       ap (λ xs. front ++ xs)
-      (ap (λ n. each (linked_item s) n rest) (sym first) ∙ links-are s front rest seen ready ∙ ap (λ n. each (file_item s) n (map (λ f. f.raw) rest)) first
+      (ap (λ n. map_enumerated (linked_item s) n rest) (sym first) ∙ links-are s front rest seen ready ∙ ap (λ n. map_enumerated (file_item s) n (map (λ f. f.raw) rest)) first
       ∙ sym (items-of-files (file_item s) p.base (new_records p)))
 
-  module _ (q r : GrowingPool) (items : NewItems) (has : HasItems items s ds) (put : contents_in q.inner ≡ with_new_items (contents_in p.inner) items) (kept : kept_in q ≡ kept_in p)
+  module _ (q r : GrowingPool) (items : NewItems) (has : HasItems items s ds) (put : contents_in q.inner ≡ with_new_items (contents_in p.inner) items) (kept : rolled_back q ≡ rolled_back p)
       (ready : AllByRecursion (HasImports s) (drop p.base.files p.inner.files.items)) (are : ItemsAre s (lists_in (with_items (before_items p) s ds)) ds) where
     base : q.base ≡ p.base
     base = same-base p q kept
@@ -63,7 +63,7 @@ module _ (p : GrowingPool) where
     same = λ i. declarations (base i) (records_from (base i).files (files i))
 
     linked : with_linked s q ≡ with_linked s p
-    linked = λ i. take (base i).files (files i) ++ each (linked_item s) (base i).files (drop (base i).files (files i))
+    linked = λ i. take (base i).files (files i) ++ map_enumerated (linked_item s) (base i).files (drop (base i).files (files i))
 
     -- the pool has the items of the definition
     pub made-is : LinksNew q r → contents_in r.inner ≡ with_items (before_items p) s ds

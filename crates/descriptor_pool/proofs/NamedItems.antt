@@ -21,7 +21,7 @@ use Rattle.pool_types.specs.declared.contents.message.MessageDescriptorInner.{Me
 use Rattle.pool_types.specs.declared.contents.service.ServiceDescriptorInner.{ServiceDescriptorInner}
 use Rattle.name_tables.specs.Entries.{first_of, names_with}
 use Rattle.name_tables.proofs.Entries.{get-with}
-use Rattle.field_rules.specs.Each.{each}
+use Rattle.plain_data.specs.Each.{map_enumerated}
 use Rattle.record_walk.specs.declared.counts.Counts.{Counts}
 use Rattle.record_walk.specs.Counts.{count_limit, counted, counts_in}
 use Rattle.record_walk.specs.Declarations.{declarations}
@@ -37,7 +37,7 @@ use Rattle.reference_pass.specs.Setting.{Setting}
 use Rattle.name_pass.specs.Entered.{definition_kind, entries, entries_of, package_entry, packages}
 use Rattle.pool_contents.specs.Extended.{extended_by, with_extended}
 use Rattle.reference_pass.specs.Linking.{HasItem, IsNamedBy, ItemLists, ItemsAre, lists_in, message_name}
-use Rattle.descriptor_pool.specs.Behind.{declared_behind, linked_behind, setting_behind, with_items, with_names}
+use Rattle.descriptor_pool.specs.Linking.{declared_with, linked_with, setting_with, with_items, with_names}
 use Rattle.descriptor_pool.specs.Pool.{Made, empty, linked_to, new_files}
 use Rattle.descriptor_pool.proofs.Declared.{counted-many, counts-with}
 use Rattle.descriptor_pool.proofs.Resolved.{all-append}
@@ -55,12 +55,12 @@ get-before f (x ∷ xs) ys (suc n) y got = get-before f xs ys n y got
 
 -- an item that was made of another, and has what it had
 get-each : {X Y : Type 0} (f : X → Y) (make : ℕ → X → X) → ((n : ℕ) (x : X) → f (make n x) ≡ f x) → (from : ℕ) (xs : List X) (n : ℕ)
-    → option_map f (slice_get (each make from xs) n) ≡ option_map f (slice_get xs n)
+    → option_map f (slice_get (map_enumerated make from xs) n) ≡ option_map f (slice_get xs n)
 get-each f make same from [] n = refl
 get-each f make same from (x ∷ xs) zero = ap Some (same from x)
 get-each f make same from (x ∷ xs) (suc n) = get-each f make same (suc from) xs n
 
-length-each : {X Y : Type 0} (make : ℕ → X → Y) (from : ℕ) (xs : List X) → length (each make from xs) ≡ length xs
+length-each : {X Y : Type 0} (make : ℕ → X → Y) (from : ℕ) (xs : List X) → length (map_enumerated make from xs) ≡ length xs
 length-each make from [] = refl
 length-each make from (x ∷ xs) = ap suc (length-each make (suc from) xs)
 
@@ -267,18 +267,18 @@ pub made-mean : (p : Contents) → Made p → MeanNamed p
 made-mean p (empty is) = subst MeanNamed (sym is) nothing-means
 made-mean p (linked_to {q = q} batch made accepts fits is) = subst MeanNamed (sym is) (λ name.
     let new = new_files q batch in
-    let s = setting_behind q new in
-    let ds = declared_behind q new in
-    grown-names (length q.extensions) (with_items (with_names q ds) s ds) name (finite.get (linked_behind q new).names name) (mean-behind q s new (made-mean q made) name))
+    let s = setting_with q new in
+    let ds = declared_with q new in
+    grown-names (length q.extensions) (with_items (with_names q ds) s ds) name (finite.get (linked_with q new).names name) (mean-behind q s new (made-mean q made) name))
 
 -- the items of a pool and of new files that fit are those of what is read against both
 pub items-are : (p : Contents) → Made p → (new : List FileDescriptorProto) → IsOk (counts_with (counts_in p) new)
-    → let s = setting_behind p new in
-    let ds = declared_behind p new in
+    → let s = setting_with p new in
+    let ds = declared_with p new in
     ItemsAre s (lists_in (with_items (with_names p ds) s ds)) ds
 items-are p made new fits =
-    let s = setting_behind p new in
-    let ds = declared_behind p new in
+    let s = setting_with p new in
+    let ds = declared_with p new in
     let within = (room-fits (counts_in p) new fits).within in
     let counts = counts-with p s ds in
     record {
@@ -291,15 +291,15 @@ items-are p made new fits =
       items = firsts ds (all-own p s new);
     }
   where
-    firsts : (es : List Shown) → AllByRecursion (HasOwn p (setting_behind p new) new) es
-        → AllByRecursion (HasItem (setting_behind p new) (lists_in (with_items (with_names p (declared_behind p new)) (setting_behind p new) (declared_behind p new)))) es
+    firsts : (es : List Shown) → AllByRecursion (HasOwn p (setting_with p new) new) es
+        → AllByRecursion (HasItem (setting_with p new) (lists_in (with_items (with_names p (declared_with p new)) (setting_with p new) (declared_with p new)))) es
     firsts [] own = tt
     firsts (d ∷ es) own = (own.0.0, firsts es own.1)
 
 -- and so are those of the pool with the new files
 pub linked-items-are : (p : Contents) → Made p → (new : List FileDescriptorProto) → IsOk (counts_with (counts_in p) new)
-    → ItemsAre (setting_behind p new) (lists_in (linked_behind p new)) (declared_behind p new)
+    → ItemsAre (setting_with p new) (lists_in (linked_with p new)) (declared_with p new)
 linked-items-are p made new fits =
-    let s = setting_behind p new in
-    let ds = declared_behind p new in
+    let s = setting_with p new in
+    let ds = declared_with p new in
     items-grown (length p.extensions) (with_items (with_names p ds) s ds) s ds (items-are p made new fits)

@@ -3,7 +3,7 @@ use Rattle.std.proofs.Common.{◌≡◌, ℕ, ℤ, Option, List, [], ◌∷◌, 
 use Rattle.std.proofs.lemmas.Grind.{flat_map-append}
 use Rattle.std.specs.FinMap.{get}
 use Rattle.std.specs.List.{fold, flat_map}
-use Rattle.proto_types.specs.Lists.{after_each}
+use Rattle.plain_data.specs.Lists.{after_each}
 use Rattle.proto_types.specs.Readers.{text_of}
 use Rattle.name_tables.specs.Entries.{Entry, names_with}
 use Rattle.name_tables.proofs.Entries.{get-with, with-more, with-nothing}
@@ -12,9 +12,9 @@ use Rattle.record_walk.specs.Shown.{Shown}
 use Rattle.pool_types.specs.Contents.{Contents}
 use Rattle.proto_types.specs.declared.file.FileDescriptorProto.{FileDescriptorProto}
 use Rattle.name_pass.specs.Syntaxes.{syntax_faults}
-use Rattle.reference_pass.specs.Broken.{Faults}
+use Rattle.reference_pass.specs.SecondPass.{Faults}
 use Rattle.name_pass.specs.Entered.{entries_of, entries, file_entries_of, file_entries}
-use Rattle.name_pass.specs.FirstPass.{holder, holder_faults, clashes, file_name_faults, file_faults, own_faults, first_faults, first_pass}
+use Rattle.name_pass.specs.FirstPass.{holder, holder_faults, clashes, file_name_faults, file_faults, shape_faults, first_faults, first_pass}
 use Rattle.name_pass.specs.Steps.{NameState, entered, file_step, name_step, own_step, state_at}
 
 push : {A B : Type 0} (f : A → List B) (xs : List A) (x : A) → flat_map f xs ++ f x ≡ flat_map f (xs ++ x ∷ [])
@@ -71,16 +71,16 @@ module _ (p : Contents) (records : List FileDescriptorProto) where
   -- what a message or an enum breaks by itself
   own-step : (es : List Entry) (files : List (List ℕ × ℕ)) (faults : Faults) (file : ℕ) (parent : Option ℕ) (index : ℕ) (path : List ℤ) (full_name : List ℕ) (q : Proto)
       → let d : Shown = record { file = file; parent = parent; index = index; path = path; full_name = full_name; proto = q } in
-      own_step records (seen es files faults) d ≡ seen es files (faults ++ own_faults records d)
+      own_step records (seen es files faults) d ≡ seen es files (faults ++ shape_faults records d)
   own-step es files faults file parent index path full_name (of_file f) = no-more es files faults
   own-step es files faults file parent index path full_name (of_message m) = λ i. seen es files
-      (faults ++ own_faults records (record { file = file; parent = parent; index = index; path = path; full_name = full_name; proto = of_message m }))
+      (faults ++ shape_faults records (record { file = file; parent = parent; index = index; path = path; full_name = full_name; proto = of_message m }))
   own-step es files faults file parent index path full_name (of_field f) = no-more es files faults
   own-step es files faults file parent index path full_name (of_oneof o) = no-more es files faults
   own-step es files faults file parent index path full_name (of_service s) = no-more es files faults
   own-step es files faults file parent index path full_name (of_method m) = no-more es files faults
   own-step es files faults file parent index path full_name (of_enum e) = λ i. seen es files
-      (faults ++ own_faults records (record { file = file; parent = parent; index = index; path = path; full_name = full_name; proto = of_enum e }))
+      (faults ++ shape_faults records (record { file = file; parent = parent; index = index; path = path; full_name = full_name; proto = of_enum e }))
   own-step es files faults file parent index path full_name (of_value v) = no-more es files faults
   own-step es files faults file parent index path full_name (of_extension x) = no-more es files faults
 
@@ -93,7 +93,7 @@ module _ (p : Contents) (records : List FileDescriptorProto) where
       let files = file_entries before ++ file_entries_of d in
       let es = entries before ++ entries_of d in
       let next = clashes records p.names (entries before) (entries_of d) in
-      let own = own_faults records d in
+      let own = shape_faults records d in
       ap (λ s. own_step records (fold (entered records) s (entries_of d)) d) (file-step before faults file parent index path full_name q)
       ∙ ap (λ s. own_step records s d) (fold-entered (entries before) files (faults ++ first) (entries_of d))
       ∙ own-step es files ((faults ++ first) ++ next) file parent index path full_name q

@@ -2,7 +2,7 @@
 use Rattle.std.proofs.Common.{◌≡◌, ◌++◌, IsOk, List, [], length, drop, refl, ap, subst, sym, ◌∙◌, arith, append-nil}
 use Rattle.std.proofs.lemmas.Bool.Decides.{nat_tests}
 use Rattle.std.proofs.lemmas.List.{drop_all}
-use Rattle.field_rules.specs.Each.{each}
+use Rattle.plain_data.specs.Each.{map_enumerated}
 use Rattle.pool_types.specs.Contents.{Contents}
 use Rattle.name_tables.proofs.Entries.{with-nothing}
 use Rattle.record_walk.specs.Counts.{counts_in}
@@ -10,7 +10,7 @@ use Rattle.record_walk.specs.Fits.{counts_with}
 use Rattle.record_walk.specs.Walking.{WithinLimits}
 use Rattle.record_walk.specs.declared.counts.Counts.{Counts}
 use Rattle.proto_types.specs.declared.file.FileDescriptorProto.{FileDescriptorProto}
-use Rattle.descriptor_pool.specs.Behind.{names_behind, references_behind, linked_behind}
+use Rattle.descriptor_pool.specs.Linking.{name_faults, reference_faults, linked_with}
 use Rattle.pool_contents.specs.Extended.{extended_by}
 use Rattle.descriptor_pool.specs.Outcome.{IsLinked}
 use Rattle.descriptor_pool.specs.Pool.{Batch, new_files}
@@ -21,14 +21,14 @@ few_fit : (c : Counts) → WithinLimits c → IsOk (counts_with c [])
 few_fit c within = grind (arith, nat_tests, within.files, within.messages, within.enums, within.services, within.extensions)
 
 -- no new extensions leave the messages as they are
-listed : (p : Contents) → (linked_behind p []).messages ≡ p.messages
+listed : (p : Contents) → (linked_with p []).messages ≡ p.messages
 listed p =
     let first = length p.extensions in
     let none : drop first (p.extensions ++ []) ≡ [] = ap (drop first) (append-nil p.extensions) ∙ drop_all first p.extensions (omega arith) in
-    ap (λ xs. each (extended_by first xs) 0 (p.messages ++ [])) none ∙ extended-by-none first (p.messages ++ []) ∙ append-nil p.messages
+    ap (λ xs. map_enumerated (extended_by first xs) 0 (p.messages ++ [])) none ∙ extended-by-none first (p.messages ++ []) ∙ append-nil p.messages
 
 -- no new files leave the pool as it is
-stays : (p : Contents) → p ≡ linked_behind p []
+stays : (p : Contents) → p ≡ linked_with p []
 stays p = λ i. record {
   files = sym (append-nil p.files) i;
   messages = sym (listed p) i;
@@ -42,9 +42,9 @@ stays p = λ i. record {
 pub nothing_linked : (p : Contents) (batch : Batch) → new_files p batch ≡ [] → WithinLimits (counts_in p) → IsLinked p batch p
 nothing_linked p batch none within =
     let Fits : List FileDescriptorProto → Type 0 = λ new. IsOk (counts_with (counts_in p) new) in
-    let Accepts : List FileDescriptorProto → Type 0 = λ new. (names_behind p new ≡ []) × (references_behind p new ≡ []) in
+    let Accepts : List FileDescriptorProto → Type 0 = λ new. (name_faults p new ≡ []) × (reference_faults p new ≡ []) in
     record {
       fits = subst Fits (sym none) (few_fit (counts_in p) within);
       accepted = subst Accepts (sym none) (refl, refl);
-      is = stays p ∙ ap (linked_behind p) (sym none);
+      is = stays p ∙ ap (linked_with p) (sym none);
     }

@@ -17,7 +17,7 @@ use Rattle.name_pass.specs.declared.names.NameVisitor.{NameVisitor}
 use Rattle.name_pass.specs.State.{borrows_of, first_new, kept_of, records_of, state_of}
 use Rattle.name_pass.specs.Steps.{NameState, name_progress, name_step, state_at}
 use Rattle.reference_pass.specs.Setting.{Setting}
-use Rattle.reference_pass.specs.Broken.{second_pass, Faults}
+use Rattle.reference_pass.specs.SecondPass.{second_pass, Faults}
 use Rattle.reference_pass.specs.declared.resolve.ResolveVisitor.{ResolveVisitor}
 use Rattle.reference_pass.specs.State.{state_of as state_of_references}
 use Rattle.reference_pass.specs.Steps.{ReferenceState, reference_progress, reference_step}

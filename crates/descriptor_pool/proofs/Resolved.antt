@@ -7,9 +7,9 @@ use Rattle.proto_types.specs.declared.records.field.FieldDescriptorProto.{FieldD
 use Rattle.proto_types.specs.declared.tag.field.TheConstants as field
 use Rattle.proto_types.specs.declared.tag.method.TheConstants as method
 use Rattle.proto_types.specs.declared.message.DescriptorProto.{out-DescriptorProto}
-use Rattle.proto_types.specs.Lists.{after_each, listed, only_if}
+use Rattle.plain_data.specs.Lists.{after_each, listed, only_if}
 use Rattle.field_rules.specs.Numbers.{field_number_faults}
-use Rattle.field_rules.specs.Again.{again_faults}
+use Rattle.field_rules.specs.Duplicates.{duplicate_faults}
 use Rattle.field_rules.specs.Oneofs.{oneof_faults}
 use Rattle.proto_types.specs.Readers.{text_of, type_of}
 use Rattle.pool_types.specs.declared.contents.definition.Definition.{Definition}
@@ -24,12 +24,12 @@ use Rattle.name_resolution.specs.Kinds.{simple_kind}
 use Rattle.name_resolution.specs.References.{reference_fault}
 use Rattle.name_resolution.specs.Resolution.{Resolution, found, invalid_type, not_imported, shadowed, not_found}
 use Rattle.name_resolution.proofs.Named.{IsNamed, resolution-named}
-use Rattle.reference_pass.specs.Broken.{Faults, Owner, field_faults, own_faults, message_of, second_faults, second_pass}
+use Rattle.reference_pass.specs.SecondPass.{Faults, Owner, field_faults, field_record_faults, message_of, second_faults, second_pass}
 use Rattle.reference_pass.specs.Defaults.{field_default_faults}
 use Rattle.reference_pass.specs.Extensions.{extendee_faults, number_faults}
-use Rattle.reference_pass.specs.FieldTypes.{type_meaning, type_faults}
+use Rattle.reference_pass.specs.FieldTypes.{resolve_type, type_faults}
 use Rattle.reference_pass.specs.Linked.{resolved, typed, linking}
-use Rattle.reference_pass.specs.Messages.{message_meaning}
+use Rattle.reference_pass.specs.Messages.{resolve_message}
 use Rattle.reference_pass.specs.Setting.{Setting, seen_by}
 use Rattle.std.specs.BTreeSet.{contains_by}
 use Rattle.std.specs.Ordering.{nat_cmp}
@@ -76,20 +76,20 @@ full-alone names e part (c ∷ cs) full = (full, tt)
 type-resolved : (s : Setting) (d e : Shown) (f : FieldDescriptorProto) (part written : List ℕ) → text_of f.type_name ≡ written
     → let faults : Faults = elim written [
       | [] ↦ only_if (not (is_some (simple_kind (type_of f.type_)))) (MissingRequiredField (label_in s.files d.file (d.path ++ field.TYPE_NAME ∷ [])))
-      | _ ∷ _ ↦ listed (reference_fault s.files (text_of f.type_name) d.file (d.path ++ field.TYPE_NAME ∷ []) (type_meaning s d f))
+      | _ ∷ _ ↦ listed (reference_fault s.files (text_of f.type_name) d.file (d.path ++ field.TYPE_NAME ∷ []) (resolve_type s d f))
     ] in
-    let after : FieldDescriptorProto = elim written [ [] ↦ f | _ ∷ _ ↦ typed (type_meaning s d f) f ] in
+    let after : FieldDescriptorProto = elim written [ [] ↦ f | _ ∷ _ ↦ typed (resolve_type s d f) f ] in
     faults ≡ [] → AllByRecursion (Names s.names) (reference_in e part (text_of after.type_name))
 type-resolved s d e f part [] is none = subst (λ t. AllByRecursion (Names s.names) (reference_in e part t)) (sym is) tt
 type-resolved s d e f part (c ∷ cs) is none =
-    full-alone s.names e part _ (found-full s _ d.file (text_of f.type_name) f.type_name (type_meaning s d f)
+    full-alone s.names e part _ (found-full s _ d.file (text_of f.type_name) f.type_name (resolve_type s d f)
     (resolution-named s.names (λ n. contains_by (nat_cmp n) (seen_by s d.file)) FieldType d.full_name (text_of f.type_name)) none)
 
 -- a message that a method takes or gives is linked as one that was found, where there is no fault
 message-resolved : (s : Setting) (d : Shown) (path : List ℤ) (given : Option (List ℕ))
-    → listed (reference_fault s.files (text_of given) d.file path (message_meaning s d given)) ≡ [] → IsFull s.names (text_of (resolved (message_meaning s d given) given))
+    → listed (reference_fault s.files (text_of given) d.file path (resolve_message s d given)) ≡ [] → IsFull s.names (text_of (resolved (resolve_message s d given) given))
 message-resolved s d path given none =
-    found-full s path d.file (text_of given) given (message_meaning s d given)
+    found-full s path d.file (text_of given) given (resolve_message s d given)
     (resolution-named s.names (λ n. contains_by (nat_cmp n) (seen_by s d.file)) Message d.full_name (text_of given)) none
 
 pub no_items : {X : Type 0} (xs ys : List X) → xs ++ ys ≡ [] → (xs ≡ []) × (ys ≡ [])
@@ -100,8 +100,8 @@ no_items (x ∷ xs) ys none = absurd (cc)
 type-told : (s : Setting) (owner : Owner) (d : Shown) (f : FieldDescriptorProto) → field_faults s owner d f ≡ [] → type_faults s d f ≡ []
 type-told s owner d f none =
     let m = out-DescriptorProto owner.1 in
-    let again = again_faults s.files owner.0.file owner.0.path (take d.index m.field) d.index f in
-    let own = no_items (own_faults s owner d f) again none in
+    let again = duplicate_faults s.files owner.0.file owner.0.path (take d.index m.field) d.index f in
+    let own = no_items (field_record_faults s owner d f) again none in
     let numbers = field_number_faults s.files owner.0 owner.1 d f in
     let first = no_items ((numbers ++ type_faults s d f) ++ field_default_faults s d f) (oneof_faults m.oneof_decl f) own.0 in
     let types = no_items (numbers ++ type_faults s d f) (field_default_faults s d f) first.0 in
@@ -122,15 +122,15 @@ one-resolved s before file parent index path full_name (of_method m) none =
     let d : Shown = record { file = file; parent = parent; index = index; path = path; full_name = full_name; proto = of_method m } in
     let input = path ++ method.INPUT_TYPE ∷ [] in
     let output = path ++ method.OUTPUT_TYPE ∷ [] in
-    let both = no_items (listed (reference_fault s.files (text_of m.input_type) file input (message_meaning s d m.input_type)))
-    (listed (reference_fault s.files (text_of m.output_type) file output (message_meaning s d m.output_type))) none in
+    let both = no_items (listed (reference_fault s.files (text_of m.input_type) file input (resolve_message s d m.input_type)))
+    (listed (reference_fault s.files (text_of m.output_type) file output (resolve_message s d m.output_type))) none in
     (message-resolved s d input m.input_type both.0, (message-resolved s d output m.output_type both.1, tt))
 one-resolved s before file parent index path full_name (of_enum e) none = tt
 one-resolved s before file parent index path full_name (of_value v) none = tt
 one-resolved s before file parent index path full_name (of_extension x) none =
     let d : Shown = record { file = file; parent = parent; index = index; path = path; full_name = full_name; proto = of_extension x } in
     let extendee = extendee_faults s d x in
-    let numbers = number_faults s d x (message_meaning s d x.extendee) in
+    let numbers = number_faults s d x (resolve_message s d x.extendee) in
     let types = type_faults s d x in
     let parts = no_items ((extendee ++ numbers) ++ types) (field_default_faults s d x) none in
     let first = no_items (extendee ++ numbers) types parts.0 in

@@ -8,23 +8,23 @@ use Rattle.name_resolution.specs.Visibility.{seen_from}
 use Rattle.pool_types.specs.Contents.{Contents, files_of}
 use Rattle.pool_types.specs.declared.contents.file.FileDescriptorInner.{FileDescriptorInner}
 use Rattle.proto_types.specs.declared.file.FileDescriptorProto.{FileDescriptorProto}
-use Rattle.field_rules.specs.Each.{each}
+use Rattle.plain_data.specs.Each.{map_enumerated}
 use Rattle.pool_contents.specs.declared.growing.GrowingPool.{GrowingPool}
-use Rattle.descriptor_pool.specs.Behind.{declared_behind, seen_behind, with_names}
-use Rattle.pool_contents.specs.Growing.{files_seeing, first_new, kept_in, seeing}
-use Rattle.pool_contents.specs.Held.{contents_in}
+use Rattle.descriptor_pool.specs.Linking.{declared_with, seen_with, with_names}
+use Rattle.pool_contents.specs.Growing.{files_seeing, first_new, rolled_back, seeing}
+use Rattle.pool_contents.specs.Inner.{contents_in}
 use Rattle.pool_contents.proofs.Each.{each-all, each-append, each-map, each-same}
 
 -- a list of which no entry is read
-each-length : {X Y Z : Type 0} (g : X → Y) (h : ℕ → Z) (i : ℕ) (xs : List X) → each (λ n _. h n) i xs ≡ each (λ n _. h n) i (map g xs)
+each-length : {X Y Z : Type 0} (g : X → Y) (h : ℕ → Z) (i : ℕ) (xs : List X) → map_enumerated (λ n _. h n) i xs ≡ map_enumerated (λ n _. h n) i (map g xs)
 each-length g h i [] = refl
 each-length g h i (x ∷ xs) = ap (λ rest. h i ∷ rest) (each-length g h (suc i) xs)
 
 -- which files each file sees, of a pool and of new files behind it, once those that came have theirs
-module _ (p : Contents) (new : List FileDescriptorProto) (r : GrowingPool) (kept : (kept_in r).files ≡ p.files) (files : files_of (contents_in r.inner) ≡ files_of p ++ new)
-    (names : r.inner.file_names ≡ (with_names p (declared_behind p new)).file_names) where
+module _ (p : Contents) (new : List FileDescriptorProto) (r : GrowingPool) (kept : (rolled_back r).files ≡ p.files) (files : files_of (contents_in r.inner) ≡ files_of p ++ new)
+    (names : r.inner.file_names ≡ (with_names p (declared_with p new)).file_names) where
   abbrev sees : ℕ → BTreeSet ℕ
-  sees n = record { keys = seen_from (files_of p ++ new) (finite.get (with_names p (declared_behind p new)).file_names) n }
+  sees n = record { keys = seen_from (files_of p ++ new) (finite.get (with_names p (declared_with p new)).file_names) n }
 
   abbrev seen_of : ℕ → FileDescriptorInner → BTreeSet ℕ
   seen_of n f = (if nat_le (first_new r) n then seeing r n f else f).transitive_dependencies
@@ -32,7 +32,7 @@ module _ (p : Contents) (new : List FileDescriptorProto) (r : GrowingPool) (kept
   many : first_new r ≡ length p.files
   many = ap length kept
 
-  seen-before : each seen_of 0 p.files ≡ map (λ f. f.transitive_dependencies) p.files
+  seen-before : map_enumerated seen_of 0 p.files ≡ map (λ f. f.transitive_dependencies) p.files
   seen-before =
       each-same seen_of (λ _ f. f.transitive_dependencies) 0 p.files as_it_was
       ∙ each-all (λ f. f.transitive_dependencies) 0 p.files
@@ -41,10 +41,10 @@ module _ (p : Contents) (new : List FileDescriptorProto) (r : GrowingPool) (kept
       as_it_was n f from to = let before : nat_le (first_new r) n ≡ false = grind (arith, nat_tests, many) in
           ap (λ b. (if b then seeing r n f else f).transitive_dependencies) before
 
-  seen-later : (came : List FileDescriptorInner) → map (λ f. f.raw) came ≡ new → each seen_of (0 + length p.files) came ≡ each (λ n _. sees n) (length p.files) new
+  seen-later : (came : List FileDescriptorInner) → map (λ f. f.raw) came ≡ new → map_enumerated seen_of (0 + length p.files) came ≡ map_enumerated (λ n _. sees n) (length p.files) new
   seen-later came is =
       each-same seen_of (λ n _. sees n) (0 + length p.files) came anew
-      ∙ each-length (λ f. f.raw) sees (0 + length p.files) came ∙ (λ i. each (λ n _. sees n) (start i) (is i))
+      ∙ each-length (λ f. f.raw) sees (0 + length p.files) came ∙ (λ i. map_enumerated (λ n _. sees n) (start i) (is i))
     where
       start : 0 + length p.files ≡ length p.files
       start = omega arith
@@ -55,7 +55,7 @@ module _ (p : Contents) (new : List FileDescriptorProto) (r : GrowingPool) (kept
           ap (λ b. (if b then seeing r n f else f).transitive_dependencies) behind
           ∙ (λ i. record { keys = seen_from (files i) (finite.get (names i)) n })
 
-  pub seen-are : map (λ f. f.transitive_dependencies) (files_seeing r) ≡ seen_behind p new
+  pub seen-are : map (λ f. f.transitive_dependencies) (files_seeing r) ≡ seen_with p new
   seen-are =
       let fs = r.inner.files.items in
       let came = drop r.base.files fs in
@@ -63,7 +63,7 @@ module _ (p : Contents) (new : List FileDescriptorProto) (r : GrowingPool) (kept
       let whole : fs ≡ p.files ++ came = sym (take-append-drop r.base.files fs) ∙ ap (λ xs. xs ++ came) kept in
       let raws : map (λ f. f.raw) came ≡ new =
       append_cancel_left (files_of p) (map (λ f. f.raw) came) new (sym (map-append (λ f. f.raw) p.files came) ∙ ap (map (λ f. f.raw)) (sym whole) ∙ files) in
-      ap (λ xs. map (λ f. f.transitive_dependencies) (each change 0 xs)) whole
+      ap (λ xs. map (λ f. f.transitive_dependencies) (map_enumerated change 0 xs)) whole
       ∙ each-map (λ f. f.transitive_dependencies) change 0 (p.files ++ came)
       ∙ each-append seen_of 0 p.files came
       ∙ (λ i. seen-before i ++ seen-later came raws i)

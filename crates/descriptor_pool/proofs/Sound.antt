@@ -31,9 +31,9 @@ use Rattle.reference_pass.specs.Short.{ShortFiles}
 use Rattle.name_pass.specs.Entered.{entries, file_entries}
 use Rattle.record_lists.specs.References.{Reference, references_in}
 use Rattle.descriptor_pool.specs.Invariant.{IsPool}
-use Rattle.pool_contents.specs.Held.{ListsLieIn, NamesLieIn}
+use Rattle.pool_contents.specs.Inner.{ListsLieIn, NamesLieIn}
 use Rattle.descriptor_pool.specs.Pool.{Batch, Made, empty, linked_to, Fits, new_files, faults_of_references, link}
-use Rattle.descriptor_pool.specs.Behind.{declared_behind, linked_behind, setting_behind, with_items, with_names}
+use Rattle.descriptor_pool.specs.Linking.{declared_with, linked_with, setting_with, with_items, with_names}
 use Rattle.descriptor_pool.specs.References.{AllResolved}
 use Rattle.descriptor_pool.proofs.Declared.{known_names, known_file_names, declared-behind, declared-linked, names-linked, file-names-linked, counts-linked}
 use Rattle.descriptor_pool.proofs.Files.{names-before, file-names-before}
@@ -80,10 +80,10 @@ nothing-sound = record {
 }
 
 -- so they are behind new files
-pub link-known : (q : Contents) (new : List FileDescriptorProto) → Known q → Known (linked_behind q new)
+pub link-known : (q : Contents) (new : List FileDescriptorProto) → Known q → Known (linked_with q new)
 link-known q new known =
-    let s = setting_behind q new in
-    let ds = declared_behind q new in
+    let s = setting_with q new in
+    let ds = declared_with q new in
     let named = with_names q ds in
     record {
       names_are = ap (λ held. names_with held (entries ds)) known.names_are ∙ with-names (known_names q) (entries ds)
@@ -97,20 +97,20 @@ link-known q new known =
 link-lists : (q : Contents) (batch : Batch) → ListsLieIn q → ListsLieIn (link q batch)
 link-lists q batch lists =
     let new = new_files q batch in
-    let ds = declared_behind q new in
-    let items = with_items (with_names q ds) (setting_behind q new) ds in
+    let ds = declared_with q new in
+    let items = with_items (with_names q ds) (setting_with q new) ds in
     let first = length q.extensions in
     let end = length items.extensions in
-    let more : first ≤ end = omega (arith, length-append q.extensions (map (λ e. extension_item (setting_behind q new) e.0 e.1) (of_kind as_extension ds))) in
+    let more : first ≤ end = omega (arith, length-append q.extensions (map (λ e. extension_item (setting_with q new) e.0 e.1) (of_kind as_extension ds))) in
     lists-extended end first (drop first items.extensions) items.messages (omega (arith, more, length-drop first items.extensions))
     (lists-append first end q.messages _ more lists (All-map (λ m. All (λ extension. extension < end) m.extensions)
-    (λ e. message_item (setting_behind q new) e.0 e.1) (of_kind as_message ds) (λ _ _ _. All-nil (λ extension. extension < end))))
+    (λ e. message_item (setting_with q new) e.0 e.1) (of_kind as_message ds) (λ _ _ _. All-nil (λ extension. extension < end))))
 
 pub link-sound : (q : Contents) (batch : Batch) → Sound q → faults_of_references q batch ≡ [] → Fits q batch → Sound (link q batch)
 link-sound q batch sound none fits =
     let new = new_files q batch in
-    let s = setting_behind q new in
-    let ds = declared_behind q new in
+    let s = setting_with q new in
+    let ds = declared_with q new in
     let named = with_names q ds in
     let earlier : AllNamed s.names (declarations no_counts (files_of q)) =
     all-behind q.names (entries ds) (flat_map references_in (declarations no_counts (files_of q))) sound.resolved in

@@ -23,18 +23,18 @@ use Rattle.pool_types.specs.Contents.{Contents, files_of}
 use Rattle.record_walk.specs.declared.counts.Counts.{Counts}
 use Rattle.record_walk.specs.Counts.{counts_in}
 use Rattle.record_walk.specs.Declarations.{declarations}
-use Rattle.reference_pass.specs.Broken.{Faults, second_pass}
+use Rattle.reference_pass.specs.SecondPass.{Faults, second_pass}
 use Rattle.pool_contents.specs.declared.growing.GrowingPool.{GrowingPool}
 use Rattle.descriptor_pool.specs.declared.error.BuildError.{BuildError}
 use Rattle.descriptor_pool.specs.declared.error.BuildError.TheVariants.{TooMany, Descriptor, OutOfMemory}
-use Rattle.descriptor_pool.specs.Behind.{names_behind, references_behind, first_of_both, setting_behind, linked_behind, with_items, with_names}
+use Rattle.descriptor_pool.specs.Linking.{name_faults, reference_faults, first_of_both, setting_with, linked_with, with_items, with_names}
 use Rattle.pool_contents.specs.Extended.{with_extended}
 use Rattle.name_pass.specs.FirstPass.{first_pass}
-use Rattle.pool_contents.specs.Growing.{before_items, files_seeing, first_extension, kept_in, new_records}
+use Rattle.pool_contents.specs.Growing.{before_items, files_seeing, first_extension, rolled_back, new_records}
 use Rattle.pool_contents.specs.Unlinked.{unlinked}
-use Rattle.pool_contents.specs.Held.{contents_in}
+use Rattle.pool_contents.specs.Inner.{contents_in}
 use Rattle.descriptor_pool.specs.Tells.{TellsAll, TellsFaults}
-use Rattle.reference_pass.specs.Against.{setting_with}
+use Rattle.reference_pass.specs.Against.{setting_against}
 use Rattle.pool_contents.proofs.Seeing.{raws-stay}
 use Rattle.descriptor_pool.proofs.Seeing.{seen-are}
 
@@ -56,19 +56,19 @@ told-second r first second none told = subst (λ fs. TellsAll r (first_of_both f
 module _ (p q : Contents) (base : Counts) (new : List FileDescriptorProto) (base_is : base ≡ counts_in p)
     (rest : q ≡ record p { files = q.files }) (files : files_of q ≡ files_of p ++ new) where
   -- what the first pass tells
-  pub names_are : first_pass (files_of q) q (declarations base new) ≡ names_behind p new
+  pub names_are : first_pass (files_of q) q (declarations base new) ≡ name_faults p new
   names_are = λ i. first_pass (files i) (rest i) (declarations (base_is i) new)
 
   -- once their names are entered, and once each of them has the files that it sees
-  module _ (r t : GrowingPool) (entered : contents_in r.inner ≡ with_names q (declarations base new)) (kept : kept_in r ≡ p)
-      (seen : contents_in t.inner ≡ record (contents_in r.inner) { files = files_seeing r }) (still : kept_in t ≡ kept_in r) where
+  module _ (r t : GrowingPool) (entered : contents_in r.inner ≡ with_names q (declarations base new)) (kept : rolled_back r ≡ p)
+      (seen : contents_in t.inner ≡ record (contents_in r.inner) { files = files_seeing r }) (still : rolled_back t ≡ rolled_back r) where
     named_is : contents_in r.inner ≡ record (with_names p (declarations (counts_in p) new)) { files = q.files }
     named_is = entered ∙ (λ i. with_names (rest i) (declarations (base_is i) new))
 
     files_are : files_of (contents_in r.inner) ≡ files_of p ++ new
     files_are = ap files_of entered ∙ files
 
-    pub setting_is : setting_with t.inner ≡ setting_behind p new
+    pub setting_is : setting_against t.inner ≡ setting_with p new
     setting_is = λ i. record {
       files = (ap files_of seen ∙ raws-stay r ∙ files_are) i;
       names = (ap (λ (x : Contents). x.names) seen ∙ ap (λ (x : Contents). x.names) named_is) i;
@@ -78,7 +78,7 @@ module _ (p q : Contents) (base : Counts) (new : List FileDescriptorProto) (base
     }
 
     -- what the second pass tells, and what it makes
-    pub references_are : second_pass (setting_with t.inner) (declarations base new) ≡ references_behind p new
+    pub references_are : second_pass (setting_against t.inner) (declarations base new) ≡ reference_faults p new
     references_are = λ i. second_pass (setting_is i) (declarations (base_is i) new)
 
     pub items_before : before_items t ≡ with_names p (declarations (counts_in p) new)
@@ -87,14 +87,14 @@ module _ (p q : Contents) (base : Counts) (new : List FileDescriptorProto) (base
     pub base_before : base ≡ counts_in (before_items t)
     base_before = base_is ∙ sym (ap counts_in items_before)
 
-    pub linked_is : with_extended (first_extension t) (with_items (before_items t) (setting_with t.inner) (declarations base new)) ≡ linked_behind p new
+    pub linked_is : with_extended (first_extension t) (with_items (before_items t) (setting_against t.inner) (declarations base new)) ≡ linked_with p new
     linked_is =
         let first : first_extension t ≡ length p.extensions = ap (λ (x : Contents). length x.extensions) (still ∙ kept) in
         λ i. with_extended (first i) (with_items (items_before i) (setting_is i) (declarations (base_is i) new))
 
 -- the steps of linking: files are added, their names entered
-module _ (old added r : GrowingPool) (new : List FileDescriptorProto) (base_is : old.base ≡ counts_in (contents_in old.inner)) (whole : kept_in old ≡ contents_in old.inner)
-    (put : contents_in added.inner ≡ record (contents_in old.inner) { files = old.inner.files.items ++ map unlinked new }) (added_kept : kept_in added ≡ kept_in old) where
+module _ (old added r : GrowingPool) (new : List FileDescriptorProto) (base_is : old.base ≡ counts_in (contents_in old.inner)) (whole : rolled_back old ≡ contents_in old.inner)
+    (put : contents_in added.inner ≡ record (contents_in old.inner) { files = old.inner.files.items ++ map unlinked new }) (added_kept : rolled_back added ≡ rolled_back old) where
   abbrev before : Contents
   before = contents_in old.inner
 
@@ -116,15 +116,15 @@ module _ (old added r : GrowingPool) (new : List FileDescriptorProto) (base_is :
   pub counts-added : IsOk (counts_with old.base new) → IsOk (counts_with added.base (new_records added))
   counts-added ok = subst IsOk (λ i. counts_with (sym base-added i) (sym fresh i)) ok
 
-  pub names-told : first_pass (files_of (contents_in added.inner)) (contents_in added.inner) (declarations added.base (new_records added)) ≡ names_behind before new
+  pub names-told : first_pass (files_of (contents_in added.inner)) (contents_in added.inner) (declarations added.base (new_records added)) ≡ name_faults before new
   names-told = (λ i. first_pass (files_of (contents_in added.inner)) (contents_in added.inner) (declarations (base-added i) (fresh i)))
       ∙ names_are before (contents_in added.inner) old.base new base_is rest-added files-added
 
-  module _ (named : contents_in r.inner ≡ with_names (contents_in added.inner) (declarations added.base (new_records added))) (r_kept : kept_in r ≡ kept_in added) where
+  module _ (named : contents_in r.inner ≡ with_names (contents_in added.inner) (declarations added.base (new_records added))) (r_kept : rolled_back r ≡ rolled_back added) where
     entered-is : contents_in r.inner ≡ with_names (contents_in added.inner) (declarations old.base new)
     entered-is = named ∙ (λ i. with_names (contents_in added.inner) (declarations (base-added i) (fresh i)))
 
-    kept-is : kept_in r ≡ before
+    kept-is : rolled_back r ≡ before
     kept-is = r_kept ∙ added_kept ∙ whole
 
     many-files : length r.inner.files.items ≡ old.base.files + length new
@@ -144,7 +144,7 @@ module _ (old added r : GrowingPool) (new : List FileDescriptorProto) (base_is :
         subst (λ n. FileNamesBefore n r.inner.file_names) (sym many-files) (subst (FileNamesBefore (old.base.files + length new)) (sym names) all)
 
     -- and each is given the files that it sees
-    module _ (t : GrowingPool) (seen : contents_in t.inner ≡ record (contents_in r.inner) { files = files_seeing r }) (still : kept_in t ≡ kept_in r) where
+    module _ (t : GrowingPool) (seen : contents_in t.inner ≡ record (contents_in r.inner) { files = files_seeing r }) (still : rolled_back t ≡ rolled_back r) where
       files-seen : files_of (contents_in t.inner) ≡ files_of before ++ new
       files-seen = ap files_of seen ∙ raws-stay r ∙ ap files_of entered-is ∙ files-added
 
@@ -171,21 +171,21 @@ module _ (old added r : GrowingPool) (new : List FileDescriptorProto) (base_is :
           subst (λ (x : Contents). NamesBegin x.messages) (sym seen) (subst (λ (x : Contents). NamesBegin x.messages) (sym entered-is)
           (subst (λ (x : Contents). NamesBegin x.messages) (sym put) begin))
 
-      pub imports-seen : AllByRecursion (HasImports (setting_with t.inner)) (drop t.base.files t.inner.files.items)
+      pub imports-seen : AllByRecursion (HasImports (setting_against t.inner)) (drop t.base.files t.inner.files.items)
       imports-seen =
           let names = ap (λ (x : Contents). x.file_names) seen in
           let files = ap (λ (x : Contents). x.files) entered-is ∙ ap (λ (x : Contents). x.files) put in
           let first = ap (λ (x : Contents). length x.files) kept-is in
           let start = ap (λ (n : Counts). n.files) (base-seen ∙ base_is) in
-          subst (λ fs. AllByRecursion (HasImports (setting_with t.inner)) (drop t.base.files fs)) (sym (ap (λ (x : Contents). x.files) seen))
-          (have-imports (setting_with t.inner) r names t.base.files before.files new files first start)
+          subst (λ fs. AllByRecursion (HasImports (setting_against t.inner)) (drop t.base.files fs)) (sym (ap (λ (x : Contents). x.files) seen))
+          (have-imports (setting_against t.inner) r names t.base.files before.files new files first start)
 
       pub items-seen : Made before → IsOk (counts_with old.base new)
-          → ItemsAre (setting_with t.inner) (lists_in (with_items (before_items t) (setting_with t.inner) (declarations t.base (new_records t)))) (declarations t.base (new_records t))
+          → ItemsAre (setting_against t.inner) (lists_in (with_items (before_items t) (setting_against t.inner) (declarations t.base (new_records t)))) (declarations t.base (new_records t))
       items-seen made ok =
           let q = contents_in added.inner in
           let ds = declarations (counts_in before) new in
-          let s = setting_with t.inner in
+          let s = setting_against t.inner in
           let are = items-are before made new (subst (λ n. IsOk (counts_with n new)) base_is ok) in
           let one = subst (λ (s : Setting). ItemsAre s (lists_in (with_items (with_names before ds) s ds)) ds)
           (sym (setting_is before q old.base new base_is rest-added files-added r t entered-is kept-is seen still)) are in
@@ -193,12 +193,12 @@ module _ (old added r : GrowingPool) (new : List FileDescriptorProto) (base_is :
           (sym (items_before before q old.base new base_is rest-added files-added r t entered-is kept-is seen still)) one in
           subst (λ (es : List Shown). ItemsAre s (lists_in (with_items (before_items t) s es)) es) (sym (declared-seen ∙ (λ i. declarations (base_is i) new))) two
 
-      pub made-seen : with_extended (first_extension t) (with_items (before_items t) (setting_with t.inner) (declarations t.base (new_records t))) ≡ linked_behind before new
+      pub made-seen : with_extended (first_extension t) (with_items (before_items t) (setting_against t.inner) (declarations t.base (new_records t))) ≡ linked_with before new
       made-seen =
-          (λ i. with_extended (first_extension t) (with_items (before_items t) (setting_with t.inner) (declared-seen i)))
+          (λ i. with_extended (first_extension t) (with_items (before_items t) (setting_against t.inner) (declared-seen i)))
           ∙ linked_is before (contents_in added.inner) old.base new base_is rest-added files-added r t entered-is kept-is seen still
 
-      pub references-told : second_pass (setting_with t.inner) (declarations t.base (new_records t)) ≡ references_behind before new
+      pub references-told : second_pass (setting_against t.inner) (declarations t.base (new_records t)) ≡ reference_faults before new
       references-told =
-          ap (second_pass (setting_with t.inner)) declared-seen
+          ap (second_pass (setting_against t.inner)) declared-seen
           ∙ references_are before (contents_in added.inner) old.base new base_is rest-added files-added r t entered-is kept-is seen still

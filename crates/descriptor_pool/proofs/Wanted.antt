@@ -5,10 +5,10 @@ use Rattle.pool_types.specs.declared.contents.definition.DefinitionKind.{Definit
 use Rattle.pool_types.specs.declared.contents.definition.DefinitionKind.TheVariants as definition
 use Rattle.name_resolution.specs.declared.filter.ResolveNameFilter.TheVariants.{Message}
 use Rattle.name_resolution.specs.Kinds.{is_match}
-use Rattle.reference_pass.specs.Messages.{message_index, or_missing}
+use Rattle.reference_pass.specs.Messages.{message_index, index_or_max}
 
 -- a message that is found has its index below the limit of all that are named
-pub message-wanted : (end : ℕ) (kind : DefinitionKind) → is_match Message kind ≡ true → IfSome (message_index kind) (λ i. i < end) → or_missing (message_index kind) < end
+pub message-wanted : (end : ℕ) (kind : DefinitionKind) → is_match Message kind ≡ true → IfSome (message_index kind) (λ i. i < end) → index_or_max (message_index kind) < end
 message-wanted end (definition.Message i) is below = below
 message-wanted end definition.Package is below = absurd (cc)
 message-wanted end (definition.Field i) is below = absurd (cc)

@@ -1,7 +1,7 @@
 -- The extensions of a pool and the messages that they extend.
 use Rattle.std.specs.Prelude.{◌≡◌, ◌<◌, ℕ, List, length}
 use Rattle.std.specs.List.{All}
-use Rattle.field_rules.specs.Each.{each}
+use Rattle.plain_data.specs.Each.{map_enumerated}
 use Rattle.pool_types.specs.Contents.{Contents}
 use Rattle.pool_types.specs.declared.contents.message.MessageDescriptorInner.{MessageDescriptorInner}
 use Rattle.pool_contents.specs.Extended.{extending}
@@ -16,7 +16,7 @@ listing_all p message m = record m { extensions = extensions_of p message }
 
 -- each message lists all extensions that extend it, and no others
 abbrev pub ListsAreWhole : Contents → Type 0
-ListsAreWhole p = p.messages ≡ each (listing_all p) 0 p.messages
+ListsAreWhole p = p.messages ≡ map_enumerated (listing_all p) 0 p.messages
 
 -- each extension extends a message of the pool
 abbrev pub ExtendeesLieIn : Contents → Type 0

@@ -7,8 +7,8 @@ use Rattle.pool_types.specs.Contents.{Contents, files_of}
 use Rattle.reference_pass.specs.NamesBegin.{NamesBegin}
 use Rattle.descriptor_pool.specs.Pool.{Made}
 
--- the contents are made, their counts are those of what the files declare and are within the limits, and each name begins
--- where a character begins
+-- the contents are made, their counts are those of what the files declare and are within the
+-- limits, and each name begins where a character begins
 pub record IsPool (p : Contents) : Type 0 where
   pub made : Made p
   pub counts_are : counts_in p ≡ counted no_counts (declarations no_counts (files_of p))

@@ -4,10 +4,10 @@ use Rattle.std.specs.FinMap as finite
 use Rattle.std.specs.List.{filter_map}
 use Rattle.pool_types.specs.Contents.{Contents}
 use Rattle.pool_types.specs.declared.contents.file.FileDescriptorInner.{FileDescriptorInner}
-use Rattle.field_rules.specs.Each.{each}
+use Rattle.plain_data.specs.Each.{map_enumerated}
 use Rattle.record_walk.specs.Declarations.{declarations}
 use Rattle.name_pass.specs.Syntaxes.{syntax_of}
-use Rattle.pool_contents.specs.Held.{contents_in}
+use Rattle.pool_contents.specs.Inner.{contents_in}
 use Rattle.pool_contents.specs.declared.growing.GrowingPool.{GrowingPool}
 use Rattle.pool_contents.specs.Growing.{new_records}
 use Rattle.reference_pass.specs.Linking.{ItemsAre, linked_item, lists_in}
@@ -23,7 +23,8 @@ pub record HasItems (items : NewItems) (s : Setting) (ds : List Shown) : Type 0 
   pub messages : items.messages.items ≡ map (λ e. message_item s e.0 e.1) (of_kind as_message ds)
   pub enums : items.enums.items ≡ map (λ e. enum_item e.0 e.1) (of_kind as_enum ds)
   pub services : items.services.items ≡ map (λ e. service_item s e.0 e.1) (of_kind as_service ds)
-  pub extensions : items.extensions.items ≡ map (λ e. extension_item s e.0 e.1) (of_kind as_extension ds)
+  pub extensions : items.extensions.items
+      ≡ map (λ e. extension_item s e.0 e.1) (of_kind as_extension ds)
 
 -- a pool with new items behind its own
 abbrev pub with_new_items : Contents → NewItems → Contents
@@ -41,9 +42,11 @@ pub record HasImports (s : Setting) (f : FileDescriptorInner) : Type 0 where
 
 -- all files, where the records of those that came are linked
 abbrev pub with_linked : Setting → GrowingPool → List FileDescriptorInner
-with_linked s p = take p.base.files p.inner.files.items ++ each (linked_item s) p.base.files (drop p.base.files p.inner.files.items)
+with_linked s p = take p.base.files p.inner.files.items
+    ++ map_enumerated (linked_item s) p.base.files (drop p.base.files p.inner.files.items)
 
 -- the files that came are linked, where the items are those of what they declare
 pub record LinksNew (old new : GrowingPool) : Type 0 where
-  pub by : (s : Setting) → ItemsAre s (lists_in (contents_in old.inner)) (declarations old.base (new_records old))
+  pub by : (s : Setting)
+      → ItemsAre s (lists_in (contents_in old.inner)) (declarations old.base (new_records old))
       → contents_in new.inner ≡ record (contents_in old.inner) { files = with_linked s old }

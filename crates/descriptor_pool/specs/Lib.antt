@@ -1,7 +1,7 @@
 pub mod Pool
 pub mod Tells
 pub mod Invariant
-pub mod Behind
+pub mod Linking
 pub mod Outcome
 pub mod Extensions
 pub mod References

@@ -16,12 +16,14 @@ pub record IsLinked (old : Contents) (batch : Batch) (new : Contents) : Type 0 w
   pub is : new ≡ link old batch
 
 -- there is too much of a kind, the first that is past its limit, and the pool is as it was
-pub record IsTooMany (old : Contents) (batch : Batch) (kind : CountKind) (new : Contents) : Type 0 where
+pub record IsTooMany (old : Contents) (batch : Batch) (kind : CountKind)
+    (new : Contents) : Type 0 where
   pub first : counts_after old batch ≡ Err kind
   pub unchanged : new ≡ old
 
 -- these are all faults of the first failing pass, in order, and the pool is as it was
-pub record IsRefused (old : Contents) (batch : Batch) (error : DescriptorError) (new : Contents) : Type 0 where
+pub record IsRefused (old : Contents) (batch : Batch) (error : DescriptorError)
+    (new : Contents) : Type 0 where
   pub fits : Fits old batch
   pub all : error.errors ≡ faults old batch
   pub unchanged : new ≡ old

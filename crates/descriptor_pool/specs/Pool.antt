@@ -10,8 +10,8 @@ use Rattle.pool_types.specs.Contents.{Contents, no_contents}
 use Rattle.record_walk.specs.Counts.{counts_in}
 use Rattle.record_walk.specs.Fits.{counts_with}
 use Rattle.proto_types.specs.Readers.{text_of}
-use Rattle.reference_pass.specs.Broken.{Faults}
-use Rattle.descriptor_pool.specs.Behind.{names_behind, references_behind, first_of_both, linked_behind}
+use Rattle.reference_pass.specs.SecondPass.{Faults}
+use Rattle.descriptor_pool.specs.Linking.{name_faults, reference_faults, first_of_both, linked_with}
 
 abbrev pub Batch : Type 0
 Batch = List FileDescriptorProto
@@ -25,10 +25,10 @@ new_files p batch = filter (λ f. not (has_file p (text_of f.name))) batch
 
 -- what these break in the first pass, and in the second
 abbrev pub faults_of_names : Contents → Batch → Faults
-faults_of_names p batch = names_behind p (new_files p batch)
+faults_of_names p batch = name_faults p (new_files p batch)
 
 abbrev pub faults_of_references : Contents → Batch → Faults
-faults_of_references p batch = references_behind p (new_files p batch)
+faults_of_references p batch = reference_faults p (new_files p batch)
 
 abbrev pub faults : Contents → Batch → Faults
 faults p batch = first_of_both (faults_of_names p batch) (faults_of_references p batch)
@@ -37,7 +37,8 @@ faults p batch = first_of_both (faults_of_names p batch) (faults_of_references p
 abbrev pub Accepts : Contents → Batch → Type 0
 Accepts p batch = (faults_of_names p batch ≡ []) × (faults_of_references p batch ≡ [])
 
--- the counts after the batch, or what there is too much of: in the new files alone, else together with the pool
+-- the counts after the batch, or what there is too much of: in the new files alone, else together
+-- with the pool
 abbrev pub counts_after : Contents → Batch → Result Counts CountKind
 counts_after p batch = counts_with (counts_in p) (new_files p batch)
 
@@ -46,9 +47,10 @@ Fits p batch = IsOk (counts_after p batch)
 
 -- the pool after a batch
 abbrev pub link : Contents → Batch → Contents
-link p batch = linked_behind p (new_files p batch)
+link p batch = linked_with p (new_files p batch)
 
 -- the contents that pools have: what accepted batches that fit make from nothing
 pub data Made : Contents → Type 0 where
   empty : {p : Contents} → p ≡ no_contents → Made p
-  linked_to : {p q : Contents} (batch : Batch) → Made q → Accepts q batch → Fits q batch → p ≡ link q batch → Made p
+  linked_to : {p q : Contents} (batch : Batch) → Made q → Accepts q batch → Fits q batch
+      → p ≡ link q batch → Made p

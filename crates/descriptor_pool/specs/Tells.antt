@@ -1,7 +1,7 @@
 -- What the end of a pass tells.
 use Rattle.std.specs.Prelude.{◌≡◌, [], MatchResult}
 use Rattle.std.specs.declared.result.Result.{Result}
-use Rattle.reference_pass.specs.Broken.{Faults}
+use Rattle.reference_pass.specs.SecondPass.{Faults}
 use Rattle.descriptor_pool.specs.declared.error.BuildError.{BuildError}
 use Rattle.descriptor_pool.specs.declared.error.BuildError.TheVariants.{TooMany, Descriptor, OutOfMemory}
 

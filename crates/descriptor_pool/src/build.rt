@@ -6,32 +6,32 @@ ghost use Rattle.pool_types.specs.Contents.{files_of};
 ghost use Rattle.record_walk.specs.Counts.{counts_in};
 ghost use Rattle.record_walk.specs.Fits.{counts_with};
 ghost use Rattle.record_walk.specs.Declarations.{declarations};
-ghost use Rattle.reference_pass.specs.Broken.{second_pass};
+ghost use Rattle.reference_pass.specs.SecondPass.{second_pass};
 ghost use Rattle.reference_pass.specs.NamesBegin.{NamesBegin};
 ghost use Rattle.reference_pass.specs.Short.{ShortFiles};
-ghost use Rattle.descriptor_pool.specs.Behind.{faults_behind, linked_behind, with_items, with_names};
+ghost use Rattle.descriptor_pool.specs.Linking.{batch_faults, linked_with, with_items, with_names};
 ghost use Rattle.pool_contents.specs.Extended.{with_extended};
 ghost use Rattle.name_pass.specs.FirstPass.{first_pass};
-ghost use Rattle.pool_contents.specs.Growing.{before_items, first_extension, kept_in, new_records, records_from};
+ghost use Rattle.pool_contents.specs.Growing.{before_items, first_extension, rolled_back, new_records, records_from};
 ghost use Rattle.reference_pass.specs.SettingCode.{setting_in};
 ghost use Rattle.name_tables.specs.NameTables.{file_names_before, without_files_from};
 ghost use Rattle.name_pass.specs.Steps.{name_step, state_at};
 ghost use Rattle.descriptor_pool.specs.Items.{HasImports, HasItems, LinksNew, with_new_items};
-ghost use Rattle.pool_contents.specs.Held.{contents_in, ListsLieIn, NamesLieIn};
+ghost use Rattle.pool_contents.specs.Inner.{contents_in, ListsLieIn, NamesLieIn};
 ghost use Rattle.descriptor_pool.specs.Tells.{TellsAll, TellsFaults};
-ghost use Rattle.reference_pass.specs.Against.{setting_with};
+ghost use Rattle.reference_pass.specs.Against.{setting_against};
 ghost use Rattle.reference_pass.specs.Linking.{ItemsAre, lists_in};
 ghost use Rattle.descriptor_pool.specs.Pool.{Made};
 
 use crate::error::BuildError;
-use pool_faults::{DescriptorError, DescriptorErrorKind};
-use pool_contents::{DescriptorPoolInner, GrowingPool};
-use reference_pass::{Linker, NewItems, NextItems, ResolveVisitor, Setting};
 use name_pass::NameVisitor;
 use name_tables::{FileNames, HashedNames};
+use pool_contents::{DescriptorPoolInner, GrowingPool};
+use pool_faults::{DescriptorError, DescriptorErrorKind};
 use pool_types::FileDescriptorInner;
 use proto_types::FileDescriptorProto;
 use record_walk::{Counts, walk};
+use reference_pass::{Linker, NewItems, NextItems, ResolveVisitor, Setting};
 use std::alloc::{AllocError, Global};
 use std::mem;
 
@@ -50,8 +50,8 @@ pub(crate) fn link(
     requires names { NamesBegin pool.old.messages.items }
     requires short { ShortFiles (files_of (contents_in pool.old) ++ new.items) }
     ensures ok { OnOk result (contents_in pool.new
-        ≡ linked_behind (contents_in pool.old) new.items) }
-    ensures faults { TellsAll result (faults_behind (contents_in pool.old) new.items) }
+        ≡ linked_with (contents_in pool.old) new.items) }
+    ensures faults { TellsAll result (batch_faults (contents_in pool.old) new.items) }
     ensures err { OnErr result (contents_in pool.new ≡ contents_in pool.old) }
     ensures names { NamesBegin pool.new.messages.items }
 {
@@ -76,14 +76,14 @@ fn link_new(
     requires made { Made (contents_in pool.old.inner) }
     requires base { pool.old.base ≡ counts_in (contents_in pool.old.inner) }
     requires counts { IsOk (counts_with pool.old.base new.items) }
-    requires whole { kept_in pool.old ≡ contents_in pool.old.inner }
+    requires whole { rolled_back pool.old ≡ contents_in pool.old.inner }
     requires before { NamesLieIn (contents_in pool.old.inner) }
     requires names { NamesBegin pool.old.inner.messages.items }
     requires short { ShortFiles (files_of (contents_in pool.old.inner) ++ new.items) }
     ensures ok { OnOk result (contents_in pool.new.inner
-        ≡ linked_behind (contents_in pool.old.inner) new.items) }
-    ensures faults { TellsAll result (faults_behind (contents_in pool.old.inner) new.items) }
-    ensures kept { OnErr result (kept_in pool.new ≡ kept_in pool.old) }
+        ≡ linked_with (contents_in pool.old.inner) new.items) }
+    ensures faults { TellsAll result (batch_faults (contents_in pool.old.inner) new.items) }
+    ensures kept { OnErr result (rolled_back pool.new ≡ rolled_back pool.old) }
     ensures names { OnOk result (NamesBegin pool.new.inner.messages.items) }
 {
     pool.add_files(alloc, new)?;
@@ -102,7 +102,7 @@ fn enter_names(alloc: Global, pool: &mut GrowingPool) -> Result<(), BuildError>
     ensures faults { TellsAll result
         (first_pass (files_of (contents_in pool.old.inner)) (contents_in pool.old.inner)
         (declarations pool.old.base (new_records pool.old))) }
-    ensures kept { kept_in pool.new ≡ kept_in pool.old }
+    ensures kept { rolled_back pool.new ≡ rolled_back pool.old }
 {
     let mut faults = Vec::new(alloc);
     show_names(
@@ -155,19 +155,19 @@ fn make_items(alloc: Global, pool: &mut GrowingPool) -> Result<(), BuildError>
     requires before { pool.old.base ≡ counts_in (before_items pool.old) }
     requires names { NamesBegin pool.old.inner.messages.items }
     requires short { ShortFiles (files_of (contents_in pool.old.inner)) }
-    requires imports { AllByRecursion (HasImports (setting_with pool.old.inner))
+    requires imports { AllByRecursion (HasImports (setting_against pool.old.inner))
         (drop pool.old.base.files pool.old.inner.files.items) }
-    requires items { ItemsAre (setting_with pool.old.inner)
-        (lists_in (with_items (before_items pool.old) (setting_with pool.old.inner)
+    requires items { ItemsAre (setting_against pool.old.inner)
+        (lists_in (with_items (before_items pool.old) (setting_against pool.old.inner)
         (declarations pool.old.base (new_records pool.old))))
         (declarations pool.old.base (new_records pool.old)) }
     ensures made { OnOk result (contents_in pool.new.inner
         ≡ with_extended (first_extension pool.old)
-        (with_items (before_items pool.old) (setting_with pool.old.inner)
+        (with_items (before_items pool.old) (setting_against pool.old.inner)
         (declarations pool.old.base (new_records pool.old)))) }
-    ensures faults { TellsAll result (second_pass (setting_with pool.old.inner)
+    ensures faults { TellsAll result (second_pass (setting_against pool.old.inner)
         (declarations pool.old.base (new_records pool.old))) }
-    ensures kept { OnErr result (kept_in pool.new ≡ kept_in pool.old) }
+    ensures kept { OnErr result (rolled_back pool.new ≡ rolled_back pool.old) }
     ensures names { OnOk result (NamesBegin pool.new.inner.messages.items) }
 {
     let items = read_items(alloc, pool)?;
@@ -181,9 +181,9 @@ fn make_items(alloc: Global, pool: &mut GrowingPool) -> Result<(), BuildError>
 fn read_items(alloc: Global, pool: &GrowingPool) -> Result<NewItems, BuildError>
     requires counts { IsOk (counts_with pool.now.base (new_records pool.now)) }
     requires short { ShortFiles (files_of (contents_in pool.now.inner)) }
-    ensures items { IfOk result (λ items. HasItems items (setting_with pool.now.inner)
+    ensures items { IfOk result (λ items. HasItems items (setting_against pool.now.inner)
         (declarations pool.now.base (new_records pool.now))) }
-    ensures faults { TellsAll result (second_pass (setting_with pool.now.inner)
+    ensures faults { TellsAll result (second_pass (setting_against pool.now.inner)
         (declarations pool.now.base (new_records pool.now))) }
     ensures names { IfOk result (λ items. NamesBegin items.messages.items) }
 {
@@ -208,7 +208,7 @@ fn read_items(alloc: Global, pool: &GrowingPool) -> Result<NewItems, BuildError>
 
 /// What is read against the files and names that a pool holds.
 fn setting_of(inner: &DescriptorPoolInner) -> Setting<'_>
-    ensures { setting_in result ≡ setting_with inner.now }
+    ensures { setting_in result ≡ setting_against inner.now }
 {
     Setting {
         files: &inner.files,
@@ -221,7 +221,7 @@ fn setting_of(inner: &DescriptorPoolInner) -> Setting<'_>
 fn put_items(pool: &mut GrowingPool, items: NewItems) -> Result<(), AllocError>
     ensures ok { OnOk result (contents_in pool.new.inner
         ≡ with_new_items (contents_in pool.old.inner) items) }
-    ensures kept { kept_in pool.new ≡ kept_in pool.old }
+    ensures kept { rolled_back pool.new ≡ rolled_back pool.old }
 {
     let NewItems {
         mut messages,
@@ -239,7 +239,7 @@ fn put_items(pool: &mut GrowingPool, items: NewItems) -> Result<(), AllocError>
 /// Links the records of the new files of a pool where they stand, by its items.
 fn link_files(alloc: Global, pool: &mut GrowingPool) -> Result<(), AllocError>
     ensures ok { OnOk result (LinksNew pool.old pool.new) }
-    ensures kept { kept_in pool.new ≡ kept_in pool.old }
+    ensures kept { rolled_back pool.new ≡ rolled_back pool.old }
 {
     let base = pool.base;
     let linker = Linker {

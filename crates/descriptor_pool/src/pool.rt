@@ -4,7 +4,11 @@ ghost use Rattle.std.specs.Option.{option_copied};
 use crate::build::link;
 use crate::error::BuildError;
 use pool_contents::DescriptorPoolInner;
-use pool_types::{Definition, EnumDescriptor, EnumDescriptorInner, ExtensionDescriptor, ExtensionDescriptorInner, FileDescriptor, FileDescriptorInner, MessageDescriptor, MessageDescriptorInner, ServiceDescriptor, ServiceDescriptorInner};
+use pool_types::{
+    Definition, EnumDescriptor, EnumDescriptorInner, ExtensionDescriptor, ExtensionDescriptorInner,
+    FileDescriptor, FileDescriptorInner, MessageDescriptor, MessageDescriptorInner,
+    ServiceDescriptor, ServiceDescriptorInner,
+};
 use proto_types::FileDescriptorProto;
 use record_walk::Counts;
 use std::alloc::{AllocError, Global};
@@ -25,7 +29,7 @@ impl Model for DescriptorPool {
 
     ghost coded = { contents_code };
 
-    ghost use Rattle.pool_contents.specs.Held.{contents_in};
+    ghost use Rattle.pool_contents.specs.Inner.{contents_in};
     ghost use Rattle.descriptor_pool.specs.Invariant.{IsPool};
 
     ghost view = { λ p. contents_in p.inner };
@@ -119,8 +123,8 @@ impl DescriptorPool {
         self.inner.service(service)
     }
 
-    /// What is true of every pool: its contents are made, from nothing, by batches that were accepted
-    /// and fit. A call does nothing; laws of pools are proved by it.
+    /// What is true of every pool: its contents are made, from nothing, by batches that were
+    /// accepted and fit. A call does nothing; laws of pools are proved by it.
     pub fn made(&self)
         ensures { IsPool self.now }
     {
@@ -141,8 +145,8 @@ impl DescriptorPool {
         }
     }
 
-    /// The files of the pool, in the order of linking. What their linked records declare fits into a
-    /// pool, as `Counts::of` tells.
+    /// The files of the pool, in the order of linking. What their linked records declare fits into
+    /// a pool, as `Counts::of` tells.
     #[tactic(auto, using(crate::proofs::Sound::fits_again))]
     pub fn files(&self) -> &[FileDescriptorInner]
         ensures files { result.now ≡ self.now.files }
@@ -174,7 +178,7 @@ impl DescriptorPool {
         ensures outcome { Outcome self.old files.items result self.new }
         ensures nothing_new { new_files self.old files.items ≡ [] → IsOk result }
     {
-        self.inner.keep_new(&mut files);
+        self.inner.retain_new(&mut files);
         if files.is_empty() {
             return Ok(());
         }

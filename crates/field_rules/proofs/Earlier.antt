@@ -6,7 +6,7 @@ use Rattle.std.specs.List.{enumerate_from}
 use Rattle.std.specs.Option.{option_map, option_or}
 use Rattle.std.specs.Ordering.{int_eq}
 use Rattle.proto_types.specs.declared.records.enumeration.EnumValueDescriptorProto.{EnumValueDescriptorProto}
-use Rattle.proto_types.specs.Lists.{listed}
+use Rattle.plain_data.specs.Lists.{listed}
 use Rattle.proto_types.specs.Readers.{number_of}
 use Rattle.field_rules.proofs.Positions.{entries-next}
 

@@ -4,7 +4,7 @@ pub mod Tells
 pub mod First
 pub mod Passed
 pub mod Latest
-pub mod Again
+pub mod Duplicates
 pub mod Listed
 pub mod Ascending
 pub mod Positions

@@ -8,8 +8,8 @@ use Rattle.std.proofs.lemmas.Bool.Decides.{Decides-int_eq}
 use Rattle.std.proofs.lemmas.List.Elements.{filter_map-append}
 use Rattle.std.proofs.lemmas.Option.{slice_get_within}
 use Rattle.proto_types.specs.declared.records.field.FieldDescriptorProto.{FieldDescriptorProto}
-use Rattle.proto_types.specs.Lists.{at}
-use Rattle.field_rules.specs.Each.{each}
+use Rattle.plain_data.specs.Lists.{at}
+use Rattle.plain_data.specs.Each.{map_enumerated}
 use Rattle.field_rules.specs.DuplicateNumbers.{item_number}
 use Rattle.field_rules.specs.Oneofs.{oneof_of, members}
 use Rattle.proto_types.specs.declared.message.OneofDescriptorProto.{OneofDescriptorProto}
@@ -19,12 +19,12 @@ abbrev none : List ℕ
 none = []
 
 -- lists without members
-pub no-members : {X : Type 0} (n : ℕ) (xs : List X) → map (λ _. none) xs ≡ each (λ _ _. none) n xs
+pub no-members : {X : Type 0} (n : ℕ) (xs : List X) → map (λ _. none) xs ≡ map_enumerated (λ _ _. none) n xs
 no-members n [] = refl
 no-members n (x ∷ xs) = ap (λ lists. none ∷ lists) (no-members (suc n) xs)
 
 module _ {X Y : Type 0} (old new : ℕ → Y) where
-  same-each : (n : ℕ) (xs : List X) → ((o : ℕ) → n ≤ o → o < n + length xs → old o ≡ new o) → each (λ o _. old o) n xs ≡ each (λ o _. new o) n xs
+  same-each : (n : ℕ) (xs : List X) → ((o : ℕ) → n ≤ o → o < n + length xs → old o ≡ new o) → map_enumerated (λ o _. old o) n xs ≡ map_enumerated (λ o _. new o) n xs
   same-each n [] same = refl
   same-each n (x ∷ xs) same =
       let rest = same-each (suc n) xs (λ o from below. same o (omega (arith, from)) (omega (arith, below))) in
@@ -33,7 +33,7 @@ module _ {X Y : Type 0} (old new : ℕ → Y) where
 
   -- one of the entries is changed
   set-each : (n : ℕ) (xs : List X) (k : ℕ) (y : Y) → k < length xs → y ≡ new (n + k) → ((o : ℕ) → n ≤ o → o < n + length xs → o ≢ n + k → old o ≡ new o)
-      → set (each (λ o _. old o) n xs) k y ≡ each (λ o _. new o) n xs
+      → set (map_enumerated (λ o _. old o) n xs) k y ≡ map_enumerated (λ o _. new o) n xs
   set-each n [] k y below is same = absurd (omega (arith, below))
   set-each n (x ∷ xs) zero y below is same =
       let here : n + 0 ≡ n = omega arith in
@@ -45,12 +45,12 @@ module _ {X Y : Type 0} (old new : ℕ → Y) where
       let rest = set-each (suc n) xs k y (omega (arith, below)) (is ∙ ap new there) (λ o from under other. same o (omega (arith, from)) (omega (arith, under)) (λ e. other (e ∙ there))) in
       λ i. here i ∷ rest i
 
-get_or-each : {X Y : Type 0} (make : ℕ → Y) (n : ℕ) (xs : List X) (k : ℕ) (d : Y) → k < length xs → get_or (each (λ o _. make o) n xs) k d ≡ make (n + k)
+get_or-each : {X Y : Type 0} (make : ℕ → Y) (n : ℕ) (xs : List X) (k : ℕ) (d : Y) → k < length xs → get_or (map_enumerated (λ o _. make o) n xs) k d ≡ make (n + k)
 get_or-each make n [] k d below = absurd (omega (arith, below))
 get_or-each make n (x ∷ xs) zero d below = let here : n ≡ n + 0 = omega arith in ap make here
 get_or-each make n (x ∷ xs) (suc k) d below = let there : suc n + k ≡ n + suc k = omega arith in get_or-each make (suc n) xs k d (omega (arith, below)) ∙ ap make there
 
-pub length-each : {X Y : Type 0} (make : ℕ → Y) (n : ℕ) (xs : List X) → length (each (λ o _. make o) n xs) ≡ length xs
+pub length-each : {X Y : Type 0} (make : ℕ → Y) (n : ℕ) (xs : List X) → length (map_enumerated (λ o _. make o) n xs) ≡ length xs
 length-each make n [] = refl
 length-each make n (x ∷ xs) = ap suc (length-each make (suc n) xs)
 
@@ -119,18 +119,18 @@ module _ (fields : List FieldDescriptorProto) (i : ℕ) (f : FieldDescriptorProt
 
   module _ (oneofs : List OneofDescriptorProto) where
     -- a field that names no oneof
-    pub members-unnamed : oneof_of oneofs f ≡ None → each (λ o _. members (take i fields) o) 0 oneofs ≡ each (λ o _. members (take (i + 1) fields) o) 0 oneofs
+    pub members-unnamed : oneof_of oneofs f ≡ None → map_enumerated (λ o _. members (take i fields) o) 0 oneofs ≡ map_enumerated (λ o _. members (take (i + 1) fields) o) 0 oneofs
     members-unnamed none = same-each (members (take i fields)) (members (take (i + 1) fields)) 0 oneofs (λ o from below. kept o (unnamed oneofs f.oneof_index none o (omega (arith, below))))
 
     -- a field that names one
     pub members-named : (k : ℕ) → oneof_of oneofs f ≡ Some k → (d : List ℕ)
-        → set (each (λ o _. members (take i fields) o) 0 oneofs) k (get_or (each (λ o _. members (take i fields) o) 0 oneofs) k d ++ i ∷ []) ≡ each (λ o _. members (take (i + 1) fields) o) 0 oneofs
+        → set (map_enumerated (λ o _. members (take i fields) o) 0 oneofs) k (get_or (map_enumerated (λ o _. members (take i fields) o) 0 oneofs) k d ++ i ∷ []) ≡ map_enumerated (λ o _. members (take (i + 1) fields) o) 0 oneofs
     members-named k named d =
         let told = names oneofs f.oneof_index k named in
         let below = told.below in
         let index = told.is in
         let whole : 0 + k ≡ k = omega arith in
         let own = joined k (ap (names_it k) index ∙ own-index k) in
-        set-each (members (take i fields)) (members (take (i + 1) fields)) 0 oneofs k (get_or (each (λ o _. members (take i fields) o) 0 oneofs) k d ++ i ∷ []) below
+        set-each (members (take i fields)) (members (take (i + 1) fields)) 0 oneofs k (get_or (map_enumerated (λ o _. members (take i fields) o) 0 oneofs) k d ++ i ∷ []) below
         (ap (λ list. list ++ i ∷ []) (get_or-each (members (take i fields)) 0 oneofs k d below ∙ ap (members (take i fields)) whole) ∙ own ∙ ap (members (take (i + 1) fields)) (sym whole))
         (λ o from under other. kept o (ap (names_it o) index ∙ other-index o (pos k) (λ e. let same : o ≡ k = cc in other (same ∙ sym whole))))

@@ -2,12 +2,12 @@
 use Rattle.std.proofs.Common.{◌≡◌, ◌<◌, ◌≤◌, ℕ, zero, suc, Bool, true, false, List, [], ◌∷◌, ◌++◌, Option, Some, None, length, take, refl, sym, ap, ◌∙◌, arith, if◌then◌else◌}
 use Rattle.std.specs.List.{flat_map}
 use Rattle.std.specs.Option.{option_map}
-use Rattle.field_rules.specs.Each.{each}
+use Rattle.plain_data.specs.Each.{map_enumerated}
 use Rattle.number_ranges.specs.Holds.{first_from}
 
 module _ {X Y : Type 0} (test : X → Bool) (make : ℕ → X → List Y) (quiet : (n : ℕ) (x : X) → test x ≡ false → make n x ≡ []) where
   abbrev told : ℕ → List X → List Y
-  told n xs = flat_map (λ ys. ys) (each make n xs)
+  told n xs = flat_map (λ ys. ys) (map_enumerated make n xs)
 
   some-pred : (x : Option ℕ) (i : ℕ) → option_map suc x ≡ Some i → (j : ℕ) × (i ≡ suc j) × (x ≡ Some j)
   some-pred None i is = absurd (cc)

@@ -5,12 +5,12 @@ use Rattle.std.proofs.lemmas.List.Sums.{fold-append}
 use Rattle.std.specs.FinMap as map
 use Rattle.std.specs.List.{enumerate_from}
 use Rattle.plain_data.specs.Maps.{inserted}
-use Rattle.field_rules.specs.Each.{each}
+use Rattle.plain_data.specs.Each.{map_enumerated}
 use Rattle.field_rules.proofs.Each.{each-next}
 
-enumerated : {X : Type 0} (n : ℕ) (xs : List X) → enumerate_from n xs ≡ each (λ i x. (i, x)) n xs
+enumerated : {X : Type 0} (n : ℕ) (xs : List X) → enumerate_from n xs ≡ map_enumerated (λ i x. (i, x)) n xs
 enumerated n [] = refl
-enumerated n (x ∷ xs) = ap (λ es. (n, x) ∷ es) (enumerated (n + 1) xs ∙ ap (λ m. each (λ i x. (i, x)) m xs) (add-one n))
+enumerated n (x ∷ xs) = ap (λ es. (n, x) ∷ es) (enumerated (n + 1) xs ∙ ap (λ m. map_enumerated (λ i x. (i, x)) m xs) (add-one n))
 
 -- the entries up to a position, and the one there
 pub entries-next : {X : Type 0} (xs : List X) (i : ℕ) (x : X) → i < length xs → x ≡ get_or xs i x

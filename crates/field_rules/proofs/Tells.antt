@@ -4,7 +4,7 @@ use Rattle.std.specs.List.{flat_map}
 use Rattle.proto_types.specs.declared.file.FileDescriptorProto.{FileDescriptorProto}
 use Rattle.pool_faults.specs.declared.fault.DescriptorErrorKind.{DescriptorErrorKind}
 use Rattle.field_rules.specs.declared.findings.Findings.{Findings}
-use Rattle.field_rules.specs.Each.{each}
+use Rattle.plain_data.specs.Each.{map_enumerated}
 use Rattle.field_rules.specs.Tells.{Tells, named_files}
 use Rattle.field_rules.proofs.Each.{all-next}
 
@@ -34,8 +34,8 @@ tells-three first second third = tells-two (tells-two first second) third
 
 -- the entries of a list up to a position, and the one there
 pub tells-next : {X : Type 0} {a b c : Findings} {fs : List DescriptorErrorKind} (make : List FileDescriptorProto → ℕ → X → List DescriptorErrorKind) (xs : List X) (i : ℕ) (x : X) → i < length xs → x ≡ get_or xs i x
-    → Tells a b (flat_map (λ ys. ys) (each (make (named_files a)) 0 (take i xs))) → fs ≡ make (named_files b) i x → Tells b c fs
-    → Tells a c (flat_map (λ ys. ys) (each (make (named_files a)) 0 (take (i + 1) xs)))
+    → Tells a b (flat_map (λ ys. ys) (map_enumerated (make (named_files a)) 0 (take i xs))) → fs ≡ make (named_files b) i x → Tells b c fs
+    → Tells a c (flat_map (λ ys. ys) (map_enumerated (make (named_files a)) 0 (take (i + 1) xs)))
 tells-next {X} {a} make xs i x below is so_far told next =
     tells-as (sym (all-next (make (named_files a)) xs i x below is))
     (tells-two so_far (tells-as (told ∙ ap (λ files. make files i x) (same-files so_far)) next))

@@ -1,7 +1,7 @@
 -- What a reserved range tells of the number of a value.
 use Rattle.std.proofs.Common.{◌≡◌, ℕ, ℤ, Bool, true, false, List, [], ◌∷◌, ap, sym, ◌∙◌}
 use Rattle.proto_types.specs.declared.records.enumeration.EnumReservedRange.{EnumReservedRange}
-use Rattle.proto_types.specs.Lists.{only_if}
+use Rattle.plain_data.specs.Lists.{only_if}
 use Rattle.proto_types.specs.Readers.{number_of}
 use Rattle.proto_types.specs.declared.tag.enum_.TheConstants as enumeration
 use Rattle.proto_types.specs.declared.file.FileDescriptorProto.{FileDescriptorProto}

@@ -4,14 +4,14 @@ use Rattle.std.specs.List.{enumerate_from}
 use Rattle.std.specs.Option.{option_map}
 use Rattle.proto_types.specs.declared.records.enumeration.EnumDescriptorProto.{EnumDescriptorProto}
 use Rattle.proto_types.specs.declared.records.enumeration.EnumValueDescriptorProto.{EnumValueDescriptorProto}
-use Rattle.proto_types.specs.Lists.{listed}
+use Rattle.plain_data.specs.Lists.{listed}
 use Rattle.proto_types.specs.Readers.{number_of}
 use Rattle.proto_types.specs.declared.file.FileDescriptorProto.{FileDescriptorProto}
 use Rattle.pool_faults.specs.declared.fault.DescriptorErrorKind.{DescriptorErrorKind}
 use Rattle.pool_faults.specs.declared.fault.DescriptorErrorKind.TheVariants as fault
 use Rattle.record_walk.specs.Shown.{Shown}
 use Rattle.field_rules.specs.EnumItems.{allows_alias}
-use Rattle.field_rules.specs.EnumValues.{number_label, reserved_faults, again_faults, value_faults}
+use Rattle.field_rules.specs.EnumValues.{number_label, reserved_faults, duplicate_faults, value_faults}
 use Rattle.field_rules.proofs.Earlier.{earliest, told-earliest}
 
 module _ (files : List FileDescriptorProto) (owner : Shown) (e : EnumDescriptorProto) (i : ℕ) (v : EnumValueDescriptorProto) (number : ℤ) (number_is : number ≡ number_of v.number) where
@@ -23,7 +23,7 @@ module _ (files : List FileDescriptorProto) (owner : Shown) (e : EnumDescriptorP
 
   -- the fault that cites the earliest value with the number
   again-told : (earlier : Option ℕ) → earlier ≡ option_map (λ x. x.0) (earliest (enumerate_from 0 (take i e.value)) number)
-      → listed (option_map (again number) earlier) ≡ again_faults files owner i n (take i e.value)
+      → listed (option_map (again number) earlier) ≡ duplicate_faults files owner i n (take i e.value)
   again-told earlier is =
       ap (λ o. listed (option_map (again number) o)) is
       ∙ ap (λ m. listed (option_map (again m) (option_map (λ x. x.0) (earliest (enumerate_from 0 (take i e.value)) m)))) number_is
@@ -34,9 +34,9 @@ module _ (files : List FileDescriptorProto) (owner : Shown) (e : EnumDescriptorP
       → reserved_faults files owner i number e.reserved_range ++ listed (option_map (again number) earlier) ≡ value_faults files owner e i v
   told-alone earlier alias alias_is off earlier_is = λ j.
       reserved_faults files owner i (number_is j) e.reserved_range
-      ++ (again-told earlier earlier_is ∙ ap (λ b. cond b [] (again_faults files owner i n (take i e.value))) (sym off ∙ alias_is)) j
+      ++ (again-told earlier earlier_is ∙ ap (λ b. cond b [] (duplicate_faults files owner i n (take i e.value))) (sym off ∙ alias_is)) j
 
   pub told-shared : (alias : Bool) → alias ≡ allows_alias e.options → alias ≡ true → reserved_faults files owner i number e.reserved_range ≡ value_faults files owner e i v
   told-shared alias alias_is on =
       sym (append-nil (reserved_faults files owner i number e.reserved_range))
-      ∙ (λ j. reserved_faults files owner i (number_is j) e.reserved_range ++ ap (λ b. cond b [] (again_faults files owner i n (take i e.value))) (sym on ∙ alias_is) j)
+      ∙ (λ j. reserved_faults files owner i (number_is j) e.reserved_range ++ ap (λ b. cond b [] (duplicate_faults files owner i n (take i e.value))) (sym on ∙ alias_is) j)

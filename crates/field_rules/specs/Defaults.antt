@@ -8,7 +8,7 @@ use Rattle.std.specs.Str.{bytes_eq}
 use Rattle.std.specs.declared.option.Option.{Option}
 use Rattle.proto_types.specs.declared.tag.field.TheConstants as field
 use Rattle.proto_types.specs.declared.records.enumeration.EnumValueDescriptorProto.{EnumValueDescriptorProto}
-use Rattle.proto_types.specs.Lists.{only_if}
+use Rattle.plain_data.specs.Lists.{only_if}
 use Rattle.proto_types.specs.Readers.{number_of, text_of}
 use Rattle.proto_types.specs.declared.file.FileDescriptorProto.{FileDescriptorProto}
 use Rattle.pool_types.specs.declared.kinds.KindIndex.{KindIndex}
@@ -22,13 +22,14 @@ use Rattle.default_values.specs.Defaults.{simple_value}
 use Rattle.field_rules.specs.Labels.{part_label}
 
 -- an enum that the type of a field names
-pub record MeantEnum : Type 0 where
+pub record DefaultEnum : Type 0 where
   pub full_name : List ℕ
   pub values : List EnumValueDescriptorProto
 
 -- the number of the first value that has a name
 abbrev pub value_named : List EnumValueDescriptorProto → List ℕ → Option ℤ
-value_named values name = option_map (λ v. number_of v.number) (find (λ v. bytes_eq (text_of v.name) name) values)
+value_named values name =
+    option_map (λ v. number_of v.number) (find (λ v. bytes_eq (text_of v.name) name) values)
 
 -- the value that a text writes, if it writes one; of a message or a group none does
 abbrev pub value_of : KindIndex → List EnumValueDescriptorProto → List ℕ → Option DefaultValue
@@ -43,13 +44,15 @@ kind_named (index.Group _) full_name = codes "message type"
 kind_named kind full_name = kind_name kind
 
 -- the default of a field, if one is given
-abbrev pub default_value : KindIndex → MeantEnum → Option (List ℕ) → Option DefaultValue
+abbrev pub default_value : KindIndex → DefaultEnum → Option (List ℕ) → Option DefaultValue
 default_value kind meant given = option_and_then (value_of kind meant.values) given
 
-module _ (files : List FileDescriptorProto) (file : ℕ) (path : List ℤ) (kind : KindIndex) (meant : MeantEnum) where
+module _ (files : List FileDescriptorProto) (file : ℕ) (path : List ℤ) (kind : KindIndex)
+    (meant : DefaultEnum) where
   -- the fault of a text that writes no value
   abbrev pub default_fault : List ℕ → DescriptorErrorKind
-  default_fault text = fault.InvalidFieldDefault text (kind_named kind meant.full_name) (part_label files file path field.DEFAULT_VALUE)
+  default_fault text = fault.InvalidFieldDefault text (kind_named kind meant.full_name)
+      (part_label files file path field.DEFAULT_VALUE)
 
   -- what a text breaks
   abbrev pub text_faults : List ℕ → List DescriptorErrorKind

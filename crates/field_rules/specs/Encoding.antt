@@ -20,7 +20,9 @@ packed_of options = option_and_then (λ o. o.value.packed) options
 
 -- repeated numbers are packed as the option says, and under proto3 where it says nothing
 abbrev pub is_packed : Bool → KindIndex → FieldDescriptorProto → Bool
-is_packed proto3 kind f = is_repeated f && is_packable kind && unwrap_or (packed_of f.options) proto3
+is_packed proto3 kind f = is_repeated f && is_packable kind
+    && unwrap_or (packed_of f.options) proto3
 
 abbrev pub supports_presence : Bool → KindIndex → FieldDescriptorProto → Bool
-supports_presence proto3 kind f = flag_of f.proto3_optional || is_some f.oneof_index || (not (is_repeated f) && (is_message kind || not proto3))
+supports_presence proto3 kind f = flag_of f.proto3_optional || is_some f.oneof_index
+    || (not (is_repeated f) && (is_message kind || not proto3))

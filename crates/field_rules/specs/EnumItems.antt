@@ -1,5 +1,5 @@
--- The records that a pool holds of enums: their values, the tables of these, and whether aliases are
--- allowed (descriptor.proto on `allow_alias`).
+-- The records that a pool holds of enums: their values, the tables of these, and whether aliases
+-- are allowed (descriptor.proto on `allow_alias`).
 use Rattle.std.specs.Prelude.{ℕ, ℤ, Bool, false, List, [], ◌∷◌, map, if◌then◌else◌}
 use Rattle.std.specs.List.{enumerate_from}
 use Rattle.std.specs.Option.{option_map_or}
@@ -16,7 +16,7 @@ use Rattle.pool_types.specs.declared.contents.enumeration.EnumDescriptorInner.{E
 use Rattle.pool_types.specs.declared.contents.enumeration.EnumValueDescriptorInner.{EnumValueDescriptorInner}
 use Rattle.record_walk.specs.Protos.{of_value}
 use Rattle.record_walk.specs.Shown.{Shown}
-use Rattle.field_rules.specs.Each.{each}
+use Rattle.plain_data.specs.Each.{map_enumerated}
 use Rattle.field_rules.specs.Identities.{identity}
 use Rattle.field_rules.specs.Places.{part_beside}
 
@@ -52,7 +52,9 @@ value_item d number = record { id = identity d; number = number }
 
 -- those of the values of an enum, which stand beside it
 abbrev pub value_items : Shown → List EnumValueDescriptorProto → List EnumValueDescriptorInner
-value_items d vs = each (λ i v. value_item (part_beside d enumeration.VALUE i (of_value v)) (number_of v.number)) 0 vs
+value_items d vs =
+    map_enumerated (λ i v. value_item (part_beside d enumeration.VALUE i (of_value v))
+    (number_of v.number)) 0 vs
 
 -- an enum with its values
 abbrev pub enum_item : Shown → EnumDescriptorProto → EnumDescriptorInner

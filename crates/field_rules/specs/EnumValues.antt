@@ -1,5 +1,5 @@
--- What the numbers of an enum's values break (descriptor.proto on `reserved_range` and `allow_alias`,
--- and the protobuf language rules on enums).
+-- What the numbers of an enum's values break (descriptor.proto on `reserved_range` and
+-- `allow_alias`, and the protobuf language rules on enums).
 use Rattle.std.specs.Prelude.{ℕ, ℤ, List, [], ◌++◌, take, if◌then◌else◌}
 use Rattle.std.specs.List.{find, enumerate_from, flat_map}
 use Rattle.std.specs.Option.{option_map}
@@ -9,14 +9,14 @@ use Rattle.proto_types.specs.declared.tag.enum_value.TheConstants as value
 use Rattle.proto_types.specs.declared.records.enumeration.EnumDescriptorProto.{EnumDescriptorProto}
 use Rattle.proto_types.specs.declared.records.enumeration.EnumReservedRange.{EnumReservedRange}
 use Rattle.proto_types.specs.declared.records.enumeration.EnumValueDescriptorProto.{EnumValueDescriptorProto}
-use Rattle.proto_types.specs.Lists.{listed, only_if}
+use Rattle.plain_data.specs.Lists.{listed, only_if}
 use Rattle.proto_types.specs.Readers.{number_of}
 use Rattle.proto_types.specs.declared.file.FileDescriptorProto.{FileDescriptorProto}
 use Rattle.pool_faults.specs.declared.label.Label.{Label}
 use Rattle.pool_faults.specs.declared.fault.DescriptorErrorKind.{DescriptorErrorKind}
 use Rattle.pool_faults.specs.declared.fault.DescriptorErrorKind.TheVariants as fault
 use Rattle.record_walk.specs.Shown.{Shown}
-use Rattle.field_rules.specs.Each.{each}
+use Rattle.plain_data.specs.Each.{map_enumerated}
 use Rattle.field_rules.specs.Labels.{entry_label, entry_part_label}
 use Rattle.field_rules.specs.EnumItems.{allows_alias}
 use Rattle.field_rules.specs.EnumRanges.{reserves}
@@ -24,31 +24,38 @@ use Rattle.field_rules.specs.EnumRanges.{reserves}
 module _ (files : List FileDescriptorProto) (owner : Shown) where
   -- where the number stands of the value with a position
   abbrev pub number_label : ℕ → Label
-  number_label position = entry_part_label files owner.file owner.path enumeration.VALUE position value.NUMBER
+  number_label position =
+      entry_part_label files owner.file owner.path enumeration.VALUE position value.NUMBER
 
   -- of a reserved range, by its position, that holds the number of a value
   abbrev pub reserved_fault : ℕ → ℤ → ℕ → EnumReservedRange → List DescriptorErrorKind
   reserved_fault position n place range =
       let defined = entry_label files owner.file owner.path enumeration.RESERVED_RANGE place in
-      only_if (reserves n range) (fault.EnumNumberInReservedRange n (number_of range.start) (number_of range.«end») defined (number_label position))
+      only_if (reserves n range)
+      (fault.EnumNumberInReservedRange n (number_of range.start) (number_of range.«end») defined
+      (number_label position))
 
   -- of each of these
   abbrev pub reserved_faults : ℕ → ℤ → List EnumReservedRange → List DescriptorErrorKind
-  reserved_faults position n ranges = flat_map (λ faults. faults) (each (reserved_fault position n) 0 ranges)
+  reserved_faults position n ranges =
+      flat_map (λ faults. faults) (map_enumerated (reserved_fault position n) 0 ranges)
 
   -- of a number that an earlier value has: the earliest is told
-  abbrev pub again_faults : ℕ → ℤ → List EnumValueDescriptorProto → List DescriptorErrorKind
-  again_faults position n earlier =
-      listed (option_map (λ e. fault.DuplicateEnumNumber n (number_label e.0) (number_label position))
+  abbrev pub duplicate_faults : ℕ → ℤ → List EnumValueDescriptorProto → List DescriptorErrorKind
+  duplicate_faults position n earlier =
+      listed (option_map
+      (λ e. fault.DuplicateEnumNumber n (number_label e.0) (number_label position))
       (find (λ e. int_eq (number_of e.1.number) n) (enumerate_from 0 earlier)))
 
   -- of the value of an enum with a position
-  abbrev pub value_faults : EnumDescriptorProto → ℕ → EnumValueDescriptorProto → List DescriptorErrorKind
+  abbrev pub value_faults : EnumDescriptorProto → ℕ → EnumValueDescriptorProto
+      → List DescriptorErrorKind
   value_faults e position v =
       let n = number_of v.number in
       reserved_faults position n e.reserved_range
-      ++ (if allows_alias e.options then [] else again_faults position n (take position e.value))
+      ++ (if allows_alias e.options then []
+      else duplicate_faults position n (take position e.value))
 
   -- of all values of an enum, one after another
   abbrev pub values_faults : EnumDescriptorProto → List DescriptorErrorKind
-  values_faults e = flat_map (λ faults. faults) (each (value_faults e) 0 e.value)
+  values_faults e = flat_map (λ faults. faults) (map_enumerated (value_faults e) 0 e.value)

@@ -6,7 +6,12 @@ use Rattle.record_walk.specs.Shown.{Shown}
 
 -- the name begins in the full name so many bytes before its end
 abbrev pub named_at : ℕ → List ℤ → List ℕ → List ℕ → Identity
-named_at file path full_name name = record { file = file; path = path; full_name = full_name; name_index = length full_name - length name }
+named_at file path full_name name = record {
+  file = file;
+  path = path;
+  full_name = full_name;
+  name_index = length full_name - length name;
+}
 
 abbrev pub identity : Shown → Identity
 identity d = named_at d.file d.path d.full_name (name_of d.proto)

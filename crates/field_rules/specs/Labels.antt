@@ -15,4 +15,5 @@ entry_label files file path tag position = label_in files file (step path tag po
 
 -- of a part of such an entry
 abbrev pub entry_part_label : List FileDescriptorProto → ℕ → List ℤ → ℤ → ℕ → ℤ → Label
-entry_part_label files file path tag position part = label_in files file (step path tag position ++ part ∷ [])
+entry_part_label files file path tag position part =
+    label_in files file (step path tag position ++ part ∷ [])

@@ -1,4 +1,3 @@
-pub mod Each
 pub mod Places
 pub mod Identities
 pub mod Labels
@@ -11,7 +10,7 @@ pub mod At
 pub mod Bounds
 pub mod DuplicateNumbers
 pub mod Maps
-pub mod Again
+pub mod Duplicates
 pub mod Same
 pub mod Oneofs
 pub mod Encoding

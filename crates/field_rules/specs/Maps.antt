@@ -10,7 +10,8 @@ use Rattle.proto_types.specs.Readers.{number_of, text_of}
 use Rattle.field_rules.specs.DuplicateNumbers.{item_number}
 
 -- each field's key, where it has one, with its position
-abbrev pub keyed : {K : Type 0} → (FieldDescriptorProto → Option K) → List FieldDescriptorProto → List (K × ℕ)
+abbrev pub keyed : {K : Type 0} → (FieldDescriptorProto → Option K) → List FieldDescriptorProto
+    → List (K × ℕ)
 keyed key fields = filter_map (λ e. option_map (λ k. (k, e.0)) (key e.1)) (enumerate_from 0 fields)
 
 -- of two fields with one key the later one stands

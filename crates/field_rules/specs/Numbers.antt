@@ -6,7 +6,7 @@ use Rattle.std.specs.Option.{option_map}
 use Rattle.proto_types.specs.declared.tag.field.TheConstants as field
 use Rattle.proto_types.specs.declared.tag.message.TheConstants as message
 use Rattle.proto_types.specs.declared.records.field.FieldDescriptorProto.{FieldDescriptorProto}
-use Rattle.proto_types.specs.Lists.{listed, only_if}
+use Rattle.plain_data.specs.Lists.{listed, only_if}
 use Rattle.proto_types.specs.Readers.{number_of}
 use Rattle.proto_types.specs.declared.file.FileDescriptorProto.{FileDescriptorProto}
 use Rattle.proto_types.specs.declared.message.DescriptorProto.{DescriptorProto, out-DescriptorProto}
@@ -17,7 +17,7 @@ use Rattle.pool_faults.specs.declared.fault.DescriptorErrorKind.{DescriptorError
 use Rattle.pool_faults.specs.declared.fault.DescriptorErrorKind.TheVariants as fault
 use Rattle.record_walk.specs.Shown.{Shown}
 use Rattle.field_rules.specs.FieldNumbers.{is_valid_number}
-use Rattle.field_rules.specs.Each.{each}
+use Rattle.plain_data.specs.Each.{map_enumerated}
 use Rattle.field_rules.specs.Labels.{part_label, entry_label}
 use Rattle.field_rules.specs.Ranges.{reserves, extends}
 
@@ -34,34 +34,42 @@ module _ (files : List FileDescriptorProto) (d : Shown) (n : ℤ) where
   abbrev pub reserved_fault : Shown → ℕ → ReservedRange → List DescriptorErrorKind
   reserved_fault owner position range =
       let defined = entry_label files owner.file owner.path message.RESERVED_RANGE position in
-      only_if (reserves n range) (fault.FieldNumberInReservedRange n (number_of range.start) (number_of range.«end») defined number_label)
+      only_if (reserves n range)
+      (fault.FieldNumberInReservedRange n (number_of range.start)
+      (number_of range.«end») defined number_label)
 
   -- of each of these
   abbrev pub reserved_faults : Shown → List ReservedRange → List DescriptorErrorKind
-  reserved_faults owner ranges = flat_map (λ faults. faults) (each (reserved_fault owner) 0 ranges)
+  reserved_faults owner ranges =
+      flat_map (λ faults. faults) (map_enumerated (reserved_fault owner) 0 ranges)
 
   -- of an extension range, by its position, that holds the number of a field
   abbrev pub extension_range_fault : Shown → ℕ × ExtensionRange → DescriptorErrorKind
   extension_range_fault owner e =
       let defined = entry_label files owner.file owner.path message.EXTENSION_RANGE e.0 in
-      fault.FieldNumberInExtensionRange n (number_of e.1.start) (number_of e.1.«end») defined number_label
+      fault.FieldNumberInExtensionRange n (number_of e.1.start)
+      (number_of e.1.«end») defined number_label
 
   -- of the first of these
   abbrev pub extension_range_faults : Shown → List ExtensionRange → List DescriptorErrorKind
   extension_range_faults owner ranges =
-      listed (option_map (extension_range_fault owner) (find (λ e. extends n e.1) (enumerate_from 0 ranges)))
+      listed (option_map (extension_range_fault owner)
+      (find (λ e. extends n e.1) (enumerate_from 0 ranges)))
 
   -- of an extension's number that no extension range holds
   abbrev pub outside_faults : Shown → List ExtensionRange → List DescriptorErrorKind
   outside_faults owner ranges =
-      only_if (not (list_any (extends n) ranges)) (fault.ExtensionNumberOutOfRange n owner.full_name number_label)
+      only_if (not (list_any (extends n) ranges))
+      (fault.ExtensionNumberOutOfRange n owner.full_name number_label)
 
-  -- of a field's number by the record of its message; one with an extendee has the number of an extension
+  -- of a field's number by the record of its message; one with an extendee has the number of an
+  -- extension
   abbrev pub by_message : Shown → DescriptorProto → FieldDescriptorProto → List DescriptorErrorKind
   by_message owner m f =
       let ranges = (out-DescriptorProto m).extension_range in
       invalid_faults ++ reserved_faults owner (out-DescriptorProto m).reserved_range
-      ++ (if is_some f.extendee then outside_faults owner ranges else extension_range_faults owner ranges)
+      ++ (if is_some f.extendee then outside_faults owner ranges
+      else extension_range_faults owner ranges)
 
   -- of an extension's number by the record of the message that it extends
   abbrev pub by_extendee : Shown → DescriptorProto → List DescriptorErrorKind
@@ -70,9 +78,11 @@ module _ (files : List FileDescriptorProto) (d : Shown) (n : ℤ) where
       ++ outside_faults owner (out-DescriptorProto m).extension_range
 
 -- of the number of a field that stands in a message
-abbrev pub field_number_faults : List FileDescriptorProto → Shown → DescriptorProto → Shown → FieldDescriptorProto → List DescriptorErrorKind
+abbrev pub field_number_faults : List FileDescriptorProto → Shown → DescriptorProto → Shown
+    → FieldDescriptorProto → List DescriptorErrorKind
 field_number_faults files owner m d f = by_message files d (number_of f.number) owner m f
 
 -- of the number of an extension of a message
-abbrev pub extension_number_faults : List FileDescriptorProto → Shown → DescriptorProto → Shown → FieldDescriptorProto → List DescriptorErrorKind
+abbrev pub extension_number_faults : List FileDescriptorProto → Shown → DescriptorProto → Shown
+    → FieldDescriptorProto → List DescriptorErrorKind
 extension_number_faults files owner m d x = by_extendee files d (number_of x.number) owner m

@@ -12,10 +12,22 @@ use Rattle.field_rules.specs.declared.place.Place.{Place}
 
 -- a declaration at a place, and what surrounds the parts that are named inside it
 abbrev pub shown_at : Place → Proto → Shown
-shown_at p proto = record { file = p.file; parent = p.parent; index = p.index; path = p.path.now; full_name = p.full_name.now; proto = proto }
+shown_at p proto = record {
+  file = p.file;
+  parent = p.parent;
+  index = p.index;
+  path = p.path.now;
+  full_name = p.full_name.now;
+  proto = proto;
+}
 
 abbrev pub inside_of : Place → Surrounding
-inside_of p = record { file = p.file; path = p.path.now; scope = p.full_name.now; parent = Some p.index }
+inside_of p = record {
+  file = p.file;
+  path = p.path.now;
+  scope = p.full_name.now;
+  parent = Some p.index;
+}
 
 -- an entry of a list of a declaration that is named inside it, and one that is named beside it
 abbrev pub part_inside : Surrounding → ℤ → ℕ → Proto → Shown

@@ -1,4 +1,5 @@
--- Which numbers a range of a message holds (descriptor.proto on `ReservedRange` and `ExtensionRange`).
+-- Which numbers a range of a message holds (descriptor.proto on `ReservedRange` and
+-- `ExtensionRange`).
 use Rattle.std.specs.Prelude.{ℤ, Bool, ◌&&◌, int_le, int_lt}
 use Rattle.proto_types.specs.declared.message.ExtensionRange.{ExtensionRange}
 use Rattle.proto_types.specs.declared.message.ReservedRange.{ReservedRange}

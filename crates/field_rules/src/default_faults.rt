@@ -5,7 +5,7 @@ ghost use Rattle.field_rules.specs.Defaults.{default_fault, kind_named};
 ghost use Rattle.field_rules.specs.DefaultEnumCode.{meant_in};
 ghost use Rattle.field_rules.specs.Tells.{named_files};
 
-use crate::default_enum::MeantEnum;
+use crate::default_enum::DefaultEnum;
 use crate::{Findings, Place};
 use plain_data::Text;
 use pool_faults::DescriptorErrorKind;
@@ -18,7 +18,7 @@ pub(crate) fn default_fault(
     findings: &Findings,
     place: Place,
     kind: KindIndex,
-    meant: MeantEnum,
+    meant: DefaultEnum,
     text: &str,
 ) -> Result<DescriptorErrorKind, AllocError>
     ensures { IfOk result (λ fault. fault

@@ -3,8 +3,8 @@ ghost use Rattle.field_rules.specs.Defaults.{default_faults, default_value};
 ghost use Rattle.field_rules.specs.DefaultEnumCode.{meant_in};
 ghost use Rattle.field_rules.specs.Tells.{Tells, named_files};
 
+use crate::default_enum::DefaultEnum;
 use crate::default_faults::default_fault;
-use crate::default_enum::MeantEnum;
 use crate::enum_defaults::value_of;
 use crate::{Findings, Place};
 use plain_data::Text;
@@ -26,7 +26,7 @@ pub fn read_default(
     findings: &mut Findings,
     place: Place,
     kind: KindIndex,
-    meant: MeantEnum,
+    meant: DefaultEnum,
     given: &Option<Text>,
 ) -> Result<Option<DefaultValue>, AllocError>
     ensures value { IfOk result (λ value. value

@@ -5,7 +5,7 @@ ghost use Rattle.std.specs.Ordering.{int_cmp, int_eq};
 ghost use Rattle.pool_faults.specs.declared.fault.DescriptorErrorKind.TheVariants.{DuplicateEnumNumber};
 ghost use Rattle.proto_types.specs.declared.tag.enum_.TheConstants.{VALUE};
 ghost use Rattle.proto_types.specs.declared.tag.enum_value.TheConstants.{NUMBER};
-ghost use Rattle.proto_types.specs.Lists.{listed};
+ghost use Rattle.plain_data.specs.Lists.{listed};
 ghost use Rattle.record_walk.specs.Counts.{lists_fit};
 ghost use Rattle.record_walk.specs.Protos.{of_enum};
 ghost use Rattle.field_rules.specs.Labels.{entry_part_label};
@@ -24,8 +24,8 @@ use std::collections::btree_map::Entry;
 
 /// Appends to `faults` what the numbers of an enum's values break, one value after another
 /// (descriptor.proto on `reserved_range` and `allow_alias`): each reserved range that holds the
-/// number, and then, unless aliases are allowed, that an earlier value has it, of which the earliest
-/// is cited.
+/// number, and then, unless aliases are allowed, that an earlier value has it, of which the
+/// earliest is cited.
 ///
 /// # Errors
 /// `AllocError` where memory was refused.
@@ -46,7 +46,7 @@ pub fn check_values(
         let earlier = earlier_position(&mut positions, number, position)?;
         check_reserved(findings, place, enumeration, position, number)?;
         if !alias {
-            check_again(findings, place, number, earlier, position)?;
+            check_duplicate(findings, place, number, earlier, position)?;
         }
     }
     Ok(())
@@ -83,7 +83,7 @@ fn earlier_position(
 }
 
 /// Appends to `faults` that of a value whose number an earlier value has, if one does.
-fn check_again(
+fn check_duplicate(
     findings: &mut Findings,
     place: Place,
     number: i32,

@@ -11,8 +11,8 @@ ghost use Rattle.field_rules.specs.Numbers.{extension_range_fault, extension_ran
 ghost use Rattle.field_rules.specs.Numbers.{outside_faults};
 ghost use Rattle.field_rules.specs.Ranges.{extends};
 
-use number_ranges::NumberRanges;
 use crate::{Findings, Owner, Place};
+use number_ranges::NumberRanges;
 use plain_data::Text;
 use pool_faults::DescriptorErrorKind;
 use proto_types::{ExtensionRange, FieldDescriptorProto, tag};
@@ -20,7 +20,7 @@ use std::alloc::AllocError;
 
 /// Appends to `faults` what the number of a field breaks by the extension ranges of its message:
 /// that the first of them holds it; or, of a field that has an extendee, that none does.
-pub(crate) fn check_left_to_extensions(
+pub(crate) fn check_extension_ranges(
     findings: &mut Findings,
     owner: Owner,
     ranges: &NumberRanges,
@@ -41,15 +41,15 @@ pub(crate) fn check_left_to_extensions(
     let number = field.number();
     let holder = ranges.first_from(0, number);
     if field.extendee.is_some() {
-        check_outside(findings, owner, place, number, holder.is_some())
+        check_in_some_range(findings, owner, place, number, holder.is_some())
     } else {
-        check_inside(findings, owner, holder, place, number)
+        check_not_in_ranges(findings, owner, holder, place, number)
     }
 }
 
 /// Appends to `faults` that of a number that no extension range of a message holds, by whether one
 /// does.
-pub(crate) fn check_outside(
+pub(crate) fn check_in_some_range(
     findings: &mut Findings,
     owner: Owner,
     place: Place,
@@ -77,7 +77,7 @@ pub(crate) fn check_outside(
 
 /// Appends to `faults` that of the first extension range of a message that holds the number, if one
 /// does.
-fn check_inside(
+fn check_not_in_ranges(
     findings: &mut Findings,
     owner: Owner,
     holder: Option<usize>,

@@ -9,8 +9,8 @@ ghost use Rattle.field_rules.specs.Places.{before_ending};
 use crate::Place;
 use plain_data::{Items, Text};
 use pool_types::Identity;
-use record_walk::entry_path;
 use proto_types::join;
+use record_walk::entry_path;
 use std::alloc::{AllocError, Global};
 
 /// Where a declaration stands that has this name, which ends its full name.

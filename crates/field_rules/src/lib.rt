@@ -24,7 +24,7 @@ mod owner;
 mod place;
 mod reserved;
 
-pub use default_enum::MeantEnum;
+pub use default_enum::DefaultEnum;
 pub use defaults::read_default;
 pub use encoding::{is_packed, supports_presence};
 pub use enum_items::read_enum;

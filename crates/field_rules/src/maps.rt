@@ -2,12 +2,12 @@ ghost use Rattle.std.specs.Prelude.{◌≡◌, ◌+◌, ◌<◌, ◌^◌, ℕ, L
 ghost use Rattle.std.specs.Prelude.{length, take, get_or};
 ghost use Rattle.std.specs.FinMap as finite;
 ghost use Rattle.std.specs.Option.{option_map, option_map_or};
-ghost use Rattle.proto_types.specs.Lists.{listed};
+ghost use Rattle.plain_data.specs.Lists.{listed};
 ghost use Rattle.proto_types.specs.Empty.{no_field};
 ghost use Rattle.proto_types.specs.declared.message.DescriptorProto.{out-DescriptorProto};
 ghost use Rattle.record_walk.specs.Counts.{fits_list};
 ghost use Rattle.field_rules.specs.Tells.{Tells, named_files};
-ghost use Rattle.field_rules.specs.Again.{again_faults};
+ghost use Rattle.field_rules.specs.Duplicates.{duplicate_faults};
 ghost use Rattle.field_rules.specs.Same.{same_number, same_json_name};
 ghost use Rattle.field_rules.specs.MapsOf.{AreMapsOf};
 ghost use Rattle.field_rules.specs.DuplicateNumbers.{item_number};
@@ -58,7 +58,7 @@ impl FieldMaps {
         ensures maps { OnOk result (AreMapsOf self.new
             (take (position + 1) (out-DescriptorProto owner.entry.message.now).field)) }
         ensures faults { OnOk result (Tells findings.old findings.new
-            (again_faults (named_files findings.old)
+            (duplicate_faults (named_files findings.old)
             owner.entry.place.file owner.entry.place.path.now
             (take position (out-DescriptorProto owner.entry.message.now).field) position
             (get_or (out-DescriptorProto owner.entry.message.now).field position no_field))) }

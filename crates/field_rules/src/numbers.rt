@@ -6,7 +6,7 @@ ghost use Rattle.field_rules.specs.Tells.{Tells, named_files};
 ghost use Rattle.field_rules.specs.Bounds.{AreRangesOf};
 ghost use Rattle.field_rules.specs.Numbers.{field_number_faults, extension_number_faults};
 
-use crate::extension_ranges::{any_extends, check_left_to_extensions, check_outside};
+use crate::extension_ranges::{any_extends, check_extension_ranges, check_in_some_range};
 use crate::message_ranges::MessageRanges;
 use crate::reserved::{check_reserved_by, check_reserved_ranges, check_valid};
 use crate::{Findings, Owner, Place};
@@ -38,7 +38,7 @@ pub fn check_field_number(
     let number = field.number();
     check_valid(findings, place, number)?;
     check_reserved_by(findings, owner, &ranges.reserved, place, number)?;
-    check_left_to_extensions(findings, owner, &ranges.extension, place, field)
+    check_extension_ranges(findings, owner, &ranges.extension, place, field)
 }
 
 /// Appends to `faults` what the number of an extension breaks, by the record of the message that it
@@ -63,5 +63,5 @@ pub fn check_extension_number(
     check_valid(findings, place, number)?;
     check_reserved_ranges(findings, owner, place, number)?;
     let is_inside = any_extends(owner.message.extension_range.as_slice(), number);
-    check_outside(findings, owner, place, number, is_inside)
+    check_in_some_range(findings, owner, place, number, is_inside)
 }

@@ -1,6 +1,6 @@
 ghost use Rattle.std.specs.Prelude.{◌≡◌, true, [], OnOk, IfOk, map};
 ghost use Rattle.record_walk.specs.Counts.{fits_list};
-ghost use Rattle.field_rules.specs.Each.{each};
+ghost use Rattle.plain_data.specs.Each.{map_enumerated};
 ghost use Rattle.field_rules.specs.Tells.{Tells};
 ghost use Rattle.field_rules.specs.Oneofs.{oneof_faults, oneof_of, members};
 
@@ -49,7 +49,7 @@ pub fn members(
 ) -> Result<Vec<Items<u32>>, AllocError>
     requires { fits_list fields.now ≡ true }
     ensures { IfOk result (λ lists. lists.items
-        ≡ each (λ oneof _. members fields.now oneof) 0 oneofs.now) }
+        ≡ map_enumerated (λ oneof _. members fields.now oneof) 0 oneofs.now) }
 {
     let mut lists = empty_lists(alloc, oneofs)?;
     for (position, field) in fields.iter().enumerate() {

@@ -8,8 +8,8 @@ ghost use Rattle.field_rules.specs.Numbers.{invalid_faults, reserved_fault, rese
 ghost use Rattle.field_rules.specs.Ranges.{reserves};
 
 use crate::field_number::is_valid_number;
-use number_ranges::NumberRanges;
 use crate::{Findings, Owner, Place};
+use number_ranges::NumberRanges;
 use pool_faults::DescriptorErrorKind;
 use proto_types::{ReservedRange, tag};
 use std::alloc::AllocError;
@@ -50,8 +50,8 @@ pub(crate) fn check_reserved_ranges(
     Ok(())
 }
 
-/// The same as `check_reserved_ranges`, by the ranges in order: only those are looked at that hold the
-/// number.
+/// The same as `check_reserved_ranges`, by the ranges in order: only those are looked at that hold
+/// the number.
 pub(crate) fn check_reserved_by(
     findings: &mut Findings,
     owner: Owner,

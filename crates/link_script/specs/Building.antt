@@ -27,7 +27,8 @@ changed h m = roll-DescriptorProto (h (out-DescriptorProto m))
 -- what a statement opens
 abbrev pub opened_by : Statement → Option Open
 opened_by (say.File name) = Some (opened.File (record no_file { name = name }))
-opened_by (say.Message name) = Some (opened.Message (changed (λ m. record m { name = name }) no_message))
+opened_by (say.Message name) =
+    Some (opened.Message (changed (λ m. record m { name = name }) no_message))
 opened_by (say.Enum name) = Some (opened.Enum (record no_enum { name = name }))
 opened_by (say.Service name) = Some (opened.Service (record no_service { name = name }))
 opened_by _ = None
@@ -41,7 +42,8 @@ change_last h (x ∷ y ∷ ys) = x ∷ change_last h (y ∷ ys)
 -- a field or an extension of which more is said
 abbrev pub more_said : Statement → FieldDescriptorProto → FieldDescriptorProto
 more_said (say.Json name) f = record f { json_name = name }
-more_said (say.Packed packed) f = record f { options = Some (record { encoded = []; value = record { packed = Some packed } }) }
+more_said (say.Packed packed) f =
+    record f { options = Some (record { encoded = []; value = record { packed = Some packed } }) }
 more_said (say.Default text) f = record f { default_value = Some text }
 more_said _ f = f
 
@@ -53,9 +55,14 @@ abbrev pub in_file : Statement → FileDescriptorProto → FileDescriptorProto
 in_file (say.Package name) f = record f { «package» = name }
 in_file (say.Syntax name) f = record f { syntax = name }
 in_file (say.Import name) f = record f { dependency = f.dependency ++ name ∷ [] }
-in_file (say.Public position) f = record f { public_dependency = f.public_dependency ++ position ∷ [] }
+in_file (say.Public position) f =
+    record f { public_dependency = f.public_dependency ++ position ∷ [] }
 in_file (say.Weak position) f = record f { weak_dependency = f.weak_dependency ++ position ∷ [] }
-in_file (say.At location) f = record f { source_code_info = Some (record { location = locations_of f.source_code_info ++ location ∷ [] }) }
+in_file (say.At location) f =
+    record f {
+      source_code_info = Some
+          (record { location = locations_of f.source_code_info ++ location ∷ [] });
+    }
 in_file (say.Extend field) f = record f { extension = f.extension ++ field ∷ [] }
 in_file said f = record f { extension = change_last (more_said said) f.extension }
 
@@ -63,16 +70,29 @@ in_file said f = record f { extension = change_last (more_said said) f.extension
 abbrev pub in_message : Bool → Statement → Parts → Parts
 in_message extends (say.Field field) m = record m { field = m.field ++ field ∷ [] }
 in_message extends (say.Extend field) m = record m { extension = m.extension ++ field ∷ [] }
-in_message extends (say.Oneof name) m = record m { oneof_decl = m.oneof_decl ++ record no_oneof { name = name } ∷ [] }
-in_message extends (say.Reserved start «end») m = record m { reserved_range = m.reserved_range ++ record { start = start; «end» = «end» } ∷ [] }
-in_message extends (say.Extensions start «end») m = record m { extension_range = m.extension_range ++ record { start = start; «end» = «end»; options = None } ∷ [] }
+in_message extends (say.Oneof name) m =
+    record m { oneof_decl = m.oneof_decl ++ record no_oneof { name = name } ∷ [] }
+in_message extends (say.Reserved start «end») m =
+    record m { reserved_range = m.reserved_range ++ record { start = start; «end» = «end» } ∷ [] }
+in_message extends (say.Extensions start «end») m =
+    record m {
+      extension_range = m.extension_range ++ record {
+        start = start;
+        «end» = «end»;
+        options = None;
+      } ∷ [];
+    }
 in_message true said m = record m { extension = change_last (more_said said) m.extension }
 in_message false said m = record m { field = change_last (more_said said) m.field }
 
 abbrev pub in_enum : Statement → EnumDescriptorProto → EnumDescriptorProto
 in_enum (say.Value value) e = record e { value = e.value ++ value ∷ [] }
-in_enum (say.Reserved start «end») e = record e { reserved_range = e.reserved_range ++ record { start = start; «end» = «end» } ∷ [] }
-in_enum say.Alias e = record e { options = Some (record { encoded = []; value = record { allow_alias = Some true } }) }
+in_enum (say.Reserved start «end») e =
+    record e { reserved_range = e.reserved_range ++ record { start = start; «end» = «end» } ∷ [] }
+in_enum say.Alias e =
+    record e {
+      options = Some (record { encoded = []; value = record { allow_alias = Some true } });
+    }
 in_enum _ e = e
 
 abbrev pub in_service : Statement → ServiceDescriptorProto → ServiceDescriptorProto
@@ -80,17 +100,22 @@ in_service (say.Method method) s = record s { method = s.method ++ method ∷ []
 in_service _ s = s
 
 -- a statement in the innermost open record
-abbrev pub stated_in : Bool → Statement → Open → Open
-stated_in extends said (opened.File f) = opened.File (in_file said f)
-stated_in extends said (opened.Message m) = opened.Message (changed (in_message extends said) m)
-stated_in extends said (opened.Enum e) = opened.Enum (in_enum said e)
-stated_in extends said (opened.Service s) = opened.Service (in_service said s)
+abbrev pub applied : Bool → Statement → Open → Open
+applied extends said (opened.File f) = opened.File (in_file said f)
+applied extends said (opened.Message m) = opened.Message (changed (in_message extends said) m)
+applied extends said (opened.Enum e) = opened.Enum (in_enum said e)
+applied extends said (opened.Service s) = opened.Service (in_service said s)
 
 -- a record, in the one around it, when its block closes
 abbrev pub closed_in : Open → Open → Open
-closed_in (opened.Message m) (opened.File f) = opened.File (record f { message_type = f.message_type ++ m ∷ [] })
-closed_in (opened.Enum e) (opened.File f) = opened.File (record f { enum_type = f.enum_type ++ e ∷ [] })
-closed_in (opened.Service s) (opened.File f) = opened.File (record f { service = f.service ++ s ∷ [] })
-closed_in (opened.Message n) (opened.Message m) = opened.Message (changed (λ m. record m { nested_type = m.nested_type ++ n ∷ [] }) m)
-closed_in (opened.Enum e) (opened.Message m) = opened.Message (changed (λ m. record m { enum_type = m.enum_type ++ e ∷ [] }) m)
+closed_in (opened.Message m) (opened.File f) =
+    opened.File (record f { message_type = f.message_type ++ m ∷ [] })
+closed_in (opened.Enum e) (opened.File f) =
+    opened.File (record f { enum_type = f.enum_type ++ e ∷ [] })
+closed_in (opened.Service s) (opened.File f) =
+    opened.File (record f { service = f.service ++ s ∷ [] })
+closed_in (opened.Message n) (opened.Message m) =
+    opened.Message (changed (λ m. record m { nested_type = m.nested_type ++ n ∷ [] }) m)
+closed_in (opened.Enum e) (opened.Message m) =
+    opened.Message (changed (λ m. record m { enum_type = m.enum_type ++ e ∷ [] }) m)
 closed_in _ outer = outer

@@ -7,7 +7,11 @@ ghost use Rattle.link_script.specs.Building.{change_last, more_said, in_file, in
 
 use crate::script::Statement;
 use plain_data::{Items, Text};
-use proto_types::{DescriptorProto, EnumDescriptorProto, EnumOptions, EnumReservedRange, ExtensionRange, FieldDescriptorProto, FieldOptions, FileDescriptorProto, Location, OneofDescriptorProto, Options, ReservedRange, ServiceDescriptorProto, SourceCodeInfo};
+use proto_types::{
+    DescriptorProto, EnumDescriptorProto, EnumOptions, EnumReservedRange, ExtensionRange,
+    FieldDescriptorProto, FieldOptions, FileDescriptorProto, Location, OneofDescriptorProto,
+    Options, ReservedRange, ServiceDescriptorProto, SourceCodeInfo,
+};
 use std::alloc::{AllocError, Global};
 
 /// A record whose block is open.
@@ -21,7 +25,7 @@ pub enum Open {
 
 impl Open {
     ghost use Rattle.std.specs.Prelude.{Some};
-    ghost use Rattle.link_script.specs.Building.{opened_by, stated_in, closed_in};
+    ghost use Rattle.link_script.specs.Building.{opened_by, applied, closed_in};
     ghost use Rattle.link_script.specs.declared.building.Open.TheVariants as opened;
 
     /// A file of which nothing but the name is said.
@@ -63,7 +67,7 @@ impl Open {
     /// Does what a statement says of the record. `extends` tells whether an extension was stated
     /// last, of which more may be said then, or a field.
     pub fn state(&mut self, alloc: Global, extends: bool, said: Statement) -> Result<(), AllocError>
-        ensures { OnOk result (self.new ≡ stated_in extends said self.old) }
+        ensures { OnOk result (self.new ≡ applied extends said self.old) }
     {
         match self {
             Open::File(file) => state_in_file(alloc, file, said),
@@ -130,7 +134,7 @@ fn state_in_file(
         Statement::Weak(position) => file.weak_dependency.push(position)?,
         Statement::At(location) => add_location(alloc, file, location)?,
         Statement::Extend(field) => file.extension.push(field)?,
-        more => say_more(alloc, &mut file.extension, more)?,
+        more => amend(alloc, &mut file.extension, more)?,
     }
     Ok(())
 }
@@ -179,9 +183,9 @@ fn state_in_message(
         }
         more => {
             if extends {
-                say_more(alloc, &mut message.extension, more)?;
+                amend(alloc, &mut message.extension, more)?;
             } else {
-                say_more(alloc, &mut message.field, more)?;
+                amend(alloc, &mut message.field, more)?;
             }
         }
     }
@@ -190,7 +194,7 @@ fn state_in_message(
 
 /// Says more of the last field or extension.
 #[tactic(auto, using(crate::proofs::LastStated::change_last_end))]
-fn say_more(
+fn amend(
     alloc: Global,
     fields: &mut Items<FieldDescriptorProto>,
     more: Statement,

@@ -7,4 +7,6 @@ mod script;
 
 pub use building::Open;
 pub use files::files_of;
-pub use script::{Block, Keyword, Script, ScriptError, ScriptFault, ScriptReader, Statement, read_script};
+pub use script::{
+    Block, Keyword, Script, ScriptError, ScriptFault, ScriptReader, Statement, read_script,
+};

@@ -4,7 +4,7 @@ use Rattle.std.specs.List.{enumerate_from}
 use Rattle.std.specs.Option.{option_map}
 use Rattle.std.specs.Str.{bytes_eq}
 use Rattle.proto_types.specs.declared.file.FileDescriptorProto.{FileDescriptorProto}
-use Rattle.proto_types.specs.Lists.{listed, after_each}
+use Rattle.plain_data.specs.Lists.{listed, after_each}
 use Rattle.proto_types.specs.declared.records.field.FieldDescriptorProto.{FieldDescriptorProto}
 use Rattle.name_pass.specs.CamelCase.{key_at, camel_case_fault, shared_key_faults, camel_case_faults}
 use Rattle.name_pass.proofs.Holders.{entries-next, after-append}

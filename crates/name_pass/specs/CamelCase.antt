@@ -1,4 +1,5 @@
--- Names of fields that their names in JSON can't tell apart (the protobuf language rules on proto3's JSON mapping).
+-- Names of fields that their names in JSON can't tell apart (the protobuf language rules on
+-- proto3's JSON mapping).
 use Rattle.std.specs.Prelude.{ℕ, ℤ, not, ◌==◌, List, [], ◌∷◌, ◌++◌, find, filter, if◌then◌else◌}
 use Rattle.std.specs.List.{enumerate_from}
 use Rattle.std.specs.Option.{option_map}
@@ -6,7 +7,7 @@ use Rattle.std.specs.Str.{bytes_eq, str_to_ascii_lowercase}
 use Rattle.proto_types.specs.declared.tag.field.TheConstants as field
 use Rattle.proto_types.specs.declared.tag.message.TheConstants as message
 use Rattle.proto_types.specs.declared.records.field.FieldDescriptorProto.{FieldDescriptorProto}
-use Rattle.proto_types.specs.Lists.{flat_map_after, listed}
+use Rattle.plain_data.specs.Lists.{flat_map_after, listed}
 use Rattle.proto_types.specs.Readers.{text_of}
 use Rattle.proto_types.specs.declared.file.FileDescriptorProto.{FileDescriptorProto}
 use Rattle.proto_types.specs.declared.message.DescriptorProto.{DescriptorProto, out-DescriptorProto}
@@ -33,20 +34,27 @@ abbrev pub name_path : List ℤ → ℕ → List ℤ
 name_path path position = step path message.FIELD position ++ field.NAME ∷ []
 
 -- of two fields whose names have one key, the earlier first
-abbrev pub camel_case_fault : List FileDescriptorProto → ℕ → List ℤ → Placed → Placed → DescriptorErrorKind
+abbrev pub camel_case_fault : List FileDescriptorProto → ℕ → List ℤ → Placed → Placed
+    → DescriptorErrorKind
 camel_case_fault files file path first second =
     DuplicateFieldCamelCaseName (text_of first.1.name) (text_of second.1.name)
     (label_in files file (name_path path first.0)) (label_in files file (name_path path second.0))
 
 -- of a field after those before it: with the earliest that has its key
-abbrev pub shared_key_faults : List FileDescriptorProto → ℕ → List ℤ → List Placed → Placed → List DescriptorErrorKind
+abbrev pub shared_key_faults : List FileDescriptorProto → ℕ → List ℤ → List Placed → Placed
+    → List DescriptorErrorKind
 shared_key_faults files file path before f =
-    listed (option_map (λ first. camel_case_fault files file path first f) (find (λ first. bytes_eq (key_at f) (key_at first)) before))
+    listed (option_map (λ first. camel_case_fault files file path first f)
+    (find (λ first. bytes_eq (key_at f) (key_at first)) before))
 
 -- of the fields of the message at a path, one after another
-abbrev pub camel_case_faults : List FileDescriptorProto → ℕ → List ℤ → List FieldDescriptorProto → List DescriptorErrorKind
-camel_case_faults files file path fields = flat_map_after (shared_key_faults files file path) (enumerate_from 0 fields)
+abbrev pub camel_case_faults : List FileDescriptorProto → ℕ → List ℤ → List FieldDescriptorProto
+    → List DescriptorErrorKind
+camel_case_faults files file path fields =
+    flat_map_after (shared_key_faults files file path) (enumerate_from 0 fields)
 
 -- what a message breaks by itself, which it does in proto3 alone
-abbrev pub message_own_faults : List FileDescriptorProto → ℕ → List ℤ → DescriptorProto → List DescriptorErrorKind
-message_own_faults files file path m = if is_proto3 (syntax_at files file) then camel_case_faults files file path (out-DescriptorProto m).field else []
+abbrev pub message_own_faults : List FileDescriptorProto → ℕ → List ℤ → DescriptorProto
+    → List DescriptorErrorKind
+message_own_faults files file path m = if is_proto3 (syntax_at files file)
+    then camel_case_faults files file path (out-DescriptorProto m).field else []

@@ -1,4 +1,5 @@
--- The names that declarations enter: a file its package, the packages around it and its own name, and any other its full name.
+-- The names that declarations enter: a file its package, the packages around it and its own name,
+-- and any other its full name.
 use Rattle.std.specs.Prelude.{ℕ, List, [], ◌∷◌, ◌++◌, map, unwrap_or}
 use Rattle.std.specs.List.{flat_map}
 use Rattle.proto_types.specs.declared.tag.file.TheConstants as file
@@ -27,7 +28,8 @@ definition_kind d = elim d.proto [
 
 -- a package's name, at the package of its file
 abbrev pub package_entry : ℕ → List ℕ → Entry
-package_entry n name = (name, record { file = n; path = file.PACKAGE ∷ []; kind = definition.Package })
+package_entry n name =
+    (name, record { file = n; path = file.PACKAGE ∷ []; kind = definition.Package })
 
 -- a package and those around it, from the outermost in
 abbrev pub packages : List ℕ → List (List ℕ)
@@ -36,7 +38,14 @@ packages (c ∷ cs) = fronts (c ∷ cs) ++ (c ∷ cs) ∷ []
 
 -- a declaration's full name, at the name of its record
 abbrev pub own_entry : Shown → Entry
-own_entry d = (d.full_name, record { file = d.file; path = d.path ++ message.NAME ∷ []; kind = definition_kind d })
+own_entry d = (
+  d.full_name,
+  record {
+    file = d.file;
+    path = d.path ++ message.NAME ∷ [];
+    kind = definition_kind d;
+  },
+)
 
 abbrev pub entries_of : Shown → List Entry
 entries_of d = elim d.proto [

@@ -4,7 +4,7 @@ use Rattle.std.specs.Ordering.{int_eq}
 use Rattle.proto_types.specs.declared.tag.enum_.TheConstants as enumeration
 use Rattle.proto_types.specs.declared.tag.enum_value.TheConstants as enum_value
 use Rattle.proto_types.specs.declared.records.enumeration.EnumDescriptorProto.{EnumDescriptorProto}
-use Rattle.proto_types.specs.Lists.{only_if}
+use Rattle.plain_data.specs.Lists.{only_if}
 use Rattle.proto_types.specs.Readers.{number_of}
 use Rattle.proto_types.specs.declared.file.FileDescriptorProto.{FileDescriptorProto}
 use Rattle.pool_faults.specs.Labels.{label_in}
@@ -17,8 +17,11 @@ abbrev pub first_number_path : List ℤ → List ℤ
 first_number_path path = path ++ enumeration.VALUE ∷ pos 0 ∷ enum_value.NUMBER ∷ []
 
 -- of an enum without values, and of one in proto3 whose first value isn't 0
-abbrev pub enum_faults : List FileDescriptorProto → ℕ → List ℤ → EnumDescriptorProto → List DescriptorErrorKind
+abbrev pub enum_faults : List FileDescriptorProto → ℕ → List ℤ → EnumDescriptorProto
+    → List DescriptorErrorKind
 enum_faults files file path e = elim e.value [
   | [] ↦ EmptyEnum (label_in files file path) ∷ []
-  | first ∷ _ ↦ only_if (is_proto3 (syntax_at files file) && not (int_eq (number_of first.number) (pos 0))) (InvalidProto3EnumDefault (label_in files file (first_number_path path)))
+  | first ∷ _ ↦ only_if (is_proto3 (syntax_at files file)
+      && not (int_eq (number_of first.number) (pos 0)))
+      (InvalidProto3EnumDefault (label_in files file (first_number_path path)))
 ]

@@ -7,7 +7,11 @@ use Rattle.name_pass.specs.declared.names.NameVisitor.{NameVisitor}
 use Rattle.name_pass.specs.Steps.{NameState}
 
 abbrev pub state_of : NameVisitor → NameState
-state_of v = record { names = v.names.now; file_names = v.file_names.now; faults = v.faults.now.items }
+state_of v = record {
+  names = v.names.now;
+  file_names = v.file_names.now;
+  faults = v.faults.now.items;
+}
 
 -- the records that labels name
 abbrev pub records_of : NameVisitor → List FileDescriptorProto

@@ -25,7 +25,11 @@ pub record NameState : Type 0 where
   pub faults : List DescriptorErrorKind
 
 abbrev pub state_at : ByText Definition → ByText ℕ → List DescriptorErrorKind → NameState
-state_at names file_names faults = record { names = names; file_names = file_names; faults = faults }
+state_at names file_names faults = record {
+  names = names;
+  file_names = file_names;
+  faults = faults;
+}
 
 -- after one more entry; files are those that labels name
 abbrev pub entered : List FileDescriptorProto → NameState → Entry → NameState
@@ -60,14 +64,16 @@ own_step files state d = elim d.proto [
 ]
 
 abbrev pub name_step : List FileDescriptorProto → NameState → Shown → NameState
-name_step files state d = own_step files (fold (entered files) (file_step files state d) (entries_of d)) d
+name_step files state d =
+    own_step files (fold (entered files) (file_step files state d) (entries_of d)) d
 
 -- declarations of files from an index on, whose lists are short enough
 abbrev pub CanBeEntered : ℕ → List Shown → Type 0
 CanBeEntered first ds = AllByRecursion (λ d. (first ≤ d.file) × (lists_fit d.proto ≡ true)) ds
 
 -- law: and of a front of them
-pub front-entered : (first : ℕ) (ds es : List Shown) → CanBeEntered first (ds ++ es) → CanBeEntered first ds
+pub front-entered : (first : ℕ) (ds es : List Shown) → CanBeEntered first (ds ++ es)
+    → CanBeEntered first ds
 front-entered first [] es all = tt
 front-entered first (d ∷ ds) es all = (all.0, front-entered first ds es all.1)
 

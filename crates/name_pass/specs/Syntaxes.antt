@@ -15,7 +15,8 @@ use Rattle.pool_faults.specs.declared.fault.DescriptorErrorKind.TheVariants.{Unk
 -- "proto2", in which a file is written that names none, or "proto3"; the empty text is neither
 abbrev pub known_syntax : Option (List ℕ) → Option Syntax
 known_syntax None = Some Proto2
-known_syntax (Some text) = if bytes_eq text (codes "proto2") then Some Proto2 else (if bytes_eq text (codes "proto3") then Some Proto3 else None)
+known_syntax (Some text) = if bytes_eq text (codes "proto2") then Some Proto2
+    else (if bytes_eq text (codes "proto3") then Some Proto3 else None)
 
 -- an unknown one is read as proto2
 abbrev pub syntax_of : FileDescriptorProto → Syntax
@@ -30,7 +31,8 @@ is_proto3 Proto2 = false
 is_proto3 Proto3 = true
 
 -- of a file whose syntax isn't known
-abbrev pub syntax_faults : List FileDescriptorProto → ℕ → FileDescriptorProto → List DescriptorErrorKind
+abbrev pub syntax_faults : List FileDescriptorProto → ℕ → FileDescriptorProto
+    → List DescriptorErrorKind
 syntax_faults files index f = elim (known_syntax f.syntax) [
   | Some _ ↦ []
   | None ↦ UnknownSyntax (text_of f.syntax) (label_in files index (SYNTAX ∷ [])) ∷ []

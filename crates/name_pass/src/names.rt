@@ -1,6 +1,6 @@
 ghost use Rattle.std.specs.Prelude.{◌≡◌, ◌≤◌, ◌∷◌, ◌++◌, [], IfOk, OnOk, Some, map};
 ghost use Rattle.std.specs.List.{fold};
-ghost use Rattle.proto_types.specs.Lists.{listed};
+ghost use Rattle.plain_data.specs.Lists.{listed};
 ghost use Rattle.proto_types.specs.declared.tag.message.TheConstants.{NAME};
 ghost use Rattle.name_resolution.specs.Kinds.{is_package};
 ghost use Rattle.name_pass.specs.Entered.{packages, package_entry};
@@ -11,7 +11,10 @@ use name_tables::{FileNames, HashedNames, NameTable};
 use plain_data::{Items, Text};
 use pool_faults::{DescriptorErrorKind, label_at};
 use pool_types::{Definition, DefinitionKind, FileDescriptorInner};
-use proto_types::{DescriptorProto, EnumDescriptorProto, EnumValueDescriptorProto, FieldDescriptorProto, FileDescriptorProto, MethodDescriptorProto, OneofDescriptorProto, ServiceDescriptorProto, tag};
+use proto_types::{
+    DescriptorProto, EnumDescriptorProto, EnumValueDescriptorProto, FieldDescriptorProto,
+    FileDescriptorProto, MethodDescriptorProto, OneofDescriptorProto, ServiceDescriptorProto, tag,
+};
 use record_walk::Visitor;
 use std::alloc::{AllocError, Global};
 

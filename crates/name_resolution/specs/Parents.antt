@@ -1,4 +1,5 @@
--- The scopes in which a name is looked for, from the innermost out (the protobuf language rules on names).
+-- The scopes in which a name is looked for, from the innermost out (the protobuf language rules on
+-- names).
 use Rattle.std.specs.Prelude.{◌≡◌, ℕ, ◌+◌, List, [], ◌∷◌, ◌++◌, reverse, length, count_by}
 use Rattle.proto_types.specs.Names.{fronts, is_dot}
 use Rattle.name_resolution.specs.declared.parents.Left.{Left}

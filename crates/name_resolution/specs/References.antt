@@ -10,10 +10,15 @@ use Rattle.pool_faults.specs.Labels.{label_in}
 use Rattle.name_resolution.specs.Resolution.{Resolution, found, invalid_type, not_imported, shadowed, not_found}
 
 -- of a reference as it is written, at a path of a file
-abbrev pub reference_fault : List FileDescriptorProto → List ℕ → ℕ → List ℤ → Resolution → Option DescriptorErrorKind
+abbrev pub reference_fault : List FileDescriptorProto → List ℕ → ℕ → List ℤ → Resolution
+    → Option DescriptorErrorKind
 reference_fault files written file path (found _ _) = None
 reference_fault files written file path (invalid_type name def filter) =
-    Some (InvalidType name (filter_text filter) (label_in files file path) (label_in files def.file def.path))
-reference_fault files written file path (not_imported name _) = Some (NameNotFound name (label_in files file path))
-reference_fault files written file path (shadowed _ full) = Some (NameShadowed written full (label_in files file path))
-reference_fault files written file path not_found = Some (NameNotFound written (label_in files file path))
+    Some (InvalidType name (filter_text filter) (label_in files file path)
+    (label_in files def.file def.path))
+reference_fault files written file path (not_imported name _) =
+    Some (NameNotFound name (label_in files file path))
+reference_fault files written file path (shadowed _ full) =
+    Some (NameShadowed written full (label_in files file path))
+reference_fault files written file path not_found =
+    Some (NameNotFound written (label_in files file path))

@@ -16,8 +16,9 @@ use Rattle.name_resolution.specs.declared.resolve.ResolveNameResult.TheVariants 
 use Rattle.name_resolution.specs.Kinds.{is_match}
 use Rattle.name_resolution.specs.Parents.{outer}
 
--- The full name that was looked up and what it means: a kind that is wanted, one that isn't, or a file that isn't seen;
--- or the name as it is written and the full name that it would have, which isn't defined; or nothing.
+-- The full name that was looked up and what it means: a kind that is wanted, one that isn't, or a
+-- file that isn't seen; or the name as it is written and the full name that it would have, which
+-- isn't defined; or nothing.
 pub data Resolution : Type 0 where
   found : List ℕ → Definition → Resolution
   invalid_type : List ℕ → Definition → ResolveNameFilter → Resolution
@@ -43,7 +44,8 @@ is_not_found _ = false
 
 -- the answer of the earliest that finds something, else of the earliest that isn't `not_found`
 abbrev pub best : List Resolution → Resolution
-best answers = unwrap_or (find is_found answers) (unwrap_or (find (λ r. not (is_not_found r)) answers) not_found)
+best answers = unwrap_or (find is_found answers)
+    (unwrap_or (find (λ r. not (is_not_found r)) answers) not_found)
 
 -- the answer for a full name, which a nearer name shadows where nothing has it
 abbrev pub or_shadowed : List ℕ → List ℕ → Resolution → Resolution
@@ -67,18 +69,24 @@ module _ (names : ByText Definition) (is_seen : ℕ → Bool) (filter : ResolveN
   abbrev pub simple : List (List ℕ) → List ℕ → Resolution
   simple scopes name = best (map (λ scope. look (join scope name)) scopes)
 
-  -- whether a scope holds the first part of a name, as something that names may stand in; it need not be seen
+  -- whether a scope holds the first part of a name, as something that names may stand in; it need
+  -- not be seen
   abbrev pub holds_first : List ℕ → List ℕ → Bool
-  holds_first name scope = option_map_or (λ def. is_parent def.kind) (finite.get names (join scope (first_part name))) false
+  holds_first name scope =
+      option_map_or (λ def. is_parent def.kind) (finite.get names (join scope (first_part name)))
+      false
 
   -- a name with a dot: the innermost scope that holds its first part settles it
   abbrev pub dotted : List (List ℕ) → List ℕ → Resolution
-  dotted scopes name = option_map_or (λ scope. or_shadowed name (join scope name) (look (join scope name))) (find (holds_first name) scopes) not_found
+  dotted scopes name =
+      option_map_or (λ scope. or_shadowed name (join scope name) (look (join scope name)))
+      (find (holds_first name) scopes) not_found
 
   -- a name without a leading dot
   abbrev pub relative : List ℕ → List ℕ → Resolution
   relative [] name = look name
-  relative (c ∷ cs) name = if has_dot name then dotted (outer (c ∷ cs)) name else simple (outer (c ∷ cs)) name
+  relative (c ∷ cs) name = if has_dot name then dotted (outer (c ∷ cs)) name
+      else simple (outer (c ∷ cs)) name
 
   -- a reference as it is written in a scope
   abbrev pub resolution : List ℕ → List ℕ → Resolution

@@ -1,11 +1,12 @@
--- Which files a file sees: itself, its imports, and what these import publicly, through any chain (the protobuf language's rule on public imports).
+-- Which files a file sees: itself, its imports, and what these import publicly, through any chain
+-- (the protobuf language's rule on public imports).
 use Rattle.std.specs.Prelude.{◌≡◌, ◌↔◌, ◌<◌, ◌==◌, ◌||◌, ◌⊎◌, ℕ, zero, suc, Bool, IsTrue, List, [], ◌∷◌, length, filter, slice_get, unwrap_or}
 use Rattle.std.specs.List.{list_any, filter_map, range_with_len, Contains}
 use Rattle.std.specs.declared.option.Option.{Option}
 use Rattle.std.specs.declared.option.Option.TheVariants.{Some}
 use Rattle.proto_types.specs.EmptyFile.{no_file}
 use Rattle.proto_types.specs.declared.file.FileDescriptorProto.{FileDescriptorProto}
-use Rattle.proto_types.specs.Lists.{at}
+use Rattle.plain_data.specs.Lists.{at}
 
 -- the file with an index
 abbrev pub file_at : List FileDescriptorProto → ℕ → FileDescriptorProto
@@ -41,11 +42,14 @@ module _ (files : List FileDescriptorProto) (numbers : List ℕ → Option ℕ) 
   -- whether a chain of at most so many public imports leads from a to b
   abbrev pub leads_publicly : ℕ → ℕ → ℕ → Bool
   leads_publicly zero a b = a == b
-  leads_publicly (suc more) a b = a == b || list_any (λ c. leads_publicly more c b) (public_imports_of numbers (file_at files a))
+  leads_publicly (suc more) a b =
+      a == b || list_any (λ c. leads_publicly more c b)
+      (public_imports_of numbers (file_at files a))
 
   -- the same as a test: no chain needs more public imports than there are files
   abbrev pub sees : ℕ → ℕ → Bool
-  sees a b = a == b || list_any (λ c. leads_publicly (length files) c b) (imports_of numbers (file_at files a))
+  sees a b = a == b || list_any (λ c. leads_publicly (length files) c b)
+      (imports_of numbers (file_at files a))
 
   -- the indexes of the files that a sees, ascending
   abbrev pub seen_from : ℕ → List ℕ
@@ -54,5 +58,6 @@ module _ (files : List FileDescriptorProto) (numbers : List ℕ → Option ℕ) 
 -- law: the test is the relation, where each name means a file that is there
 abbrev pub SeesIsTested : Type 0
 SeesIsTested =
-    (files : List FileDescriptorProto) (numbers : List ℕ → Option ℕ) → ((name : List ℕ) (n : ℕ) → numbers name ≡ Some n → n < length files)
+    (files : List FileDescriptorProto) (numbers : List ℕ → Option ℕ)
+    → ((name : List ℕ) (n : ℕ) → numbers name ≡ Some n → n < length files)
     → (a b : ℕ) → a < length files → (IsTrue (sees files numbers a b) ↔ Sees files numbers a b)

@@ -4,7 +4,7 @@ ghost use Rattle.std.specs.FinMap as finite;
 ghost use Rattle.std.specs.Option.{option_copied};
 ghost use Rattle.std.specs.Ordering.{nat_cmp};
 ghost use Rattle.name_tables.specs.NameTables.{FileNamesBefore};
-ghost use Rattle.proto_types.specs.Lists.{at};
+ghost use Rattle.plain_data.specs.Lists.{at};
 ghost use Rattle.name_resolution.specs.Visibility.{Sees, seen_from};
 
 use name_tables::FileNames;
@@ -56,7 +56,7 @@ struct Seen {
 impl Seen {
     ghost use Rattle.std.specs.Prelude.{[], ◌∷◌, OnOk};
     ghost use Rattle.std.specs.BTreeSet.{IsOrdered};
-    ghost use Rattle.proto_types.specs.Lists.{listed};
+    ghost use Rattle.plain_data.specs.Lists.{listed};
     ghost use Rattle.name_resolution.specs.Visibility.{imports_of, public_imports_of};
     ghost use Rattle.name_resolution.specs.Seen.{SeesEach};
 

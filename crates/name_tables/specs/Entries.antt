@@ -25,4 +25,5 @@ names_with known more = names (map.entries known ++ more)
 
 -- law: the map has for each name what its first entry says
 abbrev pub NamesAreFirst : Type 0
-NamesAreFirst = (entries : List Entry) (name : List ℕ) → map.get (names entries) name ≡ first_of entries name
+NamesAreFirst = (entries : List Entry) (name : List ℕ)
+    → map.get (names entries) name ≡ first_of entries name

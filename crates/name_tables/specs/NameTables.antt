@@ -7,7 +7,9 @@ use Rattle.pool_types.specs.declared.contents.definition.Definition.{Definition}
 
 -- of what lies in files, the map of what lies in a file before n
 abbrev pub kept_before : {X : Type 0} → (X → ℕ) → ℕ → ByText X → ByText X
-kept_before file_of n names = map.retain_keys names (λ name. option_map_or (λ x. nat_lt (file_of x) n) (map.get names name) false)
+kept_before file_of n names =
+    map.retain_keys names
+    (λ name. option_map_or (λ x. nat_lt (file_of x) n) (map.get names name) false)
 
 -- names without those whose definitions lie in file n or in a later one
 abbrev pub without_files_from : ℕ → ByText Definition → ByText Definition
@@ -27,9 +29,11 @@ FileNamesBefore n names = (name : List ℕ) → IfSome (map.get names name) (λ 
 
 -- law: names whose definitions all lie in files before n stay where the others are taken away
 abbrev pub EarlierNamesStay : Type 0
-EarlierNamesStay = (n : ℕ) (names : ByText Definition) → AllBefore n names → without_files_from n names ≡ names
+EarlierNamesStay = (n : ℕ) (names : ByText Definition) → AllBefore n names
+    → without_files_from n names ≡ names
 
 -- law: a name that is added with file n or a later one goes with these
 abbrev pub LaterNameGoes : Type 0
 LaterNameGoes =
-    (n : ℕ) (names : ByText Definition) (name : List ℕ) (d : Definition) → map.get names name ≡ None → n ≤ d.file → without_files_from n (map.insert names name d) ≡ without_files_from n names
+    (n : ℕ) (names : ByText Definition) (name : List ℕ) (d : Definition) → map.get names name ≡ None
+    → n ≤ d.file → without_files_from n (map.insert names name d) ≡ without_files_from n names

@@ -33,4 +33,5 @@ pub record AreTables (levels : ℕ) (starts ends : List ℤ) (ranges : List (ℤ
 -- a table behind what a list held before
 abbrev pub IsTableBehind : ℕ → List ℤ → List ℤ → List ℤ → Type 0
 IsTableBehind levels numbers before after =
-    (table : List ℤ) × (after ≡ before ++ table) × (length table ≡ length numbers * levels) × IsTable levels table numbers
+    (table : List ℤ) × (after ≡ before ++ table) × (length table ≡ length numbers * levels)
+    × IsTable levels table numbers

@@ -6,8 +6,8 @@ ghost use Rattle.number_ranges.specs.Tables.{IsTableBehind};
 
 use std::alloc::{AllocError, Global};
 
-/// Appends the numbers in order to a table, and behind them the tables of their two halves, with one
-/// level less. With no level nothing is appended.
+/// Appends the numbers in order to a table, and behind them the tables of their two halves, with
+/// one level less. With no level nothing is appended.
 pub(crate) fn push_table(
     alloc: Global,
     table: &mut Vec<i32>,

@@ -9,7 +9,8 @@ use Rattle.plain_data.specs.contracts.number_map.NumberMapPartialEq.TheImpl as n
 use Rattle.plain_data.specs.contracts.text_map.TextMapPartialEq.TheImpl as text_map
 
 -- the test of finite maps, where those of the keys and of what they have are such tests
-pub maps-exact : {K X : Type 0} {R : K → K → Ordering} {E : K → K → Bool} {F : X → X → Bool} → Exact E → Exact F → Exact (map_eq {R = R} E F)
+pub maps-exact : {K X : Type 0} {R : K → K → Ordering} {E : K → K → Bool} {F : X → X → Bool}
+    → Exact E → Exact F → Exact (map_eq {R = R} E F)
 maps-exact keys others = by-parts map.entries map.same_entries_map (items-exact (keys and others))
 
 pub text_map-exact : Exact text_map.ghosts.eq

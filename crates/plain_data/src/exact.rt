@@ -3,7 +3,8 @@ ghost use Rattle.plain_data.specs.Exact.{text-exact, items-exact};
 
 use crate::{Items, Text};
 
-/// A value whose `==` is equality of contents: two of them compare equal exactly where they are one value.
+/// A value whose `==` is equality of contents: two of them compare equal exactly where they are one
+/// value.
 pub trait ExactEq: PartialEq {
     ghost exact: { (a b : Self) → IsTrue (Self.eq a b) ↔ (a ≡ b) };
 }

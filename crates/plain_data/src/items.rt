@@ -115,7 +115,7 @@ pub fn duplicates<T: Duplicate>(alloc: Global, items: &[T]) -> Result<Vec<T>, Al
 ///
 /// # Errors
 /// `AllocError` where memory was refused.
-pub fn duplicate_given<T: Duplicate>(
+pub fn duplicate_option<T: Duplicate>(
     alloc: Global,
     value: &Option<T>,
 ) -> Result<Option<T>, AllocError>

@@ -9,7 +9,7 @@ mod text;
 mod text_map;
 
 pub use exact::{ExactEq, same};
-pub use items::{Duplicate, Items, duplicate_given, duplicates};
+pub use items::{Duplicate, Items, duplicate_option, duplicates};
 pub use number_map::NumberMap;
 pub use text::Text;
 pub use text_map::TextMap;

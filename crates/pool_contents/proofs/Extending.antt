@@ -5,7 +5,7 @@ use Rattle.std.proofs.lemmas.Bool.Decides.{nat_tests}
 use Rattle.std.proofs.lemmas.List.{length-drop, map-append, take_all}
 use Rattle.std.proofs.lemmas.List.Edits.{between_more, between_none, length-between}
 use Rattle.std.proofs.lemmas.List.Elements.{filter-append, recursion_from_All}
-use Rattle.field_rules.specs.Each.{each}
+use Rattle.plain_data.specs.Each.{map_enumerated}
 use Rattle.pool_types.specs.declared.contents.extension.ExtensionDescriptorInner.{ExtensionDescriptorInner}
 use Rattle.pool_types.specs.declared.contents.message.MessageDescriptorInner.{MessageDescriptorInner}
 use Rattle.pool_contents.specs.Extended.{cut, extended_by, extending}
@@ -50,38 +50,38 @@ extended-push first xs x message m =
 -- one message has one more extension, or there is no such message
 pub message-pushed : (ms : List MessageDescriptorInner) (message extension : ℕ) (was : MessageDescriptorInner) (es : List ℕ) → message < length ms
     → was ≡ get_or ms message was → es ≡ was.extensions ++ extension ∷ []
-    → set ms message (record was { extensions = es }) ≡ each (one (with_extension extension) message) 0 ms
+    → set ms message (record was { extensions = es }) ≡ map_enumerated (one (with_extension extension) message) 0 ms
 message-pushed ms message extension was es below read pushed =
     let first : 0 + message ≡ message = omega arith in
     let item : record was { extensions = es } ≡ with_extension extension (get_or ms message was) =
     (λ i. record was { extensions = pushed i }) ∙ ap (with_extension extension) read in
-    ap (set ms message) item ∙ set-each (with_extension extension) 0 message ms was below ∙ ap (λ n. each (one (with_extension extension) n) 0 ms) first
+    ap (set ms message) item ∙ set-each (with_extension extension) 0 message ms was below ∙ ap (λ n. map_enumerated (one (with_extension extension) n) 0 ms) first
 
-pub message-missing : (ms : List MessageDescriptorInner) (message extension : ℕ) → length ms ≤ message → ms ≡ each (one (with_extension extension) message) 0 ms
+pub message-missing : (ms : List MessageDescriptorInner) (message extension : ℕ) → length ms ≤ message → ms ≡ map_enumerated (one (with_extension extension) message) 0 ms
 message-missing ms message extension past =
     sym (each-still (one (with_extension extension) message) 0 ms (λ n m from to. changed-elsewhere (with_extension extension) message n m (λ e. omega (arith, past, to, e))))
 
 -- messages with the extensions between two indexes behind their lists
 abbrev pub extended_between : ℕ → ℕ → List ExtensionDescriptorInner → List MessageDescriptorInner → List MessageDescriptorInner
-extended_between first end xs ms = each (extended_by first (between first end xs)) 0 ms
+extended_between first end xs ms = map_enumerated (extended_by first (between first end xs)) 0 ms
 
 -- no extensions leave messages as they are
-pub extended-by-none : (first : ℕ) (ms : List MessageDescriptorInner) → each (extended_by first []) 0 ms ≡ ms
+pub extended-by-none : (first : ℕ) (ms : List MessageDescriptorInner) → map_enumerated (extended_by first []) 0 ms ≡ ms
 extended-by-none first ms = each-still (extended_by first []) 0 ms (λ n m from to i. record m { extensions = append-nil m.extensions i })
 
 module _ (first : ℕ) (xs : List ExtensionDescriptorInner) (ms : List MessageDescriptorInner) where
   -- none by now, and all at the end
   pub extended-none : extended_between first first xs ms ≡ ms
-  extended-none = ap (λ es. each (extended_by first es) 0 ms) (between_none xs first) ∙ extended-by-none first ms
+  extended-none = ap (λ es. map_enumerated (extended_by first es) 0 ms) (between_none xs first) ∙ extended-by-none first ms
 
-  pub extended-all : (end : ℕ) → length xs ≤ end → extended_between first end xs ms ≡ each (extended_by first (drop first xs)) 0 ms
+  pub extended-all : (end : ℕ) → length xs ≤ end → extended_between first end xs ms ≡ map_enumerated (extended_by first (drop first xs)) 0 ms
   extended-all end whole =
       let rest = length-drop first xs in
-      ap (λ es. each (extended_by first es) 0 ms) (take_all (end - first) (drop first xs) (omega (arith, whole, rest)))
+      ap (λ es. map_enumerated (extended_by first es) 0 ms) (take_all (end - first) (drop first xs) (omega (arith, whole, rest)))
 
   -- one more extension is put behind the list of its message
   pub extended-next : (k : ℕ) (x : ExtensionDescriptorInner) → first ≤ k → k < length xs → x ≡ get_or xs k x
-      → each (one (with_extension k) x.extendee) 0 (extended_between first k xs ms) ≡ extended_between first (k + 1) xs ms
+      → map_enumerated (one (with_extension k) x.extendee) 0 (extended_between first k xs ms) ≡ extended_between first (k + 1) xs ms
   extended-next k x from below is =
       let earlier = between first k xs in
       let many = length-between xs first k (omega (arith, below)) in
@@ -90,7 +90,7 @@ module _ (first : ℕ) (xs : List ExtensionDescriptorInner) (ms : List MessageDe
       each-twice (one (with_extension k) x.extendee) (extended_by first earlier) 0 ms
       ∙ each-same (λ n m. one (with_extension k) x.extendee n (extended_by first earlier n m)) (extended_by first (earlier ++ x ∷ [])) 0 ms
       (λ n m _ _. ap (λ index. one (with_extension index) x.extendee n (extended_by first earlier n m)) (sym last) ∙ sym (extended-push first earlier x n m))
-      ∙ ap (λ es. each (extended_by first es) 0 ms) (sym more)
+      ∙ ap (λ es. map_enumerated (extended_by first es) 0 ms) (sym more)
 
 -- a roll-back takes an extension that came out again
 cut-extension : (end extension : ℕ) (m : MessageDescriptorInner) → end ≤ extension → cut end (with_extension extension m) ≡ cut end m
@@ -103,7 +103,7 @@ cut-extension end extension m came =
     }
 
 pub cut-messages : (end extension message many : ℕ) (ms : List MessageDescriptorInner) → end ≤ extension
-    → map (cut end) (take many (each (one (with_extension extension) message) 0 ms)) ≡ map (cut end) (take many ms)
+    → map (cut end) (take many (map_enumerated (one (with_extension extension) message) 0 ms)) ≡ map (cut end) (take many ms)
 cut-messages end extension message many ms came =
     let change : ℕ → MessageDescriptorInner → MessageDescriptorInner = one (with_extension extension) message in
     ap (map (cut end)) (take-each change many 0 ms)

@@ -6,10 +6,10 @@ use Rattle.std.specs.List.{filter_map}
 use Rattle.name_resolution.specs.Visibility.{seen_from}
 use Rattle.pool_types.specs.Contents.{Contents, files_of}
 use Rattle.pool_types.specs.declared.contents.file.FileDescriptorInner.{FileDescriptorInner}
-use Rattle.field_rules.specs.Each.{each}
+use Rattle.plain_data.specs.Each.{map_enumerated}
 use Rattle.pool_contents.specs.declared.growing.GrowingPool.{GrowingPool}
 use Rattle.pool_contents.specs.Growing.{file_seeing, files_seeing, first_new, seeing}
-use Rattle.pool_contents.specs.Held.{contents_in}
+use Rattle.pool_contents.specs.Inner.{contents_in}
 use Rattle.pool_contents.proofs.Each.{changed-elsewhere, changed-here, each-all, each-map, each-same, each-still, each-twice, length-each, one}
 
 -- a file of those that came, up to one, with the files that it sees
@@ -18,7 +18,7 @@ up_to p end n f = if nat_le (first_new p) n && nat_lt n end then seeing p n f el
 
 -- all files, of which those up to one that came have the files that they see
 abbrev pub seeing_up_to : GrowingPool → ℕ → List FileDescriptorInner
-seeing_up_to p end = each (up_to p end) 0 p.inner.files.items
+seeing_up_to p end = map_enumerated (up_to p end) 0 p.inner.files.items
 
 module _ (p : GrowingPool) where
   not-yet : (end n : ℕ) (f : FileDescriptorInner) → end ≤ n → up_to p end n f ≡ f
@@ -79,7 +79,7 @@ module _ (p : GrowingPool) where
       } in
       let fs = p.inner.files.items in
       let change : ℕ → FileDescriptorInner → FileDescriptorInner = one (seeing q k) k in
-      ap (each change 0) (ap (λ (c : Contents). c.files) is)
+      ap (map_enumerated change 0) (ap (λ (c : Contents). c.files) is)
       ∙ each-twice change (up_to p k) 0 fs
       ∙ each-same (λ n f. change n (up_to p k n f)) (up_to p (k + 1)) 0 fs (λ n f from to. next n f sees)
     where

@@ -39,7 +39,8 @@ file_names_eq = map_eq bytes_eq nat_eq
 
 -- whether two pools have the same contents
 abbrev pub contents_eq : Contents → Contents → Bool
-contents_eq p q = items_eq p q && (names_eq p.names q.names && file_names_eq p.file_names q.file_names)
+contents_eq p q =
+    items_eq p q && (names_eq p.names q.names && file_names_eq p.file_names q.file_names)
 
 -- that is so exactly where the contents are one
 pub names-exact : Exact names_eq
@@ -49,28 +50,41 @@ pub file_names-exact : Exact file_names_eq
 file_names-exact = maps-exact text-exact unsigned_Decides
 
 abbrev Items : Type 0
-Items = List FileDescriptorInner × (List MessageDescriptorInner × (List EnumDescriptorInner × (List ServiceDescriptorInner × List ExtensionDescriptorInner)))
+Items = List FileDescriptorInner
+    × (List MessageDescriptorInner
+    × (List EnumDescriptorInner × (List ServiceDescriptorInner × List ExtensionDescriptorInner)))
 
 abbrev Parts : Type 0
 Parts = Items × (ByText Definition × ByText ℕ)
 
 abbrev parts_of : Contents → Parts
-parts_of p = ((p.files, (p.messages, (p.enums, (p.services, p.extensions)))), (p.names, p.file_names))
+parts_of p =
+    ((p.files, (p.messages, (p.enums, (p.services, p.extensions)))), (p.names, p.file_names))
 
 abbrev of_parts : Parts → Contents
 of_parts x =
     let items = x.0 in
-    record { files = items.0; messages = items.1.0; enums = items.1.1.0; services = items.1.1.1.0; extensions = items.1.1.1.1; names = x.1.0; file_names = x.1.1 }
+    record {
+      files = items.0;
+      messages = items.1.0;
+      enums = items.1.1.0;
+      services = items.1.1.1.0;
+      extensions = items.1.1.1.1;
+      names = x.1.0;
+      file_names = x.1.1;
+    }
 
 pub contents-exact : Exact contents_eq
 contents-exact = by-parts parts_of (λ p q same. ap of_parts same)
-    ((items-exact file_inner-exact and items-exact message_inner-exact and items-exact enum_inner-exact and items-exact service_inner-exact and items-exact extension_inner-exact)
+    ((items-exact file_inner-exact and items-exact message_inner-exact and items-exact
+    enum_inner-exact and items-exact service_inner-exact and items-exact extension_inner-exact)
     and names-exact and file_names-exact)
 
 -- so the test is symmetric and transitive
 exact-per : {X : Type 0} {test : X → X → Bool} → Exact test → IsPartialEquivalence test
 exact-per {test = test} exact = record {
-  symm = λ x y. both_ways (test x y) (test y x) (λ e. (exact y x).1 (sym ((exact x y).0 e))) (λ e. (exact x y).1 (sym ((exact y x).0 e)));
+  symm = λ x y. both_ways (test x y) (test y x) (λ e. (exact y x).1 (sym ((exact x y).0 e)))
+      (λ e. (exact x y).1 (sym ((exact y x).0 e)));
   trans = λ x y z e f. (exact x z).1 ((exact x y).0 e ∙ (exact y z).0 f);
 }
 

@@ -4,19 +4,26 @@ use Rattle.std.specs.List.{enumerate_from, filter}
 use Rattle.pool_types.specs.Contents.{Contents}
 use Rattle.pool_types.specs.declared.contents.extension.ExtensionDescriptorInner.{ExtensionDescriptorInner}
 use Rattle.pool_types.specs.declared.contents.message.MessageDescriptorInner.{MessageDescriptorInner}
-use Rattle.field_rules.specs.Each.{each}
+use Rattle.plain_data.specs.Each.{map_enumerated}
 
--- of extensions that are numbered on from a first index, the indexes of those that extend the message with an index
+-- of extensions that are numbered on from a first index, the indexes of those that extend the
+-- message with an index
 abbrev pub extending : ℕ → ℕ → List ExtensionDescriptorInner → List ℕ
-extending message first xs = map (λ e. e.0) (filter (λ e. e.1.extendee == message) (enumerate_from first xs))
+extending message first xs =
+    map (λ e. e.0) (filter (λ e. e.1.extendee == message) (enumerate_from first xs))
 
 -- a message, by its index, with those of the extensions that extend it behind its list
-abbrev pub extended_by : ℕ → List ExtensionDescriptorInner → ℕ → MessageDescriptorInner → MessageDescriptorInner
-extended_by first xs message m = record m { extensions = m.extensions ++ extending message first xs }
+abbrev pub extended_by : ℕ → List ExtensionDescriptorInner → ℕ → MessageDescriptorInner
+    → MessageDescriptorInner
+extended_by first xs message m =
+    record m { extensions = m.extensions ++ extending message first xs }
 
 -- contents whose messages list the extensions from a first index on too
 abbrev pub with_extended : ℕ → Contents → Contents
-with_extended first p = record p { messages = each (extended_by first (drop first p.extensions)) 0 p.messages }
+with_extended first p =
+    record p {
+      messages = map_enumerated (extended_by first (drop first p.extensions)) 0 p.messages;
+    }
 
 -- a message that lists only those of its extensions that are before an index
 abbrev pub cut : ℕ → MessageDescriptorInner → MessageDescriptorInner

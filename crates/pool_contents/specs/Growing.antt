@@ -7,15 +7,16 @@ use Rattle.pool_types.specs.declared.contents.file.FileDescriptorInner.{FileDesc
 use Rattle.pool_types.specs.declared.contents.message.MessageDescriptorInner.{MessageDescriptorInner}
 use Rattle.proto_types.specs.declared.file.FileDescriptorProto.{FileDescriptorProto}
 use Rattle.name_resolution.specs.Visibility.{seen_from}
-use Rattle.field_rules.specs.Each.{each}
+use Rattle.plain_data.specs.Each.{map_enumerated}
 use Rattle.name_tables.specs.NameTables.{without_files_from, file_names_before}
 use Rattle.pool_contents.specs.declared.growing.GrowingPool.{GrowingPool}
 use Rattle.pool_contents.specs.Extended.{cut}
-use Rattle.pool_contents.specs.Held.{contents_in}
+use Rattle.pool_contents.specs.Inner.{contents_in}
 
--- what a roll-back leaves: all that was there before, and no extension that came in the lists of messages
-abbrev pub kept_in : GrowingPool → Contents
-kept_in p = record {
+-- what a roll-back leaves: all that was there before, and no extension that came in the lists of
+-- messages
+abbrev pub rolled_back : GrowingPool → Contents
+rolled_back p = record {
   files = take p.base.files p.inner.files.items;
   messages = map (cut p.base.extensions) (take p.base.messages p.inner.messages.items);
   enums = take p.base.enums p.inner.enums.items;
@@ -27,7 +28,7 @@ kept_in p = record {
 
 -- the index of the first file that came
 abbrev pub first_new : GrowingPool → ℕ
-first_new p = length (kept_in p).files
+first_new p = length (rolled_back p).files
 
 -- the records of files from an index on
 abbrev pub records_from : ℕ → List FileDescriptorInner → List FileDescriptorProto
@@ -39,7 +40,7 @@ new_records p = records_from p.base.files p.inner.files.items
 
 -- the index of the first extension that came
 abbrev pub first_extension : GrowingPool → ℕ
-first_extension p = length (kept_in p).extensions
+first_extension p = length (rolled_back p).extensions
 
 -- a message with one more extension behind the others
 abbrev pub with_extension : ℕ → MessageDescriptorInner → MessageDescriptorInner
@@ -48,7 +49,8 @@ with_extension extension m = record m { extensions = m.extensions ++ extension �
 -- all messages, where the one with an index has one more extension
 abbrev pub message_extended : GrowingPool → ℕ → ℕ → List MessageDescriptorInner
 message_extended p message extension =
-    each (λ n m. if n == message then with_extension extension m else m) 0 p.inner.messages.items
+    map_enumerated (λ n m. if n == message then with_extension extension m
+    else m) 0 p.inner.messages.items
 
 -- the files that the file with an index sees, of all that there are
 abbrev pub seen_in : GrowingPool → ℕ → List ℕ
@@ -63,12 +65,14 @@ seeing p n f = record f {
 
 -- all files, where the one with an index has those that it sees
 abbrev pub file_seeing : GrowingPool → ℕ → List FileDescriptorInner
-file_seeing p file = each (λ n f. if n == file then seeing p file f else f) 0 p.inner.files.items
+file_seeing p file =
+    map_enumerated (λ n f. if n == file then seeing p file f else f) 0 p.inner.files.items
 
 -- all files, where each that came has those that it sees
 abbrev pub files_seeing : GrowingPool → List FileDescriptorInner
-files_seeing p = each (λ n f. if nat_le (first_new p) n then seeing p n f else f) 0 p.inner.files.items
+files_seeing p = map_enumerated (λ n f. if nat_le (first_new p) n then seeing p n f
+    else f) 0 p.inner.files.items
 
 -- all that there is by now, but of files only those that were there before
 abbrev pub before_items : GrowingPool → Contents
-before_items p = record (contents_in p.inner) { files = (kept_in p).files }
+before_items p = record (contents_in p.inner) { files = (rolled_back p).files }

@@ -1,4 +1,4 @@
-pub mod Held
+pub mod Inner
 pub mod LookUps
 pub mod Equality
 pub mod Extended

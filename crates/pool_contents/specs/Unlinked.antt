@@ -6,4 +6,9 @@ use Rattle.name_pass.specs.Syntaxes.{syntax_of}
 
 -- a file as it is, of which nothing but its syntax is known
 abbrev pub unlinked : FileDescriptorProto → FileDescriptorInner
-unlinked f = record { syntax = syntax_of f; raw = f; dependencies = []; transitive_dependencies = record { keys = [] } }
+unlinked f = record {
+  syntax = syntax_of f;
+  raw = f;
+  dependencies = [];
+  transitive_dependencies = record { keys = [] };
+}

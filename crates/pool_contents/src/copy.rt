@@ -1,7 +1,7 @@
 //! A copy of what a pool holds.
 
 ghost use Rattle.std.specs.Prelude.{◌≡◌, IfOk};
-ghost use Rattle.pool_contents.specs.Held.{contents_in};
+ghost use Rattle.pool_contents.specs.Inner.{contents_in};
 
 use crate::inner::DescriptorPoolInner;
 use name_tables::NameTable;

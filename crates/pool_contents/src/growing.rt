@@ -3,17 +3,17 @@ ghost use Rattle.std.specs.List.{filter};
 ghost use Rattle.pool_contents.specs.Extended.{cut};
 ghost use Rattle.pool_contents.specs.Unlinked.{unlinked};
 
+use crate::DescriptorPoolInner;
+use name_pass::syntax_of;
 use name_resolution::{imported_files, visible_from};
 use name_tables::NameTable;
 use plain_data::Items;
-use crate::DescriptorPoolInner;
 use pool_types::{FileDescriptorInner, MessageDescriptorInner};
 use proto_types::FileDescriptorProto;
 use record_walk::Counts;
 use std::alloc::{AllocError, Global};
 use std::collections::BTreeSet;
 use std::mem;
-use name_pass::syntax_of;
 
 /// What a pool holds while a batch is linked into it, and how much it had before.
 #[derive(Drop)]
@@ -30,9 +30,9 @@ pub struct GrowingPool {
 impl GrowingPool {
     ghost use Rattle.record_walk.specs.Counts.{counts_in};
     ghost use Rattle.pool_contents.specs.Extended.{with_extended};
-    ghost use Rattle.pool_contents.specs.Held.{contents_in, ListsLieIn, NamesLieIn};
+    ghost use Rattle.pool_contents.specs.Inner.{contents_in, ListsLieIn, NamesLieIn};
     ghost use Rattle.name_tables.specs.NameTables.{FileNamesBefore};
-    ghost use Rattle.pool_contents.specs.Growing.{file_seeing, files_seeing, first_extension, first_new, kept_in, message_extended};
+    ghost use Rattle.pool_contents.specs.Growing.{file_seeing, files_seeing, first_extension, first_new, rolled_back, message_extended};
 
     /// A pool before anything of a batch came, and how much it has. Its names mean something in its
     /// files, and the lists of its messages hold extensions of its own.
@@ -42,7 +42,7 @@ impl GrowingPool {
         requires lists { ListsLieIn (contents_in inner) }
         ensures base { result.base ≡ base }
         ensures inner { result.inner ≡ inner }
-        ensures kept { kept_in result ≡ contents_in inner }
+        ensures kept { rolled_back result ≡ contents_in inner }
     {
         GrowingPool { inner, base }
     }
@@ -60,7 +60,7 @@ impl GrowingPool {
         ensures ok { OnOk result (contents_in self.new.inner
             ≡ record (contents_in self.old.inner)
             { files = self.old.inner.files.items ++ map unlinked new.items }) }
-        ensures kept { kept_in self.new ≡ kept_in self.old }
+        ensures kept { rolled_back self.new ≡ rolled_back self.old }
     {
         self.inner.files.reserve(new.len())?;
         for file in new {
@@ -69,15 +69,15 @@ impl GrowingPool {
         Ok(())
     }
 
-    /// Gives each file that came the files that it imports and those that it sees, of all that there
-    /// are.
+    /// Gives each file that came the files that it imports and those that it sees, of all that
+    /// there are.
     pub fn see_files(&mut self, alloc: Global) -> Result<(), AllocError>
         requires few { length self.old.inner.files.items < 2 ^ 32 }
         requires places { FileNamesBefore (length self.old.inner.files.items)
             self.old.inner.file_names }
         ensures ok { OnOk result (contents_in self.new.inner
             ≡ record (contents_in self.old.inner) { files = files_seeing self.old }) }
-        ensures kept { kept_in self.new ≡ kept_in self.old }
+        ensures kept { rolled_back self.new ≡ rolled_back self.old }
     {
         for file in self.base.files..self.inner.files.len() as u32 {
             self.see_file(alloc, file)?;
@@ -92,7 +92,7 @@ impl GrowingPool {
             self.old.inner.file_names }
         ensures ok { OnOk result (contents_in self.new.inner
             ≡ record (contents_in self.old.inner) { files = file_seeing self.old file }) }
-        ensures kept { kept_in self.new ≡ kept_in self.old }
+        ensures kept { rolled_back self.new ≡ rolled_back self.old }
     {
         let inner = &self.inner;
         let imports = inner.files[file as usize].raw.dependency.as_slice();
@@ -109,7 +109,7 @@ impl GrowingPool {
         requires few { length self.old.inner.extensions.items < 2 ^ 32 }
         ensures ok { OnOk result (contents_in self.new.inner
             ≡ with_extended (first_extension self.old) (contents_in self.old.inner)) }
-        ensures kept { kept_in self.new ≡ kept_in self.old }
+        ensures kept { rolled_back self.new ≡ rolled_back self.old }
     {
         for index in self.base.extensions..self.inner.extensions.len() as u32 {
             let extendee = self.inner.extensions[index as usize].extendee;
@@ -124,7 +124,7 @@ impl GrowingPool {
         ensures ok { OnOk result (contents_in self.new.inner
             ≡ record (contents_in self.old.inner)
             { messages = message_extended self.old message extension }) }
-        ensures kept { kept_in self.new ≡ kept_in self.old }
+        ensures kept { rolled_back self.new ≡ rolled_back self.old }
     {
         let index = message as usize;
         if index < self.inner.messages.len() {
@@ -136,7 +136,7 @@ impl GrowingPool {
     /// Takes away all that came, which takes no memory. A name goes with its file, and an extension
     /// goes out of the list of its message.
     pub fn rollback(&mut self, alloc: Global)
-        ensures { contents_in self.new.inner ≡ kept_in self.old }
+        ensures { contents_in self.new.inner ≡ rolled_back self.old }
     {
         self.inner.files.truncate(self.base.files as usize);
         self.inner.messages.truncate(self.base.messages as usize);

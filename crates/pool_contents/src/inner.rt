@@ -1,13 +1,16 @@
 ghost use Rattle.std.specs.Prelude.{◌≡◌};
 ghost use Rattle.pool_types.specs.Contents.{no_contents};
-ghost use Rattle.pool_contents.specs.Held.{contents_in};
+ghost use Rattle.pool_contents.specs.Inner.{contents_in};
 
 use name_tables::{FileNames, HashedNames};
-use pool_types::{EnumDescriptorInner, ExtensionDescriptorInner, FileDescriptorInner, MessageDescriptorInner, ServiceDescriptorInner};
+use pool_types::{
+    EnumDescriptorInner, ExtensionDescriptorInner, FileDescriptorInner, MessageDescriptorInner,
+    ServiceDescriptorInner,
+};
 use std::alloc::Global;
 
-/// What a pool holds: the items of each kind in the order of their indexes, what the names mean that
-/// the files enter, and which file has which name.
+/// What a pool holds: the items of each kind in the order of their indexes, what the names mean
+/// that the files enter, and which file has which name.
 #[derive(Drop)]
 pub struct DescriptorPoolInner {
     pub files: Vec<FileDescriptorInner>,

@@ -6,12 +6,16 @@ ghost use Rattle.std.specs.List.{filter};
 ghost use Rattle.std.specs.Option.{option_copied};
 ghost use Rattle.pool_types.specs.Contents.{files_of};
 ghost use Rattle.proto_types.specs.Readers.{text_of};
-ghost use Rattle.pool_contents.specs.Held.{contents_in};
+ghost use Rattle.pool_contents.specs.Inner.{contents_in};
 ghost use Rattle.pool_contents.specs.LookUps.{definition_named, without_dot};
 
 use crate::inner::DescriptorPoolInner;
 use name_tables::NameTable;
-use pool_types::{Definition, EnumDescriptor, EnumDescriptorInner, ExtensionDescriptor, ExtensionDescriptorInner, FileDescriptor, FileDescriptorInner, MessageDescriptor, MessageDescriptorInner, ServiceDescriptor, ServiceDescriptorInner};
+use pool_types::{
+    Definition, EnumDescriptor, EnumDescriptorInner, ExtensionDescriptor, ExtensionDescriptorInner,
+    FileDescriptor, FileDescriptorInner, MessageDescriptor, MessageDescriptorInner,
+    ServiceDescriptor, ServiceDescriptorInner,
+};
 use proto_types::FileDescriptorProto;
 use std::alloc::{AllocError, Global};
 
@@ -73,7 +77,7 @@ impl DescriptorPoolInner {
     }
 
     /// Keeps the files of a batch whose names no file has, and takes no memory.
-    pub fn keep_new(&self, batch: &mut Vec<FileDescriptorProto>)
+    pub fn retain_new(&self, batch: &mut Vec<FileDescriptorProto>)
         ensures { batch.new.items ≡ filter
             (λ f. not (is_some (finite.get self.now.file_names (text_of f.name)))) batch.old.items }
     {

@@ -2,7 +2,7 @@
 
 ghost use Rattle.std.specs.Prelude.{◌≡◌};
 ghost use Rattle.pool_contents.specs.Equality.{contents_eq, items_eq, names_eq, file_names_eq};
-ghost use Rattle.pool_contents.specs.Held.{contents_in};
+ghost use Rattle.pool_contents.specs.Inner.{contents_in};
 
 use crate::inner::DescriptorPoolInner;
 use name_tables::{FileNames, HashedNames, NameTable};

@@ -11,11 +11,15 @@ use denote.Enum.Declared.{values_one, left_or, right_or}
 
 infixr 30 ◌or◌
 -- the tests of one variant and of the further ones
-pub ◌or◌ : {A B : Type 0} {E : A → A → Bool} {F : B → B → Bool} → Exact E → Exact F → Exact (λ (c d : A ⊎ B). ⊎_elim (λ x. ⊎_elim (λ y. E x y) (λ _. false) d) (λ x. ⊎_elim (λ _. false) (λ y. F x y) d) c)
-◌or◌ {E = E} first further (inl x) (inl y) = Decides-like (E x y) (ap inl) (ap (left_or x)) (first x y)
+pub ◌or◌ : {A B : Type 0} {E : A → A → Bool} {F : B → B → Bool} → Exact E → Exact F
+    → Exact (λ (c d : A ⊎ B). ⊎_elim (λ x. ⊎_elim (λ y. E x y) (λ _. false) d)
+    (λ x. ⊎_elim (λ _. false) (λ y. F x y) d) c)
+◌or◌ {E = E} first further (inl x) (inl y) =
+    Decides-like (E x y) (ap inl) (ap (left_or x)) (first x y)
 ◌or◌ first further (inl x) (inr y) = (λ e. absurd (cc), λ e. absurd (cc))
 ◌or◌ first further (inr x) (inl y) = (λ e. absurd (cc), λ e. absurd (cc))
-◌or◌ {F = F} first further (inr x) (inr y) = Decides-like (F x y) (ap inr) (ap (right_or x)) (further x y)
+◌or◌ {F = F} first further (inr x) (inr y) =
+    Decides-like (F x y) (ap inr) (ap (right_or x)) (further x y)
 
 -- no further variant
 nothing : Exact (λ (c d : ⊥). absurd c)

@@ -32,7 +32,8 @@ locations f = option_map_or (λ s. s.location) f.source_code_info []
 
 -- of the first location of the path
 abbrev pub span_at : FileDescriptorProto → List ℤ → Option (List ℤ)
-span_at f path = option_and_then (λ l. span_of l.span) (find (λ l. pointwise int_eq l.path path) (locations f))
+span_at f path = option_and_then (λ l. span_of l.span)
+    (find (λ l. pointwise int_eq l.path path) (locations f))
 
 abbrev pub label : FileDescriptorProto → List ℤ → Label
 label f path = record { file = text_of f.name; path = path; span = span_at f path }
@@ -42,16 +43,16 @@ abbrev pub label_in : List FileDescriptorProto → ℕ → List ℤ → Label
 label_in files file path = label (file_at files file) path
 
 -- a number that is not negative
-abbrev pub natural : ℤ → Option ℕ
-natural (pos n) = Some n
-natural (negsuc _) = None
+abbrev pub non_negative : ℤ → Option ℕ
+non_negative (pos n) = Some n
+non_negative (negsuc _) = None
 
 -- the line and the column at which a span begins
 abbrev pub start_line : List ℤ → Option ℕ
-start_line span = option_and_then natural (slice_get span 0)
+start_line span = option_and_then non_negative (slice_get span 0)
 
 abbrev pub start_column : List ℤ → Option ℕ
-start_column span = option_and_then natural (slice_get span 1)
+start_column span = option_and_then non_negative (slice_get span 1)
 
 -- the same of a label, if its span is known
 abbrev pub label_line : Label → Option ℕ

@@ -55,48 +55,71 @@ shown_label (fault.EnumNumberInReservedRange _ _ _ _ found) = Some found
 abbrev pub range_text : List ℕ → ℤ → List ℕ → ℤ → ℤ → List ℕ
 range_text what number range first last =
     between what (codes " number '") (between (signed_decimal number) (codes "' conflicts with ")
-    (between range (codes " range '") (between (signed_decimal first) (codes " to ") (signed_decimal last ++ codes "'"))))
+    (between range (codes " range '")
+    (between (signed_decimal first) (codes " to ") (signed_decimal last ++ codes "'"))))
 
 -- a number that a message does not leave to extensions
 abbrev pub out_of_range_text : List ℕ → ℤ → List ℕ
 out_of_range_text message number =
-    between (codes "message '") message (between (codes "' does not define '") (signed_decimal number) (codes "' as an extension number"))
+    between (codes "message '") message
+    (between (codes "' does not define '") (signed_decimal number)
+    (codes "' as an extension number"))
 
 -- of numbers that may not stand there
 abbrev pub number_fault_text : DescriptorErrorKind → List ℕ
-number_fault_text (fault.DuplicateFieldNumber number _ _) = between (codes "field number '") (signed_decimal number) (codes "' is already used")
-number_fault_text (fault.InvalidFieldNumber number _) = between (codes "invalid field number '") (signed_decimal number) (codes "'")
-number_fault_text (fault.FieldNumberInReservedRange number start behind _ _) = range_text (codes "field") number (codes "reserved") start (behind -ℤ pos 1)
-number_fault_text (fault.FieldNumberInExtensionRange number start behind _ _) = range_text (codes "field") number (codes "extension") start (behind -ℤ pos 1)
-number_fault_text (fault.ExtensionNumberOutOfRange number message _) = out_of_range_text message number
-number_fault_text (fault.DuplicateEnumNumber number _ _) = between (codes "enum number '") (signed_decimal number) (codes "' has already been used")
-number_fault_text (fault.EnumNumberInReservedRange number start last _ _) = range_text (codes "enum") number (codes "reserved") start last
+number_fault_text (fault.DuplicateFieldNumber number _ _) =
+    between (codes "field number '") (signed_decimal number) (codes "' is already used")
+number_fault_text (fault.InvalidFieldNumber number _) =
+    between (codes "invalid field number '") (signed_decimal number) (codes "'")
+number_fault_text (fault.FieldNumberInReservedRange number start behind _ _) =
+    range_text (codes "field") number (codes "reserved") start (behind -ℤ pos 1)
+number_fault_text (fault.FieldNumberInExtensionRange number start behind _ _) =
+    range_text (codes "field") number (codes "extension") start (behind -ℤ pos 1)
+number_fault_text (fault.ExtensionNumberOutOfRange number message _) =
+    out_of_range_text message number
+number_fault_text (fault.DuplicateEnumNumber number _ _) =
+    between (codes "enum number '") (signed_decimal number) (codes "' has already been used")
+number_fault_text (fault.EnumNumberInReservedRange number start last _ _) =
+    range_text (codes "enum") number (codes "reserved") start last
 number_fault_text _ = []
 
 -- of references and defaults that mean nothing, and then of numbers
 abbrev pub reference_fault_text : DescriptorErrorKind → List ℕ
-reference_fault_text (fault.NameNotFound name _) = between (codes "name '") name (codes "' is not defined")
-reference_fault_text (fault.NameShadowed name shadowed _) = between (codes "'") name (between (codes "' resolves to '") shadowed (codes "', which is not defined"))
-reference_fault_text (fault.InvalidType name expected _ _) = between (codes "'") name (codes "' is not " ++ expected)
-reference_fault_text (fault.InvalidFieldDefault value kind _) = between (codes "invalid default value '") value (between (codes "' for type '") kind (codes "'"))
+reference_fault_text (fault.NameNotFound name _) =
+    between (codes "name '") name (codes "' is not defined")
+reference_fault_text (fault.NameShadowed name shadowed _) =
+    between (codes "'") name
+    (between (codes "' resolves to '") shadowed (codes "', which is not defined"))
+reference_fault_text (fault.InvalidType name expected _ _) =
+    between (codes "'") name (codes "' is not " ++ expected)
+reference_fault_text (fault.InvalidFieldDefault value kind _) =
+    between (codes "invalid default value '") value
+    (between (codes "' for type '") kind (codes "'"))
 reference_fault_text other = number_fault_text other
 
 -- of names that are taken, and then of references
 abbrev pub name_fault_text : DescriptorErrorKind → List ℕ
 name_fault_text (fault.DuplicateName name first second) =
-    if bytes_eq first.file second.file then between (codes "name '") name (codes "' is defined twice")
-    else between (codes "name '") name (between (codes "' is already defined in file '") first.file (codes "'"))
-name_fault_text (fault.DuplicateFieldJsonName name _ _) = between (codes "a field with JSON name '") name (codes "' is already defined")
+    if bytes_eq first.file second.file
+    then between (codes "name '") name (codes "' is defined twice")
+    else between (codes "name '") name
+    (between (codes "' is already defined in file '") first.file (codes "'"))
+name_fault_text (fault.DuplicateFieldJsonName name _ _) =
+    between (codes "a field with JSON name '") name (codes "' is already defined")
 name_fault_text (fault.DuplicateFieldCamelCaseName first second _ _) =
-    between (codes "camel-case name of field '") first (between (codes "' conflicts with field '") second (codes "'"))
+    between (codes "camel-case name of field '") first
+    (between (codes "' conflicts with field '") second (codes "'"))
 name_fault_text other = reference_fault_text other
 
 -- of files and their parts, and then of names
 abbrev pub fault_text : DescriptorErrorKind → List ℕ
-fault_text (fault.MissingRequiredField label) = codes "missing required field at " ++ path_text label.path
+fault_text (fault.MissingRequiredField label) =
+    codes "missing required field at " ++ path_text label.path
 fault_text (fault.UnknownSyntax syntax _) = between (codes "unknown syntax '") syntax (codes "'")
-fault_text (fault.DuplicateFileName name) = between (codes "a different file named '") name (codes "' has already been added")
-fault_text (fault.FileNotFound name _) = between (codes "imported file '") name (codes "' has not been added")
+fault_text (fault.DuplicateFileName name) =
+    between (codes "a different file named '") name (codes "' has already been added")
+fault_text (fault.FileNotFound name _) =
+    between (codes "imported file '") name (codes "' has not been added")
 fault_text fault.InvalidImportIndex = codes "invalid import index"
 fault_text fault.InvalidOneofIndex = codes "invalid oneof index"
 fault_text (fault.EmptyEnum _) = codes "enums must have at least one value"
@@ -105,11 +128,13 @@ fault_text other = name_fault_text other
 
 -- a line and a column
 abbrev pub line_text : ℤ → ℤ → List ℕ
-line_text line column = between (signed_decimal line) (codes ":") (signed_decimal column ++ codes ":")
+line_text line column =
+    between (signed_decimal line) (codes ":") (signed_decimal column ++ codes ":")
 
 -- where a span begins, from 1
 abbrev pub span_text : List ℤ → List ℕ
-span_text span = line_text (slice_index_or span 0 (pos 0) +ℤ pos 1) (slice_index_or span 1 (pos 0) +ℤ pos 1)
+span_text span = line_text (slice_index_or span 0 (pos 0) +ℤ pos 1)
+    (slice_index_or span 1 (pos 0) +ℤ pos 1)
 
 -- the file of a label, with the line and the column if they are known
 abbrev pub place_text : Label → List ℕ
@@ -117,7 +142,8 @@ place_text label = between label.file (codes ":") (option_map_or span_text label
 
 -- a fault behind the label that it shows
 abbrev pub labelled_text : DescriptorErrorKind → List ℕ
-labelled_text kind = option_map_or (λ label. place_text label ++ codes " ") (shown_label kind) [] ++ fault_text kind
+labelled_text kind = option_map_or (λ label. place_text label ++ codes " ") (shown_label kind) []
+    ++ fault_text kind
 
 -- of the first of some faults: its label, its text, and its text behind that label
 abbrev first_fault : List DescriptorErrorKind → Option DescriptorErrorKind

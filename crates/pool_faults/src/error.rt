@@ -3,8 +3,8 @@ ghost use Rattle.std.specs.Option.{option_copied, option_map, option_and_then};
 ghost use Rattle.pool_faults.specs.Labels.{label_line, label_column};
 ghost use Rattle.pool_faults.specs.Texts.{first_label};
 
-use plain_data::Items;
 use crate::{DescriptorErrorKind, Label, Labelled};
+use plain_data::Items;
 use std::error::Error;
 use std::fmt;
 

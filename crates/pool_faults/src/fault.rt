@@ -3,8 +3,8 @@ ghost use Rattle.std.specs.Fmt.{DisplaysOnOk};
 ghost use Rattle.std.specs.Option.{option_copied};
 ghost use Rattle.pool_faults.specs.Texts.{shown_label, name_fault_text, reference_fault_text, number_fault_text, range_text, out_of_range_text, between, line_text};
 
-use plain_data::Text;
 use crate::Label;
+use plain_data::Text;
 use std::error::Error;
 use std::fmt;
 
@@ -403,8 +403,8 @@ impl fmt::Display for Labelled<'_> {
         let fault = self.0;
         match fault.label() {
             Some(label) => {
-                let place = Place(label);
-                write!(f, "{place} {fault}")
+                let prefix = LabelPrefix(label);
+                write!(f, "{prefix} {fault}")
             }
             None => write!(f, "{fault}"),
         }
@@ -413,12 +413,12 @@ impl fmt::Display for Labelled<'_> {
 
 /// The file of a label, with the line and the column at which its span begins, from 1.
 #[derive(Clone, Copy)]
-struct Place<'a>(&'a Label);
+struct LabelPrefix<'a>(&'a Label);
 
-impl fmt::Display for Place<'_> {
+impl fmt::Display for LabelPrefix<'_> {
     ghost use Rattle.pool_faults.specs.Texts.{place_text};
 
-    ghost output = { λ place. Some (place_text place.0.now) };
+    ghost output = { λ prefix. Some (place_text prefix.0.now) };
 
     fn fmt<W: fmt::Write>(&self, f: &mut fmt::Formatter<W>) -> fmt::Result {
         let file = self.0.file();

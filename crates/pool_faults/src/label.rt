@@ -2,12 +2,13 @@ ghost use Rattle.std.specs.Prelude.{◌≡◌, ◌<◌, IfOk, length, map, find}
 ghost use Rattle.std.specs.Cmp.Lexicographic.{pointwise};
 ghost use Rattle.std.specs.Option.{option_copied};
 ghost use Rattle.std.specs.Ordering.{int_eq};
-ghost use Rattle.pool_faults.specs.Labels.{label, label_in, label_line, label_column, natural, span_at, span_of};
+ghost use Rattle.pool_faults.specs.Labels.{label, label_in, label_line, label_column, non_negative, span_at, span_of};
 
 use plain_data::{Items, Text};
 use pool_types::FileDescriptorInner;
 use proto_types::{FileDescriptorProto, Location};
 use std::alloc::{AllocError, Global};
+use std::fmt;
 
 /// Where something stands: the name of a file, the path in its record, and the place in its source.
 #[derive(PartialEq, Drop)]
@@ -79,7 +80,7 @@ impl Label {
         ensures { result ≡ label_line self.now }
     {
         let [line, _, _, _] = self.span?;
-        natural(line)
+        non_negative(line)
     }
 
     /// The column at which it begins, from 0, if the source is known.
@@ -87,7 +88,17 @@ impl Label {
         ensures { result ≡ label_column self.now }
     {
         let [_, column, _, _] = self.span?;
-        natural(column)
+        non_negative(column)
+    }
+}
+
+impl fmt::Debug for Label {
+    fn fmt<W: fmt::Write>(&self, f: &mut fmt::Formatter<W>) -> fmt::Result {
+        f.debug_struct("Label")
+            .field("file", &self.file())
+            .field("path", &self.path())
+            .field("span", &self.span)
+            .finish()
     }
 }
 
@@ -121,8 +132,8 @@ fn span_of(numbers: &[i32]) -> Option<[i32; 4]>
 }
 
 /// The number, unless it is negative.
-fn natural(number: i32) -> Option<usize>
-    ensures { result ≡ natural number }
+fn non_negative(number: i32) -> Option<usize>
+    ensures { result ≡ non_negative number }
 {
     if number < 0 {
         None

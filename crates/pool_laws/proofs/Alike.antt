@@ -2,7 +2,7 @@
 use Rattle.std.proofs.Common.{◌≡◌, ◌==◌, ◌||◌, ℕ, zero, suc, Option, List, length, refl}
 use Rattle.std.specs.List.{filter, filter_map, list_any, range_with_len}
 use Rattle.proto_types.specs.declared.file.FileDescriptorProto.{FileDescriptorProto}
-use Rattle.proto_types.specs.Lists.{at}
+use Rattle.plain_data.specs.Lists.{at}
 use Rattle.name_resolution.specs.Visibility.{file_at, imports_of, public_imports_of, leads_publicly, seen_from}
 
 -- a file has the imports of another, and the same of them are public

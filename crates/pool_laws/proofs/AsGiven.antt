@@ -3,7 +3,7 @@ use Rattle.std.proofs.Common.{◌≡◌, ◌<◌, ℕ, ℤ, Option, not, is_some
 use Rattle.std.specs.Option.{option_and_then, option_map_or}
 use Rattle.proto_types.specs.declared.records.field.FieldDescriptorProto.{FieldDescriptorProto}
 use Rattle.proto_types.specs.declared.tag.field.TheConstants as field
-use Rattle.proto_types.specs.Lists.{listed, only_if}
+use Rattle.plain_data.specs.Lists.{listed, only_if}
 use Rattle.proto_types.specs.Readers.{text_of, type_of}
 use Rattle.pool_types.specs.declared.kinds.KindIndex.{KindIndex}
 use Rattle.pool_faults.specs.declared.fault.DescriptorErrorKind.{DescriptorErrorKind}
@@ -14,13 +14,13 @@ use Rattle.name_resolution.specs.declared.filter.ResolveNameFilter.TheVariants.{
 use Rattle.name_resolution.specs.Kinds.{named_kind, simple_kind}
 use Rattle.name_resolution.specs.References.{reference_fault}
 use Rattle.name_resolution.specs.Resolution.{Resolution, found, invalid_type, not_imported, shadowed, not_found, kind_found}
-use Rattle.field_rules.specs.Defaults.{MeantEnum, default_faults}
+use Rattle.field_rules.specs.Defaults.{DefaultEnum, default_faults}
 use Rattle.reference_pass.specs.Defaults.{default_by, enum_found, field_default, field_default_faults, no_enum_meant, type_enum}
 use Rattle.reference_pass.specs.Definitions.{message_record}
 use Rattle.reference_pass.specs.Extensions.{number_faults}
-use Rattle.reference_pass.specs.FieldTypes.{field_kind, type_faults, type_meaning}
+use Rattle.reference_pass.specs.FieldTypes.{field_kind, type_faults, resolve_type}
 use Rattle.reference_pass.specs.Linked.{linked_field, resolved, typed}
-use Rattle.reference_pass.specs.Messages.{message_found, message_meaning}
+use Rattle.reference_pass.specs.Messages.{message_found, resolve_message}
 use Rattle.reference_pass.specs.Setting.{Setting}
 use Rattle.pool_laws.specs.SettingLaws.{IsDefaulted, IsMessageName, IsTyped, Stands, unchanged}
 use Rattle.pool_laws.proofs.Carries.{Carries, CarriesMethods, NamedThere}
@@ -31,7 +31,7 @@ use Rattle.pool_laws.proofs.Typed.{no-fault}
 module _ {s t : Setting} {many : ℕ} (stands : Stands s t many) where
   -- the name of a message
   module _ (d : Shown) (below : d.file < many) (path : List ℤ) (given : Option (List ℕ)) where
-    found-named : (r : Resolution) → message_meaning s d given ≡ r → listed (reference_fault s.files (text_of given) d.file path r) ≡ []
+    found-named : (r : Resolution) → resolve_message s d given ≡ r → listed (reference_fault s.files (text_of given) d.file path r) ≡ []
         → IsMessageName t d path (message_found r) (resolved r given) given
     found-named (found name def) is none =
         let now = (stands.references d.file below d.full_name (text_of given) Message name def is).meaning_is in
@@ -46,13 +46,13 @@ module _ {s t : Setting} {many : ℕ} (stands : Stands s t many) where
     found-named not_found is none = absurd (cc)
 
     named : NamedThere s t d path given given
-    named = found-named (message_meaning s d given) refl
+    named = found-named (resolve_message s d given) refl
 
   -- the number of an extension
   module _ (d : Shown) (below : d.file < many) (x y : FieldDescriptorProto) (number : y.number ≡ x.number) where
-    numbered : (r : Resolution) → message_meaning s d x.extendee ≡ r
+    numbered : (r : Resolution) → resolve_message s d x.extendee ≡ r
         → listed (reference_fault s.files (text_of x.extendee) d.file (d.path ++ field.EXTENDEE ∷ []) r) ≡ [] → number_faults s d x r ≡ []
-        → number_faults t d y (message_meaning t d x.extendee) ≡ []
+        → number_faults t d y (resolve_message t d x.extendee) ≡ []
     numbered (found name def) is named none =
         let there = stands.references d.file below d.full_name (text_of x.extendee) Message name def is in
         ap (number_faults t d y) there.meaning_is ∙ numbered-by s t d x y number name def (message_record s def) (message_record t def) there.ranges none
@@ -68,11 +68,11 @@ module _ {s t : Setting} {many : ℕ} (stands : Stands s t many) where
 
     -- what the type name means, where there is one, and the enum that it is
     record Meant (r : Resolution) : Type 0 where
-      faults : listed (reference_fault t.files (text_of f.type_name) d.file at (type_meaning t d f)) ≡ []
-      meaning_is : type_meaning t d f ≡ r
-      enum_is : enum_found t (type_meaning t d f) ≡ enum_found s r
+      faults : listed (reference_fault t.files (text_of f.type_name) d.file at (resolve_type t d f)) ≡ []
+      meaning_is : resolve_type t d f ≡ r
+      enum_is : enum_found t (resolve_type t d f) ≡ enum_found s r
 
-    meant : (r : Resolution) → type_meaning s d f ≡ r → listed (reference_fault s.files (text_of f.type_name) d.file at r) ≡ [] → Meant r
+    meant : (r : Resolution) → resolve_type s d f ≡ r → listed (reference_fault s.files (text_of f.type_name) d.file at r) ≡ [] → Meant r
     meant (found name def) is none =
         let there = stands.references d.file below d.full_name (text_of f.type_name) AnyType name def is in
         record {
@@ -90,23 +90,23 @@ module _ {s t : Setting} {many : ℕ} (stands : Stands s t many) where
       faults :
           let faults : List DescriptorErrorKind = elim name [
             | [] ↦ only_if (not (is_some (simple_kind (type_of f.type_)))) (MissingRequiredField (label_in t.files d.file at))
-            | _ ∷ _ ↦ listed (reference_fault t.files (text_of f.type_name) d.file at (type_meaning t d f))
+            | _ ∷ _ ↦ listed (reference_fault t.files (text_of f.type_name) d.file at (resolve_type t d f))
           ] in
           faults ≡ []
       kind_is :
           let kind : Resolution → Option KindIndex = λ r. elim name [ [] ↦ simple_kind (type_of f.type_) | _ ∷ _ ↦ option_and_then (named_kind (type_of f.type_)) (kind_found r) ] in
-          kind (type_meaning t d f) ≡ kind (type_meaning s d f)
+          kind (resolve_type t d f) ≡ kind (resolve_type s d f)
       linked_is :
           let made : Resolution → FieldDescriptorProto = λ r. elim name [ [] ↦ f | _ ∷ _ ↦ typed r f ] in
-          made (type_meaning t d f) ≡ made (type_meaning s d f)
+          made (resolve_type t d f) ≡ made (resolve_type s d f)
       enum_is :
-          let meant : Setting → MeantEnum = λ u. elim name [ [] ↦ no_enum_meant | _ ∷ _ ↦ enum_found u (type_meaning u d f) ] in
+          let meant : Setting → DefaultEnum = λ u. elim name [ [] ↦ no_enum_meant | _ ∷ _ ↦ enum_found u (resolve_type u d f) ] in
           meant t ≡ meant s
 
     by-name : (name : List ℕ)
         → let faults : List DescriptorErrorKind = elim name [
           | [] ↦ only_if (not (is_some (simple_kind (type_of f.type_)))) (MissingRequiredField (label_in s.files d.file at))
-          | _ ∷ _ ↦ listed (reference_fault s.files (text_of f.type_name) d.file at (type_meaning s d f))
+          | _ ∷ _ ↦ listed (reference_fault s.files (text_of f.type_name) d.file at (resolve_type s d f))
         ] in
         faults ≡ [] → Same name
     by-name [] none = record {
@@ -116,7 +116,7 @@ module _ {s t : Setting} {many : ℕ} (stands : Stands s t many) where
       enum_is = refl;
     }
     by-name (c ∷ cs) none =
-        let m = meant (type_meaning s d f) refl none in
+        let m = meant (resolve_type s d f) refl none in
         record {
           faults = m.faults;
           kind_is = ap (λ r. option_and_then (named_kind (type_of f.type_)) (kind_found r)) m.meaning_is;
@@ -153,7 +153,7 @@ module _ {s t : Setting} {many : ℕ} (stands : Stands s t many) where
     typed = typed-same;
     defaulted = defaulted-same;
     extendees = λ d below x. named d below (d.path ++ field.EXTENDEE ∷ []) x.extendee;
-    numbered = λ d below x y number named none. numbered d below x y number (message_meaning s d x.extendee) refl named none;
+    numbered = λ d below x y number named none. numbered d below x y number (resolve_message s d x.extendee) refl named none;
     syntaxes = stands.syntaxes;
     sees = stands.sees;
   }

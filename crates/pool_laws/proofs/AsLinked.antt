@@ -2,7 +2,7 @@
 use Rattle.std.proofs.Common.{◌≡◌, ◌<◌, [], ◌∷◌, ◌++◌, length, refl, ap, subst, ◌∙◌}
 use Rattle.proto_types.specs.declared.records.field.FieldDescriptorProto.{FieldDescriptorProto}
 use Rattle.proto_types.specs.declared.tag.field.TheConstants as field
-use Rattle.proto_types.specs.Lists.{listed}
+use Rattle.plain_data.specs.Lists.{listed}
 use Rattle.proto_types.specs.Readers.{text_of}
 use Rattle.record_walk.specs.Shown.{Shown}
 use Rattle.name_resolution.specs.declared.filter.ResolveNameFilter.TheVariants.{Message}
@@ -11,12 +11,12 @@ use Rattle.name_resolution.specs.Resolution.{Resolution, found, invalid_type, no
 use Rattle.reference_pass.specs.Definitions.{message_record}
 use Rattle.reference_pass.specs.Extensions.{number_faults}
 use Rattle.reference_pass.specs.Linked.{linking, resolved}
-use Rattle.reference_pass.specs.Messages.{message_meaning}
+use Rattle.reference_pass.specs.Messages.{resolve_message}
 use Rattle.reference_pass.specs.Setting.{Setting}
 use Rattle.pool_laws.specs.SettingLaws.{Grows, Rereads}
 use Rattle.pool_laws.proofs.Carries.{Carries, CarriesMethods}
 use Rattle.pool_laws.proofs.Defaulted.{defaulted-again}
-use Rattle.pool_laws.proofs.SettingKept.{field-kept}
+use Rattle.pool_laws.proofs.SettingStays.{field-kept}
 use Rattle.pool_laws.proofs.Looked.{IsLooked, looked-named, resolution-looked}
 use Rattle.pool_laws.proofs.MessageNames.{message-named-again}
 use Rattle.pool_laws.proofs.Numbered.{numbered-by}
@@ -31,9 +31,9 @@ linked-methods s t grows = record {
 
 module _ (s t : Setting) (again : Rereads s t) where
   module _ (d : Shown) (below : d.file < length s.files) (x y : FieldDescriptorProto) (number : y.number ≡ x.number) where
-    numbered : (r : Resolution) → message_meaning s d x.extendee ≡ r
+    numbered : (r : Resolution) → resolve_message s d x.extendee ≡ r
         → listed (reference_fault s.files (text_of x.extendee) d.file (d.path ++ field.EXTENDEE ∷ []) r) ≡ [] → number_faults s d x r ≡ []
-        → number_faults t d y (message_meaning t d (resolved r x.extendee)) ≡ []
+        → number_faults t d y (resolve_message t d (resolved r x.extendee)) ≡ []
     numbered (found name def) is named none =
         let now = subst (IsLooked s.names (seen s d.file) Message) is (resolution-looked s.names (seen s d.file) Message d.full_name (text_of x.extendee)) in
         let got = looked-named s.names (seen s d.file) Message name name def now.0 in
@@ -52,7 +52,7 @@ module _ (s t : Setting) (again : Rereads s t) where
     typed = typed-again s t again.grows;
     defaulted = defaulted-again s t again.grows again.enums;
     extendees = λ d below x. message-named-again s t again.grows d below (d.path ++ field.EXTENDEE ∷ []) x.extendee;
-    numbered = λ d below x y number named none. numbered d below x y number (message_meaning s d x.extendee) refl named none;
+    numbered = λ d below x y number named none. numbered d below x y number (resolve_message s d x.extendee) refl named none;
     syntaxes = again.syntaxes;
     sees = again.grows.sees;
   }

@@ -3,7 +3,7 @@ use Rattle.std.proofs.Common.{◌≡◌, ◌<◌, ℕ, ℤ, Option, List, [], �
 use Rattle.proto_types.specs.declared.records.field.FieldDescriptorProto.{FieldDescriptorProto}
 use Rattle.proto_types.specs.declared.records.service.MethodDescriptorProto.{MethodDescriptorProto}
 use Rattle.proto_types.specs.declared.tag.field.TheConstants as field
-use Rattle.proto_types.specs.Lists.{listed}
+use Rattle.plain_data.specs.Lists.{listed}
 use Rattle.proto_types.specs.Readers.{text_of}
 use Rattle.record_walk.specs.Changed.{Changes}
 use Rattle.record_walk.specs.Shown.{Shown}
@@ -13,16 +13,16 @@ use Rattle.reference_pass.specs.Defaults.{field_default, field_default_faults}
 use Rattle.reference_pass.specs.Extensions.{extendee_faults, number_faults}
 use Rattle.reference_pass.specs.FieldTypes.{field_kind, type_faults}
 use Rattle.reference_pass.specs.Linked.{linked_field, resolved}
-use Rattle.reference_pass.specs.Messages.{message_found, message_meaning}
+use Rattle.reference_pass.specs.Messages.{message_found, resolve_message}
 use Rattle.reference_pass.specs.Setting.{Setting, seen_by}
 use Rattle.pool_laws.specs.SettingLaws.{IsDefaulted, IsMessageName, IsTyped}
-use Rattle.pool_laws.proofs.SettingKept.{retyped}
+use Rattle.pool_laws.proofs.SettingStays.{retyped}
 
 -- the name of a message that broke nothing is carried as this one: it means the message that it meant
 abbrev pub NamedThere : Setting → Setting → Shown → List ℤ → Option (List ℕ) → Option (List ℕ) → Type 0
 NamedThere s t d path given name =
-    listed (reference_fault s.files (text_of given) d.file path (message_meaning s d given)) ≡ []
-    → IsMessageName t d path (message_found (message_meaning s d given)) (resolved (message_meaning s d given) given) name
+    listed (reference_fault s.files (text_of given) d.file path (resolve_message s d given)) ≡ []
+    → IsMessageName t d path (message_found (resolve_message s d given)) (resolved (resolve_message s d given) given) name
 
 -- a method, of which only its input and its output change
 pub record CarriesMethods (s t : Setting) (c : Changes) (many : ℕ) : Type 0 where
@@ -45,7 +45,7 @@ pub record Carries (s t : Setting) (c : Changes) (many : ℕ) : Type 0 where
   pub extendees : (d : Shown) → d.file < many → (x : FieldDescriptorProto)
       → NamedThere s t d (d.path ++ field.EXTENDEE ∷ []) x.extendee (c.extension d.file d.full_name x).extendee
   pub numbered : (d : Shown) → d.file < many → (x y : FieldDescriptorProto) → y.number ≡ x.number → extendee_faults s d x ≡ []
-      → number_faults s d x (message_meaning s d x.extendee) ≡ [] → number_faults t d y (message_meaning t d (c.extension d.file d.full_name x).extendee) ≡ []
+      → number_faults s d x (resolve_message s d x.extendee) ≡ [] → number_faults t d y (resolve_message t d (c.extension d.file d.full_name x).extendee) ≡ []
   -- a file has the syntax that it had, and sees what it saw
   pub syntaxes : (n : ℕ) → n < many → syntax_at t.files n ≡ syntax_at s.files n
   pub sees : (n : ℕ) → n < many → seen_by t n ≡ seen_by s n

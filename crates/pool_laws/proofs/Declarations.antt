@@ -4,7 +4,7 @@ use Rattle.std.specs.FinMap as finite
 use Rattle.record_walk.specs.Changed.{Changes, changed}
 use Rattle.record_walk.specs.Protos.{Proto, of_file, of_message, of_field, of_oneof, of_service, of_method, of_enum, of_value, of_extension}
 use Rattle.record_walk.specs.Shown.{Shown}
-use Rattle.reference_pass.specs.Broken.{owner_faults}
+use Rattle.reference_pass.specs.SecondPass.{owner_faults}
 use Rattle.reference_pass.specs.Setting.{Setting}
 use Rattle.pool_laws.specs.SettingLaws.{ImportsMean}
 use Rattle.pool_laws.proofs.Carries.{Carries}

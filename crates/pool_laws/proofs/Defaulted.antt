@@ -3,7 +3,7 @@ use Rattle.std.proofs.Common.{◌≡◌, ◌<◌, ℕ, ℤ, Option, None, Some, 
 use Rattle.std.specs.Option.{option_map_or}
 use Rattle.proto_types.specs.declared.records.field.FieldDescriptorProto.{FieldDescriptorProto}
 use Rattle.proto_types.specs.declared.tag.field.TheConstants as field
-use Rattle.proto_types.specs.Lists.{listed, only_if}
+use Rattle.plain_data.specs.Lists.{listed, only_if}
 use Rattle.proto_types.specs.Readers.{text_of, type_of}
 use Rattle.proto_types.specs.declared.file.FileDescriptorProto.{FileDescriptorProto}
 use Rattle.pool_types.specs.declared.kinds.KindIndex.{KindIndex}
@@ -15,9 +15,9 @@ use Rattle.name_resolution.specs.declared.filter.ResolveNameFilter.TheVariants.{
 use Rattle.name_resolution.specs.Kinds.{simple_kind}
 use Rattle.name_resolution.specs.References.{reference_fault}
 use Rattle.name_resolution.specs.Resolution.{Resolution, found, invalid_type, not_imported, shadowed, not_found}
-use Rattle.field_rules.specs.Defaults.{MeantEnum, default_fault, default_faults, value_of}
+use Rattle.field_rules.specs.Defaults.{DefaultEnum, default_fault, default_faults, value_of}
 use Rattle.reference_pass.specs.Defaults.{default_by, enum_found, field_default, field_default_faults, no_enum_meant, type_enum}
-use Rattle.reference_pass.specs.FieldTypes.{field_kind, type_faults, type_meaning}
+use Rattle.reference_pass.specs.FieldTypes.{field_kind, type_faults, resolve_type}
 use Rattle.reference_pass.specs.Linked.{linked_field, typed}
 use Rattle.reference_pass.specs.Setting.{Setting}
 use Rattle.pool_laws.specs.SettingLaws.{EnumsStay, Grows, IsDefaulted}
@@ -25,7 +25,7 @@ use Rattle.pool_laws.proofs.Looked.{IsLooked, looked-named, resolution-looked}
 use Rattle.pool_laws.proofs.Typed.{found-again, no-fault, seen, typed-again}
 
 -- a default that breaks nothing breaks nothing where other files are cited
-pub no-default-fault : (fs gs : List FileDescriptorProto) (file : ℕ) (path : List ℤ) (meant : MeantEnum) (kind : Option KindIndex) (given : Option (List ℕ))
+pub no-default-fault : (fs gs : List FileDescriptorProto) (file : ℕ) (path : List ℤ) (meant : DefaultEnum) (kind : Option KindIndex) (given : Option (List ℕ))
     → option_map_or (λ k. default_faults fs file path k meant given) kind [] ≡ [] → option_map_or (λ k. default_faults gs file path k meant given) kind [] ≡ []
 no-default-fault fs gs file path meant None given none = refl
 no-default-fault fs gs file path meant (Some k) None none = refl
@@ -41,7 +41,7 @@ module _ (s t : Setting) (grows : Grows s t) (stay : EnumsStay s t) (d : Shown) 
   abbrev at : List ℤ
   at = d.path ++ field.TYPE_NAME ∷ []
 
-  found-meant : (f : FieldDescriptorProto) (r : Resolution) → type_meaning s d f ≡ r → listed (reference_fault s.files (text_of f.type_name) d.file at r) ≡ []
+  found-meant : (f : FieldDescriptorProto) (r : Resolution) → resolve_type s d f ≡ r → listed (reference_fault s.files (text_of f.type_name) d.file at r) ≡ []
       → type_enum t d (typed r f) ≡ enum_found s r
   found-meant f (found name def) is none =
       let now = subst (IsLooked s.names (seen s d.file) AnyType) is (resolution-looked s.names (seen s d.file) AnyType d.full_name (text_of f.type_name)) in
@@ -56,18 +56,18 @@ module _ (s t : Setting) (grows : Grows s t) (stay : EnumsStay s t) (d : Shown) 
   meant-by-name : (f : FieldDescriptorProto) (name : List ℕ) → text_of f.type_name ≡ name
       → let faults : List DescriptorErrorKind = elim name [
         | [] ↦ only_if (not (is_some (simple_kind (type_of f.type_)))) (MissingRequiredField (label_in s.files d.file at))
-        | _ ∷ _ ↦ listed (reference_fault s.files (text_of f.type_name) d.file at (type_meaning s d f))
+        | _ ∷ _ ↦ listed (reference_fault s.files (text_of f.type_name) d.file at (resolve_type s d f))
       ] in
-      faults ≡ [] → type_enum t d (elim name [ [] ↦ f | _ ∷ _ ↦ typed (type_meaning s d f) f ]) ≡ elim name [ [] ↦ no_enum_meant | _ ∷ _ ↦ enum_found s (type_meaning s d f) ]
+      faults ≡ [] → type_enum t d (elim name [ [] ↦ f | _ ∷ _ ↦ typed (resolve_type s d f) f ]) ≡ elim name [ [] ↦ no_enum_meant | _ ∷ _ ↦ enum_found s (resolve_type s d f) ]
   meant-by-name f [] is none = rw (is, type_enum) refl
-  meant-by-name f (c ∷ cs) is none = found-meant f (type_meaning s d f) refl none
+  meant-by-name f (c ∷ cs) is none = found-meant f (resolve_type s d f) refl none
 
   pub defaulted-again : (f : FieldDescriptorProto) → type_faults s d f ≡ [] → field_default_faults s d f ≡ []
       → IsDefaulted t d (field_default s d f) (linked_field s d.file d.full_name f)
   defaulted-again f typed_well none =
       let kind = (typed-again s t grows d below f typed_well).kind_is in
       let meant = meant-by-name f (text_of f.type_name) refl typed_well in
-      let given = given-kept (type_meaning s d f) f (text_of f.type_name) in
+      let given = given-kept (resolve_type s d f) f (text_of f.type_name) in
       record {
         faults = (λ i. option_map_or (λ k. default_faults t.files d.file d.path k (meant i) (given i)) (kind i) [])
             ∙ no-default-fault s.files t.files d.file d.path (type_enum s d f) (field_kind s d f) f.default_value none;

@@ -12,14 +12,14 @@ use Rattle.name_pass.specs.Syntaxes.{is_proto3}
 use Rattle.field_rules.specs.Identities.{named_at}
 use Rattle.field_rules.specs.Encoding.{is_packed}
 use Rattle.field_rules.specs.DuplicateNumbers.{item_number}
-use Rattle.reference_pass.specs.Broken.{extension_faults}
+use Rattle.reference_pass.specs.SecondPass.{extension_faults}
 use Rattle.reference_pass.specs.Defaults.{field_default_faults}
 use Rattle.reference_pass.specs.Extensions.{extendee_faults, number_faults}
 use Rattle.reference_pass.specs.FieldTypes.{type_faults}
 use Rattle.reference_pass.specs.Items.{extension_item}
 use Rattle.reference_pass.specs.Linked.{linked_extension, typed}
-use Rattle.reference_pass.specs.Messages.{message_meaning, or_missing}
-use Rattle.reference_pass.specs.Setting.{Setting, meaning}
+use Rattle.reference_pass.specs.Messages.{resolve_message, index_or_max}
+use Rattle.reference_pass.specs.Setting.{Setting, resolve}
 use Rattle.pool_laws.specs.SettingLaws.{IsExtension, extension_at_place}
 use Rattle.pool_laws.proofs.Carries.{Carries}
 use Rattle.pool_laws.proofs.Numbered.{both-empty}
@@ -46,7 +46,7 @@ module _ {s t : Setting} {c : Changes} {many : ℕ} (carries : Carries s t c man
   by-parts none =
       let new : FieldDescriptorProto = record field { extendee = extendee } in
       let extended = extendee_faults s d x in
-      let number = number_faults s d x (message_meaning s d x.extendee) in
+      let number = number_faults s d x (resolve_message s d x.extendee) in
       let three = both-empty (extended ++ number ++ type_faults s d x) (field_default_faults s d x) none in
       let two = both-empty (extended ++ number) (type_faults s d x) three.0 in
       let one = both-empty extended number two.0 in
@@ -55,9 +55,9 @@ module _ {s t : Setting} {c : Changes} {many : ℕ} (carries : Carries s t c man
       let default = carries.defaulted d below x two.1 three.1 in
       let kept = carries.kept d.file d.full_name x in
       let number_is = ap (λ (y : FieldDescriptorProto). y.number) kept in
-      let number_still : number_faults t d new (message_meaning t d extendee) ≡ [] = carries.numbered d below x new number_is one.0 one.1 in
+      let number_still : number_faults t d new (resolve_message t d extendee) ≡ [] = carries.numbered d below x new number_is one.0 one.1 in
       let syntax = carries.syntaxes d.file below in
-      let aside = extendee-aside (meaning t d.file d.full_name AnyType (text_of field.type_name)) field extendee (text_of field.type_name) in
+      let aside = extendee-aside (resolve t d.file d.full_name AnyType (text_of field.type_name)) field extendee (text_of field.type_name) in
       let linked = aside ∙ (λ j. record (typed.linked_is j) { extendee = extendee }) in
       record {
         faults = λ j. named.faults j ++ number_still j ++ typed.faults j ++ default.faults j;
@@ -65,7 +65,7 @@ module _ {s t : Setting} {c : Changes} {many : ℕ} (carries : Carries s t c man
             (λ j. record (extension_item t (extension_at_place d new) new) {
               id = named_at d.file d.path d.full_name (text_of (kept j).name);
               number = item_number (number_of (kept j).number);
-              extendee = or_missing (named.index_is j);
+              extendee = index_or_max (named.index_is j);
               kind = unwrap_or (typed.kind_is j) Double;
               is_packed = is_packed (is_proto3 (syntax j)) (unwrap_or (typed.kind_is j) Double) (kept j);
               cardinality = cardinality_of (label_of (kept j).label);

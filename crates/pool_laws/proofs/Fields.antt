@@ -3,24 +3,24 @@ use Rattle.std.proofs.Common.{◌≡◌, ◌<◌, ℕ, suc, not, is_some, List, 
 use Rattle.std.specs.List.{flat_map, take-map}
 use Rattle.std.specs.Option.{option_map_or}
 use Rattle.proto_types.specs.declared.records.field.FieldDescriptorProto.{FieldDescriptorProto}
-use Rattle.proto_types.specs.Lists.{at, only_if}
+use Rattle.plain_data.specs.Lists.{at, only_if}
 use Rattle.proto_types.specs.Names.{join}
 use Rattle.proto_types.specs.Readers.{text_of}
 use Rattle.proto_types.specs.declared.message.DescriptorProto.{DescriptorProto, out-DescriptorProto}
 use Rattle.pool_faults.specs.declared.fault.DescriptorErrorKind.TheVariants.{InvalidOneofIndex}
 use Rattle.record_walk.specs.Changed.{Changes}
 use Rattle.record_walk.specs.Shown.{Shown, inside}
-use Rattle.field_rules.specs.Each.{each}
+use Rattle.plain_data.specs.Each.{map_enumerated}
 use Rattle.field_rules.specs.Places.{field_at}
 use Rattle.field_rules.specs.Numbers.{field_number_faults}
-use Rattle.field_rules.specs.Again.{again_faults}
+use Rattle.field_rules.specs.Duplicates.{duplicate_faults}
 use Rattle.field_rules.specs.Oneofs.{oneof_faults}
-use Rattle.reference_pass.specs.Broken.{Faults, Owner, field_faults, own_faults}
+use Rattle.reference_pass.specs.SecondPass.{Faults, Owner, field_faults, field_record_faults}
 use Rattle.reference_pass.specs.Defaults.{field_default_faults}
 use Rattle.reference_pass.specs.FieldTypes.{type_faults}
 use Rattle.reference_pass.specs.Setting.{Setting}
 use Rattle.pool_laws.specs.SettingLaws.{SameRanges}
-use Rattle.pool_laws.proofs.SettingAgain.{again-still}
+use Rattle.pool_laws.proofs.SettingRelinks.{again-still}
 use Rattle.pool_laws.proofs.Carries.{Carries}
 use Rattle.pool_laws.proofs.Numbered.{both-empty, field-numbered}
 
@@ -30,14 +30,14 @@ pub record BreaksNothing (s : Setting) (owner : Owner) (d : Shown) (f : FieldDes
   pub typed : type_faults s d f ≡ []
   pub default : field_default_faults s d f ≡ []
   pub oneof : oneof_faults (out-DescriptorProto owner.1).oneof_decl f ≡ []
-  pub other : again_faults s.files owner.0.file owner.0.path (take d.index (out-DescriptorProto owner.1).field) d.index f ≡ []
+  pub other : duplicate_faults s.files owner.0.file owner.0.path (take d.index (out-DescriptorProto owner.1).field) d.index f ≡ []
 
 pub breaks-nothing : (s : Setting) (owner : Owner) (d : Shown) (f : FieldDescriptorProto) → field_faults s owner d f ≡ [] → BreaksNothing s owner d f
 breaks-nothing s owner d f none =
     let number = field_number_faults s.files owner.0 owner.1 d f in
     let typed = type_faults s d f in
     let default = field_default_faults s d f in
-    let parts = both-empty (own_faults s owner d f) (again_faults s.files owner.0.file owner.0.path (take d.index (out-DescriptorProto owner.1).field) d.index f) none in
+    let parts = both-empty (field_record_faults s owner d f) (duplicate_faults s.files owner.0.file owner.0.path (take d.index (out-DescriptorProto owner.1).field) d.index f) none in
     let three = both-empty (number ++ typed ++ default) (oneof_faults (out-DescriptorProto owner.1).oneof_decl f) parts.0 in
     let two = both-empty (number ++ typed) default three.0 in
     let one = both-empty number typed two.0 in
@@ -73,23 +73,23 @@ module _ {s t : Setting} {c : Changes} {many : ℕ} (carries : Carries s t c man
         (λ j. field_default_faults t (renamed i f (name j)) (carried f)) ∙ (carries.defaulted here below f parts.typed parts.default).faults in
         let oneof_still : oneof_faults (out-DescriptorProto k).oneof_decl (carried f) ≡ [] =
         (λ j. option_map_or (λ n. only_if (not (is_some (at (oneofs j) n))) InvalidOneofIndex) (index j) []) ∙ parts.oneof in
-        let no_other : again_faults t.files d.file d.path (take i (out-DescriptorProto k).field) i (carried f) ≡ [] =
-        ap (λ earlier. again_faults t.files d.file d.path earlier i (carried f)) (ap (take i) fields ∙ take-map carried i fs)
+        let no_other : duplicate_faults t.files d.file d.path (take i (out-DescriptorProto k).field) i (carried f) ≡ [] =
+        ap (λ earlier. duplicate_faults t.files d.file d.path earlier i (carried f)) (ap (take i) fields ∙ take-map carried i fs)
         ∙ again-still s.files t.files d.file d.path carried (λ x. ap (λ (y : FieldDescriptorProto). y.number) (kept x)) (λ x. ap (λ (y : FieldDescriptorProto). y.json_name) (kept x)) (take i fs) i f parts.other in
         λ j. (numbered j ++ typed_still j ++ default_still j ++ oneof_still j) ++ no_other j
 
     each-again : (i : ℕ) (fs : List FieldDescriptorProto)
-        → flat_map (λ (faults : Faults). faults) (each (λ i f. field_faults s (d, m) (field_at (inside d) i f) f) i fs) ≡ []
-        → flat_map (λ (faults : Faults). faults) (each (λ i f. field_faults t (d, k) (field_at (inside d) i f) f) i (map carried fs)) ≡ []
+        → flat_map (λ (faults : Faults). faults) (map_enumerated (λ i f. field_faults s (d, m) (field_at (inside d) i f) f) i fs) ≡ []
+        → flat_map (λ (faults : Faults). faults) (map_enumerated (λ i f. field_faults t (d, k) (field_at (inside d) i f) f) i (map carried fs)) ≡ []
     each-again i [] none = refl
     each-again i (f ∷ fs) none =
         let parts = both-empty (field_faults s (d, m) (field_at (inside d) i f) f)
-        (flat_map (λ (faults : Faults). faults) (each (λ i f. field_faults s (d, m) (field_at (inside d) i f) f) (suc i) fs)) none in
+        (flat_map (λ (faults : Faults). faults) (map_enumerated (λ i f. field_faults s (d, m) (field_at (inside d) i f) f) (suc i) fs)) none in
         λ j. field-again i f parts.0 j ++ each-again (suc i) fs parts.1 j
 
     -- what the fields of the message break, where the carried ones are read
-    pub fields-again : flat_map (λ (faults : Faults). faults) (each (λ i f. field_faults s (d, m) (field_at (inside d) i f) f) 0 (out-DescriptorProto m).field) ≡ []
-        → flat_map (λ (faults : Faults). faults) (each (λ i f. field_faults t (d, k) (field_at (inside d) i f) f) 0 (out-DescriptorProto k).field) ≡ []
+    pub fields-again : flat_map (λ (faults : Faults). faults) (map_enumerated (λ i f. field_faults s (d, m) (field_at (inside d) i f) f) 0 (out-DescriptorProto m).field) ≡ []
+        → flat_map (λ (faults : Faults). faults) (map_enumerated (λ i f. field_faults t (d, k) (field_at (inside d) i f) f) 0 (out-DescriptorProto k).field) ≡ []
     fields-again none =
-        ap (λ fs. flat_map (λ (faults : Faults). faults) (each (λ i f. field_faults t (d, k) (field_at (inside d) i f) f) 0 fs)) fields
+        ap (λ fs. flat_map (λ (faults : Faults). faults) (map_enumerated (λ i f. field_faults t (d, k) (field_at (inside d) i f) f) 0 fs)) fields
         ∙ each-again 0 (out-DescriptorProto m).field none

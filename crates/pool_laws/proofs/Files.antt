@@ -2,14 +2,14 @@
 use Rattle.std.proofs.Common.{◌≡◌, ◌<◌, ℕ, suc, not, is_some, Option, None, Some, List, [], ◌∷◌, ◌++◌, refl}
 use Rattle.std.specs.FinMap as finite
 use Rattle.std.specs.List.{cons_option, filter_map, flat_map}
-use Rattle.proto_types.specs.Lists.{only_if}
+use Rattle.plain_data.specs.Lists.{only_if}
 use Rattle.proto_types.specs.declared.file.FileDescriptorProto.{FileDescriptorProto}
 use Rattle.pool_faults.specs.declared.fault.DescriptorErrorKind.{DescriptorErrorKind}
 use Rattle.record_walk.specs.declared.counts.Counts.{Counts}
 use Rattle.record_walk.specs.Changed.{Changes, changed_file}
 use Rattle.record_walk.specs.Declarations.{file_walk}
-use Rattle.field_rules.specs.Each.{each}
-use Rattle.reference_pass.specs.Broken.{Faults, owner_faults}
+use Rattle.plain_data.specs.Each.{map_enumerated}
+use Rattle.reference_pass.specs.SecondPass.{Faults, owner_faults}
 use Rattle.reference_pass.specs.Imports.{index_fault, missing_file, missing_files}
 use Rattle.reference_pass.specs.Items.{file_item}
 use Rattle.reference_pass.specs.Setting.{Setting}
@@ -24,11 +24,11 @@ same-file : (old now : Option ℕ) (fault : DescriptorErrorKind) → ((n : ℕ) 
 same-file None now fault stay none = absurd (cc)
 same-file (Some n) now fault stay none = stay n refl
 
-imported : (s t : Setting) (index k : ℕ) (names : List (List ℕ)) → NamesStay s t names → flat_map (λ (faults : Faults). faults) (each (missing_file s index) k names) ≡ []
+imported : (s t : Setting) (index k : ℕ) (names : List (List ℕ)) → NamesStay s t names → flat_map (λ (faults : Faults). faults) (map_enumerated (missing_file s index) k names) ≡ []
     → filter_map (finite.get t.file_names) names ≡ filter_map (finite.get s.file_names) names
 imported s t index k [] stay none = refl
 imported s t index k (name ∷ names) stay none =
-    let parts = both-empty (missing_file s index k name) (flat_map (λ (faults : Faults). faults) (each (missing_file s index) (suc k) names)) none in
+    let parts = both-empty (missing_file s index k name) (flat_map (λ (faults : Faults). faults) (map_enumerated (missing_file s index) (suc k) names)) none in
     let here = same-file (finite.get s.file_names name) (finite.get t.file_names name) _ stay.0 parts.0 in
     λ j. cons_option (here j) (imported s t index (suc k) names stay.1 parts.1 j)
 

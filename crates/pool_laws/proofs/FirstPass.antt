@@ -9,7 +9,7 @@ use Rattle.std.proofs.lemmas.List.{map-append}
 use Rattle.proto_types.specs.declared.records.enumeration.EnumValueDescriptorProto.{EnumValueDescriptorProto}
 use Rattle.proto_types.specs.declared.records.field.FieldDescriptorProto.{FieldDescriptorProto}
 use Rattle.proto_types.specs.declared.tag.file.TheConstants.{SYNTAX}
-use Rattle.proto_types.specs.Lists.{after_each, listed, only_if}
+use Rattle.plain_data.specs.Lists.{after_each, listed, only_if}
 use Rattle.proto_types.specs.Names.{join}
 use Rattle.proto_types.specs.Readers.{number_of, text_of}
 use Rattle.proto_types.specs.declared.file.FileDescriptorProto.{FileDescriptorProto}
@@ -30,7 +30,7 @@ use Rattle.name_pass.specs.CamelCase.{Placed, camel_case_faults, camel_case_key,
 use Rattle.name_pass.specs.Enumeration.{first_number_path}
 use Rattle.name_pass.specs.Syntaxes.{is_proto3, known_syntax, syntax_at, syntax_faults}
 use Rattle.name_pass.specs.Entered.{entries, entries_of, file_entries}
-use Rattle.name_pass.specs.FirstPass.{clashes, file_faults, file_name_faults, first_faults, holder, holder_faults, own_faults}
+use Rattle.name_pass.specs.FirstPass.{clashes, file_faults, file_name_faults, first_faults, holder, holder_faults, shape_faults}
 use Rattle.pool_laws.proofs.Messages.{parts-of}
 use Rattle.pool_laws.proofs.Numbered.{both-empty}
 use Rattle.pool_laws.proofs.Typed.{no-fault}
@@ -154,10 +154,10 @@ module _ (c : Changes) (keep : KeepNames c) (fs gs : List FileDescriptorProto) (
 
     -- the three parts of what a declaration breaks
     by-parts : (d e : Shown) → entries_of e ≡ entries_of d → (file_faults fs p.file_names (file_entries earlier) d ≡ [] → file_faults gs q.file_names (file_entries before) e ≡ [])
-        → (own_faults fs d ≡ [] → own_faults gs e ≡ []) → first_faults fs p earlier d ≡ [] → first_faults gs q before e ≡ []
+        → (shape_faults fs d ≡ [] → shape_faults gs e ≡ []) → first_faults fs p earlier d ≡ [] → first_faults gs q before e ≡ []
     by-parts d e same first own none =
         let clash = clashes fs p.names (entries earlier) (entries_of d) in
-        let two = both-empty (file_faults fs p.file_names (file_entries earlier) d ++ clash) (own_faults fs d) none in
+        let two = both-empty (file_faults fs p.file_names (file_entries earlier) d ++ clash) (shape_faults fs d) none in
         let one = both-empty (file_faults fs p.file_names (file_entries earlier) d) clash two.0 in
         λ i. first one.0 i ++ by-names d e same one.1 i ++ own two.1 i
 

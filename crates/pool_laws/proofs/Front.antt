@@ -9,7 +9,7 @@ use Rattle.std.specs.List.{All, AllByRecursion, Contains, flat_map}
 use Rattle.std.specs.Option.{option_and_then}
 use Rattle.std.specs.Ordering.{nat_cmp}
 use Rattle.std.specs.Str.{bytes_eq}
-use Rattle.proto_types.specs.Lists.{after_each}
+use Rattle.plain_data.specs.Lists.{after_each}
 use Rattle.proto_types.specs.Readers.{text_of}
 use Rattle.proto_types.specs.EmptyFile.{no_file}
 use Rattle.proto_types.specs.declared.file.FileDescriptorProto.{FileDescriptorProto}
@@ -29,24 +29,24 @@ use Rattle.record_walk.proofs.Walks.{IsInside, within-all}
 use Rattle.name_resolution.specs.declared.filter.ResolveNameFilter.{ResolveNameFilter}
 use Rattle.name_resolution.specs.Resolution.{found, resolution}
 use Rattle.name_pass.specs.Syntaxes.{syntax_of}
-use Rattle.reference_pass.specs.Broken.{owner_faults}
-use Rattle.reference_pass.specs.Definitions.{around_name, message_record, record_of}
-use Rattle.reference_pass.specs.Setting.{Setting, meaning, seen_by}
+use Rattle.reference_pass.specs.SecondPass.{owner_faults}
+use Rattle.reference_pass.specs.Definitions.{declaration_path, message_record, record_of}
+use Rattle.reference_pass.specs.Setting.{Setting, resolve, seen_by}
 use Rattle.reference_pass.proofs.Owners.{owners-tell}
-use Rattle.pool_laws.specs.SettingLaws.{ImportsMean, NamesStay, RangesStay, ReferenceStands, Stands, unchanged}
+use Rattle.pool_laws.specs.SettingLaws.{ImportsMean, NamesStay, RangesStay, ReferenceCarriesOver, Stands, unchanged}
 use Rattle.pool_laws.proofs.AsGiven.{given-carried}
 use Rattle.pool_laws.proofs.Fewer.{found-fewer}
 use Rattle.pool_laws.proofs.Looked.{IsLooked, looked-seen, resolution-looked}
 use Rattle.pool_laws.proofs.Unchanged.{declarations-unchanged, unchanged-keeps}
 use Rattle.name_pass.specs.Entered.{file_entries, file_entries_of}
 use Rattle.name_pass.specs.FirstPass.{first_faults}
-use Rattle.descriptor_pool.specs.Behind.{declared_behind, names_behind, references_behind, with_names}
+use Rattle.descriptor_pool.specs.Linking.{declared_with, name_faults, reference_faults, with_names}
 use Rattle.descriptor_pool.specs.Pool.{has_file}
 use Rattle.descriptor_pool.proofs.Files.{lie-between}
 use Rattle.descriptor_pool.proofs.Resolved.{all-append}
 use Rattle.descriptor_pool.proofs.Sound.{Known}
 use Rattle.pool_laws.specs.Laws.{ArePlain}
-use Rattle.pool_laws.proofs.Again.{first-kept, slice-front}
+use Rattle.pool_laws.proofs.Relinks.{first-kept, slice-front}
 use Rattle.pool_laws.proofs.Parts.{AllKnown, declared-both, earlier, known-stays, later, many-files, part, sees-same, sees-within, unbroken-both, whole}
 use Rattle.pool_laws.proofs.Passes.{after-parts, pass-again, unbroken-carried}
 use Rattle.pool_laws.proofs.Records.{ranges-itself}
@@ -59,7 +59,7 @@ plain-front base (f ∷ fs) gs plain = (plain.0, plain-front (counted base (file
 
 -- names of files that are known mean what they meant
 module _ (p : Contents) (entered : Known p) (again : Relinked p) (front back : List FileDescriptorProto)
-    (closed : AllKnown front (finite.get (with_names p (declared_behind p front)).file_names)) where
+    (closed : AllKnown front (finite.get (with_names p (declared_with p front)).file_names)) where
   abbrev now : Setting
   now = part p entered again front back closed
 
@@ -113,7 +113,7 @@ module _ (p : Contents) (entered : Known p) (again : Relinked p) (front back : L
   -- with plain names, references of the first part stand
   module _ (plain : ArePlain no_counts (files_of p ++ front)) where
     module _ (file : ℕ) (below : file < many) (scope written : List ℕ) (filter : ResolveNameFilter) (name : List ℕ) (def : Definition)
-        (is : meaning was file scope filter written ≡ found name def) where
+        (is : resolve was file scope filter written ≡ found name def) where
       abbrev seen : ℕ → Bool
       seen n = contains_by (nat_cmp n) (seen_by was file)
 
@@ -129,9 +129,9 @@ module _ (p : Contents) (entered : Known p) (again : Relinked p) (front back : L
           few def.file (looked-seen was.names seen filter name name def looked.0)
 
       record-same : record_of now def ≡ record_of was def
-      record-same = ap (option_and_then (λ f. leads f (around_name def.path))) (file-same def.file lies)
+      record-same = ap (option_and_then (λ f. leads f (declaration_path def.path))) (file-same def.file lies)
 
-      reference-stands : ReferenceStands was now file scope written filter name def
+      reference-stands : ReferenceCarriesOver was now file scope written filter name def
       reference-stands = record {
         meaning_is = (λ i. resolution now.names (λ n. contains_by (nat_cmp n) (sees-same p entered again front back closed file below i)) filter scope written) ∙ fewer;
         enum_is = ap (option_and_then as_enum) record-same;
@@ -146,7 +146,7 @@ module _ (p : Contents) (entered : Known p) (again : Relinked p) (front back : L
     }
 
     -- neither pass finds a fault
-    pub names-fine : names_behind p (front ++ back) ≡ [] → names_behind p front ≡ []
+    pub names-fine : name_faults p (front ++ back) ≡ [] → name_faults p front ≡ []
     names-fine none =
         let faults = first_faults was.files p in
         let alone = (after-parts faults [] first (later p entered again front back closed) (sym (ap (after_each faults []) (declared-both p entered again front back closed)) ∙ none)).0 in
@@ -154,7 +154,7 @@ module _ (p : Contents) (entered : Known p) (again : Relinked p) (front back : L
         ∙ pass-again unchanged unchanged-keeps was.files now.files p p [] [] first (record { names = λ _. refl; files = λ _. refl })
         (syntaxes-of many was.files now.files front-stands.syntaxes first lie) alone
 
-    pub references-fine : references_behind p (front ++ back) ≡ [] → references_behind p front ≡ []
+    pub references-fine : reference_faults p (front ++ back) ≡ [] → reference_faults p front ≡ []
     references-fine none =
         owners-tell now (counts_in p) front ∙ sym (ap (flat_map (owner_faults now)) (declarations-unchanged first))
         ∙ unbroken-carried (given-carried front-stands) first lie (imports-mean (counts_in p) front closed) (unbroken-both p entered again front back closed none).0
@@ -180,7 +180,7 @@ name-entered base (f ∷ fs) name there =
 -- so closed files import what is known
 module _ (p : Contents) (new : List FileDescriptorProto) where
   abbrev naming : List ℕ → Option ℕ
-  naming = finite.get (with_names p (declared_behind p new)).file_names
+  naming = finite.get (with_names p (declared_with p new)).file_names
 
   abbrev Imported : List ℕ → Type 0
   Imported name = IsTrue (has_file p name) ⊎ Contains (map (λ g. text_of g.name) new) name
@@ -190,11 +190,11 @@ module _ (p : Contents) (new : List FileDescriptorProto) where
 
   name-known : (name : List ℕ) → Imported name → IsSome (naming name)
   name-known name (inl known) =
-      let there = first-kept (finite.get p.file_names name) (first_of (file_entries (declared_behind p new)) name) known in
-      subst IsSome (sym (get-with p.file_names (file_entries (declared_behind p new)) name ∙ there)) known
+      let there = first-kept (finite.get p.file_names name) (first_of (file_entries (declared_with p new)) name) known in
+      subst IsSome (sym (get-with p.file_names (file_entries (declared_with p new)) name ∙ there)) known
   name-known name (inr there) =
-      subst IsSome (sym (get-with p.file_names (file_entries (declared_behind p new)) name))
-      (found-second (finite.get p.file_names name) (first_of (file_entries (declared_behind p new)) name) (name-entered (counts_in p) new name there))
+      subst IsSome (sym (get-with p.file_names (file_entries (declared_with p new)) name))
+      (found-second (finite.get p.file_names name) (first_of (file_entries (declared_with p new)) name) (name-entered (counts_in p) new name there))
 
   pub each-known : (fs : List FileDescriptorProto) → All AllImported fs → AllKnown fs naming
   each-known [] closed n below name there = absurd (omega (arith, below))

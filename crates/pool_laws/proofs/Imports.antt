@@ -2,11 +2,11 @@
 use Rattle.std.proofs.Common.{◌≡◌, ℕ, suc, not, is_some, Option, None, Some, List, [], ◌∷◌, ◌++◌, refl, ap}
 use Rattle.std.specs.FinMap as finite
 use Rattle.std.specs.List.{flat_map}
-use Rattle.proto_types.specs.Lists.{only_if}
+use Rattle.plain_data.specs.Lists.{only_if}
 use Rattle.proto_types.specs.declared.file.FileDescriptorProto.{FileDescriptorProto}
 use Rattle.pool_faults.specs.declared.fault.DescriptorErrorKind.{DescriptorErrorKind}
-use Rattle.field_rules.specs.Each.{each}
-use Rattle.reference_pass.specs.Broken.{Faults}
+use Rattle.plain_data.specs.Each.{map_enumerated}
+use Rattle.reference_pass.specs.SecondPass.{Faults}
 use Rattle.reference_pass.specs.Imports.{import_faults, index_fault, missing_file, missing_files}
 use Rattle.reference_pass.specs.Setting.{Setting}
 use Rattle.pool_laws.specs.SettingLaws.{NamesStay}
@@ -18,11 +18,11 @@ missing-still None now a b stay none = absurd (cc)
 missing-still (Some n) now a b stay none = ap (λ found. only_if (not (is_some found)) b) (stay n refl)
 
 module _ (s t : Setting) (index : ℕ) where
-  files-still : (k : ℕ) (names : List (List ℕ)) → NamesStay s t names → flat_map (λ (faults : Faults). faults) (each (missing_file s index) k names) ≡ []
-      → flat_map (λ (faults : Faults). faults) (each (missing_file t index) k names) ≡ []
+  files-still : (k : ℕ) (names : List (List ℕ)) → NamesStay s t names → flat_map (λ (faults : Faults). faults) (map_enumerated (missing_file s index) k names) ≡ []
+      → flat_map (λ (faults : Faults). faults) (map_enumerated (missing_file t index) k names) ≡ []
   files-still k [] stay none = refl
   files-still k (name ∷ names) stay none =
-      let parts = both-empty (missing_file s index k name) (flat_map (λ (faults : Faults). faults) (each (missing_file s index) (suc k) names)) none in
+      let parts = both-empty (missing_file s index k name) (flat_map (λ (faults : Faults). faults) (map_enumerated (missing_file s index) (suc k) names)) none in
       let here : missing_file t index k name ≡ [] = missing-still (finite.get s.file_names name) (finite.get t.file_names name) _ _ stay.0 parts.0 in
       λ i. here i ++ files-still (suc k) names stay.1 parts.1 i
 

@@ -11,8 +11,8 @@ use Rattle.record_walk.specs.Protos.{Proto, of_message, of_service, of_enum, of_
 use Rattle.record_walk.specs.Shown.{Shown, of_kind}
 use Rattle.record_walk.proofs.Paths.{one-file}
 use Rattle.field_rules.specs.EnumItems.{enum_item}
-use Rattle.field_rules.specs.Each.{each}
-use Rattle.reference_pass.specs.Broken.{owner_faults}
+use Rattle.plain_data.specs.Each.{map_enumerated}
+use Rattle.reference_pass.specs.SecondPass.{owner_faults}
 use Rattle.reference_pass.specs.Items.{extension_item, file_item, message_item, service_item}
 use Rattle.reference_pass.specs.Setting.{Setting}
 use Rattle.pool_laws.specs.SettingLaws.{NamesStay}
@@ -22,7 +22,7 @@ use Rattle.pool_laws.proofs.Files.{file-carried}
 use Rattle.pool_laws.proofs.Messages.{message-carried}
 use Rattle.pool_laws.proofs.Numbered.{both-empty}
 use Rattle.pool_laws.proofs.Services.{service-carried}
-use Rattle.pool_laws.proofs.Again.{first-of-files}
+use Rattle.pool_laws.proofs.Relinks.{first-of-files}
 
 -- of a list of declarations, the first by itself
 kind-first : {X Y : Type 0} (item : Shown → X → Y) (d : Shown) (o : Option X) (rest : List (Shown × X))
@@ -93,12 +93,12 @@ module _ {s t : Setting} {c : Changes} {many : ℕ} (carries : Carries s t c man
 
   -- and the items of files
   pub files-again : (base : Counts) (fs : List FileDescriptorProto) → base.files + length fs ≤ many → AllByRecursion (λ f. NamesStay s t f.dependency) fs
-      → flat_map (owner_faults s) (declarations base fs) ≡ [] → each (file_item t) base.files (changed_files c base.files fs) ≡ each (file_item s) base.files fs
+      → flat_map (owner_faults s) (declarations base fs) ≡ [] → map_enumerated (file_item t) base.files (changed_files c base.files fs) ≡ map_enumerated (file_item s) base.files fs
   files-again base [] room stay none = refl
   files-again base (f ∷ fs) room stay none =
       let next = counted base (file_walk base f) in
       let parts = first-of-files s base f fs none in
       let one = one-file base f in
       let first = (file-carried carries base f (omega (arith, room)) stay.0 parts.0).item_is in
-      let rest = subst (λ n. each (file_item t) n (changed_files c n fs) ≡ each (file_item s) n fs) one (files-again next fs (omega (arith, room, one)) stay.1 parts.1) in
+      let rest = subst (λ n. map_enumerated (file_item t) n (changed_files c n fs) ≡ map_enumerated (file_item s) n fs) one (files-again next fs (omega (arith, room, one)) stay.1 parts.1) in
       λ i. first i ∷ rest i

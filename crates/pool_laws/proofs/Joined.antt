@@ -13,7 +13,7 @@ use Rattle.record_walk.specs.Counts.{counted, counts_in, no_counts}
 use Rattle.record_walk.specs.Protos.{Proto, as_enum, as_extension, as_file, as_message, as_service}
 use Rattle.record_walk.specs.Shown.{Shown, of_kind}
 use Rattle.field_rules.specs.EnumItems.{enum_item}
-use Rattle.field_rules.specs.Each.{each}
+use Rattle.plain_data.specs.Each.{map_enumerated}
 use Rattle.reference_pass.specs.Items.{extension_item, file_item, message_item, service_item}
 use Rattle.reference_pass.specs.Setting.{Setting}
 use Rattle.pool_laws.specs.SettingLaws.{unchanged}
@@ -24,7 +24,7 @@ use Rattle.pool_laws.proofs.Still.{all-rest}
 use Rattle.pool_laws.proofs.Unchanged.{declarations-unchanged, files-unchanged}
 use Rattle.pool_contents.specs.Extended.{extended_by}
 use Rattle.pool_contents.proofs.Each.{each-append, length-each}
-use Rattle.descriptor_pool.specs.Behind.{declared_behind, linked_behind, references_behind, with_names}
+use Rattle.descriptor_pool.specs.Linking.{declared_with, linked_with, reference_faults, with_names}
 use Rattle.descriptor_pool.proofs.Declared.{items-of-files}
 use Rattle.descriptor_pool.proofs.Extendees.{Whole, drop-front, link-whole}
 use Rattle.descriptor_pool.proofs.Files.{counted-files}
@@ -39,8 +39,8 @@ use Rattle.pool_laws.proofs.Relinked.{Relinked}
 use Rattle.pool_laws.proofs.Rest.{at_once, behind, declared-second, file-names-same, grown, lie-second, many, names-same, rest-stands, same-file-names, start}
 
 module _ (p : Contents) (entered : Known p) (again : Relinked p) (front back : List FileDescriptorProto)
-    (closed : AllKnown front (finite.get (with_names p (declared_behind p front)).file_names)) (plain : ArePlain no_counts (files_of p ++ front))
-    (none : references_behind p (front ++ back) ≡ []) where
+    (closed : AllKnown front (finite.get (with_names p (declared_with p front)).file_names)) (plain : ArePlain no_counts (files_of p ++ front))
+    (none : reference_faults p (front ++ back) ≡ []) where
   abbrev pool : Contents
   pool = grown p entered again front back closed
 
@@ -60,10 +60,10 @@ module _ (p : Contents) (entered : Known p) (again : Relinked p) (front back : L
   second = later p entered again front back closed
 
   abbrev joint : List Shown
-  joint = declared_behind p (front ++ back)
+  joint = declared_with p (front ++ back)
 
   abbrev after : List Shown
-  after = declared_behind pool back
+  after = declared_with pool back
 
   front-carried : Carries s u unchanged (length p.files + length front)
   front-carried = given-carried (front-stands p entered again front back closed plain)
@@ -93,11 +93,11 @@ module _ (p : Contents) (entered : Known p) (again : Relinked p) (front back : L
       let unbroken = unbroken-both p entered again front back closed none in
       let many_files = counted-files (counts_in p) front in
       let stay = all-of (λ f. all-stay s t (same-file-names p entered again front back closed) f.dependency) back in
-      let one = ap (each (file_item u) (length p.files)) (sym (files-unchanged (length p.files) front))
+      let one = ap (map_enumerated (file_item u) (length p.files)) (sym (files-unchanged (length p.files) front))
       ∙ files-again front-carried (counts_in p) front (omega arith) (all-names-stay p entered again front back closed front closed) unbroken.0 in
-      let two = ap (each (file_item t) base.files) (sym (files-unchanged base.files back)) ∙ files-again rest-carried base back (omega arith) stay unbroken.1 in
+      let two = ap (map_enumerated (file_item t) base.files) (sym (files-unchanged base.files back)) ∙ files-again rest-carried base back (omega arith) stay unbroken.1 in
       items-of-files (file_item s) (counts_in p) (front ++ back) ∙ each-append (file_item s) (length p.files) front back
-      ∙ (λ i. sym one i ++ (ap (λ n. each (file_item s) n back) (sym many_files) ∙ sym two ∙ ap (λ n. each (file_item t) n back) (many_files ∙ sym (start p entered again front back closed))) i)
+      ∙ (λ i. sym one i ++ (ap (λ n. map_enumerated (file_item s) n back) (sym many_files) ∙ sym two ∙ ap (λ n. map_enumerated (file_item t) n back) (many_files ∙ sym (start p entered again front back closed))) i)
       ∙ (λ i. sym (items-of-files (file_item u) (counts_in p) front) i ++ sym (items-of-files (file_item t) (counts_in pool) back) i)
 
   abbrev messages_first : List MessageDescriptorInner
@@ -127,18 +127,18 @@ module _ (p : Contents) (entered : Known p) (again : Relinked p) (front back : L
       (subst (λ n. AllByRecursion (λ x. x.extendee < n) pool.extensions) many_messages
       (recursion_from_All (λ x. x.extendee < length pool.messages) pool.extensions grown_lists.extendees))
 
-  lists-joined : Whole p → (linked_behind pool back).messages ≡ (linked_behind p (front ++ back)).messages
+  lists-joined : Whole p → (linked_with pool back).messages ≡ (linked_with p (front ++ back)).messages
   lists-joined lists =
       let old = p.extensions in
       let before = p.messages ++ messages_first in
       let all = map (λ e. extension_item s e.0 e.1) (of_kind as_extension joint) in
-      let filled : List ExtensionDescriptorInner → List MessageDescriptorInner → List MessageDescriptorInner = λ xs ms. each (extended_by (length old) xs) 0 ms in
-      (λ i. each (extended_by (length pool.extensions) (drop-front pool.extensions extensions_after i)) 0 (filled (drop-front old extensions_first i) before ++ messages_after))
+      let filled : List ExtensionDescriptorInner → List MessageDescriptorInner → List MessageDescriptorInner = λ xs ms. map_enumerated (extended_by (length old) xs) 0 ms in
+      (λ i. map_enumerated (extended_by (length pool.extensions) (drop-front pool.extensions extensions_after i)) 0 (filled (drop-front old extensions_first i) before ++ messages_after))
       ∙ in-two-steps old extensions_first extensions_after before messages_after (extend-before lists)
       ∙ (λ i. filled ((sym extensions-joined ∙ sym (drop-front old all)) i) ((append_assoc p.messages messages_first messages_after ∙ ap (λ ms. p.messages ++ ms) (sym messages-joined)) i))
 
   -- the pool
-  pub linked-joined : Whole p → linked_behind pool back ≡ linked_behind p (front ++ back)
+  pub linked-joined : Whole p → linked_with pool back ≡ linked_with p (front ++ back)
   linked-joined lists =
       let files = append_assoc p.files (map (λ e. file_item u e.0.index e.1) (of_kind as_file first)) (map (λ e. file_item t e.0.index e.1) (of_kind as_file after))
       ∙ ap (λ xs. p.files ++ xs) (sym files-joined) in

@@ -4,7 +4,7 @@ use Rattle.std.proofs.lemmas.List.{length-append}
 use Rattle.std.specs.List.{AllByRecursion}
 use Rattle.pool_types.specs.declared.contents.extension.ExtensionDescriptorInner.{ExtensionDescriptorInner}
 use Rattle.pool_types.specs.declared.contents.message.MessageDescriptorInner.{MessageDescriptorInner}
-use Rattle.field_rules.specs.Each.{each}
+use Rattle.plain_data.specs.Each.{map_enumerated}
 use Rattle.pool_contents.specs.Extended.{extended_by, extending}
 use Rattle.pool_contents.proofs.Each.{each-append, each-same, each-twice, length-each}
 use Rattle.descriptor_pool.proofs.Extendees.{extending-append, extending-none}
@@ -36,12 +36,12 @@ module _ (old first second : List ExtensionDescriptorInner) (before later : List
       let none = extending-none n (length old) (length before) first below from in
       λ i. record m { extensions = m.extensions ++ ((λ j. sym none j ++ extending n (length (old ++ first)) second) ∙ joined n) i }
 
-  pub in-two-steps : each step_two 0 (each step_one 0 before ++ later) ≡ each at_once 0 (before ++ later)
+  pub in-two-steps : map_enumerated step_two 0 (map_enumerated step_one 0 before ++ later) ≡ map_enumerated at_once 0 (before ++ later)
   in-two-steps =
-      let many : length (each step_one 0 before) ≡ length before = length-each step_one 0 before in
-      each-append step_two 0 (each step_one 0 before) later
+      let many : length (map_enumerated step_one 0 before) ≡ length before = length-each step_one 0 before in
+      each-append step_two 0 (map_enumerated step_one 0 before) later
       ∙ (λ i. (each-twice step_two step_one 0 before ∙ each-same (λ n m. step_two n (step_one n m)) at_once 0 before (λ n m _ _. both-steps n m)) i
-      ++ each step_two (0 + many i) later)
-      ∙ ap (λ ms. each at_once 0 before ++ ms)
+      ++ map_enumerated step_two (0 + many i) later)
+      ∙ ap (λ ms. map_enumerated at_once 0 before ++ ms)
       (each-same step_two at_once (0 + length before) later (λ n m from _. one-step n m (omega (arith, from))))
       ∙ sym (each-append at_once 0 before later)

@@ -7,7 +7,7 @@ use Rattle.record_walk.specs.Changed.{Changes, changed_fields, changed_message}
 use Rattle.record_walk.specs.Shown.{Shown, inside}
 use Rattle.field_rules.specs.Identities.{named_at}
 use Rattle.field_rules.specs.Maps.{by_json_name, by_name, by_number}
-use Rattle.reference_pass.specs.Broken.{message_faults}
+use Rattle.reference_pass.specs.SecondPass.{message_faults}
 use Rattle.reference_pass.specs.Items.{field_items, message_item, oneof_items}
 use Rattle.reference_pass.specs.Setting.{Setting}
 use Rattle.pool_laws.specs.SettingLaws.{IsMessage, SameRanges, message_at_place}

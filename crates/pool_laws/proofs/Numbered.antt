@@ -3,7 +3,7 @@ use Rattle.std.proofs.Common.{◌≡◌, ℕ, ℤ, suc, Bool, true, false, not, 
 use Rattle.std.specs.List.{find, enumerate_from, flat_map, list_any}
 use Rattle.std.specs.Option.{option_map, option_map_or}
 use Rattle.proto_types.specs.declared.records.field.FieldDescriptorProto.{FieldDescriptorProto}
-use Rattle.proto_types.specs.Lists.{listed}
+use Rattle.plain_data.specs.Lists.{listed}
 use Rattle.proto_types.specs.Readers.{number_of}
 use Rattle.proto_types.specs.declared.file.FileDescriptorProto.{FileDescriptorProto}
 use Rattle.proto_types.specs.declared.message.DescriptorProto.{DescriptorProto, out-DescriptorProto}
@@ -12,7 +12,7 @@ use Rattle.proto_types.specs.declared.message.ReservedRange.{ReservedRange}
 use Rattle.pool_types.specs.declared.contents.definition.Definition.{Definition}
 use Rattle.record_walk.specs.Shown.{Shown}
 use Rattle.field_rules.specs.FieldNumbers.{is_valid_number}
-use Rattle.field_rules.specs.Each.{each}
+use Rattle.plain_data.specs.Each.{map_enumerated}
 use Rattle.field_rules.specs.Numbers.{by_extendee, extension_number_faults, extension_range_faults, field_number_faults, invalid_faults, outside_faults, reserved_fault, reserved_faults}
 use Rattle.field_rules.specs.Ranges.{extends, reserves}
 use Rattle.reference_pass.specs.Extensions.{defined_at}
@@ -34,11 +34,11 @@ module _ (fs gs : List FileDescriptorProto) (owner other d e : Shown) (n : ℤ) 
   invalid-again : invalid_faults fs d n ≡ [] → invalid_faults gs e n ≡ []
   invalid-again none = no-fault (not (is_valid_number n)) _ _ none
 
-  each-reserved : (k : ℕ) (ranges : List ReservedRange) → flat_map (λ faults. faults) (each (reserved_fault fs d n owner) k ranges) ≡ []
-      → flat_map (λ faults. faults) (each (reserved_fault gs e n other) k ranges) ≡ []
+  each-reserved : (k : ℕ) (ranges : List ReservedRange) → flat_map (λ faults. faults) (map_enumerated (reserved_fault fs d n owner) k ranges) ≡ []
+      → flat_map (λ faults. faults) (map_enumerated (reserved_fault gs e n other) k ranges) ≡ []
   each-reserved k [] none = refl
   each-reserved k (range ∷ ranges) none =
-      let parts = both-empty (reserved_fault fs d n owner k range) (flat_map (λ faults. faults) (each (reserved_fault fs d n owner) (suc k) ranges)) none in
+      let parts = both-empty (reserved_fault fs d n owner k range) (flat_map (λ faults. faults) (map_enumerated (reserved_fault fs d n owner) (suc k) ranges)) none in
       let here : reserved_fault gs e n other k range ≡ [] = no-fault (reserves n range) _ _ parts.0 in
       λ i. here i ++ each-reserved (suc k) ranges parts.1 i
 

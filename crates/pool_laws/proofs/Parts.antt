@@ -21,8 +21,8 @@ use Rattle.record_walk.specs.Counts.{counted, counts_in, no_counts}
 use Rattle.record_walk.specs.Declarations.{declarations}
 use Rattle.record_walk.specs.Shown.{Shown}
 use Rattle.record_walk.proofs.Appended.{declarations-append}
-use Rattle.field_rules.specs.Each.{each}
-use Rattle.reference_pass.specs.Broken.{owner_faults}
+use Rattle.plain_data.specs.Each.{map_enumerated}
+use Rattle.reference_pass.specs.SecondPass.{owner_faults}
 use Rattle.reference_pass.specs.Setting.{Setting, seen_by}
 use Rattle.reference_pass.proofs.Owners.{owners-tell}
 use Rattle.pool_laws.specs.SettingLaws.{ImportsStay, NamesFiles}
@@ -30,10 +30,10 @@ use Rattle.pool_laws.proofs.Numbered.{both-empty}
 use Rattle.pool_laws.proofs.SeenStays.{seen-stays}
 use Rattle.pool_contents.proofs.Each.{each-append, each-same, length-each}
 use Rattle.name_pass.specs.Entered.{file_entries, file_entries_of}
-use Rattle.descriptor_pool.specs.Behind.{declared_behind, references_behind, setting_behind, with_names}
+use Rattle.descriptor_pool.specs.Linking.{declared_with, reference_faults, setting_with, with_names}
 use Rattle.descriptor_pool.proofs.Files.{file-names-before, names-behind-before}
 use Rattle.descriptor_pool.proofs.Sound.{Known}
-use Rattle.pool_laws.proofs.Again.{first-kept, known-imports, seen-at, seen_in, sees-is, slice-front}
+use Rattle.pool_laws.proofs.Relinks.{first-kept, known-imports, seen-at, seen_in, sees-is, slice-front}
 use Rattle.pool_laws.proofs.Relinked.{Relinked, seen-kept}
 
 -- what is found among the indexes from one on lies among these
@@ -93,20 +93,20 @@ known-both fs gs naming first second n below name found = elim (cases_lt n (leng
 ]
 
 module _ (p : Contents) (entered : Known p) (again : Relinked p) (front back : List FileDescriptorProto)
-    (closed : AllKnown front (finite.get (with_names p (declared_behind p front)).file_names)) where
+    (closed : AllKnown front (finite.get (with_names p (declared_with p front)).file_names)) where
   abbrev pub part : Setting
-  part = setting_behind p front
+  part = setting_with p front
 
   abbrev pub whole : Setting
-  whole = setting_behind p (front ++ back)
+  whole = setting_with p (front ++ back)
 
   abbrev pub earlier : List Shown
-  earlier = declared_behind p front
+  earlier = declared_with p front
 
   abbrev pub later : List Shown
   later = declarations (counted (counts_in p) earlier) back
 
-  pub declared-both : declared_behind p (front ++ back) ≡ earlier ++ later
+  pub declared-both : declared_with p (front ++ back) ≡ earlier ++ later
   declared-both = declarations-append (counts_in p) front back
 
   pub more-file-names : whole.file_names ≡ names_with part.file_names (file_entries later)
@@ -135,7 +135,7 @@ module _ (p : Contents) (entered : Known p) (again : Relinked p) (front back : L
   imports-stay n below name found = known-stays name (all-known n below name found)
 
   -- names of files mean files
-  mean-files : (new : List FileDescriptorProto) (name : List ℕ) (n : ℕ) → finite.get (with_names p (declared_behind p new)).file_names name ≡ Some n
+  mean-files : (new : List FileDescriptorProto) (name : List ℕ) (n : ℕ) → finite.get (with_names p (declared_with p new)).file_names name ≡ Some n
       → n < length p.files + length new
   mean-files new name n is =
       let end = length p.files + length new in
@@ -176,22 +176,22 @@ module _ (p : Contents) (entered : Known p) (again : Relinked p) (front back : L
   abbrev pub keys_whole : ℕ → FileDescriptorProto → BTreeSet ℕ
   keys_whole n _ = record { keys = seen_from (files_of p ++ (front ++ back)) (finite.get whole.file_names) n }
 
-  pub seen-more : whole.seen ≡ part.seen ++ each keys_whole (length p.files + length front) back
+  pub seen-more : whole.seen ≡ part.seen ++ map_enumerated keys_whole (length p.files + length front) back
   seen-more =
       let first = each-same keys_whole keys_part (length p.files) front (λ n _ _ to. λ i. record { keys = same-keys n to i }) in
-      ap (λ sets. old_seen ++ sets) (each-append keys_whole (length p.files) front back ∙ ap (λ sets. sets ++ each keys_whole (length p.files + length front) back) first)
-      ∙ sym (append_assoc old_seen (each keys_part (length p.files) front) (each keys_whole (length p.files + length front) back))
+      ap (λ sets. old_seen ++ sets) (each-append keys_whole (length p.files) front back ∙ ap (λ sets. sets ++ map_enumerated keys_whole (length p.files + length front) back) first)
+      ∙ sym (append_assoc old_seen (map_enumerated keys_part (length p.files) front) (map_enumerated keys_whole (length p.files + length front) back))
 
   long-seen : length part.seen ≡ length p.files + length front
   long-seen =
-      length-append old_seen (each keys_part (length p.files) front)
+      length-append old_seen (map_enumerated keys_part (length p.files) front)
       ∙ (λ i. length-map p.files (λ f. f.transitive_dependencies) i + length-each keys_part (length p.files) front i)
 
   pub sees-same : (n : ℕ) → n < length p.files + length front → seen_by part n ≡ seen_by whole n
   sees-same n below =
       let long = long-seen in
       sym (ap (λ sets. unwrap_or (slice_get sets n) (record { keys = [] })) seen-more
-      ∙ ap (λ o. unwrap_or o (record { keys = [] })) (slice-front part.seen (each keys_whole (length p.files + length front) back) n (omega (arith, below, long))))
+      ∙ ap (λ o. unwrap_or o (record { keys = [] })) (slice-front part.seen (map_enumerated keys_whole (length p.files + length front) back) n (omega (arith, below, long))))
 
   -- what a new file of the first part sees, by its imports
   pub keys-at : (n : ℕ) → length p.files ≤ n → n < length p.files + length front → seen_by part n ≡ keys_part n no_file
@@ -203,7 +203,7 @@ module _ (p : Contents) (entered : Known p) (again : Relinked p) (front back : L
       let made : ℕ → BTreeSet ℕ = λ k. keys_part k no_file in
       let here : length p.files + position.0 ≡ n = omega (arith, place, old) in
       ap (λ k. unwrap_or (slice_get part.seen k) none) place
-      ∙ ap (λ o. unwrap_or o none) (slice-rest old_seen (each keys_part (length p.files) front) position.0)
+      ∙ ap (λ o. unwrap_or o none) (slice-rest old_seen (map_enumerated keys_part (length p.files) front) position.0)
       ∙ seen-at made none (length p.files) front position.0 (omega (arith, below, place, old)) ∙ ap made here
 
   -- what it sees lies before the second part
@@ -213,7 +213,7 @@ module _ (p : Contents) (entered : Known p) (again : Relinked p) (front back : L
         let old : length old_seen ≡ length p.files = length-map p.files (λ f. f.transitive_dependencies) in
         let raw : length (files_of p) ≡ length p.files = length-map p.files (λ f. f.raw) in
         let keys : seen_by part n ≡ seen_in p n =
-        ap (λ o. unwrap_or o (record { keys = [] })) (slice-front old_seen (each keys_part (length p.files) front) n (omega (arith, less, old)))
+        ap (λ o. unwrap_or o (record { keys = [] })) (slice-front old_seen (map_enumerated keys_part (length p.files) front) n (omega (arith, less, old)))
         ∙ ap (λ sets. unwrap_or (slice_get sets n) (record { keys = [] })) (seen-kept p again) ∙ sees-is p n (omega (arith, less, raw)) in
         let within = seen-within (files_of p) (finite.get p.file_names) n m (sym (ap (contains_by (nat_cmp m)) keys) ∙ is) in
         omega (arith, within, raw)
@@ -224,7 +224,7 @@ module _ (p : Contents) (entered : Known p) (again : Relinked p) (front back : L
   ]
 
   -- declarations that break nothing at once break nothing in either part
-  pub unbroken-both : references_behind p (front ++ back) ≡ [] → (flat_map (owner_faults whole) earlier ≡ []) × (flat_map (owner_faults whole) later ≡ [])
+  pub unbroken-both : reference_faults p (front ++ back) ≡ [] → (flat_map (owner_faults whole) earlier ≡ []) × (flat_map (owner_faults whole) later ≡ [])
   unbroken-both none =
       let told : flat_map (owner_faults whole) (earlier ++ later) ≡ [] =
       sym (ap (flat_map (owner_faults whole)) declared-both) ∙ sym (owners-tell whole (counts_in p) (front ++ back)) ∙ none in

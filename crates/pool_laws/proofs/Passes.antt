@@ -3,13 +3,13 @@ use Rattle.std.proofs.Common.{◌≡◌, ◌<◌, ℕ, List, [], ◌∷◌, ◌+
 use Rattle.std.specs.List.{AllByRecursion, flat_map}
 use Rattle.std.specs.Option.{option_or}
 use Rattle.proto_types.specs.declared.file.FileDescriptorProto.{FileDescriptorProto}
-use Rattle.proto_types.specs.Lists.{after_each}
+use Rattle.plain_data.specs.Lists.{after_each}
 use Rattle.pool_types.specs.Contents.{ByText, Contents}
 use Rattle.name_tables.specs.Entries.{first_of}
 use Rattle.record_walk.specs.Changed.{Changes, KeepNames, changed}
 use Rattle.record_walk.specs.Shown.{Shown}
 use Rattle.name_pass.specs.Syntaxes.{syntax_at}
-use Rattle.reference_pass.specs.Broken.{owner_faults}
+use Rattle.reference_pass.specs.SecondPass.{owner_faults}
 use Rattle.reference_pass.specs.Linked.{linking}
 use Rattle.reference_pass.specs.Setting.{Setting}
 use Rattle.pool_laws.specs.SettingLaws.{ImportsMean, Rereads}

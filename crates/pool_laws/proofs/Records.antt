@@ -7,7 +7,7 @@ use Rattle.proto_types.specs.declared.tag.file.TheConstants as file
 use Rattle.proto_types.specs.declared.tag.message.TheConstants as message
 use Rattle.proto_types.specs.declared.tag.service.TheConstants as service
 use Rattle.proto_types.specs.declared.records.service.ServiceDescriptorProto.{ServiceDescriptorProto}
-use Rattle.proto_types.specs.Lists.{at}
+use Rattle.plain_data.specs.Lists.{at}
 use Rattle.proto_types.specs.Names.{join}
 use Rattle.proto_types.specs.Readers.{text_of}
 use Rattle.proto_types.specs.Computed.{literals}

@@ -11,7 +11,7 @@ use Rattle.std.specs.Option.{option_map, option_or}
 use Rattle.std.specs.Ordering.{nat_cmp}
 use Rattle.proto_types.specs.declared.file.FileDescriptorProto.{FileDescriptorProto}
 use Rattle.proto_types.specs.declared.message.DescriptorProto.{DescriptorProto}
-use Rattle.proto_types.specs.Lists.{after_each}
+use Rattle.plain_data.specs.Lists.{after_each}
 use Rattle.proto_types.specs.Readers.{text_of}
 use Rattle.pool_types.specs.Contents.{ByText, Contents, files_of, no_contents}
 use Rattle.pool_types.specs.declared.contents.message.MessageDescriptorInner.{MessageDescriptorInner}
@@ -26,8 +26,8 @@ use Rattle.record_walk.specs.Shown.{Shown, of_kind}
 use Rattle.record_walk.proofs.Changed.{declare-changed}
 use Rattle.name_pass.specs.Syntaxes.{syntax_at}
 use Rattle.field_rules.specs.EnumItems.{enum_item}
-use Rattle.field_rules.specs.Each.{each}
-use Rattle.reference_pass.specs.Broken.{owner_faults, second_pass}
+use Rattle.plain_data.specs.Each.{map_enumerated}
+use Rattle.reference_pass.specs.SecondPass.{owner_faults, second_pass}
 use Rattle.reference_pass.specs.Items.{extension_item, file_item, message_item, service_item}
 use Rattle.reference_pass.specs.Linked.{linking}
 use Rattle.reference_pass.specs.Setting.{Setting}
@@ -39,7 +39,7 @@ use Rattle.pool_laws.proofs.Imports.{all-stay}
 use Rattle.pool_contents.specs.Extended.{extended_by, with_extended}
 use Rattle.pool_contents.proofs.Each.{each-all, each-append, each-map, each-same}
 use Rattle.name_pass.specs.FirstPass.{first_faults, first_pass, holder}
-use Rattle.descriptor_pool.specs.Behind.{declared_behind, linked_behind, names_behind, references_behind, setting_behind, with_items, with_names}
+use Rattle.descriptor_pool.specs.Linking.{declared_with, linked_with, name_faults, reference_faults, setting_with, with_items, with_names}
 use Rattle.descriptor_pool.specs.Extensions.{ListsAreWhole}
 use Rattle.descriptor_pool.specs.Invariant.{IsPool}
 use Rattle.descriptor_pool.specs.Pool.{Made, empty, linked_to, new_files}
@@ -48,7 +48,7 @@ use Rattle.descriptor_pool.proofs.Extendees.{each-made, made-whole}
 use Rattle.descriptor_pool.proofs.Files.{lie-between}
 use Rattle.descriptor_pool.proofs.Sound.{Known, fits_again, link-known, made-sound}
 use Rattle.pool_laws.specs.Laws.{Relinks}
-use Rattle.pool_laws.proofs.Again.{files-are, new-again, old-again, reread, seen_in, sees-is, setting-again}
+use Rattle.pool_laws.proofs.Relinks.{files-are, new-again, old-again, reread, seen_in, sees-is, setting-again}
 use Rattle.pool_laws.proofs.Items.{SameItem, all-fine, files-again, kind-again, same-enum, same-extension, same-message, same-service}
 use Rattle.pool_laws.proofs.Passes.{after-both, all-of, pass-again, unbroken-again}
 
@@ -64,7 +64,7 @@ bare m = record m { extensions = [] }
 pub record Relinked (p : Contents) : Type 0 where
   pub first : first_pass (files_of p) no_contents (declared p) ≡ []
   pub second : flat_map (owner_faults (reread p)) (declared p) ≡ []
-  pub files : p.files ≡ each (file_item (reread p)) 0 (files_of p)
+  pub files : p.files ≡ map_enumerated (file_item (reread p)) 0 (files_of p)
   pub messages : map bare p.messages ≡ map (λ e. message_item (reread p) e.0 e.1) (of_kind as_message (declared p))
   pub enums : p.enums ≡ map (λ e. enum_item e.0 e.1) (of_kind as_enum (declared p))
   pub services : p.services ≡ map (λ e. service_item (reread p) e.0 e.1) (of_kind as_service (declared p))
@@ -94,13 +94,13 @@ seen-kept q was =
     ∙ each-same (λ n f. (file_item (reread q) n f).transitive_dependencies) (λ n _. seen_in q n) 0 (files_of q) (λ n f _ to. sees-is q n (omega (arith, to)))
 
 -- a pool that is relinked, and new files that break nothing behind it
-module _ (q : Contents) (new : List FileDescriptorProto) (before : Known q) (was : Relinked q) (after : Known (linked_behind q new))
-    (first : names_behind q new ≡ []) (second : references_behind q new ≡ []) where
+module _ (q : Contents) (new : List FileDescriptorProto) (before : Known q) (was : Relinked q) (after : Known (linked_with q new))
+    (first : name_faults q new ≡ []) (second : reference_faults q new ≡ []) where
   abbrev p : Contents
-  p = linked_behind q new
+  p = linked_with q new
 
   abbrev s : Setting
-  s = setting_behind q new
+  s = setting_with q new
 
   abbrev alone : Setting
   alone = reread q
@@ -109,7 +109,7 @@ module _ (q : Contents) (new : List FileDescriptorProto) (before : Known q) (was
   t = reread p
 
   abbrev ds : List Shown
-  ds = declared_behind q new
+  ds = declared_with q new
 
   abbrev linked_ds : List Shown
   linked_ds = map (changed (linking s)) ds
@@ -176,16 +176,16 @@ module _ (q : Contents) (new : List FileDescriptorProto) (before : Known q) (was
       ap (after_each faults []) declared-are ∙ after-both faults [] (declared q) linked_ds old made
 
   -- the items of files
-  files-made : p.files ≡ each (file_item t) 0 (files_of p)
+  files-made : p.files ≡ map_enumerated (file_item t) 0 (files_of p)
   files-made =
       let start : 0 + length (files_of q) ≡ length q.files = let old = length-map q.files (λ f. f.raw) in omega (arith, old) in
       let whole : 0 + length (files_of q) ≤ length (files_of q) = omega arith in
       let room : length q.files + length new ≤ length (files_of q ++ new) = let many = many-files in omega (arith, many) in
-      let old = ap (each (file_item t) 0) (sym old-still) ∙ files-again carried-old no_counts (files_of q) whole (all-of (λ f. all-stay alone t again-old.file_names f.dependency) (files_of q)) was.second ∙ sym was.files in
-      let made = ap (λ n. each (file_item t) n came) start ∙ files-again carried-new (counts_in q) new room (all-of (λ f. all-stay s t again-new.file_names f.dependency) new) unbroken in
+      let old = ap (map_enumerated (file_item t) 0) (sym old-still) ∙ files-again carried-old no_counts (files_of q) whole (all-of (λ f. all-stay alone t again-old.file_names f.dependency) (files_of q)) was.second ∙ sym was.files in
+      let made = ap (λ n. map_enumerated (file_item t) n came) start ∙ files-again carried-new (counts_in q) new room (all-of (λ f. all-stay s t again-new.file_names f.dependency) new) unbroken in
       ap (λ fs. q.files ++ fs) (items-of-files (file_item s) (counts_in q) new)
       ∙ (λ i. sym old i ++ sym made i)
-      ∙ sym (each-append (file_item t) 0 (files_of q) came) ∙ ap (each (file_item t) 0) (sym (files-are q new before after))
+      ∙ sym (each-append (file_item t) 0 (files_of q) came) ∙ ap (map_enumerated (file_item t) 0) (sym (files-are q new before after))
 
   -- the items of another kind
   kind-made : {X Y : Type 0} (pick : Proto → Option X) (old_item item now : Shown → X → Y) → SameItem carried-old pick old_item now → SameItem carried-new pick item now
@@ -234,17 +234,17 @@ all-new (f ∷ fs) =
     ∙ ap (λ gs. f ∷ gs) (all-new fs)
 
 -- what linking makes of the files of a pool behind nothing is the pool
-linked-again : (p : Contents) → Known p → ListsAreWhole p → Relinked p → linked_behind no_contents (files_of p) ≡ p
+linked-again : (p : Contents) → Known p → ListsAreWhole p → Relinked p → linked_with no_contents (files_of p) ≡ p
 linked-again p known lists again =
     let ds = declared p in
     let setting = setting-again p known in
     let t = reread p in
-    let whole : List MessageDescriptorInner → List MessageDescriptorInner = λ ms. each (extended_by 0 p.extensions) 0 ms in
+    let whole : List MessageDescriptorInner → List MessageDescriptorInner = λ ms. map_enumerated (extended_by 0 p.extensions) 0 ms in
     let messages = ap whole (sym again.messages) ∙ each-made (extended_by 0 p.extensions) bare 0 p.messages ∙ sym lists in
     ap (λ against. with_extended 0 (with_items (with_names no_contents ds) against ds)) setting
     ∙ (λ i. record {
       files = (items-of-files (file_item t) no_counts (files_of p) ∙ sym again.files) i;
-      messages = ((λ j. each (extended_by 0 (sym again.extensions j)) 0 (map (λ e. message_item t e.0 e.1) (of_kind as_message ds))) ∙ messages) i;
+      messages = ((λ j. map_enumerated (extended_by 0 (sym again.extensions j)) 0 (map (λ e. message_item t e.0 e.1) (of_kind as_message ds))) ∙ messages) i;
       enums = sym again.enums i;
       services = sym again.services i;
       extensions = sym again.extensions i;
@@ -259,7 +259,7 @@ relinked p pool =
     let known = (made-sound p pool.made).known in
     let again = made-relinked p pool.made in
     let second = ap (λ s. second_pass s (declared p)) (setting-again p known) ∙ owners-tell (reread p) no_counts fs ∙ again.second in (
-      (ap (names_behind no_contents) (all-new fs) ∙ again.first, ap (references_behind no_contents) (all-new fs) ∙ second),
+      (ap (name_faults no_contents) (all-new fs) ∙ again.first, ap (reference_faults no_contents) (all-new fs) ∙ second),
       subst (λ new. IsOk (counts_with no_counts new)) (sym (all-new fs)) (fits_again p pool),
-      ap (linked_behind no_contents) (all-new fs) ∙ linked-again p known (made-whole p pool.made).lists again,
+      ap (linked_with no_contents) (all-new fs) ∙ linked-again p known (made-whole p pool.made).lists again,
     )

@@ -6,7 +6,7 @@ use Rattle.std.specs.FinMap as finite
 use Rattle.std.specs.List.{AllByRecursion, flat_map}
 use Rattle.std.specs.Option.{option_and_then}
 use Rattle.std.specs.Ordering.{nat_cmp}
-use Rattle.proto_types.specs.Lists.{after_each}
+use Rattle.plain_data.specs.Lists.{after_each}
 use Rattle.proto_types.specs.EmptyFile.{no_file}
 use Rattle.proto_types.specs.declared.file.FileDescriptorProto.{FileDescriptorProto}
 use Rattle.pool_types.specs.Contents.{Contents, files_of}
@@ -21,10 +21,10 @@ use Rattle.record_walk.specs.Declarations.{declarations}
 use Rattle.record_walk.specs.Leads.{leads}
 use Rattle.record_walk.specs.Shown.{Shown}
 use Rattle.name_resolution.specs.Resolution.{resolution}
-use Rattle.field_rules.specs.Each.{each}
+use Rattle.plain_data.specs.Each.{map_enumerated}
 use Rattle.name_pass.specs.Syntaxes.{syntax_at, syntax_of}
-use Rattle.reference_pass.specs.Broken.{owner_faults}
-use Rattle.reference_pass.specs.Definitions.{around_name, record_of}
+use Rattle.reference_pass.specs.SecondPass.{owner_faults}
+use Rattle.reference_pass.specs.Definitions.{declaration_path, record_of}
 use Rattle.reference_pass.specs.Items.{file_item}
 use Rattle.reference_pass.specs.Linked.{linking}
 use Rattle.reference_pass.specs.Setting.{Setting, seen_by}
@@ -36,27 +36,27 @@ use Rattle.pool_laws.proofs.Unchanged.{declarations-unchanged, unchanged-keeps}
 use Rattle.pool_contents.proofs.Each.{each-map, each-same}
 use Rattle.name_pass.specs.Entered.{entries, file_entries}
 use Rattle.name_pass.specs.FirstPass.{first_faults}
-use Rattle.descriptor_pool.specs.Behind.{declared_behind, linked_behind, names_behind, references_behind, setting_behind, with_items, with_names}
+use Rattle.descriptor_pool.specs.Linking.{declared_with, linked_with, name_faults, reference_faults, setting_with, with_items, with_names}
 use Rattle.descriptor_pool.proofs.Declared.{counts-with, entries-append, items-of-files}
 use Rattle.descriptor_pool.proofs.Files.{counted-files, lie-between}
 use Rattle.descriptor_pool.proofs.Listed.{counts-extended}
 use Rattle.descriptor_pool.proofs.Sound.{Known, link-known}
-use Rattle.pool_laws.proofs.Again.{files-are}
+use Rattle.pool_laws.proofs.Relinks.{files-are}
 use Rattle.pool_laws.proofs.Alike.{SameImports, sees-alike}
-use Rattle.pool_laws.proofs.Behind.{between-at}
+use Rattle.pool_laws.proofs.Batches.{between-at}
 use Rattle.pool_laws.proofs.Parts.{AllKnown, declared-both, earlier, keys-at, keys_part, later, more-file-names, old_seen, part, seen-more, unbroken-both, whole}
 use Rattle.pool_laws.proofs.Passes.{after-parts, all-of, pass-again, unbroken-carried}
 use Rattle.pool_laws.proofs.Records.{Stays, file-stays, stays-itself}
 use Rattle.pool_laws.proofs.Relinked.{Relinked, or-nothing, syntaxes-of}
 
 module _ (p : Contents) (entered : Known p) (again : Relinked p) (front back : List FileDescriptorProto)
-    (closed : AllKnown front (finite.get (with_names p (declared_behind p front)).file_names)) where
+    (closed : AllKnown front (finite.get (with_names p (declared_with p front)).file_names)) where
   -- the pool with the first part, and what the second is read against behind it
   abbrev pub grown : Contents
-  grown = linked_behind p front
+  grown = linked_with p front
 
   abbrev pub behind : Setting
-  behind = setting_behind grown back
+  behind = setting_with grown back
 
   abbrev pub at_once : Setting
   at_once = whole p entered again front back closed
@@ -78,7 +78,7 @@ module _ (p : Contents) (entered : Known p) (again : Relinked p) (front back : L
       let named = with_names p first in
       counts-extended (length p.extensions) (with_items named alone first) ∙ counts-with named alone first
 
-  pub declared-second : declared_behind grown back ≡ second
+  pub declared-second : declared_with grown back ≡ second
   declared-second = ap (λ c. declarations c back) counts-same
 
   pub names-same : behind.names ≡ at_once.names
@@ -129,7 +129,7 @@ module _ (p : Contents) (entered : Known p) (again : Relinked p) (front back : L
 
   seen-same : behind.seen ≡ at_once.seen
   seen-same =
-      (λ i. old-seen i ++ each (λ n _. record { keys = new-keys n i }) (start i) back) ∙ sym (seen-more p entered again front back closed)
+      (λ i. old-seen i ++ map_enumerated (λ n _. record { keys = new-keys n i }) (start i) back) ∙ sym (seen-more p entered again front back closed)
 
   pub sees-same-behind : (n : ℕ) → seen_by behind n ≡ seen_by at_once n
   sees-same-behind n = ap (λ sets. unwrap_or (slice_get sets n) (record { keys = [] })) seen-same
@@ -137,7 +137,7 @@ module _ (p : Contents) (entered : Known p) (again : Relinked p) (front back : L
   -- the records of files
   record-stays : (def : Definition) → Stays (record_of at_once def) (record_of behind def)
   record-stays def =
-      let path = around_name def.path in
+      let path = declaration_path def.path in
       subst (λ fs. Stays (record_of at_once def) (option_and_then (λ f. leads f path) (slice_get fs def.file))) (sym files-same)
       (between-at (linking alone) (λ old now. Stays (option_and_then (λ f. leads f path) old) (option_and_then (λ f. leads f path) now))
       (stays-itself None) (λ f. stays-itself (leads f path)) (λ index f. file-stays (linking alone) path index f)
@@ -171,7 +171,7 @@ module _ (p : Contents) (entered : Known p) (again : Relinked p) (front back : L
   same-file-names name n is = ap (λ names. finite.get names name) file-names-same ∙ is
 
   -- neither pass finds a fault
-  pub names-fine : names_behind p (front ++ back) ≡ [] → names_behind grown back ≡ []
+  pub names-fine : name_faults p (front ++ back) ≡ [] → name_faults grown back ≡ []
   names-fine none =
       let faults = first_faults at_once.files p in
       let parts = (after-parts faults [] first second (sym (ap (after_each faults []) (declared-both p entered again front back closed)) ∙ none)).1 in
@@ -183,7 +183,7 @@ module _ (p : Contents) (entered : Known p) (again : Relinked p) (front back : L
       })
       (syntaxes-of many at_once.files behind.files rest-stands.syntaxes second lie-second) parts
 
-  pub references-fine : references_behind p (front ++ back) ≡ [] → references_behind grown back ≡ []
+  pub references-fine : reference_faults p (front ++ back) ≡ [] → reference_faults grown back ≡ []
   references-fine none =
       owners-tell behind (counts_in grown) back ∙ ap (flat_map (owner_faults behind)) (declared-second ∙ sym (declarations-unchanged second))
       ∙ unbroken-carried (given-carried rest-stands) second lie-second (all-of (λ d. all-mean at_once behind same-file-names d.proto) second) (unbroken-both p entered again front back closed none).1

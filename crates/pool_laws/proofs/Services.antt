@@ -4,17 +4,17 @@ use Rattle.std.specs.List.{flat_map}
 use Rattle.proto_types.specs.declared.records.service.MethodDescriptorProto.{MethodDescriptorProto}
 use Rattle.proto_types.specs.declared.records.service.ServiceDescriptorProto.{ServiceDescriptorProto}
 use Rattle.proto_types.specs.declared.tag.method.TheConstants as method
-use Rattle.proto_types.specs.Lists.{listed}
+use Rattle.plain_data.specs.Lists.{listed}
 use Rattle.proto_types.specs.Names.{join}
 use Rattle.proto_types.specs.Readers.{text_of}
 use Rattle.record_walk.specs.Changed.{Changes, changed_methods, changed_service}
 use Rattle.record_walk.specs.Shown.{Shown, inside}
 use Rattle.name_resolution.specs.References.{reference_fault}
-use Rattle.field_rules.specs.Each.{each}
-use Rattle.reference_pass.specs.Broken.{Faults, method_faults, service_faults}
+use Rattle.plain_data.specs.Each.{map_enumerated}
+use Rattle.reference_pass.specs.SecondPass.{Faults, method_faults, service_faults}
 use Rattle.reference_pass.specs.Items.{method_item, service_item}
 use Rattle.reference_pass.specs.Linked.{linked_method, linking}
-use Rattle.reference_pass.specs.Messages.{message_meaning, method_at, or_missing}
+use Rattle.reference_pass.specs.Messages.{resolve_message, method_at, index_or_max}
 use Rattle.reference_pass.specs.Setting.{Setting}
 use Rattle.pool_laws.specs.SettingLaws.{IsService, service_at_place}
 use Rattle.pool_laws.proofs.Carries.{CarriesMethods}
@@ -35,13 +35,13 @@ module _ {s t : Setting} {c : Changes} {many : ℕ} (carries : CarriesMethods s 
       → IsMethod i m (record m { input_type = (carried m).input_type; output_type = (carried m).output_type })
   by-parts i m none =
       let here = method_at (inside d) i m in
-      let parts = both-empty (listed (reference_fault s.files (text_of m.input_type) d.file (here.path ++ method.INPUT_TYPE ∷ []) (message_meaning s here m.input_type)))
-      (listed (reference_fault s.files (text_of m.output_type) d.file (here.path ++ method.OUTPUT_TYPE ∷ []) (message_meaning s here m.output_type))) none in
+      let parts = both-empty (listed (reference_fault s.files (text_of m.input_type) d.file (here.path ++ method.INPUT_TYPE ∷ []) (resolve_message s here m.input_type)))
+      (listed (reference_fault s.files (text_of m.output_type) d.file (here.path ++ method.OUTPUT_TYPE ∷ []) (resolve_message s here m.output_type))) none in
       let input = carries.inputs here below (here.path ++ method.INPUT_TYPE ∷ []) m parts.0 in
       let output = carries.outputs here below (here.path ++ method.OUTPUT_TYPE ∷ []) m parts.1 in
       record {
         faults = λ j. input.faults j ++ output.faults j;
-        item_is = λ j. record (method_item s here m) { input = or_missing (input.index_is j); output = or_missing (output.index_is j) };
+        item_is = λ j. record (method_item s here m) { input = index_or_max (input.index_is j); output = index_or_max (output.index_is j) };
         linked_is = λ j. record m { input_type = input.linked_is j; output_type = output.linked_is j };
       }
 
@@ -51,27 +51,27 @@ module _ {s t : Setting} {c : Changes} {many : ℕ} (carries : CarriesMethods s 
   abbrev broken : ℕ → MethodDescriptorProto → Faults
   broken i m = method_faults s (method_at (inside d) i m) m
 
-  faults-again : (i : ℕ) (ms : List MethodDescriptorProto) → flat_map (λ (faults : Faults). faults) (each broken i ms) ≡ []
-      → flat_map (λ (faults : Faults). faults) (each (λ i m. method_faults t (method_at (inside d) i m) m) i (map carried ms)) ≡ []
+  faults-again : (i : ℕ) (ms : List MethodDescriptorProto) → flat_map (λ (faults : Faults). faults) (map_enumerated broken i ms) ≡ []
+      → flat_map (λ (faults : Faults). faults) (map_enumerated (λ i m. method_faults t (method_at (inside d) i m) m) i (map carried ms)) ≡ []
   faults-again i [] none = refl
   faults-again i (m ∷ ms) none =
-      let parts = both-empty (broken i m) (flat_map (λ (faults : Faults). faults) (each broken (suc i) ms)) none in
+      let parts = both-empty (broken i m) (flat_map (λ (faults : Faults). faults) (map_enumerated broken (suc i) ms)) none in
       let same = method-carried i m parts.0 in
       λ j. same.faults j ++ faults-again (suc i) ms parts.1 j
 
-  items-again : (i : ℕ) (ms : List MethodDescriptorProto) → flat_map (λ (faults : Faults). faults) (each broken i ms) ≡ []
-      → each (λ i m. method_item t (method_at (inside d) i m) m) i (map carried ms) ≡ each (λ i m. method_item s (method_at (inside d) i m) m) i ms
+  items-again : (i : ℕ) (ms : List MethodDescriptorProto) → flat_map (λ (faults : Faults). faults) (map_enumerated broken i ms) ≡ []
+      → map_enumerated (λ i m. method_item t (method_at (inside d) i m) m) i (map carried ms) ≡ map_enumerated (λ i m. method_item s (method_at (inside d) i m) m) i ms
   items-again i [] none = refl
   items-again i (m ∷ ms) none =
-      let parts = both-empty (broken i m) (flat_map (λ (faults : Faults). faults) (each broken (suc i) ms)) none in
+      let parts = both-empty (broken i m) (flat_map (λ (faults : Faults). faults) (map_enumerated broken (suc i) ms)) none in
       let same = method-carried i m parts.0 in
       λ j. same.item_is j ∷ items-again (suc i) ms parts.1 j
 
-  methods-linked : (i : ℕ) (ms : List MethodDescriptorProto) → flat_map (λ (faults : Faults). faults) (each broken i ms) ≡ []
+  methods-linked : (i : ℕ) (ms : List MethodDescriptorProto) → flat_map (λ (faults : Faults). faults) (map_enumerated broken i ms) ≡ []
       → changed_methods (linked_method t) d.file d.full_name (map carried ms) ≡ changed_methods (linked_method s) d.file d.full_name ms
   methods-linked i [] none = refl
   methods-linked i (m ∷ ms) none =
-      let parts = both-empty (broken i m) (flat_map (λ (faults : Faults). faults) (each broken (suc i) ms)) none in
+      let parts = both-empty (broken i m) (flat_map (λ (faults : Faults). faults) (map_enumerated broken (suc i) ms)) none in
       let same = method-carried i m parts.0 in
       λ j. same.linked_is j ∷ methods-linked (suc i) ms parts.1 j
 

@@ -18,14 +18,14 @@ use Rattle.record_walk.specs.Changed.{Changes}
 use Rattle.record_walk.specs.Protos.{of_oneof}
 use Rattle.record_walk.specs.Shown.{Shown, Surrounding, inside}
 use Rattle.name_pass.specs.Syntaxes.{is_proto3}
-use Rattle.field_rules.specs.Each.{each}
+use Rattle.plain_data.specs.Each.{map_enumerated}
 use Rattle.field_rules.specs.Identities.{identity, named_at}
 use Rattle.field_rules.specs.Places.{field_at, part_inside}
 use Rattle.field_rules.specs.Encoding.{is_packed, supports_presence}
 use Rattle.field_rules.specs.Maps.{by_json_name, by_name, by_number}
 use Rattle.field_rules.specs.DuplicateNumbers.{item_number}
 use Rattle.field_rules.specs.Oneofs.{members}
-use Rattle.reference_pass.specs.Broken.{Faults, field_faults}
+use Rattle.reference_pass.specs.SecondPass.{Faults, field_faults}
 use Rattle.reference_pass.specs.Defaults.{field_default, field_default_faults}
 use Rattle.reference_pass.specs.FieldTypes.{field_kind, type_faults}
 use Rattle.reference_pass.specs.Items.{field_item, item_of_kind, oneof_items}
@@ -65,7 +65,7 @@ module _ {s t : Setting} {c : Changes} {many : ℕ} (carries : Carries s t c man
   oneofs-again here fs os =
       let item : (ℕ → List ℕ) → ℕ → OneofDescriptorProto → OneofDescriptorInner = λ of n o.
       let at = part_inside here message.ONEOF_DECL n (of_oneof o) in record { id = identity at; fields = of at.index } in
-      λ j. each (item (λ oneof. members-again fs oneof j)) 0 os
+      λ j. map_enumerated (item (λ oneof. members-again fs oneof j)) 0 os
 
   -- the item of a field
   module _ (oneofs : List OneofDescriptorProto) where
@@ -99,10 +99,10 @@ module _ {s t : Setting} {c : Changes} {many : ℕ} (carries : Carries s t c man
       abbrev broken : ℕ → FieldDescriptorProto → Faults
       broken i f = field_faults s (d, m) (field_at (inside d) i f) f
 
-      pub items-again : (i : ℕ) (fs : List FieldDescriptorProto) → flat_map (λ (faults : Faults). faults) (each broken i fs) ≡ []
-          → each (λ i f. field_item t oneofs (field_at (inside d) i f) f) i (map new fs) ≡ each (λ i f. field_item s oneofs (field_at (inside d) i f) f) i fs
+      pub items-again : (i : ℕ) (fs : List FieldDescriptorProto) → flat_map (λ (faults : Faults). faults) (map_enumerated broken i fs) ≡ []
+          → map_enumerated (λ i f. field_item t oneofs (field_at (inside d) i f) f) i (map new fs) ≡ map_enumerated (λ i f. field_item s oneofs (field_at (inside d) i f) f) i fs
       items-again i [] none = refl
       items-again i (f ∷ fs) none =
-          let parts = both-empty (broken i f) (flat_map (λ (faults : Faults). faults) (each broken (suc i) fs)) none in
+          let parts = both-empty (broken i f) (flat_map (λ (faults : Faults). faults) (map_enumerated broken (suc i) fs)) none in
           let own = breaks-nothing s (d, m) (field_at (inside d) i f) f parts.0 in
           λ j. item-again i f own.typed own.default j ∷ items-again (suc i) fs parts.1 j

@@ -7,7 +7,7 @@ use Rattle.std.specs.List.{AllByRecursion, list_all}
 use Rattle.std.specs.Option.{option_or}
 use Rattle.std.specs.declared.result.Result.{Result}
 use Rattle.std.specs.declared.result.Result.TheVariants.{Err}
-use Rattle.proto_types.specs.Lists.{after_each, only_if}
+use Rattle.plain_data.specs.Lists.{after_each, only_if}
 use Rattle.proto_types.specs.Readers.{text_of}
 use Rattle.proto_types.specs.declared.file.FileDescriptorProto.{FileDescriptorProto}
 use Rattle.pool_faults.specs.declared.fault.DescriptorErrorKind.{DescriptorErrorKind}
@@ -31,8 +31,8 @@ use Rattle.name_pass.specs.Syntaxes.{syntax_faults}
 use Rattle.pool_laws.proofs.FirstPass.{holder-more}
 use Rattle.pool_laws.proofs.Numbered.{both-empty}
 use Rattle.name_pass.specs.Entered.{entries, entries_of, file_entries, file_entries_of}
-use Rattle.name_pass.specs.FirstPass.{clashes, file_faults, file_name_faults, first_faults, holder, own_faults}
-use Rattle.descriptor_pool.specs.Behind.{linked_behind, names_behind, references_behind}
+use Rattle.name_pass.specs.FirstPass.{clashes, file_faults, file_name_faults, first_faults, holder, shape_faults}
+use Rattle.descriptor_pool.specs.Linking.{linked_with, name_faults, reference_faults}
 use Rattle.descriptor_pool.specs.Invariant.{IsPool}
 use Rattle.descriptor_pool.specs.Pool.{Batch, has_file, link, new_files}
 use Rattle.descriptor_pool.proofs.Extendees.{made-whole}
@@ -76,7 +76,7 @@ module _ (files : List FileDescriptorProto) (p : Contents) (earlier : List Shown
       let own = both-empty (first_faults files p before d) (after_each (first_faults files p) (before ++ d ∷ []) (within_file base.files base f)) parts.0 in
       let file = file_faults files p.file_names (file_entries before) d in
       let clash = clashes files p.names (entries before) (entries_of d) in
-      let told = both-empty file clash (both-empty (file ++ clash) (own_faults files d) own.0).0 in
+      let told = both-empty file clash (both-empty (file ++ clash) (shape_faults files d) own.0).0 in
       let named = both-empty (syntax_faults files base.files f) (file_name_faults (holder p.file_names (file_entries before) (text_of f.name)) (text_of f.name)) told.0 in
       let more : (name : List ℕ) → is_some (holder p.file_names (file_entries (before ++ walk)) name) ≡ false → is_some (holder p.file_names (file_entries earlier) name) ≡ false =
       λ name held. fewer name (none-before (holder p.file_names (file_entries before) name) (first_of (file_entries walk) name)
@@ -156,8 +156,8 @@ splits p pool front back plain closed accepts =
     let known = front_part.each-known p fs fs closed in
     let alone = front_part.plain-front no_counts (files_of p ++ fs) gs
     (subst (ArePlain no_counts) (ap (λ new. files_of p ++ new) both ∙ sym (append_assoc (files_of p) fs gs)) plain) in
-    let names = sym (ap (names_behind p) both) ∙ accepts.0 in
-    let references = sym (ap (references_behind p) both) ∙ accepts.1 in
+    let names = sym (ap (name_faults p) both) ∙ accepts.0 in
+    let references = sym (ap (reference_faults p) both) ∙ accepts.1 in
     let first = earlier p entered again fs gs known in
     let second = later p entered again fs gs known in
     let faults = first_faults (whole p entered again fs gs known).files p in
@@ -167,8 +167,8 @@ splits p pool front back plain closed accepts =
     still-new p q (λ name there. ap is_some (get-with p.file_names (file_entries first) name) ∙ some-before (finite.get p.file_names name) (first_of (file_entries first) name) there) back
     (held-as q gs is_new (λ name. ap is_some (get-with p.file_names (file_entries first) name))) in (
       (front_part.names-fine p entered again fs gs known alone names, front_part.references-fine p entered again fs gs known alone references),
-      (ap (names_behind q) same ∙ rest_part.names-fine p entered again fs gs known names, ap (references_behind q) same ∙ rest_part.references-fine p entered again fs gs known references),
-      ap (linked_behind q) same ∙ linked-joined p entered again fs gs known alone references (made-whole p pool.made) ∙ ap (linked_behind p) (sym both),
+      (ap (name_faults q) same ∙ rest_part.names-fine p entered again fs gs known names, ap (reference_faults q) same ∙ rest_part.references-fine p entered again fs gs known references),
+      ap (linked_with q) same ∙ linked-joined p entered again fs gs known alone references (made-whole p pool.made) ∙ ap (linked_with p) (sym both),
       λ fits.
           let room = room-fits (counts_in p) (fs ++ gs) (subst (λ new. IsOk (counts_with (counts_in p) new)) both fits) in
           let rooms = room-parts (counts_in p) first second (subst (Room (counts_in p)) (declared-both p entered again fs gs known) room) in (

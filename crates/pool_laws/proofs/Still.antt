@@ -16,9 +16,9 @@ use Rattle.record_walk.specs.Counts.{counted, counting}
 use Rattle.record_walk.specs.Declarations.{enums_walk, file_walk, in_file, message_end, message_front, message_walk, messages_walk, nested_walk, service_walk, services_walk}
 use Rattle.record_walk.specs.Protos.{of_extension, of_message, of_service}
 use Rattle.record_walk.specs.Shown.{Shown, Surrounding, inside, row, shown}
-use Rattle.field_rules.specs.Each.{each}
+use Rattle.plain_data.specs.Each.{map_enumerated}
 use Rattle.field_rules.specs.Places.{field_at}
-use Rattle.reference_pass.specs.Broken.{Faults, field_faults, owner_faults}
+use Rattle.reference_pass.specs.SecondPass.{Faults, field_faults, owner_faults}
 use Rattle.reference_pass.specs.Linked.{linked, linked_extension, linked_field, linking}
 use Rattle.reference_pass.specs.Setting.{Setting}
 use Rattle.pool_laws.proofs.Carries.{Carries}
@@ -61,11 +61,11 @@ module _ {s t : Setting} {c : Changes} {many : ℕ} (carries : Carries s t c man
         let name = ap (λ (x : FieldDescriptorProto). text_of x.name) (kept carries d below f) in
         (λ j. linked_field t d.file (join d.full_name (name j)) (new f)) ∙ (carries.typed here below f (breaks-nothing s (d, m) here f none).typed).linked_is
 
-    fields-linked : (i : ℕ) (fs : List FieldDescriptorProto) → flat_map (λ (faults : Faults). faults) (each broken i fs) ≡ []
+    fields-linked : (i : ℕ) (fs : List FieldDescriptorProto) → flat_map (λ (faults : Faults). faults) (map_enumerated broken i fs) ≡ []
         → changed_fields (linked_field t) d.file d.full_name (map new fs) ≡ changed_fields (linked_field s) d.file d.full_name fs
     fields-linked i [] none = refl
     fields-linked i (f ∷ fs) none =
-        let parts = both-empty (broken i f) (flat_map (λ (faults : Faults). faults) (each broken (suc i) fs)) none in
+        let parts = both-empty (broken i f) (flat_map (λ (faults : Faults). faults) (map_enumerated broken (suc i) fs)) none in
         λ j. field-linked i f parts.0 j ∷ fields-linked (suc i) fs parts.1 j
 
   -- extensions in surroundings

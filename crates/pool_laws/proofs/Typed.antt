@@ -7,7 +7,7 @@ use Rattle.proto_types.specs.declared.records.field.FieldDescriptorProto.{FieldD
 use Rattle.proto_types.specs.declared.records.field.FieldType.{FieldType}
 use Rattle.proto_types.specs.declared.records.field.FieldType.TheVariants as written
 use Rattle.proto_types.specs.declared.tag.field.TheConstants as field
-use Rattle.proto_types.specs.Lists.{listed, only_if}
+use Rattle.plain_data.specs.Lists.{listed, only_if}
 use Rattle.proto_types.specs.Readers.{text_of, type_of}
 use Rattle.pool_faults.specs.declared.fault.DescriptorErrorKind.{DescriptorErrorKind}
 use Rattle.pool_faults.specs.declared.fault.DescriptorErrorKind.TheVariants.{MissingRequiredField}
@@ -21,9 +21,9 @@ use Rattle.name_resolution.specs.declared.filter.ResolveNameFilter.TheVariants.{
 use Rattle.name_resolution.specs.Kinds.{is_match, named_kind, simple_kind}
 use Rattle.name_resolution.specs.References.{reference_fault}
 use Rattle.name_resolution.specs.Resolution.{Resolution, found, invalid_type, not_imported, shadowed, not_found, kind_found, look}
-use Rattle.reference_pass.specs.FieldTypes.{field_kind, type_faults, type_meaning}
+use Rattle.reference_pass.specs.FieldTypes.{field_kind, type_faults, resolve_type}
 use Rattle.reference_pass.specs.Linked.{linked_field, type_number, typed}
-use Rattle.reference_pass.specs.Setting.{Setting, meaning, seen_by}
+use Rattle.reference_pass.specs.Setting.{Setting, resolve, seen_by}
 use Rattle.pool_laws.specs.SettingLaws.{Grows, IsTyped}
 use Rattle.pool_laws.proofs.Looked.{IsLooked, look-again, resolution-looked}
 
@@ -33,7 +33,7 @@ seen s file n = contains_by (nat_cmp n) (seen_by s file)
 module _ (s t : Setting) (grows : Grows s t) where
   -- a dot and the full name that was found mean the same
   pub found-again : (file : ℕ) (scope other written : List ℕ) (filter : ResolveNameFilter) (name : List ℕ) (def : Definition) → file < length s.files
-      → meaning s file scope filter written ≡ found name def → meaning t file other filter (46 ∷ name) ≡ found name def
+      → resolve s file scope filter written ≡ found name def → resolve t file other filter (46 ∷ name) ≡ found name def
   found-again file scope other written filter name def below is =
       let now = subst (IsLooked s.names (seen s file) filter) is (resolution-looked s.names (seen s file) filter scope written) in
       (λ i. look t.names (λ n. contains_by (nat_cmp n) (grows.sees file below i)) filter name)
@@ -71,7 +71,7 @@ module _ (s t : Setting) (grows : Grows s t) (d : Shown) (below : d.file < lengt
   abbrev at : List ℤ
   at = d.path ++ field.TYPE_NAME ∷ []
 
-  found-typed : (f : FieldDescriptorProto) (r : Resolution) → type_meaning s d f ≡ r → listed (reference_fault s.files (text_of f.type_name) d.file at r) ≡ []
+  found-typed : (f : FieldDescriptorProto) (r : Resolution) → resolve_type s d f ≡ r → listed (reference_fault s.files (text_of f.type_name) d.file at r) ≡ []
       → IsTyped t d (option_and_then (named_kind (type_of f.type_)) (kind_found r)) (typed r f) (typed r f)
   found-typed f (found name def) is none =
       let now = subst (IsLooked s.names (seen s d.file) AnyType) is (resolution-looked s.names (seen s d.file) AnyType d.full_name (text_of f.type_name)) in
@@ -90,17 +90,17 @@ module _ (s t : Setting) (grows : Grows s t) (d : Shown) (below : d.file < lengt
   by-name : (f : FieldDescriptorProto) (name : List ℕ) → text_of f.type_name ≡ name
       → let faults : List DescriptorErrorKind = elim name [
         | [] ↦ only_if (not (is_some (simple_kind (type_of f.type_)))) (MissingRequiredField (label_in s.files d.file at))
-        | _ ∷ _ ↦ listed (reference_fault s.files (text_of f.type_name) d.file at (type_meaning s d f))
+        | _ ∷ _ ↦ listed (reference_fault s.files (text_of f.type_name) d.file at (resolve_type s d f))
       ] in
-      let made : FieldDescriptorProto = elim name [ [] ↦ f | _ ∷ _ ↦ typed (type_meaning s d f) f ] in
-      faults ≡ [] → IsTyped t d (elim name [ [] ↦ simple_kind (type_of f.type_) | _ ∷ _ ↦ option_and_then (named_kind (type_of f.type_)) (kind_found (type_meaning s d f)) ])
+      let made : FieldDescriptorProto = elim name [ [] ↦ f | _ ∷ _ ↦ typed (resolve_type s d f) f ] in
+      faults ≡ [] → IsTyped t d (elim name [ [] ↦ simple_kind (type_of f.type_) | _ ∷ _ ↦ option_and_then (named_kind (type_of f.type_)) (kind_found (resolve_type s d f)) ])
       made made
   by-name f [] is none = record {
     faults = rw (is, type_faults) (no-fault (not (is_some (simple_kind (type_of f.type_)))) (MissingRequiredField (label_in s.files d.file at)) (MissingRequiredField (label_in t.files d.file at)) none);
     kind_is = rw (is, field_kind) refl;
     linked_is = rw (is, linked_field) refl;
   }
-  by-name f (c ∷ cs) is none = found-typed f (type_meaning s d f) refl none
+  by-name f (c ∷ cs) is none = found-typed f (resolve_type s d f) refl none
 
   pub typed-again : (f : FieldDescriptorProto) → type_faults s d f ≡ []
       → let made = linked_field s d.file d.full_name f in IsTyped t d (field_kind s d f) made made

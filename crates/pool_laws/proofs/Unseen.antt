@@ -27,14 +27,14 @@ use Rattle.pool_laws.specs.SettingLaws.{SeenAmong}
 use Rattle.pool_laws.proofs.Fewer.{all-mapped}
 use Rattle.pool_laws.proofs.Still.{all-front}
 use Rattle.name_pass.specs.Entered.{entries, entries_of, package_entry, packages}
-use Rattle.descriptor_pool.specs.Behind.{declared_behind}
+use Rattle.descriptor_pool.specs.Linking.{declared_with}
 use Rattle.descriptor_pool.specs.Invariant.{IsPool}
 use Rattle.descriptor_pool.proofs.Declared.{declared-behind, entries-append, known_names}
 use Rattle.descriptor_pool.proofs.Files.{counted-files, first-has, lie-from}
 use Rattle.descriptor_pool.proofs.Resolved.{all-append}
 use Rattle.descriptor_pool.proofs.Sound.{Known, made-sound}
 use Rattle.pool_laws.specs.Laws.{ArePlain, HasScope, IsPlain, SeenNamesStand}
-use Rattle.pool_laws.proofs.Again.{stays-known}
+use Rattle.pool_laws.proofs.Relinks.{stays-known}
 use Rattle.pool_laws.proofs.Entered.{entries-held, packages-held, prefixes_entered}
 
 all-alike : {X : Type 0} (P Q : X → Type 0) → ((x : X) → P x → Q x) → (xs : List X) → AllByRecursion P xs → AllByRecursion Q xs
@@ -205,7 +205,7 @@ earlier-one (Some d) b def is later = is
 module _ (p : Contents) (entered : Known p) (front back : List FileDescriptorProto) (plain : ArePlain no_counts (files_of p ++ front))
     (seen : ℕ → Bool) (few : (n : ℕ) → seen n ≡ true → n < length p.files + length front) where
   abbrev fewer : List Shown
-  fewer = declared_behind p front
+  fewer = declared_with p front
 
   abbrev later : List Shown
   later = declarations (counted (counts_in p) fewer) back
@@ -221,7 +221,7 @@ module _ (p : Contents) (entered : Known p) (front back : List FileDescriptorPro
       ap (λ held. names_with held (entries fewer)) entered.names_are ∙ with-names (known_names p) (entries fewer)
       ∙ ap names (sym (ap entries (declared-behind p front entered.counts_are front) ∙ entries-append (declarations no_counts (files_of p)) fewer))
 
-  all-are : names_with p.names (entries (declared_behind p (front ++ back))) ≡ names_with known (entries later)
+  all-are : names_with p.names (entries (declared_with p (front ++ back))) ≡ names_with known (entries later)
   all-are =
       ap (λ ds. names_with p.names (entries ds)) (declarations-append (counts_in p) front back)
       ∙ ap (names_with p.names) (entries-append fewer later)
@@ -250,7 +250,7 @@ module _ (p : Contents) (entered : Known p) (front back : List FileDescriptorPro
       (all-alike (λ y. IsSome (first_of all y)) (λ y. IsSome (finite.get known y))
       (λ y some. subst IsSome (sym (ap (λ held. finite.get held y) known-are ∙ get-lookup all y)) some) (fronts name) rooted)
 
-  pub seen-stand : SeenAmong known (names_with p.names (entries (declared_behind p (front ++ back)))) seen
+  pub seen-stand : SeenAmong known (names_with p.names (entries (declared_with p (front ++ back)))) seen
   seen-stand = subst (λ more. SeenAmong known more seen) (sym all-are) (record {
     stay = λ name def is. stays-known known (entries later) name def is;
     sees = seen-known;

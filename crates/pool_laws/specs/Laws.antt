@@ -19,27 +19,33 @@ use Rattle.record_walk.specs.Protos.{name_of}
 use Rattle.record_walk.specs.Walking.{within_file}
 use Rattle.name_pass.specs.Entered.{entries}
 use Rattle.pool_laws.specs.SettingLaws.{SeenAmong}
-use Rattle.descriptor_pool.specs.Behind.{declared_behind, with_names}
+use Rattle.descriptor_pool.specs.Linking.{declared_with, with_names}
 use Rattle.descriptor_pool.specs.Pool.{Accepts, Batch, Fits, has_file, link, new_files}
 
--- law: the linked files of a pool, linked at once from nothing, break nothing, fit, and make an equal pool
+-- law: the linked files of a pool, linked at once from nothing, break nothing, fit, and make an
+-- equal pool
 abbrev pub Relinks : Contents → Type 0
-Relinks p = Accepts no_contents (files_of p) × Fits no_contents (files_of p) × (link no_contents (files_of p) ≡ p)
+Relinks p = Accepts no_contents (files_of p) × Fits no_contents (files_of p)
+    × (link no_contents (files_of p) ≡ p)
 
 -- a list, and what comes behind it
 abbrev pub Begins : {X : Type 0} → List X → List X → Type 0
 Begins {X} xs ys = (rest : List X) × (ys ≡ xs ++ rest)
 
--- what is in contents is in others as it was, save that further extensions stand behind those that a message lists
+-- what is in contents is in others as it was, save that further extensions stand behind those that
+-- a message lists
 pub record Keeps (p q : Contents) : Type 0 where
   pub files : Begins p.files q.files
   pub messages : (n : ℕ) (m : MessageDescriptorInner) → slice_get p.messages n ≡ Some m
-      → (more : List ℕ) × (slice_get q.messages n ≡ Some (record m { extensions = m.extensions ++ more }))
+      → (more : List ℕ)
+      × (slice_get q.messages n ≡ Some (record m { extensions = m.extensions ++ more }))
   pub enums : Begins p.enums q.enums
   pub services : Begins p.services q.services
   pub extensions : Begins p.extensions q.extensions
-  pub names : (name : List ℕ) (def : Definition) → finite.get p.names name ≡ Some def → finite.get q.names name ≡ Some def
-  pub file_names : (name : List ℕ) (n : ℕ) → finite.get p.file_names name ≡ Some n → finite.get q.file_names name ≡ Some n
+  pub names : (name : List ℕ) (def : Definition) → finite.get p.names name ≡ Some def
+      → finite.get q.names name ≡ Some def
+  pub file_names : (name : List ℕ) (n : ℕ) → finite.get p.file_names name ≡ Some n
+      → finite.get q.file_names name ≡ Some n
 
 -- law: what a pool has stays where a batch is linked into it
 abbrev pub EarlierStays : Contents → Type 0
@@ -47,7 +53,8 @@ EarlierStays p = (batch : Batch) → Keeps p (link p batch)
 
 -- law: a dot before a name that doesn't begin with one says nothing
 abbrev pub DotSaysNothing : Contents → Type 0
-DotSaysNothing p = (name : List ℕ) → ((rest : List ℕ) → name ≢ 46 ∷ rest) → definition_named p (46 ∷ name) ≡ definition_named p name
+DotSaysNothing p = (name : List ℕ) → ((rest : List ℕ) → name ≢ 46 ∷ rest)
+    → definition_named p (46 ∷ name) ≡ definition_named p name
 
 -- a name that is not empty, and in which no text stands before a dot
 abbrev pub IsPlainName : List ℕ → Type 0
@@ -68,32 +75,41 @@ is_scope _ = false
 abbrev pub HasScope : List Entry → List ℕ → Type 0
 HasScope es name = (def : Definition) × Contains es (name, def) × IsTrue (is_scope def.kind)
 
--- law: in a file whose names are plain, each text before a dot of a full name is that of a package, a message or a service that the file enters
+-- law: in a file whose names are plain, each text before a dot of a full name is that of a package,
+-- a message or a service that the file enters
 abbrev pub PrefixesEntered : FileDescriptorProto → Type 0
 PrefixesEntered f =
     (base : Counts) → IsPlain base f
-    → All (λ d. All (HasScope (entries (file_walk base f))) (fronts d.full_name)) (within_file base.files base f)
+    → All (λ d. All (HasScope (entries (file_walk base f))) (fronts d.full_name))
+    (within_file base.files base f)
 
 -- files in which all names are plain
 abbrev pub ArePlain : Counts → List FileDescriptorProto → Type 0
 ArePlain base [] = Unit {0}
 ArePlain base (f ∷ fs) = IsPlain base f × ArePlain (counted base (file_walk base f)) fs
 
--- law: behind a pool, where names are plain, the names without those of later files have all that is seen where no later file is
+-- law: behind a pool, where names are plain, the names without those of later files have all that
+-- is seen where no later file is
 abbrev pub SeenNamesStand : Contents → Type 0
 SeenNamesStand p =
     (front back : List FileDescriptorProto) → ArePlain no_counts (files_of p ++ front)
     → (seen : ℕ → Bool) → ((n : ℕ) → seen n ≡ true → n < length p.files + length front)
-    → SeenAmong (with_names p (declared_behind p front)).names (with_names p (declared_behind p (front ++ back))).names seen
+    → SeenAmong (with_names p (declared_with p front)).names
+    (with_names p (declared_with p (front ++ back))).names seen
 
 -- each of the new files imports only files of the pool and of these
 abbrev pub AreClosed : Contents → List FileDescriptorProto → Type 0
-AreClosed p new = All (λ f. All (λ name. IsTrue (has_file p name) ⊎ Contains (map (λ g. text_of g.name) new) name) f.dependency) new
+AreClosed p new =
+    All (λ f. All (λ name. IsTrue (has_file p name) ⊎ Contains (map (λ g. text_of g.name) new) name)
+    f.dependency) new
 
--- law: where a batch is accepted, its names and those of the pool are plain, and its first part imports nothing of the second, each part
--- is accepted behind what comes before it, and the two make the pool that the batch makes; where the batch fits, so does each part
+-- law: where a batch is accepted, its names and those of the pool are plain, and its first part
+-- imports nothing of the second, each part is accepted behind what comes before it, and the two
+-- make the pool that the batch makes; where the batch fits, so does each part
 abbrev pub Splits : Contents → Batch → Batch → Type 0
 Splits p front back =
-    ArePlain no_counts (files_of p ++ new_files p (front ++ back)) → AreClosed p (new_files p front) → Accepts p (front ++ back)
-    → Accepts p front × Accepts (link p front) back × (link (link p front) back ≡ link p (front ++ back))
+    ArePlain no_counts (files_of p ++ new_files p (front ++ back)) → AreClosed p (new_files p front)
+    → Accepts p (front ++ back)
+    → Accepts p front × Accepts (link p front) back
+    × (link (link p front) back ≡ link p (front ++ back))
     × (Fits p (front ++ back) → Fits p front × Fits (link p front) back)

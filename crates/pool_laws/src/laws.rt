@@ -4,8 +4,8 @@ ghost use Rattle.pool_laws.specs.Laws.{DotSaysNothing, EarlierStays, PrefixesEnt
 use descriptor_pool::DescriptorPool;
 use proto_types::FileDescriptorProto;
 
-/// The linked files of a pool, linked at once from nothing, break no rule, are not too many, and make
-/// an equal pool.
+/// The linked files of a pool, linked at once from nothing, break no rule, are not too many, and
+/// make an equal pool.
 pub fn relink(pool: &DescriptorPool)
     ensures { Relinks pool.now }
 {
@@ -19,7 +19,8 @@ pub fn earlier_stays(pool: &DescriptorPool)
     ensures { EarlierStays pool.now }
 {}
 
-/// A pool has under a dot and a name what it has under the name, where that doesn't begin with a dot.
+/// A pool has under a dot and a name what it has under the name, where that doesn't begin with a
+/// dot.
 pub fn dot_says_nothing(pool: &DescriptorPool)
     ensures { DotSaysNothing pool.now }
 {}
@@ -30,19 +31,19 @@ pub fn prefixes(file: &FileDescriptorProto)
     ensures { PrefixesEntered file.now }
 {}
 
-/// Behind a pool, where no name that stands in its files and in the first of the new ones is empty or
-/// has a dot: without the names of later files there is all that is seen where no later file is seen,
-/// with what stands before the dots of it. So a reference finds what it found.
+/// Behind a pool, where no name that stands in its files and in the first of the new ones is empty
+/// or has a dot: without the names of later files there is all that is seen where no later file is
+/// seen, with what stands before the dots of it. So a reference finds what it found.
 pub fn seen_names_stand(pool: &DescriptorPool)
     ensures { SeenNamesStand pool.now }
 {
     pool.made();
 }
 
-/// A batch that is accepted may be linked in two parts, front and back, where no name that stands in
-/// its new files and in those of the pool is empty or has a dot, and where the new files of the front
-/// import only files of the pool and each other: each part is accepted in its turn, and the pool is the
-/// one that the whole batch makes. Where the batch fits, so does each part.
+/// A batch that is accepted may be linked in two parts, front and back, where no name that stands
+/// in its new files and in those of the pool is empty or has a dot, and where the new files of the
+/// front import only files of the pool and each other: each part is accepted in its turn, and the
+/// pool is the one that the whole batch makes. Where the batch fits, so does each part.
 pub fn split(pool: &DescriptorPool, front: &[FileDescriptorProto], back: &[FileDescriptorProto])
     ensures { Splits pool.now front.now back.now }
 {

@@ -5,4 +5,9 @@ mod laws;
 mod setting_laws;
 
 pub use laws::{dot_says_nothing, earlier_stays, prefixes, relink, seen_names_stand, split};
-pub use setting_laws::{declaration_read_again, declaration_stands, defaulted_again, enum_read_again, extension_read_again, extension_stands, file_read_again, file_stands, found_again, found_among_fewer, message_named_again, message_read_again, message_stands, seen_stays, service_read_again, service_stands, typed_again};
+pub use setting_laws::{
+    declaration_carries_over, declaration_relinks, defaulted_relinks, enum_relinks,
+    extension_carries_over, extension_relinks, file_carries_over, file_relinks, found_among_fewer,
+    found_relinks, message_carries_over, message_named_relinks, message_relinks, seen_stays,
+    service_carries_over, service_relinks, typed_relinks,
+};

@@ -25,7 +25,15 @@ pub record Contents : Type 0 where
   pub file_names : ByText ℕ
 
 abbrev pub no_contents : Contents
-no_contents = record { files = []; messages = []; enums = []; services = []; extensions = []; names = map.empty; file_names = map.empty }
+no_contents = record {
+  files = [];
+  messages = [];
+  enums = [];
+  services = [];
+  extensions = [];
+  names = map.empty;
+  file_names = map.empty;
+}
 
 -- the linked records of a pool's files
 abbrev pub files_of : Contents → List FileDescriptorProto

@@ -21,19 +21,31 @@ abbrev Items : Type 0
 Items = List EnumDescriptorInner × (List ServiceDescriptorInner × List ExtensionDescriptorInner)
 
 abbrev Parts : Type 0
-Parts = List FileDescriptorInner × (List MessageDescriptorInner × (Items × (ByText Definition × ByText ℕ)))
+Parts = List FileDescriptorInner
+    × (List MessageDescriptorInner × (Items × (ByText Definition × ByText ℕ)))
 
 abbrev parts_of : Contents → Parts
-parts_of p = (p.files, (p.messages, ((p.enums, (p.services, p.extensions)), (p.names, p.file_names))))
+parts_of p =
+    (p.files, (p.messages, ((p.enums, (p.services, p.extensions)), (p.names, p.file_names))))
 
 abbrev of_parts : Parts → Contents
-of_parts x = let items = x.1.1.0 in record { files = x.0; messages = x.1.0; enums = items.0; services = items.1.0; extensions = items.1.1; names = x.1.1.1.0; file_names = x.1.1.1.1 }
+of_parts x = let items = x.1.1.0 in record {
+  files = x.0;
+  messages = x.1.0;
+  enums = items.0;
+  services = items.1.0;
+  extensions = items.1.1;
+  names = x.1.1.1.0;
+  file_names = x.1.1.1.1;
+}
 
 abbrev items_code : Coded Items
-items_code = coded× (coded_list enumeration.the_row.coded) (coded× (coded_list service.the_row.coded) (coded_list extension.the_row.coded))
+items_code = coded× (coded_list enumeration.the_row.coded)
+    (coded× (coded_list service.the_row.coded) (coded_list extension.the_row.coded))
 
 abbrev pub contents_code : Coded Contents
 contents_code = code_by Parts
     (coded× (coded_list file.the_row.coded) (coded× (coded_list message.the_row.coded)
-    (coded× items_code (coded× (map.code (coded_list coded_ℕ) definition.the_row.coded) (map.code (coded_list coded_ℕ) coded_ℕ)))))
+    (coded× items_code (coded× (map.code (coded_list coded_ℕ) definition.the_row.coded)
+    (map.code (coded_list coded_ℕ) coded_ℕ)))))
     parts_of of_parts (λ _. refl)

@@ -26,42 +26,90 @@ pub definition_kind-exact : Exact definition_kind.ghosts.eq
 definition_kind-exact a b = search rules
 
 pub identity-exact : Exact identity.ghosts.eq
-identity-exact = by-parts (λ d. (d.file, (d.path, (d.full_name, d.name_index)))) (λ a b e. search rules) (unsigned_Decides and numbers-exact and text-exact and unsigned_Decides)
+identity-exact = by-parts (λ d. (d.file, (d.path, (d.full_name, d.name_index))))
+    (λ a b e. search rules) (unsigned_Decides and numbers-exact and text-exact and unsigned_Decides)
 
 pub definition-exact : Exact definition.ghosts.eq
-definition-exact = by-parts (λ d. (d.file, (d.path, d.kind))) (λ a b e. search rules) (unsigned_Decides and numbers-exact and definition_kind-exact)
+definition-exact = by-parts (λ d. (d.file, (d.path, d.kind))) (λ a b e. search rules)
+    (unsigned_Decides and numbers-exact and definition_kind-exact)
 
 pub field_inner-exact : Exact field_inner.ghosts.eq
-field_inner-exact = by-parts (λ f. (f.id, (f.number, (f.json_name, (f.kind, (f.oneof, (f.is_packed, (f.supports_presence, (f.cardinality, f.default))))))))) (λ a b e. search rules)
-    (identity-exact and unsigned_Decides and given-text and kind_index-exact and given unsigned_Decides and booleans_Decides and booleans_Decides and cardinality-exact and given default-exact)
+field_inner-exact =
+    by-parts (λ f. (
+      f.id,
+      (
+        f.number,
+        (
+          f.json_name,
+          (f.kind, (f.oneof, (f.is_packed, (f.supports_presence, (f.cardinality, f.default))))),
+        ),
+      ),
+    ))
+    (λ a b e. search rules)
+    (identity-exact and unsigned_Decides and given-text and kind_index-exact and given
+    unsigned_Decides and booleans_Decides and booleans_Decides and cardinality-exact and given
+    default-exact)
 
 -- sets of indexes, by their keys, which ascend
 indexes-exact : Exact (λ (s t : BTreeSet ℕ). pointwise nat_eq s.keys t.keys)
 indexes-exact = by-parts (λ s. s.keys) (λ a b e. search rules) (items-exact unsigned_Decides)
 
 pub file_inner-exact : Exact file_inner.ghosts.eq
-file_inner-exact = by-parts (λ f. (f.syntax, (f.raw, (f.dependencies, f.transitive_dependencies)))) (λ a b e. search rules) (syntax-exact and file-exact and items-exact unsigned_Decides and indexes-exact)
+file_inner-exact = by-parts (λ f. (f.syntax, (f.raw, (f.dependencies, f.transitive_dependencies))))
+    (λ a b e. search rules)
+    (syntax-exact and file-exact and items-exact unsigned_Decides and indexes-exact)
 
 pub oneof_inner-exact : Exact oneof_inner.ghosts.eq
-oneof_inner-exact = by-parts (λ o. (o.id, o.fields)) (λ a b e. search rules) (identity-exact and items-exact unsigned_Decides)
+oneof_inner-exact = by-parts (λ o. (o.id, o.fields)) (λ a b e. search rules)
+    (identity-exact and items-exact unsigned_Decides)
 
 pub message_inner-exact : Exact message_inner.ghosts.eq
-message_inner-exact = by-parts (λ m. (m.id, (m.parent, (m.extensions, (m.fields, (m.field_numbers, (m.field_names, (m.field_json_names, m.oneofs)))))))) (λ a b e. search rules)
-    (identity-exact and given unsigned_Decides and items-exact unsigned_Decides and items-exact field_inner-exact and number_map-exact and text_map-exact and text_map-exact and items-exact oneof_inner-exact)
+message_inner-exact =
+    by-parts (λ m. (
+      m.id,
+      (
+        m.parent,
+        (
+          m.extensions,
+          (m.fields, (m.field_numbers, (m.field_names, (m.field_json_names, m.oneofs)))),
+        ),
+      ),
+    ))
+    (λ a b e. search rules)
+    (identity-exact and given unsigned_Decides and items-exact unsigned_Decides and items-exact
+    field_inner-exact and number_map-exact and text_map-exact and text_map-exact and items-exact
+    oneof_inner-exact)
 
 pub value_inner-exact : Exact value_inner.ghosts.eq
-value_inner-exact = by-parts (λ v. (v.id, v.number)) (λ a b e. search rules) (identity-exact and signed_Decides)
+value_inner-exact = by-parts (λ v. (v.id, v.number)) (λ a b e. search rules)
+    (identity-exact and signed_Decides)
 
 pub enum_inner-exact : Exact enum_inner.ghosts.eq
-enum_inner-exact = by-parts (λ e. (e.id, (e.parent, (e.values, (e.value_numbers, (e.value_names, e.allow_alias)))))) (λ a b e. search rules)
-    (identity-exact and given unsigned_Decides and items-exact value_inner-exact and items-exact (signed_Decides and unsigned_Decides) and text_map-exact and booleans_Decides)
+enum_inner-exact =
+    by-parts (λ e.
+    (e.id, (e.parent, (e.values, (e.value_numbers, (e.value_names, e.allow_alias))))))
+    (λ a b e. search rules)
+    (identity-exact and given unsigned_Decides and items-exact value_inner-exact and items-exact
+    (signed_Decides and unsigned_Decides) and text_map-exact and booleans_Decides)
 
 pub extension_inner-exact : Exact extension_inner.ghosts.eq
-extension_inner-exact = by-parts (λ x. (x.id, (x.parent, (x.number, (x.json_name, (x.extendee, (x.kind, (x.is_packed, (x.cardinality, x.default))))))))) (λ a b e. search rules)
-    (identity-exact and given unsigned_Decides and unsigned_Decides and text-exact and unsigned_Decides and kind_index-exact and booleans_Decides and cardinality-exact and given default-exact)
+extension_inner-exact =
+    by-parts (λ x. (
+      x.id,
+      (
+        x.parent,
+        (x.number, (x.json_name, (x.extendee, (x.kind, (x.is_packed, (x.cardinality, x.default)))))),
+      ),
+    ))
+    (λ a b e. search rules)
+    (identity-exact and given unsigned_Decides and unsigned_Decides and text-exact and
+    unsigned_Decides and kind_index-exact and booleans_Decides and cardinality-exact and given
+    default-exact)
 
 pub method_inner-exact : Exact method_inner.ghosts.eq
-method_inner-exact = by-parts (λ m. (m.id, (m.input, m.output))) (λ a b e. search rules) (identity-exact and unsigned_Decides and unsigned_Decides)
+method_inner-exact = by-parts (λ m. (m.id, (m.input, m.output))) (λ a b e. search rules)
+    (identity-exact and unsigned_Decides and unsigned_Decides)
 
 pub service_inner-exact : Exact service_inner.ghosts.eq
-service_inner-exact = by-parts (λ s. (s.id, s.methods)) (λ a b e. search rules) (identity-exact and items-exact method_inner-exact)
+service_inner-exact = by-parts (λ s. (s.id, s.methods)) (λ a b e. search rules)
+    (identity-exact and items-exact method_inner-exact)

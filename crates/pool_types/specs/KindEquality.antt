@@ -34,16 +34,20 @@ pub extension-exact : Exact extension.ghosts.eq
 extension-exact = by-parts (λ d. d.index) (λ a b e. search rules) unsigned_Decides
 
 pub field-exact : Exact field.ghosts.eq
-field-exact = by-parts (λ d. (d.parent, d.index)) (λ a b e. search rules) (message-exact and unsigned_Decides)
+field-exact = by-parts (λ d. (d.parent, d.index)) (λ a b e. search rules)
+    (message-exact and unsigned_Decides)
 
 pub oneof-exact : Exact oneof.ghosts.eq
-oneof-exact = by-parts (λ d. (d.parent, d.index)) (λ a b e. search rules) (message-exact and unsigned_Decides)
+oneof-exact = by-parts (λ d. (d.parent, d.index)) (λ a b e. search rules)
+    (message-exact and unsigned_Decides)
 
 pub value-exact : Exact value.ghosts.eq
-value-exact = by-parts (λ d. (d.parent, d.index)) (λ a b e. search rules) (enum-exact and unsigned_Decides)
+value-exact = by-parts (λ d. (d.parent, d.index)) (λ a b e. search rules)
+    (enum-exact and unsigned_Decides)
 
 pub method-exact : Exact method.ghosts.eq
-method-exact = by-parts (λ d. (d.parent, d.index)) (λ a b e. search rules) (service-exact and unsigned_Decides)
+method-exact = by-parts (λ d. (d.parent, d.index)) (λ a b e. search rules)
+    (service-exact and unsigned_Decides)
 
 -- kinds and default values
 pub syntax-exact : Exact syntax.ghosts.eq

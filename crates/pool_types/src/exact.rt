@@ -1,6 +1,10 @@
 ghost use Rattle.pool_types.specs.Equality.{definition_kind-exact, identity-exact, definition-exact, field_inner-exact, file_inner-exact, message_inner-exact, oneof_inner-exact, enum_inner-exact, value_inner-exact, extension_inner-exact, service_inner-exact, method_inner-exact};
 
-use crate::{Definition, DefinitionKind, EnumDescriptorInner, EnumValueDescriptorInner, ExtensionDescriptorInner, FieldDescriptorInner, FileDescriptorInner, Identity, MessageDescriptorInner, MethodDescriptorInner, OneofDescriptorInner, ServiceDescriptorInner};
+use crate::{
+    Definition, DefinitionKind, EnumDescriptorInner, EnumValueDescriptorInner,
+    ExtensionDescriptorInner, FieldDescriptorInner, FileDescriptorInner, Identity,
+    MessageDescriptorInner, MethodDescriptorInner, OneofDescriptorInner, ServiceDescriptorInner,
+};
 use plain_data::ExactEq;
 
 impl ExactEq for DefinitionKind {

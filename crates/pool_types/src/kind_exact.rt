@@ -1,6 +1,10 @@
 ghost use Rattle.pool_types.specs.KindEquality.{file-exact, message-exact, enum-exact, service-exact, extension-exact, field-exact, oneof-exact, value-exact, method-exact, syntax-exact, cardinality-exact, kind_index-exact, kind-exact, default-exact};
 
-use crate::{Cardinality, DefaultValue, EnumDescriptor, EnumValueDescriptor, ExtensionDescriptor, FieldDescriptor, FileDescriptor, Kind, KindIndex, MessageDescriptor, MethodDescriptor, OneofDescriptor, ServiceDescriptor, Syntax};
+use crate::{
+    Cardinality, DefaultValue, EnumDescriptor, EnumValueDescriptor, ExtensionDescriptor,
+    FieldDescriptor, FileDescriptor, Kind, KindIndex, MessageDescriptor, MethodDescriptor,
+    OneofDescriptor, ServiceDescriptor, Syntax,
+};
 use plain_data::ExactEq;
 
 impl ExactEq for FileDescriptor {

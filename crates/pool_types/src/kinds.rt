@@ -1,7 +1,8 @@
-ghost use Rattle.std.specs.Prelude.{◌≡◌};
+ghost use Rattle.std.specs.Prelude.{◌≡◌, ⊤};
 ghost use Rattle.pool_types.specs.Kinds.{is_packable, is_message, kind_of, kind_name};
 
 use crate::indexes::{EnumDescriptor, MessageDescriptor};
+use std::alloc::AllocError;
 use std::cmp::Ordering;
 use std::fmt;
 
@@ -93,7 +94,7 @@ pub enum KindIndex {
 }
 
 /// The type of a field, a message or an enum by its typed index. A group is a message.
-#[derive(Clone, PartialEq, Eq, Drop)]
+#[derive(Copy, PartialEq, Eq)]
 pub enum Kind {
     Double,
     Float,
@@ -112,6 +113,17 @@ pub enum Kind {
     Bytes,
     Message(MessageDescriptor),
     Enum(EnumDescriptor),
+}
+
+/// A clone is equal, and takes no memory.
+impl Clone for Kind {
+    ghost is_clone = { λ kind copy. copy ≡ kind };
+
+    ghost is_infallible = { λ _. ⊤ };
+
+    fn clone(&self) -> Result<Kind, AllocError> {
+        Ok(*self)
+    }
 }
 
 impl KindIndex {

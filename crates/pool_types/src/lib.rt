@@ -9,7 +9,14 @@ mod indexes;
 mod kind_exact;
 mod kinds;
 
-pub use contents::{Definition, DefinitionKind, EnumDescriptorInner, EnumValueDescriptorInner, ExtensionDescriptorInner, FieldDescriptorInner, FileDescriptorInner, Identity, MessageDescriptorInner, MethodDescriptorInner, OneofDescriptorInner, ServiceDescriptorInner};
+pub use contents::{
+    Definition, DefinitionKind, EnumDescriptorInner, EnumValueDescriptorInner,
+    ExtensionDescriptorInner, FieldDescriptorInner, FileDescriptorInner, Identity,
+    MessageDescriptorInner, MethodDescriptorInner, OneofDescriptorInner, ServiceDescriptorInner,
+};
 pub use default_value::DefaultValue;
-pub use indexes::{EnumDescriptor, EnumValueDescriptor, ExtensionDescriptor, FieldDescriptor, FileDescriptor, MessageDescriptor, MethodDescriptor, OneofDescriptor, ServiceDescriptor};
+pub use indexes::{
+    EnumDescriptor, EnumValueDescriptor, ExtensionDescriptor, FieldDescriptor, FileDescriptor,
+    MessageDescriptor, MethodDescriptor, OneofDescriptor, ServiceDescriptor,
+};
 pub use kinds::{Cardinality, Kind, KindIndex, Syntax};

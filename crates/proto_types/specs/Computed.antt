@@ -4,5 +4,6 @@ use Rattle.proto_types.specs.declared.message.DescriptorProto.{roll-DescriptorPr
 use Rattle.proto_types.specs.declared.message.DescriptorProto.TheBlock.{shape-the_row-DescriptorProto-0, hidden-the_row-DescriptorProto-0, shown-the_row-DescriptorProto-0}
 
 unfoldable pub literals : Unit {0}
-unfolding out-DescriptorProto roll-DescriptorProto out roll hidden shown shape-the_row-DescriptorProto-0 hidden-the_row-DescriptorProto-0 shown-the_row-DescriptorProto-0
+unfolding out-DescriptorProto roll-DescriptorProto out roll hidden shown
+    shape-the_row-DescriptorProto-0 hidden-the_row-DescriptorProto-0 shown-the_row-DescriptorProto-0
 literals = tt

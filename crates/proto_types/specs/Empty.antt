@@ -11,10 +11,28 @@ use Rattle.proto_types.specs.declared.records.source.SourceCodeInfo.{SourceCodeI
 use Rattle.proto_types.specs.declared.records.source.Location.{Location}
 
 abbrev pub no_field : FieldDescriptorProto
-no_field = record { name = None; extendee = None; number = None; label = None; type_ = None; type_name = None; default_value = None; options = None; oneof_index = None; json_name = None; proto3_optional = None }
+no_field = record {
+  name = None;
+  extendee = None;
+  number = None;
+  label = None;
+  type_ = None;
+  type_name = None;
+  default_value = None;
+  options = None;
+  oneof_index = None;
+  json_name = None;
+  proto3_optional = None;
+}
 
 abbrev pub no_enum : EnumDescriptorProto
-no_enum = record { name = None; value = []; options = None; reserved_range = []; reserved_name = [] }
+no_enum = record {
+  name = None;
+  value = [];
+  options = None;
+  reserved_range = [];
+  reserved_name = [];
+}
 
 abbrev pub no_enum_range : EnumReservedRange
 no_enum_range = record { start = None; «end» = None }
@@ -26,10 +44,23 @@ abbrev pub no_service : ServiceDescriptorProto
 no_service = record { name = None; method = []; options = None }
 
 abbrev pub no_method : MethodDescriptorProto
-no_method = record { name = None; input_type = None; output_type = None; options = None; client_streaming = None; server_streaming = None }
+no_method = record {
+  name = None;
+  input_type = None;
+  output_type = None;
+  options = None;
+  client_streaming = None;
+  server_streaming = None;
+}
 
 abbrev pub no_source : SourceCodeInfo
 no_source = record { location = [] }
 
 abbrev pub no_location : Location
-no_location = record { path = []; span = []; leading_comments = None; trailing_comments = None; leading_detached_comments = [] }
+no_location = record {
+  path = [];
+  span = [];
+  leading_comments = None;
+  trailing_comments = None;
+  leading_detached_comments = [];
+}

@@ -9,13 +9,37 @@ use Rattle.proto_types.specs.declared.message.ExtensionRange.{ExtensionRange}
 use Rattle.proto_types.specs.declared.message.ReservedRange.{ReservedRange}
 
 abbrev pub no_file : FileDescriptorProto
-no_file = record { name = None; «package» = None; dependency = []; message_type = []; enum_type = []; service = []; extension = []; options = None; source_code_info = None; public_dependency = []; weak_dependency = []; syntax = None }
+no_file = record {
+  name = None;
+  «package» = None;
+  dependency = [];
+  message_type = [];
+  enum_type = [];
+  service = [];
+  extension = [];
+  options = None;
+  source_code_info = None;
+  public_dependency = [];
+  weak_dependency = [];
+  syntax = None;
+}
 
 abbrev pub no_file_set : FileDescriptorSet
 no_file_set = record { file = [] }
 
 abbrev pub no_message : DescriptorProto
-no_message = roll-DescriptorProto (record { name = None; field = []; nested_type = []; enum_type = []; extension_range = []; extension = []; options = None; oneof_decl = []; reserved_range = []; reserved_name = [] })
+no_message = roll-DescriptorProto (record {
+  name = None;
+  field = [];
+  nested_type = [];
+  enum_type = [];
+  extension_range = [];
+  extension = [];
+  options = None;
+  oneof_decl = [];
+  reserved_range = [];
+  reserved_name = [];
+})
 
 abbrev pub no_extension_range : ExtensionRange
 no_extension_range = record { start = None; «end» = None; options = None }

@@ -30,41 +30,81 @@ enum_options-exact a b = search rules
 pub unread-exact : Exact unread.ghosts.eq
 unread-exact a b = search rules
 
-pub options-exact : {X : Type 0} {test : X → X → Bool} → Exact test → Exact (λ (a b : Options X). pointwise nat_eq a.encoded b.encoded && test a.value b.value)
-options-exact exact = by-parts (λ o. (o.encoded, o.value)) (λ a b e. search rules) (text-exact and exact)
+pub options-exact : {X : Type 0} {test : X → X → Bool} → Exact test
+    → Exact (λ (a b : Options X). pointwise nat_eq a.encoded b.encoded && test a.value b.value)
+options-exact exact = by-parts (λ o. (o.encoded, o.value)) (λ a b e. search rules)
+    (text-exact and exact)
 
-pub given-unread : Exact (option_eq (λ (a b : Options Unread). pointwise nat_eq a.encoded b.encoded && unread.ghosts.eq a.value b.value))
+pub given-unread : Exact
+    (option_eq (λ (a b : Options Unread). pointwise nat_eq a.encoded b.encoded
+    && unread.ghosts.eq a.value b.value))
 given-unread = given (options-exact unread-exact)
 
 -- fields
 pub field-exact : Exact field.ghosts.eq
-field-exact = by-parts (λ f. (f.name, (f.extendee, (f.number, (f.label, (f.type_, (f.type_name, (f.default_value, (f.options, (f.oneof_index, (f.json_name, f.proto3_optional)))))))))))
+field-exact =
+    by-parts (λ f. (
+      f.name,
+      (
+        f.extendee,
+        (
+          f.number,
+          (
+            f.label,
+            (
+              f.type_,
+              (
+                f.type_name,
+                (f.default_value, (f.options, (f.oneof_index, (f.json_name, f.proto3_optional)))),
+              ),
+            ),
+          ),
+        ),
+      ),
+    ))
     (λ a b e. search rules)
-    (given-text and given-text and given-number and given-number and given-number and given-text and given-text and given (options-exact field_options-exact)
+    (given-text and given-text and given-number and given-number and given-number and given-text and
+    given-text and given (options-exact field_options-exact)
     and given-number and given-text and given-flag)
 
 -- enums
 pub enum_range-exact : Exact enum_range.ghosts.eq
-enum_range-exact = by-parts (λ r. (r.start, r.«end»)) (λ a b e. search rules) (given-number and given-number)
+enum_range-exact = by-parts (λ r. (r.start, r.«end»)) (λ a b e. search rules)
+    (given-number and given-number)
 
 pub value-exact : Exact value.ghosts.eq
-value-exact = by-parts (λ v. (v.name, (v.number, v.options))) (λ a b e. search rules) (given-text and given-number and given-unread)
+value-exact = by-parts (λ v. (v.name, (v.number, v.options))) (λ a b e. search rules)
+    (given-text and given-number and given-unread)
 
 pub enum-exact : Exact enumeration.ghosts.eq
-enum-exact = by-parts (λ e. (e.name, (e.value, (e.options, (e.reserved_range, e.reserved_name))))) (λ a b e. search rules)
-    (given-text and items-exact value-exact and given (options-exact enum_options-exact) and items-exact enum_range-exact and texts-exact)
+enum-exact = by-parts (λ e. (e.name, (e.value, (e.options, (e.reserved_range, e.reserved_name)))))
+    (λ a b e. search rules)
+    (given-text and items-exact value-exact and given
+    (options-exact enum_options-exact) and items-exact enum_range-exact and texts-exact)
 
 -- services
 pub method-exact : Exact method.ghosts.eq
-method-exact = by-parts (λ m. (m.name, (m.input_type, (m.output_type, (m.options, (m.client_streaming, m.server_streaming)))))) (λ a b e. search rules)
+method-exact =
+    by-parts (λ m. (
+      m.name,
+      (
+        m.input_type,
+        (m.output_type, (m.options, (m.client_streaming, m.server_streaming))),
+      ),
+    ))
+    (λ a b e. search rules)
     (given-text and given-text and given-text and given-unread and given-flag and given-flag)
 
 pub service-exact : Exact service.ghosts.eq
-service-exact = by-parts (λ s. (s.name, (s.method, s.options))) (λ a b e. search rules) (given-text and items-exact method-exact and given-unread)
+service-exact = by-parts (λ s. (s.name, (s.method, s.options))) (λ a b e. search rules)
+    (given-text and items-exact method-exact and given-unread)
 
 -- locations in a source
 pub location-exact : Exact location.ghosts.eq
-location-exact = by-parts (λ l. (l.path, (l.span, (l.leading_comments, (l.trailing_comments, l.leading_detached_comments))))) (λ a b e. search rules)
+location-exact =
+    by-parts (λ l.
+    (l.path, (l.span, (l.leading_comments, (l.trailing_comments, l.leading_detached_comments)))))
+    (λ a b e. search rules)
     (numbers-exact and numbers-exact and given-text and given-text and texts-exact)
 
 pub source-exact : Exact source.ghosts.eq

@@ -23,24 +23,39 @@ use Rattle.proto_types.specs.Equality.{field-exact, enum-exact, service-exact, s
 
 -- parts of a message
 pub extension_range-exact : Exact extension_range.ghosts.eq
-extension_range-exact = by-parts (λ r. (r.start, (r.«end», r.options))) (λ a b e. search rules) (given-number and given-number and given-unread)
+extension_range-exact = by-parts (λ r. (r.start, (r.«end», r.options))) (λ a b e. search rules)
+    (given-number and given-number and given-unread)
 
 pub reserved_range-exact : Exact reserved_range.ghosts.eq
-reserved_range-exact = by-parts (λ r. (r.start, r.«end»)) (λ a b e. search rules) (given-number and given-number)
+reserved_range-exact = by-parts (λ r. (r.start, r.«end»)) (λ a b e. search rules)
+    (given-number and given-number)
 
 pub oneof-exact : Exact oneof.ghosts.eq
-oneof-exact = by-parts (λ o. (o.name, o.options)) (λ a b e. search rules) (given-text and given-unread)
+oneof-exact = by-parts (λ o. (o.name, o.options)) (λ a b e. search rules)
+    (given-text and given-unread)
 
 -- the parts of a message, by which it is one with another
 abbrev AfterNested : Type 0
-AfterNested = List EnumDescriptorProto × (List ExtensionRange × (List FieldDescriptorProto × (Option (Options Unread) × (List OneofDescriptorProto × (List ReservedRange × List (List ℕ))))))
+AfterNested = List EnumDescriptorProto
+    × (List ExtensionRange
+    × (List FieldDescriptorProto
+    × (Option (Options Unread)
+    × (List OneofDescriptorProto × (List ReservedRange × List (List ℕ))))))
 
 abbrev after_nested : DescriptorProto → AfterNested
 after_nested m =
-    let m = out-DescriptorProto m in (m.enum_type, (m.extension_range, (m.extension, (m.options, (m.oneof_decl, (m.reserved_range, m.reserved_name))))))
+    let m = out-DescriptorProto m in (
+      m.enum_type,
+      (
+        m.extension_range,
+        (m.extension, (m.options, (m.oneof_decl, (m.reserved_range, m.reserved_name)))),
+      ),
+    )
 
-abbrev message_parts : DescriptorProto → Option (List ℕ) × (List FieldDescriptorProto × (List DescriptorProto × AfterNested))
-message_parts m = let n = out-DescriptorProto m in (n.name, (n.field, (n.nested_type, after_nested m)))
+abbrev message_parts : DescriptorProto → Option (List ℕ)
+    × (List FieldDescriptorProto × (List DescriptorProto × AfterNested))
+message_parts m = let n =
+    out-DescriptorProto m in (n.name, (n.field, (n.nested_type, after_nested m)))
 
 one-message : (a b : DescriptorProto) → message_parts a ≡ message_parts b → a ≡ b
 one-message a b e =
@@ -49,14 +64,20 @@ one-message a b e =
 
 -- messages, smaller ones before those that they stand in
 abbrev ExactBelow : ℕ → Type 0
-ExactBelow n = (a b : DescriptorProto) → size-DescriptorProto a < n → size-DescriptorProto b < n → Decides (message.ghosts.eq a b) (a ≡ b)
+ExactBelow n = (a b : DescriptorProto) → size-DescriptorProto a < n → size-DescriptorProto b < n
+    → Decides (message.ghosts.eq a b) (a ≡ b)
 
-nested-below : (n : ℕ) → ExactBelow n → (xs ys : List DescriptorProto) → most size-DescriptorProto xs < n → most size-DescriptorProto ys < n → Decides (pointwise message.ghosts.eq xs ys) (xs ≡ ys)
+nested-below : (n : ℕ) → ExactBelow n → (xs ys : List DescriptorProto)
+    → most size-DescriptorProto xs < n → most size-DescriptorProto ys < n
+    → Decides (pointwise message.ghosts.eq xs ys) (xs ≡ ys)
 nested-below n exact [] [] p q = (λ _. refl, λ _. refl)
 nested-below n exact [] (y ∷ ys) p q = (λ e. absurd (cc), λ e. absurd (cc))
 nested-below n exact (x ∷ xs) [] p q = (λ e. absurd (cc), λ e. absurd (cc))
-nested-below n exact (x ∷ xs) (y ∷ ys) p q = Decides-like (message.ghosts.eq x y && pointwise message.ghosts.eq xs ys) (λ w i. w.0 i ∷ w.1 i) (λ e. (cc, cc))
-    (Decides-and _ _ (exact x y (omega arith) (omega arith)) (nested-below n exact xs ys (omega arith) (omega arith)))
+nested-below n exact (x ∷ xs) (y ∷ ys) p q =
+    Decides-like (message.ghosts.eq x y && pointwise message.ghosts.eq xs ys) (λ w i. w.0 i ∷ w.1 i)
+    (λ e. (cc, cc))
+    (Decides-and _ _ (exact x y (omega arith) (omega arith))
+    (nested-below n exact xs ys (omega arith) (omega arith)))
 
 below : (n : ℕ) → ExactBelow n
 below zero a b p q = absurd (omega arith)
@@ -66,19 +87,47 @@ below (suc n) a b p q =
     let size = size_is-DescriptorProto a in
     let other = size_is-DescriptorProto b in
     let nested = nested-below n (below n) x.nested_type y.nested_type (omega arith) (omega arith) in
-    subst (λ r. Decides r (a ≡ b)) (sym (message_laws.is a b)) (Decides-like (message_laws.unfolded a b) (one-message a b) (ap message_parts)
-    (pair-decides _ _ (given-text x.name y.name) (pair-decides _ _ (items-exact field-exact x.field y.field) (pair-decides _ _ nested
-    ((items-exact enum-exact and items-exact extension_range-exact and items-exact field-exact and given-unread and items-exact oneof-exact and items-exact reserved_range-exact and texts-exact)
+    subst (λ r. Decides r (a ≡ b)) (sym (message_laws.is a b))
+    (Decides-like (message_laws.unfolded a b) (one-message a b) (ap message_parts)
+    (pair-decides _ _ (given-text x.name y.name)
+    (pair-decides _ _ (items-exact field-exact x.field y.field) (pair-decides _ _ nested
+    ((items-exact enum-exact and items-exact extension_range-exact and items-exact field-exact and
+    given-unread and items-exact oneof-exact and items-exact reserved_range-exact and
+    texts-exact)
     (after_nested a) (after_nested b))))))
 
 pub message-exact : Exact message.ghosts.eq
-message-exact a b = below (suc (max (size-DescriptorProto a) (size-DescriptorProto b))) a b (omega arith) (omega arith)
+message-exact a b = below (suc (max (size-DescriptorProto a) (size-DescriptorProto b))) a b
+    (omega arith) (omega arith)
 
 -- files
 pub file-exact : Exact file.ghosts.eq
-file-exact = by-parts (λ f. (f.name, (f.«package», (f.dependency, (f.message_type, (f.enum_type, (f.service, (f.extension, (f.options, (f.source_code_info, (f.public_dependency, (f.weak_dependency, f.syntax))))))))))))
+file-exact =
+    by-parts (λ f. (
+      f.name,
+      (
+        f.«package»,
+        (
+          f.dependency,
+          (
+            f.message_type,
+            (
+              f.enum_type,
+              (
+                f.service,
+                (
+                  f.extension,
+                  (f.options, (f.source_code_info, (f.public_dependency, (f.weak_dependency, f.syntax)))),
+                ),
+              ),
+            ),
+          ),
+        ),
+      ),
+    ))
     (λ a b e. search rules)
-    (given-text and given-text and texts-exact and items-exact message-exact and items-exact enum-exact and items-exact service-exact and items-exact field-exact
+    (given-text and given-text and texts-exact and items-exact message-exact and items-exact
+    enum-exact and items-exact service-exact and items-exact field-exact
     and given-unread and given source-exact and numbers-exact and numbers-exact and given-text)
 
 pub file_set-exact : Exact file_set.ghosts.eq

@@ -1,5 +1,4 @@
 pub mod Names
-pub mod Lists
 pub mod Readers
 pub mod Empty
 pub mod Equality

@@ -23,7 +23,8 @@ labels = Optional ∷ Required ∷ Repeated ∷ []
 -- the types, from number 1 on
 abbrev types : List FieldType
 types =
-    Double ∷ Float ∷ Int64 ∷ Uint64 ∷ Int32 ∷ Fixed64 ∷ Fixed32 ∷ Boolean ∷ String ∷ Group ∷ Message ∷ Bytes ∷ Uint32 ∷ Enum
+    Double ∷ Float ∷ Int64 ∷ Uint64 ∷ Int32 ∷ Fixed64 ∷ Fixed32 ∷ Boolean ∷ String ∷ Group ∷ Message
+    ∷ Bytes ∷ Uint32 ∷ Enum
     ∷ Sfixed32 ∷ Sfixed64 ∷ Sint32 ∷ Sint64 ∷ []
 
 -- the case with a number from 1 on, or another

@@ -1,6 +1,10 @@
 ghost use Rattle.proto_types.specs.Equality.{options-exact, field_options-exact, enum_options-exact, unread-exact, field-exact, enum_range-exact, value-exact, enum-exact, method-exact, service-exact, location-exact, source-exact};
 
-use crate::{EnumDescriptorProto, EnumOptions, EnumReservedRange, EnumValueDescriptorProto, FieldDescriptorProto, FieldOptions, Location, MethodDescriptorProto, Options, ServiceDescriptorProto, SourceCodeInfo, Unread};
+use crate::{
+    EnumDescriptorProto, EnumOptions, EnumReservedRange, EnumValueDescriptorProto,
+    FieldDescriptorProto, FieldOptions, Location, MethodDescriptorProto, Options,
+    ServiceDescriptorProto, SourceCodeInfo, Unread,
+};
 use plain_data::ExactEq;
 
 impl<T: ExactEq> ExactEq for Options<T> {

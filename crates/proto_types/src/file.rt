@@ -3,8 +3,11 @@ ghost use Rattle.proto_types.specs.EmptyFile.{no_file, no_file_set};
 ghost use Rattle.proto_types.specs.Readers.{text_of};
 
 use crate::message::DescriptorProto;
-use plain_data::{Duplicate, Items, Text, duplicate_given};
-use crate::{EnumDescriptorProto, FieldDescriptorProto, Options, ServiceDescriptorProto, SourceCodeInfo, Unread, or_empty};
+use crate::{
+    EnumDescriptorProto, FieldDescriptorProto, Options, ServiceDescriptorProto, SourceCodeInfo,
+    Unread, or_empty,
+};
+use plain_data::{Duplicate, Items, Text, duplicate_option};
 use std::alloc::{AllocError, Global};
 
 /// The files of one description.
@@ -113,18 +116,18 @@ impl FileDescriptorProto {
             { message_type = message_type; service = service; extension = extension }) }
     {
         Ok(FileDescriptorProto {
-            name: duplicate_given(alloc, &self.name)?,
-            package: duplicate_given(alloc, &self.package)?,
+            name: duplicate_option(alloc, &self.name)?,
+            package: duplicate_option(alloc, &self.package)?,
             dependency: self.dependency.clone(alloc)?,
             message_type,
             enum_type: self.enum_type.clone(alloc)?,
             service,
             extension,
-            options: duplicate_given(alloc, &self.options)?,
-            source_code_info: duplicate_given(alloc, &self.source_code_info)?,
+            options: duplicate_option(alloc, &self.options)?,
+            source_code_info: duplicate_option(alloc, &self.source_code_info)?,
             public_dependency: Items::from_slice(alloc, self.public_dependency.as_slice())?,
             weak_dependency: Items::from_slice(alloc, self.weak_dependency.as_slice())?,
-            syntax: duplicate_given(alloc, &self.syntax)?,
+            syntax: duplicate_option(alloc, &self.syntax)?,
         })
     }
 }

@@ -1,6 +1,9 @@
 ghost use Rattle.proto_types.specs.FileEquality.{extension_range-exact, reserved_range-exact, oneof-exact, message-exact, file-exact, file_set-exact};
 
-use crate::{DescriptorProto, ExtensionRange, FileDescriptorProto, FileDescriptorSet, OneofDescriptorProto, ReservedRange};
+use crate::{
+    DescriptorProto, ExtensionRange, FileDescriptorProto, FileDescriptorSet, OneofDescriptorProto,
+    ReservedRange,
+};
 use plain_data::ExactEq;
 
 impl ExactEq for ExtensionRange {

@@ -13,5 +13,9 @@ mod text;
 pub use file::{FileDescriptorProto, FileDescriptorSet};
 pub use message::{DescriptorProto, ExtensionRange, OneofDescriptorProto, ReservedRange};
 pub use names::join;
-pub use records::{EnumDescriptorProto, EnumOptions, EnumReservedRange, EnumValueDescriptorProto, FieldDescriptorProto, FieldLabel, FieldOptions, FieldType, Location, MethodDescriptorProto, Options, ServiceDescriptorProto, SourceCodeInfo, Unread};
+pub use records::{
+    EnumDescriptorProto, EnumOptions, EnumReservedRange, EnumValueDescriptorProto,
+    FieldDescriptorProto, FieldLabel, FieldOptions, FieldType, Location, MethodDescriptorProto,
+    Options, ServiceDescriptorProto, SourceCodeInfo, Unread,
+};
 pub use text::or_empty;

@@ -2,8 +2,8 @@ ghost use Rattle.std.specs.Prelude.{◌≡◌, IfOk};
 ghost use Rattle.proto_types.specs.EmptyFile.{no_message, no_extension_range, no_reserved_range, no_oneof};
 ghost use Rattle.proto_types.specs.Readers.{text_of, number_of};
 
-use plain_data::{Duplicate, Items, Text, duplicate_given};
 use crate::{EnumDescriptorProto, FieldDescriptorProto, Options, Unread, or_empty};
+use plain_data::{Duplicate, Items, Text, duplicate_option};
 use std::alloc::{AllocError, Global};
 
 /// A message type.
@@ -84,7 +84,8 @@ impl DescriptorProto {
         self.with_parts(alloc, field, nested_type, extension)
     }
 
-    /// An equal message, but for its fields, its nested messages and its extensions, which are these.
+    /// An equal message, but for its fields, its nested messages and its extensions, which are
+    /// these.
     ///
     /// # Errors
     /// `AllocError` where memory was refused.
@@ -99,13 +100,13 @@ impl DescriptorProto {
             { field = field; nested_type = nested_type; extension = extension })) }
     {
         Ok(DescriptorProto {
-            name: duplicate_given(alloc, &self.name)?,
+            name: duplicate_option(alloc, &self.name)?,
             field,
             nested_type,
             enum_type: self.enum_type.clone(alloc)?,
             extension_range: self.extension_range.clone(alloc)?,
             extension,
-            options: duplicate_given(alloc, &self.options)?,
+            options: duplicate_option(alloc, &self.options)?,
             oneof_decl: self.oneof_decl.clone(alloc)?,
             reserved_range: self.reserved_range.clone(alloc)?,
             reserved_name: self.reserved_name.clone(alloc)?,
@@ -146,7 +147,7 @@ impl ExtensionRange {
         Ok(ExtensionRange {
             start: self.start,
             end: self.end,
-            options: duplicate_given(alloc, &self.options)?,
+            options: duplicate_option(alloc, &self.options)?,
         })
     }
 }
@@ -210,8 +211,8 @@ impl OneofDescriptorProto {
         ensures { IfOk result (λ copy. copy ≡ self.now) }
     {
         Ok(OneofDescriptorProto {
-            name: duplicate_given(alloc, &self.name)?,
-            options: duplicate_given(alloc, &self.options)?,
+            name: duplicate_option(alloc, &self.name)?,
+            options: duplicate_option(alloc, &self.options)?,
         })
     }
 }

@@ -4,7 +4,7 @@ use Rattle.std.proofs.lemmas.List.{take_all}
 use Rattle.std.specs.Option.{option_and_then}
 use Rattle.proto_types.specs.declared.message.DescriptorProto.{DescriptorProto, out-DescriptorProto}
 use Rattle.proto_types.specs.declared.tag.message.TheConstants as message
-use Rattle.proto_types.specs.Lists.{at}
+use Rattle.plain_data.specs.Lists.{at}
 use Rattle.record_walk.specs.Leads.{leads_in_message}
 
 leads-nested : (m n : DescriptorProto) (position : ℤ) (rest : List ℤ) → at (out-DescriptorProto m).nested_type position ≡ Some n

@@ -1,5 +1,5 @@
--- The references of files: the type names of fields and of extensions, the messages that extensions extend, and what
--- methods take and give.
+-- The references of files: the type names of fields and of extensions, the messages that extensions
+-- extend, and what methods take and give.
 use Rattle.std.specs.Prelude.{ℕ, List, [], ◌∷◌, codes}
 use Rattle.std.specs.List.{flat_map}
 use Rattle.proto_types.specs.declared.file.FileDescriptorProto.{FileDescriptorProto}
@@ -24,12 +24,15 @@ abbrev pub reference_in : Shown → List ℕ → List ℕ → List Reference
 reference_in d part [] = []
 reference_in d part (c ∷ cs) = reference d part (c ∷ cs) ∷ []
 
--- of a field its type name, of an extension its extendee before its type name, and of a method its input before its output
+-- of a field its type name, of an extension its extendee before its type name, and of a method its
+-- input before its output
 abbrev pub references_in : Shown → List Reference
 references_in d = elim d.proto [
   | of_field f ↦ reference_in d (codes "type_name") (text_of f.type_name)
-  | of_method m ↦ reference d (codes "input_type") (text_of m.input_type) ∷ reference d (codes "output_type") (text_of m.output_type) ∷ []
-  | of_extension x ↦ reference d (codes "extendee") (text_of x.extendee) ∷ reference_in d (codes "type_name") (text_of x.type_name)
+  | of_method m ↦ reference d (codes "input_type") (text_of m.input_type)
+      ∷ reference d (codes "output_type") (text_of m.output_type) ∷ []
+  | of_extension x ↦ reference d (codes "extendee") (text_of x.extendee)
+      ∷ reference_in d (codes "type_name") (text_of x.type_name)
   | _ ↦ []
 ]
 

@@ -8,7 +8,10 @@ ghost use Rattle.record_walk.specs.Protos.{as_message, as_enum, as_field, as_ext
 
 mod record;
 
-use proto_types::{DescriptorProto, EnumDescriptorProto, EnumValueDescriptorProto, FieldDescriptorProto, FileDescriptorProto, MethodDescriptorProto, OneofDescriptorProto, ServiceDescriptorProto};
+use proto_types::{
+    DescriptorProto, EnumDescriptorProto, EnumValueDescriptorProto, FieldDescriptorProto,
+    FileDescriptorProto, MethodDescriptorProto, OneofDescriptorProto, ServiceDescriptorProto,
+};
 use record::Record;
 
 /// The message at a path, or none where no message stands there.

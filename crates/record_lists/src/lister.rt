@@ -4,7 +4,10 @@ ghost use Rattle.record_walk.specs.Declarations.{declarations};
 ghost use Rattle.record_walk.specs.Listed.{declaration_of};
 
 use plain_data::{Items, Text};
-use proto_types::{DescriptorProto, EnumDescriptorProto, EnumValueDescriptorProto, FieldDescriptorProto, FileDescriptorProto, MethodDescriptorProto, OneofDescriptorProto, ServiceDescriptorProto};
+use proto_types::{
+    DescriptorProto, EnumDescriptorProto, EnumValueDescriptorProto, FieldDescriptorProto,
+    FileDescriptorProto, MethodDescriptorProto, OneofDescriptorProto, ServiceDescriptorProto,
+};
 use record_walk::{Counts, Declaration, DeclarationKind, Visitor, walk_files};
 use std::alloc::{AllocError, Global};
 use std::marker::Model;
@@ -273,8 +276,8 @@ impl Visitor for Lister {
 
 /// What files declare, in order, each without its record, numbered on from the counts of a pool.
 ///
-/// The counts of the files and the base together must fit, as `Counts::with_files` says, or `Counts::of` and then
-/// `Counts::plus`.
+/// The counts of the files and the base together must fit, as `Counts::with_files` says, or
+/// `Counts::of` and then `Counts::plus`.
 ///
 /// # Errors
 /// `AllocError` where memory was refused.

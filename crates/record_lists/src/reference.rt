@@ -30,8 +30,8 @@ pub struct Reference<'a> {
     pub text: &'a str,
 }
 
-/// The references of a file's record, in the order of the walk. What the file declares must fit into
-/// a pool, as `Counts::of` tells.
+/// The references of a file's record, in the order of the walk. What the file declares must fit
+/// into a pool, as `Counts::of` tells.
 pub fn references<'a>(
     alloc: Global,
     file: &'a FileDescriptorProto,

@@ -1,4 +1,5 @@
-//! What no contract says of records: whether calls succeed, what scripts make of them, worked walks.
+//! What no contract says of records: whether calls succeed, what scripts make of them, worked
+//! walks.
 
 mod contents;
 mod copies;

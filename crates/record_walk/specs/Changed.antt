@@ -1,4 +1,5 @@
--- Files whose records are changed part by part. What a file declares is changed so, each declaration by itself.
+-- Files whose records are changed part by part. What a file declares is changed so, each
+-- declaration by itself.
 use Rattle.std.specs.Prelude.{◌≡◌, ℕ, suc, List, [], ◌∷◌, map}
 use Rattle.proto_types.specs.Names.{join}
 use Rattle.proto_types.specs.Readers.{text_of}
@@ -20,31 +21,43 @@ pub record Changes : Type 0 where
 
 -- each keeps its name
 pub record KeepNames (c : Changes) : Type 0 where
-  pub fields : (index : ℕ) (name : List ℕ) (f : FieldDescriptorProto) → text_of (c.field index name f).name ≡ text_of f.name
-  pub extensions : (index : ℕ) (name : List ℕ) (x : FieldDescriptorProto) → text_of (c.extension index name x).name ≡ text_of x.name
-  pub methods : (index : ℕ) (name : List ℕ) (m : MethodDescriptorProto) → text_of (c.method index name m).name ≡ text_of m.name
+  pub fields : (index : ℕ) (name : List ℕ) (f : FieldDescriptorProto)
+      → text_of (c.field index name f).name ≡ text_of f.name
+  pub extensions : (index : ℕ) (name : List ℕ) (x : FieldDescriptorProto)
+      → text_of (c.extension index name x).name ≡ text_of x.name
+  pub methods : (index : ℕ) (name : List ℕ) (m : MethodDescriptorProto)
+      → text_of (c.method index name m).name ≡ text_of m.name
 
 -- the fields of a scope, and the methods
-abbrev pub changed_fields : (ℕ → List ℕ → FieldDescriptorProto → FieldDescriptorProto) → ℕ → List ℕ → List FieldDescriptorProto → List FieldDescriptorProto
+abbrev pub changed_fields : (ℕ → List ℕ → FieldDescriptorProto → FieldDescriptorProto) → ℕ → List ℕ
+    → List FieldDescriptorProto → List FieldDescriptorProto
 changed_fields change index scope fs = map (λ f. change index (join scope (text_of f.name)) f) fs
 
-abbrev pub changed_methods : (ℕ → List ℕ → MethodDescriptorProto → MethodDescriptorProto) → ℕ → List ℕ → List MethodDescriptorProto → List MethodDescriptorProto
+abbrev pub changed_methods : (ℕ → List ℕ → MethodDescriptorProto → MethodDescriptorProto) → ℕ
+    → List ℕ → List MethodDescriptorProto → List MethodDescriptorProto
 changed_methods change index scope ms = map (λ m. change index (join scope (text_of m.name)) m) ms
 
 -- a message with its full name: its fields, its nested messages and its extensions
 abbrev mutual
   pub changed_message : Changes → ℕ → List ℕ → DescriptorProto → DescriptorProto
-  changed_message c index full_name (DescriptorProto' name fields n nested enums ranges extensions options oneofs reserved reserved_names) =
-      DescriptorProto' name (changed_fields c.field index full_name fields) n (changed_nested c index full_name nested) enums ranges
+  changed_message c index full_name
+      (DescriptorProto' name fields n nested enums ranges extensions options oneofs reserved
+      reserved_names) =
+      DescriptorProto' name (changed_fields c.field index full_name fields) n
+      (changed_nested c index full_name nested) enums ranges
       (changed_fields c.extension index full_name extensions) options oneofs reserved reserved_names
 
-  pub changed_nested : {n : _} → Changes → ℕ → List ℕ → Row_of-DescriptorProto n → Row_of-DescriptorProto n
+  pub changed_nested : {n : _} → Changes → ℕ → List ℕ → Row_of-DescriptorProto n
+      → Row_of-DescriptorProto n
   changed_nested c index scope end_of-DescriptorProto = end_of-DescriptorProto
   changed_nested c index scope (more_of-DescriptorProto m rest) =
-      more_of-DescriptorProto (changed_message c index (join scope (text_of (out-DescriptorProto m).name)) m) (changed_nested c index scope rest)
+      more_of-DescriptorProto
+      (changed_message c index (join scope (text_of (out-DescriptorProto m).name)) m)
+      (changed_nested c index scope rest)
 
 abbrev pub changed_messages : Changes → ℕ → List ℕ → List DescriptorProto → List DescriptorProto
-changed_messages c index scope ms = map (λ m. changed_message c index (join scope (text_of (out-DescriptorProto m).name)) m) ms
+changed_messages c index scope ms =
+    map (λ m. changed_message c index (join scope (text_of (out-DescriptorProto m).name)) m) ms
 
 -- law: a changed message by its parts
 abbrev pub ChangedMessageIs : Type 0
@@ -58,10 +71,13 @@ ChangedMessageIs = (c : Changes) (index : ℕ) (full_name : List ℕ) (m : Descr
 
 -- a service with its full name
 abbrev pub changed_service : Changes → ℕ → List ℕ → ServiceDescriptorProto → ServiceDescriptorProto
-changed_service c index full_name s = record s { method = changed_methods c.method index full_name s.method }
+changed_service c index full_name s =
+    record s { method = changed_methods c.method index full_name s.method }
 
-abbrev pub changed_services : Changes → ℕ → List ℕ → List ServiceDescriptorProto → List ServiceDescriptorProto
-changed_services c index scope ss = map (λ s. changed_service c index (join scope (text_of s.name)) s) ss
+abbrev pub changed_services : Changes → ℕ → List ℕ → List ServiceDescriptorProto
+    → List ServiceDescriptorProto
+changed_services c index scope ss =
+    map (λ s. changed_service c index (join scope (text_of s.name)) s) ss
 
 -- the file with an index: its scope is its package
 abbrev pub changed_file : Changes → ℕ → FileDescriptorProto → FileDescriptorProto
@@ -94,4 +110,5 @@ changed c d = record d { proto = changed_proto c d.file d.full_name d.proto }
 
 -- law: changed files declare what the files declare, each declaration changed
 abbrev pub DeclareChanged : Changes → Counts → List FileDescriptorProto → Type 0
-DeclareChanged c base fs = declarations base (changed_files c base.files fs) ≡ map (changed c) (declarations base fs)
+DeclareChanged c base fs = declarations base (changed_files c base.files fs)
+    ≡ map (changed c) (declarations base fs)

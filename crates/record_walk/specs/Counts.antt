@@ -49,9 +49,11 @@ fits_list xs = nat_le (length xs) list_limit
 
 -- whether each list of the record is short enough
 abbrev pub lists_fit : Proto → Bool
-lists_fit (of_file f) = fits_list f.dependency && fits_list f.message_type && fits_list f.enum_type && fits_list f.service && fits_list f.extension
+lists_fit (of_file f) = fits_list f.dependency && fits_list f.message_type && fits_list f.enum_type
+    && fits_list f.service && fits_list f.extension
 lists_fit (of_message m) = let m = out-DescriptorProto m in
-    fits_list m.field && fits_list m.nested_type && fits_list m.enum_type && fits_list m.extension && fits_list m.oneof_decl
+    fits_list m.field && fits_list m.nested_type && fits_list m.enum_type && fits_list m.extension
+    && fits_list m.oneof_decl
     && fits_list m.extension_range && fits_list m.reserved_range
 lists_fit (of_enum e) = fits_list e.value && fits_list e.reserved_range
 lists_fit (of_service s) = fits_list s.method
@@ -69,7 +71,8 @@ within_limit c =
 
 -- the counts of a finished list of declarations, or what there is too much of
 abbrev pub counts_of : List Shown → Result Counts CountKind
-counts_of ds = if list_all (λ d. lists_fit d.proto) ds then within_limit (counted no_counts ds) else Err ListTooLong
+counts_of ds = if list_all (λ d. lists_fit d.proto) ds then within_limit (counted no_counts ds)
+    else Err ListTooLong
 
 -- counts that are added to others; what they alone have too much of comes first
 abbrev pub added_to : Counts → Result Counts CountKind → Result Counts CountKind

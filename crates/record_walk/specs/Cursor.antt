@@ -31,7 +31,13 @@ pub record Line : Type 0 where
   pub protos : List Proto
 
 abbrev pub line : Place → Option ℕ → List Proto → Line
-line at parent protos = record { depth = at.depth; parent = parent; tag = at.tag; position = at.position; protos = protos }
+line at parent protos = record {
+  depth = at.depth;
+  parent = parent;
+  tag = at.tag;
+  position = at.position;
+  protos = protos;
+}
 
 abbrev pub line_in : Row → Line
 line_in r = line r.place (parent_of r.part) (proto_of r.part ∷ protos_in r.rest)
@@ -54,9 +60,16 @@ stacked_all (l ∷ more) ls = stacked l (stacked_all more ls)
 
 -- a whole list
 abbrev pub whole : Depth → Option ℕ → ℤ → List Proto → Line
-whole depth parent tag protos = record { depth = depth; parent = parent; tag = tag; position = 0; protos = protos }
+whole depth parent tag protos = record {
+  depth = depth;
+  parent = parent;
+  tag = tag;
+  position = 0;
+  protos = protos;
+}
 
--- the lists of a message, and of any record with an index, of which the scope around it has a length
+-- the lists of a message, and of any record with an index, of which the scope around it has a
+-- length
 abbrev pub message_lines : Depth → ℕ → DescriptorProto → List Line
 message_lines depth index m = let m = out-DescriptorProto m in
     whole depth (Some index) message.ONEOF_DECL (map of_oneof m.oneof_decl)
@@ -67,8 +80,11 @@ message_lines depth index m = let m = out-DescriptorProto m in
 
 abbrev pub inner_lines : Depth → ℕ → ℕ → Proto → List Line
 inner_lines depth around index (of_message m) = message_lines depth index m
-inner_lines depth around index (of_enum e) = whole (record depth { scope = around }) (Some index) enumeration.VALUE (map of_value e.value) ∷ []
-inner_lines depth around index (of_service s) = whole depth (Some index) service.METHOD (map of_method s.method) ∷ []
+inner_lines depth around index (of_enum e) =
+    whole (record depth { scope = around }) (Some index) enumeration.VALUE (map of_value e.value)
+    ∷ []
+inner_lines depth around index (of_service s) =
+    whole depth (Some index) service.METHOD (map of_method s.method) ∷ []
 inner_lines depth around index _ = []
 
 -- the lists of a file
@@ -88,7 +104,12 @@ pub record Rest : Type 0 where
 
 abbrev pub rest_at : ℕ → List ℤ → List ℕ → Line → Rest
 rest_at index path name l = record {
-  here = record { file = index; path = take l.depth.path path; scope = take l.depth.scope name; parent = l.parent };
+  here = record {
+    file = index;
+    path = take l.depth.path path;
+    scope = take l.depth.scope name;
+    parent = l.parent;
+  };
   tag = l.tag;
   position = l.position;
   protos = l.protos;
@@ -99,7 +120,8 @@ abbrev pub proto_walk : Surrounding → ℤ → ℕ → Counts → Proto → Lis
 proto_walk here tag position base (of_message m) = message_walk here tag position base m
 proto_walk here tag position base (of_enum e) = enum_walk here tag position base.enums e
 proto_walk here tag position base (of_service s) =
-    let d = shown here tag position base.services (of_service s) in d ∷ parts of_method (inside d) service.METHOD s.method
+    let d = shown here tag position base.services (of_service s) in d
+    ∷ parts of_method (inside d) service.METHOD s.method
 proto_walk here tag position base p = shown here tag position (index_at base position p) p ∷ []
 
 abbrev pub protos_walk : Surrounding → ℤ → ℕ → Counts → List Proto → List Shown
@@ -112,11 +134,13 @@ protos_walk here tag position base (p ∷ ps) =
 abbrev pub left_of : Counts → List Rest → List Shown
 left_of base [] = []
 left_of base (r ∷ rs) =
-    let first = protos_walk r.here r.tag r.position base r.protos in first ++ left_of (counted base first) rs
+    let first = protos_walk r.here r.tag r.position base r.protos in first
+    ++ left_of (counted base first) rs
 
 -- the declarations that are still to come
 abbrev pub left : Cursor → List Shown
-left c = left_of c.counts (map (rest_at c.site.file c.site.path.items (string_bytes c.site.name)) (lines c.rows))
+left c = left_of c.counts
+    (map (rest_at c.site.file c.site.path.items (string_bytes c.site.name)) (lines c.rows))
 
 -- a list stands within a depth, where the name can be cut, and is short enough
 pub record Stands (around : Depth) (name : List ℕ) (l : Line) : Type 0 where
@@ -133,9 +157,11 @@ AreNested around name (l ∷ ls) = Stands around name l × AreNested l.depth nam
 abbrev pub depth_of : List ℤ → List ℕ → Depth
 depth_of path name = record { path = length path; scope = length name }
 
--- what a cursor keeps: its path and its name begin with those of each list, and there is room for what is left
+-- what a cursor keeps: its path and its name begin with those of each list, and there is room for
+-- what is left
 pub record IsSound (c : Cursor) : Type 0 where
-  pub nested : AreNested (depth_of c.site.path.items (string_bytes c.site.name)) (string_bytes c.site.name) (lines c.rows)
+  pub nested : AreNested (depth_of c.site.path.items (string_bytes c.site.name))
+      (string_bytes c.site.name) (lines c.rows)
   pub room : Room c.counts (left c)
 
 -- a cursor before a list of declarations

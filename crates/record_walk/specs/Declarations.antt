@@ -1,5 +1,6 @@
--- What files declare, in the order of the walk: a file, its messages, enums, services and extensions; a message,
--- its oneofs, fields, nested messages, enums and extensions; an enum and its values; a service and its methods.
+-- What files declare, in the order of the walk: a file, its messages, enums, services and
+-- extensions; a message, its oneofs, fields, nested messages, enums and extensions; an enum and its
+-- values; a service and its methods.
 use Rattle.std.specs.Prelude.{◌≡◌, ℕ, suc, ℤ, List, [], ◌∷◌, ◌++◌}
 use Rattle.std.specs.declared.option.Option.TheVariants.{None}
 use Rattle.proto_types.specs.declared.tag.file.TheConstants as file
@@ -21,34 +22,46 @@ use Rattle.record_walk.specs.Counts.{counted, counting}
 -- an enum and its values
 abbrev pub enum_walk : Surrounding → ℤ → ℕ → ℕ → EnumDescriptorProto → List Shown
 enum_walk here tag position index e =
-    let d = shown here tag position index (of_enum e) in d ∷ parts of_value (beside here.scope d) enumeration.VALUE e.value
+    let d = shown here tag position index (of_enum e) in d
+    ∷ parts of_value (beside here.scope d) enumeration.VALUE e.value
 
 abbrev pub enums_walk : Surrounding → ℤ → ℕ → ℕ → List EnumDescriptorProto → List Shown
 enums_walk here tag position index [] = []
-enums_walk here tag position index (e ∷ es) = enum_walk here tag position index e ++ enums_walk here tag (suc position) (suc index) es
+enums_walk here tag position index (e ∷ es) =
+    enum_walk here tag position index e ++ enums_walk here tag (suc position) (suc index) es
 
 -- a service and its methods
 abbrev pub service_walk : Surrounding → ℕ → ℕ → ServiceDescriptorProto → List Shown
 service_walk here position index s =
-    let d = shown here file.SERVICE position index (of_service s) in d ∷ parts of_method (inside d) service.METHOD s.method
+    let d = shown here file.SERVICE position index (of_service s) in d
+    ∷ parts of_method (inside d) service.METHOD s.method
 
 abbrev pub services_walk : Surrounding → ℕ → ℕ → List ServiceDescriptorProto → List Shown
 services_walk here position index [] = []
-services_walk here position index (s ∷ ss) = service_walk here position index s ++ services_walk here (suc position) (suc index) ss
+services_walk here position index (s ∷ ss) =
+    service_walk here position index s ++ services_walk here (suc position) (suc index) ss
 
--- what stands before the nested messages of a message, and what follows them, numbered on from counts
-abbrev pub message_front : Surrounding → List OneofDescriptorProto → List FieldDescriptorProto → List Shown
-message_front here oneofs fields = parts of_oneof here message.ONEOF_DECL oneofs ++ parts of_field here message.FIELD fields
+-- what stands before the nested messages of a message, and what follows them, numbered on from
+-- counts
+abbrev pub message_front : Surrounding → List OneofDescriptorProto → List FieldDescriptorProto
+    → List Shown
+message_front here oneofs fields = parts of_oneof here message.ONEOF_DECL oneofs
+    ++ parts of_field here message.FIELD fields
 
-abbrev pub message_end : Surrounding → Counts → List EnumDescriptorProto → List FieldDescriptorProto → List Shown
+abbrev pub message_end : Surrounding → Counts → List EnumDescriptorProto → List FieldDescriptorProto
+    → List Shown
 message_end here after enums extensions =
-    enums_walk here message.ENUM_TYPE 0 after.enums enums ++ row of_extension here message.EXTENSION 0 after.extensions extensions
+    enums_walk here message.ENUM_TYPE 0 after.enums enums
+    ++ row of_extension here message.EXTENSION 0 after.extensions extensions
 
 -- a message and all that stands in it, and the same of its nested messages, from counts on
 abbrev mutual
   pub message_walk : Surrounding → ℤ → ℕ → Counts → DescriptorProto → List Shown
-  message_walk here tag position base (DescriptorProto' name fields n nested enums ranges extensions options oneofs reserved reserved_names) =
-      let m = DescriptorProto' name fields n nested enums ranges extensions options oneofs reserved reserved_names in
+  message_walk here tag position base
+      (DescriptorProto' name fields n nested enums ranges extensions options oneofs reserved
+      reserved_names) =
+      let m = DescriptorProto' name fields n nested enums ranges extensions options oneofs reserved
+      reserved_names in
       let d = shown here tag position base.messages (of_message m) in
       let deeper = nested_walk (inside d) 0 (counting base (of_message m)) nested in
       d ∷ (message_front (inside d) oneofs fields ++ deeper
@@ -68,12 +81,16 @@ messages_walk here tag position base (m ∷ ms) =
 
 -- law: a message's walk by its parts
 abbrev pub MessageWalkOpens : Type 0
-MessageWalkOpens = (here : Surrounding) (tag : ℤ) (position : ℕ) (base : Counts) (m : DescriptorProto) →
+MessageWalkOpens = (here : Surrounding) (tag : ℤ) (position : ℕ) (base : Counts)
+    (m : DescriptorProto) →
     let d = shown here tag position base.messages (of_message m) in
-    let deeper = messages_walk (inside d) message.NESTED_TYPE 0 (counting base (of_message m)) (out-DescriptorProto m).nested_type in
+    let deeper = messages_walk (inside d) message.NESTED_TYPE 0 (counting base (of_message m))
+    (out-DescriptorProto m).nested_type in
     message_walk here tag position base m
-    ≡ d ∷ (message_front (inside d) (out-DescriptorProto m).oneof_decl (out-DescriptorProto m).field ++ deeper
-    ++ message_end (inside d) (counted (counting base (of_message m)) deeper) (out-DescriptorProto m).enum_type (out-DescriptorProto m).extension)
+    ≡ d ∷ (message_front (inside d) (out-DescriptorProto m).oneof_decl (out-DescriptorProto m).field
+    ++ deeper
+    ++ message_end (inside d) (counted (counting base (of_message m)) deeper)
+    (out-DescriptorProto m).enum_type (out-DescriptorProto m).extension)
 
 -- what stands in a file: the scope is its package
 abbrev pub in_file : ℕ → FileDescriptorProto → Surrounding
@@ -84,10 +101,13 @@ file_walk base f =
     let here = in_file base.files f in
     let messages = messages_walk here file.MESSAGE_TYPE 0 base f.message_type in
     let after = counted base messages in
-    file_shown [] base.files f ∷ (messages ++ enums_walk here file.ENUM_TYPE 0 after.enums f.enum_type ++ services_walk here 0 after.services f.service
+    file_shown [] base.files f
+    ∷ (messages ++ enums_walk here file.ENUM_TYPE 0 after.enums f.enum_type
+    ++ services_walk here 0 after.services f.service
     ++ row of_extension here file.EXTENSION 0 after.extensions f.extension)
 
 -- the declarations of files, numbered on from the counts of a pool
 abbrev pub declarations : Counts → List FileDescriptorProto → List Shown
 declarations base [] = []
-declarations base (f ∷ fs) = let first = file_walk base f in first ++ declarations (counted base first) fs
+declarations base (f ∷ fs) = let first = file_walk base f in first
+    ++ declarations (counted base first) fs

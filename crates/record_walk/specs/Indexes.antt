@@ -9,7 +9,8 @@ use Rattle.record_walk.specs.Shown.{Shown}
 use Rattle.record_walk.specs.Counts.{counted}
 use Rattle.record_walk.specs.Declarations.{declarations}
 
--- the index of a declaration is how many of its kind were counted; of a kind that is not counted, its path ends with it
+-- the index of a declaration is how many of its kind were counted; of a kind that is not counted,
+-- its path ends with it
 abbrev pub HasIndex : Counts → Shown → Proto → Type 0
 HasIndex before d (of_file _) = d.index ≡ before.files
 HasIndex before d (of_message _) = d.index ≡ before.messages
@@ -18,7 +19,8 @@ HasIndex before d (of_service _) = d.index ≡ before.services
 HasIndex before d (of_extension _) = d.index ≡ before.extensions
 HasIndex before d _ = last_or None d.path ≡ Some (pos d.index)
 
--- law: each declaration of files has the index that those before it leave it, counted on from a pool
+-- law: each declaration of files has the index that those before it leave it, counted on from a
+-- pool
 abbrev pub IndexesCountOn : Counts → List FileDescriptorProto → Type 0
 IndexesCountOn base files = (front : List Shown) (d : Shown) (rest : List Shown)
     → declarations base files ≡ front ++ d ∷ rest → HasIndex (counted base front) d d.proto

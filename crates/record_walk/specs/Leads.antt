@@ -14,7 +14,7 @@ use Rattle.proto_types.specs.declared.file.FileDescriptorProto.{FileDescriptorPr
 use Rattle.proto_types.specs.declared.message.DescriptorProto.{DescriptorProto, out-DescriptorProto}
 use Rattle.proto_types.specs.declared.records.enumeration.EnumDescriptorProto.{EnumDescriptorProto}
 use Rattle.proto_types.specs.declared.records.service.ServiceDescriptorProto.{ServiceDescriptorProto}
-use Rattle.proto_types.specs.Lists.{at}
+use Rattle.plain_data.specs.Lists.{at}
 use Rattle.record_walk.specs.Protos.{Proto, of_file, of_message, of_field, of_oneof, of_service, of_method, of_enum, of_value, of_extension}
 use Rattle.record_walk.specs.Declarations.{file_walk, declarations}
 
@@ -30,37 +30,48 @@ leaf of xs position path = option_map of (last_entry xs position path)
 abbrev pub leads_in_enum : EnumDescriptorProto → List ℤ → Option Proto
 leads_in_enum e [] = Some (of_enum e)
 leads_in_enum e (_ ∷ []) = None
-leads_in_enum e (tag ∷ position ∷ path) = if int_eq tag enumeration.VALUE then leaf of_value e.value position path else None
+leads_in_enum e (tag ∷ position ∷ path) = if int_eq tag enumeration.VALUE
+    then leaf of_value e.value position path else None
 
 abbrev pub leads_in_service : ServiceDescriptorProto → List ℤ → Option Proto
 leads_in_service s [] = Some (of_service s)
 leads_in_service s (_ ∷ []) = None
-leads_in_service s (tag ∷ position ∷ path) = if int_eq tag service.METHOD then leaf of_method s.method position path else None
+leads_in_service s (tag ∷ position ∷ path) = if int_eq tag service.METHOD
+    then leaf of_method s.method position path else None
 
 abbrev pub leads_in_message : DescriptorProto → List ℤ → Option Proto
 leads_in_message m [] = Some (of_message m)
 leads_in_message m (_ ∷ []) = None
 leads_in_message m (tag ∷ position ∷ path) =
     if int_eq tag message.FIELD then leaf of_field (out-DescriptorProto m).field position path
-    else (if int_eq tag message.NESTED_TYPE then option_and_then (λ n. leads_in_message n path) (at (out-DescriptorProto m).nested_type position)
-    else (if int_eq tag message.ENUM_TYPE then option_and_then (λ e. leads_in_enum e path) (at (out-DescriptorProto m).enum_type position)
-    else (if int_eq tag message.EXTENSION then leaf of_extension (out-DescriptorProto m).extension position path
-    else (if int_eq tag message.ONEOF_DECL then leaf of_oneof (out-DescriptorProto m).oneof_decl position path
+    else (if int_eq tag message.NESTED_TYPE
+    then option_and_then (λ n. leads_in_message n path)
+    (at (out-DescriptorProto m).nested_type position)
+    else (if int_eq tag message.ENUM_TYPE
+    then option_and_then (λ e. leads_in_enum e path) (at (out-DescriptorProto m).enum_type position)
+    else (if int_eq tag message.EXTENSION
+    then leaf of_extension (out-DescriptorProto m).extension position path
+    else (if int_eq tag message.ONEOF_DECL
+    then leaf of_oneof (out-DescriptorProto m).oneof_decl position path
     else None))))
 
 abbrev pub leads : FileDescriptorProto → List ℤ → Option Proto
 leads f [] = Some (of_file f)
 leads f (_ ∷ []) = None
 leads f (tag ∷ position ∷ path) =
-    if int_eq tag file.MESSAGE_TYPE then option_and_then (λ m. leads_in_message m path) (at f.message_type position)
-    else (if int_eq tag file.ENUM_TYPE then option_and_then (λ e. leads_in_enum e path) (at f.enum_type position)
-    else (if int_eq tag file.SERVICE then option_and_then (λ s. leads_in_service s path) (at f.service position)
+    if int_eq tag file.MESSAGE_TYPE
+    then option_and_then (λ m. leads_in_message m path) (at f.message_type position)
+    else (if int_eq tag file.ENUM_TYPE
+    then option_and_then (λ e. leads_in_enum e path) (at f.enum_type position)
+    else (if int_eq tag file.SERVICE
+    then option_and_then (λ s. leads_in_service s path) (at f.service position)
     else (if int_eq tag file.EXTENSION then leaf of_extension f.extension position path
     else None)))
 
 -- law: the path of each declaration of a file leads to its record
 abbrev pub PathsLead : Type 0
-PathsLead = (base : Counts) (f : FileDescriptorProto) → All (λ d. leads f d.path ≡ Some d.proto) (file_walk base f)
+PathsLead = (base : Counts) (f : FileDescriptorProto)
+    → All (λ d. leads f d.path ≡ Some d.proto) (file_walk base f)
 
 -- the file with an index, of files that are numbered on from the counts of a pool
 abbrev pub file_with : Counts → List FileDescriptorProto → ℕ → Option FileDescriptorProto

@@ -17,4 +17,11 @@ kind_of (of_value _) = kind.EnumValue
 kind_of (of_extension _) = kind.Extension
 
 abbrev pub declaration_of : Shown → Declaration
-declaration_of d = record { kind = kind_of d.proto; file = d.file; parent = d.parent; index = d.index; path = d.path; full_name = d.full_name }
+declaration_of d = record {
+  kind = kind_of d.proto;
+  file = d.file;
+  parent = d.parent;
+  index = d.index;
+  path = d.path;
+  full_name = d.full_name;
+}

@@ -11,9 +11,11 @@ pub record Progress : Type 0 where
   pub faults : List DescriptorErrorKind
   pub listed : List Declaration
 
--- A visitor has been shown a list: after a further one it shows what it would have shown after both, and it may be
--- shown that one where it might have been shown both.
-pub record HasSeen (after : List Shown → Progress) (ready : List Shown → Type 0) (after-now : List Shown → Progress) (ready-now : List Shown → Type 0) (ds : List Shown) : Type 0 where
+-- A visitor has been shown a list: after a further one it shows what it would have shown after
+-- both, and it may be shown that one where it might have been shown both.
+pub record HasSeen (after : List Shown → Progress) (ready : List Shown → Type 0)
+    (after-now : List Shown → Progress) (ready-now : List Shown → Type 0)
+    (ds : List Shown) : Type 0 where
   pub after_is : (rest : List Shown) → after-now rest ≡ after (ds ++ rest)
   pub ready_is : (rest : List Shown) → ready-now rest ↔ ready (ds ++ rest)
 

@@ -9,8 +9,8 @@ use Rattle.record_walk.specs.Protos.{Proto, of_file, name_of}
 use Rattle.proto_types.specs.Readers.{text_of}
 use Rattle.proto_types.specs.declared.file.FileDescriptorProto.{FileDescriptorProto}
 
--- A file, message, enum, service or extension has its index in the pool, and any other its position in its list.
--- The parent is the index of the innermost message, enum or service around it.
+-- A file, message, enum, service or extension has its index in the pool, and any other its position
+-- in its list. The parent is the index of the innermost message, enum or service around it.
 pub record Shown : Type 0 where
   pub file : ℕ
   pub parent : Option ℕ
@@ -56,7 +56,8 @@ beside scope d = record { file = d.file; path = d.path; scope = scope; parent = 
 -- the entries of a list from a position on, numbered from an index on
 abbrev pub row : {X : Type 0} → (X → Proto) → Surrounding → ℤ → ℕ → ℕ → List X → List Shown
 row of here tag position index [] = []
-row of here tag position index (x ∷ xs) = shown here tag position index (of x) ∷ row of here tag (suc position) (suc index) xs
+row of here tag position index (x ∷ xs) =
+    shown here tag position index (of x) ∷ row of here tag (suc position) (suc index) xs
 
 -- the entries of a list, numbered by their positions
 abbrev pub parts : {X : Type 0} → (X → Proto) → Surrounding → ℤ → List X → List Shown
@@ -68,8 +69,22 @@ of_kind pick ds = filter_map (λ d. option_map (λ x. (d, x)) (pick d.proto)) ds
 
 -- a file as it is shown to a visitor
 abbrev pub file_shown : List ℤ → ℕ → FileDescriptorProto → Shown
-file_shown path index f = record { file = index; parent = None; index = index; path = path; full_name = text_of f.name; proto = of_file f }
+file_shown path index f = record {
+  file = index;
+  parent = None;
+  index = index;
+  path = path;
+  full_name = text_of f.name;
+  proto = of_file f;
+}
 
 -- any other declaration as it is shown to a visitor
 abbrev pub shown_as : List ℤ → List ℕ → ℕ → Option ℕ → ℕ → Proto → Shown
-shown_as path full_name file parent index proto = record { file = file; parent = parent; index = index; path = path; full_name = full_name; proto = proto }
+shown_as path full_name file parent index proto = record {
+  file = file;
+  parent = parent;
+  index = index;
+  path = path;
+  full_name = full_name;
+  proto = proto;
+}

@@ -28,7 +28,13 @@ saturated c = record {
 }
 
 abbrev pub unsaturated : Totals → Counts
-unsaturated t = record { files = t.files; messages = t.messages; enums = t.enums; services = t.services; extensions = t.extensions }
+unsaturated t = record {
+  files = t.files;
+  messages = t.messages;
+  enums = t.enums;
+  services = t.services;
+  extensions = t.extensions;
+}
 
 abbrev pub sums : Totals → Totals → Totals
 sums a b = saturated (plus (unsaturated a) (unsaturated b))

@@ -69,7 +69,8 @@ index_at c position _ = position
 
 -- a record as a declaration, as it stands at a site
 abbrev pub located : Site → Located → Shown
-located s l = shown_as s.path.items (string_bytes s.name) s.file (parent_of l.part) l.index (proto_of l.part)
+located s l = shown_as s.path.items (string_bytes s.name) s.file (parent_of l.part) l.index
+    (proto_of l.part)
 
 -- all that stands in the file with an index
 abbrev pub within_file : ℕ → Counts → FileDescriptorProto → List Shown
@@ -77,7 +78,8 @@ within_file index base f =
     let here = in_file index f in
     let messages = messages_walk here file.MESSAGE_TYPE 0 base f.message_type in
     let after = counted base messages in
-    messages ++ enums_walk here file.ENUM_TYPE 0 after.enums f.enum_type ++ services_walk here 0 after.services f.service
+    messages ++ enums_walk here file.ENUM_TYPE 0 after.enums f.enum_type
+    ++ services_walk here 0 after.services f.service
     ++ row of_extension here file.EXTENSION 0 after.extensions f.extension
 
 -- each count is one that a pool can hold

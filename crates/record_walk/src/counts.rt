@@ -50,8 +50,8 @@ impl Counts {
         sums.within_limits()
     }
 
-    /// These counts together with those of all that files declare, or what there is too much of: in the files alone,
-    /// as `of` tells it, or else in the sums.
+    /// These counts together with those of all that files declare, or what there is too much of: in
+    /// the files alone, as `of` tells it, or else in the sums.
     pub fn with_files(&self, files: &[FileDescriptorProto]) -> Result<Counts, CountKind>
         ensures { result ≡ counts_with self.now files.now }
     {

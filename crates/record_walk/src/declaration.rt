@@ -22,8 +22,8 @@ pub struct Declaration {
     pub file: u32,
     /// The index of the innermost message, enum or service around it.
     pub parent: Option<u32>,
-    /// The index of a file, message, enum, service or extension in the pool, and the position of any other in its
-    /// list, both from 0.
+    /// The index of a file, message, enum, service or extension in the pool, and the position of
+    /// any other in its list, both from 0.
     pub index: u32,
     /// Field numbers and positions, from the file to the declaration.
     pub path: Items<i32>,

@@ -4,14 +4,18 @@ ghost use Rattle.record_walk.specs.Progress.{Progress, HasSeen};
 ghost use Rattle.record_walk.specs.Protos.{of_message, of_field, of_oneof, of_service, of_method, of_enum, of_value, of_extension};
 ghost use Rattle.record_walk.specs.Shown.{Shown, file_shown, shown_as};
 
-use proto_types::{DescriptorProto, EnumDescriptorProto, EnumValueDescriptorProto, FieldDescriptorProto, FileDescriptorProto, MethodDescriptorProto, OneofDescriptorProto, ServiceDescriptorProto};
+use proto_types::{
+    DescriptorProto, EnumDescriptorProto, EnumValueDescriptorProto, FieldDescriptorProto,
+    FileDescriptorProto, MethodDescriptorProto, OneofDescriptorProto, ServiceDescriptorProto,
+};
 use std::alloc::AllocError;
 
 /// What is shown the declarations of files, one after another.
 ///
-/// A path is the field numbers and positions, from 0, from the file to the declaration. `file` is the index of its file,
-/// `parent` that of the innermost message, enum or service around it, and `index` its own index in the pool; for a
-/// field, oneof, method or value it is the position in its list. All count from 0.
+/// A path is the field numbers and positions, from 0, from the file to the declaration. `file` is
+/// the index of its file, `parent` that of the innermost message, enum or service around it, and
+/// `index` its own index in the pool; for a field, oneof, method or value it is the position in its
+/// list. All count from 0.
 ///
 /// Each call may answer `AllocError` where memory was refused.
 pub trait Visitor: Drop {

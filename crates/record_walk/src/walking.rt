@@ -26,19 +26,20 @@ use std::alloc::{AllocError, Global};
 
 /// Shows a visitor what files declare, in order, numbered on from the counts of a pool.
 ///
-/// A file stands before what it declares: its messages, enums, services and extensions. A message stands before its
-/// oneofs, its fields, its nested messages, each whole, its enums and its extensions, an enum before its values, and
-/// a service before its methods. The names of an enum's values are formed in the scope around the enum.
+/// A file stands before what it declares: its messages, enums, services and extensions. A message
+/// stands before its oneofs, its fields, its nested messages, each whole, its enums and its
+/// extensions, an enum before its values, and a service before its methods. The names of an enum's
+/// values are formed in the scope around the enum.
 ///
-/// The counts of the files and the base together must fit, as `Counts::with_files` says, or `Counts::of` and then
-/// `Counts::plus`. The visitor must be ready for the whole list.
+/// The counts of the files and the base together must fit, as `Counts::with_files` says, or
+/// `Counts::of` and then `Counts::plus`. The visitor must be ready for the whole list.
 ///
-/// After `Ok` the visitor has been shown the whole list. After any answer the contents that a roll-back of it would
-/// give are as they were.
+/// After `Ok` the visitor has been shown the whole list. After any answer the contents that a
+/// roll-back of it would give are as they were.
 ///
 /// # Errors
-/// `AllocError` where memory was refused to the walk, or where a call of the visitor answers it. What the visitor has
-/// made by then is not told.
+/// `AllocError` where memory was refused to the walk, or where a call of the visitor answers it.
+/// What the visitor has made by then is not told.
 pub fn visit(
     alloc: Global,
     base: Counts,
@@ -189,12 +190,12 @@ fn walk_left<V: Visitor>(cursor: &mut Cursor, visitor: &mut V) -> Result<(), All
 
 /// Shows each visitor in turn what files declare, as `visit` does, and under the same conditions.
 ///
-/// After `Ok` each visitor has been shown the whole list. After any answer the contents that a roll-back of each would
-/// give are as they were.
+/// After `Ok` each visitor has been shown the whole list. After any answer the contents that a
+/// roll-back of each would give are as they were.
 ///
 /// # Errors
-/// `AllocError` where `visit` answers it of a visitor. The visitors before that one have been shown the whole list, and
-/// those behind it are as they were.
+/// `AllocError` where `visit` answers it of a visitor. The visitors before that one have been shown
+/// the whole list, and those behind it are as they were.
 pub fn visit_each(
     alloc: Global,
     base: Counts,

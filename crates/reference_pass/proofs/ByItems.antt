@@ -48,13 +48,13 @@ use Rattle.name_resolution.specs.Kinds.{is_match, named_kind, simple_kind}
 use Rattle.name_resolution.specs.Resolution.{Resolution, found, invalid_type, not_imported, shadowed, not_found, kind_found}
 use Rattle.name_resolution.proofs.Named.{IsNamed, resolution-named}
 use Rattle.name_resolution.proofs.Wanted.{IsWanted, resolution-wanted}
-use Rattle.field_rules.specs.Each.{each}
+use Rattle.plain_data.specs.Each.{map_enumerated}
 use Rattle.field_rules.specs.Places.{field_at}
 use Rattle.reference_pass.specs.Linked.{linked, linked_extension, linked_field, linked_method, linking, resolved, type_number, typed}
 use Rattle.reference_pass.specs.Setting.{Setting, seen_by}
-use Rattle.reference_pass.specs.FieldTypes.{field_kind, type_meaning}
+use Rattle.reference_pass.specs.FieldTypes.{field_kind, resolve_type}
 use Rattle.reference_pass.specs.Items.{extension_item, field_item, field_items, method_item, method_items}
-use Rattle.reference_pass.specs.Messages.{message_found, message_meaning, method_at, or_missing}
+use Rattle.reference_pass.specs.Messages.{message_found, resolve_message, method_at, index_or_max}
 use Rattle.reference_pass.specs.declared.linking.NextItems.{NextItems}
 use Rattle.reference_pass.specs.Linking.{ItemLists, HasItem, IsNamedBy, ItemsAre, Links, LinksFields, LinksFile, LinksFiles, LinksMethods, NamesMeanItems, enum_name, kind_name, kind_number, linked_item, message_name, method_by, next_of, reference_by, typed_by, with_type}
 
@@ -107,13 +107,13 @@ module _ (s : Setting) (it : ItemLists) (means : NamesMeanItems s it) (d : Shown
   seen n = contains_by (nat_cmp n) (seen_by s d.file)
 
   by-text : (f : FieldDescriptorProto) (text : List ℕ)
-      → let k = unwrap_or (elim text [ [] ↦ simple_kind (type_of f.type_) | _ ∷ _ ↦ option_and_then (named_kind (type_of f.type_)) (kind_found (type_meaning s d f)) ]) Double in
+      → let k = unwrap_or (elim text [ [] ↦ simple_kind (type_of f.type_) | _ ∷ _ ↦ option_and_then (named_kind (type_of f.type_)) (kind_found (resolve_type s d f)) ]) Double in
       let by : FieldDescriptorProto = elim text [ [] ↦ f | _ ∷ _ ↦ with_type (kind_name it k) (kind_number (type_of f.type_) k f.type_) f ] in
-      let to : FieldDescriptorProto = elim text [ [] ↦ f | _ ∷ _ ↦ typed (type_meaning s d f) f ] in
+      let to : FieldDescriptorProto = elim text [ [] ↦ f | _ ∷ _ ↦ typed (resolve_type s d f) f ] in
       by ≡ to
   by-text f [] = refl
   by-text f (c ∷ cs) =
-      found-type s it f (type_meaning s d f) means (resolution-named s.names seen AnyType d.full_name (text_of f.type_name)) (resolution-wanted s.names seen AnyType d.full_name (text_of f.type_name))
+      found-type s it f (resolve_type s d f) means (resolution-named s.names seen AnyType d.full_name (text_of f.type_name)) (resolution-wanted s.names seen AnyType d.full_name (text_of f.type_name))
 
   -- a field by the kind of its item
   pub type-linked : (f : FieldDescriptorProto) → typed_by it (unwrap_or (field_kind s d f) Double) f ≡ linked_field s d.file d.full_name f
@@ -125,7 +125,7 @@ module _ (s : Setting) (it : ItemLists) (means : NamesMeanItems s it) (d : Shown
 
   reference-kind : (name : List ℕ) (kind : DefinitionKind) (given : Option (List ℕ)) (file : ℕ) (path : List ℤ) → is_match Message kind ≡ true → IsNamedBy it name kind
       → let def : Definition = record { file = file; path = path; kind = kind } in
-      reference_by it (or_missing (message_found (found name def))) given ≡ Some (46 ∷ name)
+      reference_by it (index_or_max (message_found (found name def))) given ≡ Some (46 ∷ name)
   reference-kind name (definition.Message n) given file path wanted named = ap (λ got. option_or (option_map (λ name. 46 ∷ name) got) given) named
   reference-kind name (definition.Enum n) given file path wanted named = absurd (cc)
   reference-kind name definition.Package given file path wanted named = absurd (cc)
@@ -137,7 +137,7 @@ module _ (s : Setting) (it : ItemLists) (means : NamesMeanItems s it) (d : Shown
   reference-kind name (definition.Extension n) given file path wanted named = absurd (cc)
 
   found-reference : (given : Option (List ℕ)) (r : Resolution) → IsNamed s.names r → IsWanted Message r
-      → reference_by it (or_missing (message_found r)) given ≡ resolved r given
+      → reference_by it (index_or_max (message_found r)) given ≡ resolved r given
   found-reference given (found name def) named wanted = reference-kind name def.kind given def.file def.path wanted (found-named s it name def means named)
   found-reference given (invalid_type name def filter) named wanted = missing given
   found-reference given (not_imported name other) named wanted = missing given
@@ -145,19 +145,19 @@ module _ (s : Setting) (it : ItemLists) (means : NamesMeanItems s it) (d : Shown
   found-reference given not_found named wanted = missing given
 
   -- a reference to a message by the index that its item has
-  pub reference-linked : (given : Option (List ℕ)) → reference_by it (or_missing (message_found (message_meaning s d given))) given ≡ resolved (message_meaning s d given) given
+  pub reference-linked : (given : Option (List ℕ)) → reference_by it (index_or_max (message_found (resolve_message s d given))) given ≡ resolved (resolve_message s d given) given
   reference-linked given =
-      found-reference given (message_meaning s d given) (resolution-named s.names seen Message d.full_name (text_of given)) (resolution-wanted s.names seen Message d.full_name (text_of given))
+      found-reference given (resolve_message s d given) (resolution-named s.names seen Message d.full_name (text_of given)) (resolution-wanted s.names seen Message d.full_name (text_of given))
 
 -- the item in a position of those that are made of a list
-each-get : {X Y : Type 0} (make : ℕ → X → Y) (from : ℕ) (xs : List X) (n : ℕ) (d : X) → n < length xs → slice_get (each make from xs) n ≡ Some (make (from + n) (get_or xs n d))
+each-get : {X Y : Type 0} (make : ℕ → X → Y) (from : ℕ) (xs : List X) (n : ℕ) (d : X) → n < length xs → slice_get (map_enumerated make from xs) n ≡ Some (make (from + n) (get_or xs n d))
 each-get make from [] n d within = absurd (omega (arith, within))
 each-get make from (x ∷ xs) zero d within = let here : from ≡ from + 0 = omega arith in ap (λ k. Some (make k x)) here
 each-get make from (x ∷ xs) (suc n) d within =
     let there : suc from + n ≡ from + suc n = omega arith in
     each-get make (suc from) xs n d (omega (arith, within)) ∙ ap (λ k. Some (make k (get_or xs n d))) there
 
-each-here : {X Y : Type 0} (make : ℕ → X → Y) (xs : List X) (n : ℕ) (d : X) → n < length xs → slice_get (each make 0 xs) n ≡ Some (make n (get_or xs n d))
+each-here : {X Y : Type 0} (make : ℕ → X → Y) (xs : List X) (n : ℕ) (d : X) → n < length xs → slice_get (map_enumerated make 0 xs) n ≡ Some (make n (get_or xs n d))
 each-here make xs n d within = let here : 0 + n ≡ n = omega arith in each-get make 0 xs n d within ∙ ap (λ k. Some (make k (get_or xs n d))) here
 
 -- one more of a list is changed where it stands
@@ -618,16 +618,16 @@ file-ends it before first second after f ms vs xs messages services extensions =
 }
 
 -- one more of files that are numbered on is changed where it stands
-each-suc : {X : Type 0} (f : ℕ → X → X) (from : ℕ) (xs : List X) (i : ℕ) (w d : X) → i < length xs → w ≡ get_or (each f from (take i xs) ++ drop i xs) i d
-    → set (each f from (take i xs) ++ drop i xs) i (f (from + i) w) ≡ each f from (take (suc i) xs) ++ drop (suc i) xs
+each-suc : {X : Type 0} (f : ℕ → X → X) (from : ℕ) (xs : List X) (i : ℕ) (w d : X) → i < length xs → w ≡ get_or (map_enumerated f from (take i xs) ++ drop i xs) i d
+    → set (map_enumerated f from (take i xs) ++ drop i xs) i (f (from + i) w) ≡ map_enumerated f from (take (suc i) xs) ++ drop (suc i) xs
 each-suc f from [] i w d within is = absurd (omega (arith, within))
 each-suc f from (x ∷ xs) zero w d within is = let here : from + 0 ≡ from = omega arith in λ j. f (here j) (is j) ∷ xs
 each-suc f from (x ∷ xs) (suc n) w d within is =
     let there : from + suc n ≡ suc from + n = omega arith in
-    ap (λ k. f from x ∷ set (each f (suc from) (take n xs) ++ drop n xs) n (f k w)) there
+    ap (λ k. f from x ∷ set (map_enumerated f (suc from) (take n xs) ++ drop n xs) n (f k w)) there
     ∙ ap (λ ys. f from x ∷ ys) (each-suc f (suc from) xs n w d (omega (arith, within)) is)
 
-each-kept : {X : Type 0} (f : ℕ → X → X) (from : ℕ) (xs : List X) (i : ℕ) (d : X) → i < length xs → get_or (each f from (take i xs) ++ drop i xs) i d ≡ get_or xs i d
+each-kept : {X : Type 0} (f : ℕ → X → X) (from : ℕ) (xs : List X) (i : ℕ) (d : X) → i < length xs → get_or (map_enumerated f from (take i xs) ++ drop i xs) i d ≡ get_or xs i d
 each-kept f from [] i d within = absurd (omega (arith, within))
 each-kept f from (x ∷ xs) zero d within = refl
 each-kept f from (x ∷ xs) (suc n) d within = each-kept f (suc from) xs n d (omega (arith, within))
@@ -639,7 +639,7 @@ pub record FilesReached (s : Setting) (it : ItemLists) (base : Counts) (now : Ne
   pub is : now ≡ next_of counts
   pub left : ItemsAre s it (declarations counts (map (λ f. f.raw) (drop n old)))
   pub ends : counted counts (declarations counts (map (λ f. f.raw) (drop n old))) ≡ counted base (declarations base (map (λ f. f.raw) old))
-  pub changed : fs ≡ each (linked_item s) base.files (take n old) ++ drop n old
+  pub changed : fs ≡ map_enumerated (linked_item s) base.files (take n old) ++ drop n old
 
 pub record FilesSoFar (it : ItemLists) (before now : NextItems) (old : List FileDescriptorInner) (n : ℕ) (fs : List FileDescriptorInner) : Type 0 where
   pub by : (s : Setting) (base : Counts) → before ≡ next_of base → ItemsAre s it (declarations base (map (λ f. f.raw) old))
@@ -686,7 +686,7 @@ module _ (it : ItemLists) (before : NextItems) (old : List FileDescriptorInner) 
   files-all now n fs so-far past = record {
     by = λ s base is are.
         let was = so-far.by s base is are in
-        let change = each (linked_item s) base.files in
+        let change = map_enumerated (linked_item s) base.files in
         let done : was.counts ≡ counted base (declarations base (map (λ (g : FileDescriptorInner). g.raw) old)) =
         sym (ap (λ gs. counted was.counts (declarations was.counts (map (λ (g : FileDescriptorInner). g.raw) gs))) (drop_all n old past)) ∙ was.ends in (
           was.changed ∙ (λ j. change (take_all n old past j) ++ drop_all n old past j) ∙ append-nil (change old),

@@ -1,6 +1,6 @@
 -- Entries of lists, by their positions.
 use Rattle.std.proofs.Common.{◌≡◌, ℕ, zero, suc, ◌+◌, ◌<◌, List, [], ◌∷◌, ◌++◌, length, get_or, refl, ap, sym, ◌∙◌, arith, append_assoc}
-use Rattle.field_rules.specs.Each.{each}
+use Rattle.plain_data.specs.Each.{map_enumerated}
 
 -- an entry is itself, whatever stands in for one that isn't there
 pub found-again : {X : Type 0} (xs : List X) (i : ℕ) (d : X) → get_or xs i d ≡ get_or xs i (get_or xs i d)
@@ -10,7 +10,7 @@ found-again (x ∷ xs) (suc i) d = found-again xs i d
 
 -- what is made of positions alone
 each-found : {X Y : Type 0} (make : ℕ → Y) (position : ℕ) (xs : List X) (i : ℕ) (d : Y) → i < length xs
-    → get_or (each (λ n _. make n) position xs) i d ≡ make (position + i)
+    → get_or (map_enumerated (λ n _. make n) position xs) i d ≡ make (position + i)
 each-found make position [] i d below = absurd (omega (arith, below))
 each-found make position (x ∷ xs) zero d below = let here : position ≡ position + 0 = omega arith in ap make here
 each-found make position (x ∷ xs) (suc i) d below =
@@ -18,7 +18,7 @@ each-found make position (x ∷ xs) (suc i) d below =
     each-found make (suc position) xs i d (omega (arith, below)) ∙ ap make there
 
 -- an entry made of its position alone
-pub made-at : {X Y : Type 0} (make : ℕ → Y) (xs : List X) (i : ℕ) (d : Y) → i < length xs → get_or (each (λ n _. make n) 0 xs) i d ≡ make i
+pub made-at : {X Y : Type 0} (make : ℕ → Y) (xs : List X) (i : ℕ) (d : Y) → i < length xs → get_or (map_enumerated (λ n _. make n) 0 xs) i d ≡ make i
 made-at make xs i d below = let here : 0 + i ≡ i = omega arith in each-found make 0 xs i d below ∙ ap make here
 
 pub regroup : {X : Type 0} (a b c d : List X) → ((a ++ b) ++ c) ++ d ≡ a ++ (b ++ (c ++ d))

@@ -6,7 +6,7 @@ use Rattle.proto_types.specs.declared.message.DescriptorProto.{DescriptorProto}
 use Rattle.record_walk.specs.Counts.{no_counts, lists_fit}
 use Rattle.record_walk.specs.Protos.{Proto, of_file, of_message, of_field, of_oneof, of_service, of_method, of_enum, of_value, of_extension, as_message}
 use Rattle.record_walk.proofs.Reached.{found-fits}
-use Rattle.reference_pass.specs.Definitions.{around_name, message_record, record_of}
+use Rattle.reference_pass.specs.Definitions.{declaration_path, message_record, record_of}
 use Rattle.reference_pass.specs.Setting.{Setting}
 use Rattle.reference_pass.specs.Short.{ShortFiles}
 
@@ -24,4 +24,4 @@ as-message-of (Some (of_value _)) m is = absurd (cc)
 as-message-of (Some (of_extension _)) m is = absurd (cc)
 
 pub message-fits : (s : Setting) (def : Definition) (m : DescriptorProto) → ShortFiles s.files → message_record s def ≡ Some m → lists_fit (of_message m) ≡ true
-message-fits s def m short is = found-fits s.files no_counts def.file (around_name def.path) (of_message m) short (as-message-of (record_of s def) m is)
+message-fits s def m short is = found-fits s.files no_counts def.file (declaration_path def.path) (of_message m) short (as-message-of (record_of s def) m is)

@@ -15,7 +15,7 @@ use Rattle.proto_types.specs.declared.records.enumeration.EnumValueDescriptorPro
 use Rattle.proto_types.specs.declared.records.field.FieldDescriptorProto.{FieldDescriptorProto}
 use Rattle.proto_types.specs.declared.records.service.MethodDescriptorProto.{MethodDescriptorProto}
 use Rattle.proto_types.specs.declared.records.service.ServiceDescriptorProto.{ServiceDescriptorProto}
-use Rattle.proto_types.specs.Lists.{after_each}
+use Rattle.plain_data.specs.Lists.{after_each}
 use Rattle.proto_types.specs.Computed.{literals}
 use Rattle.proto_types.specs.declared.file.FileDescriptorProto.{FileDescriptorProto}
 use Rattle.proto_types.specs.declared.message.DescriptorProto.{DescriptorProto, DescriptorProto', Row_of-DescriptorProto, end_of-DescriptorProto, more_of-DescriptorProto}
@@ -26,8 +26,8 @@ use Rattle.record_walk.specs.Declarations.{in_file, enum_walk, enums_walk, servi
 use Rattle.record_walk.specs.Protos.{Proto, of_message, of_field, of_oneof, of_service, of_method, of_enum, of_value, of_extension, as_message, as_enum}
 use Rattle.record_walk.specs.Shown.{Shown, Surrounding, shown, file_shown, row, parts, inside, beside, of_kind}
 use Rattle.field_rules.specs.EnumValues.{value_faults, values_faults}
-use Rattle.reference_pass.specs.Broken.{Faults, Owner, last, field_faults, faults_of_fields, method_faults, faults_of_methods, second_faults, second_pass, owner_faults}
-use Rattle.field_rules.specs.Each.{each}
+use Rattle.reference_pass.specs.SecondPass.{Faults, Owner, last, field_faults, faults_of_fields, method_faults, faults_of_methods, second_faults, second_pass, owner_faults}
+use Rattle.plain_data.specs.Each.{map_enumerated}
 use Rattle.reference_pass.specs.Setting.{Setting}
 
 -- of two lists, each element with those before it
@@ -86,7 +86,7 @@ module _ (s : Setting) where
   -- the values of an enum
   values-told : (here : Surrounding) (tag : ℤ) (owner : Shown × EnumDescriptorProto) (i : ℕ) (vs : List EnumValueDescriptorProto) (before : List Shown)
       → last (of_kind as_enum before) ≡ Some owner
-      → told before (row of_value here tag i i vs) ≡ flat_map (λ faults. faults) (each (value_faults s.files owner.0 owner.1) i vs)
+      → told before (row of_value here tag i i vs) ≡ flat_map (λ faults. faults) (map_enumerated (value_faults s.files owner.0 owner.1) i vs)
   values-told here tag owner i [] before known = refl
   values-told here tag owner i (v ∷ vs) before known =
       let d = shown here tag i i (of_value v) in
@@ -108,7 +108,7 @@ module _ (s : Setting) where
 
   -- the methods of a service
   methods-told : (here : Surrounding) (tag : ℤ) (i : ℕ) (ms : List MethodDescriptorProto) (before : List Shown)
-      → told before (row of_method here tag i i ms) ≡ flat_map (λ faults. faults) (each (λ n m. method_faults s (shown here tag n n (of_method m)) m) i ms)
+      → told before (row of_method here tag i i ms) ≡ flat_map (λ faults. faults) (map_enumerated (λ n m. method_faults s (shown here tag n n (of_method m)) m) i ms)
   methods-told here tag i [] before = refl
   methods-told here tag i (m ∷ ms) before =
       let d = shown here tag i i (of_method m) in
@@ -138,7 +138,7 @@ module _ (s : Setting) where
   -- the fields of a message
   fields-told : (here : Surrounding) (tag : ℤ) (owner : Owner) (i : ℕ) (fs : List FieldDescriptorProto) (before : List Shown)
       → last (of_kind as_message before) ≡ Some owner
-      → told before (row of_field here tag i i fs) ≡ flat_map (λ faults. faults) (each (λ n f. field_faults s owner (shown here tag n n (of_field f)) f) i fs)
+      → told before (row of_field here tag i i fs) ≡ flat_map (λ faults. faults) (map_enumerated (λ n f. field_faults s owner (shown here tag n n (of_field f)) f) i fs)
   fields-told here tag owner i [] before known = refl
   fields-told here tag owner i (f ∷ fs) before known =
       let d = shown here tag i i (of_field f) in
@@ -158,7 +158,7 @@ module _ (s : Setting) where
   front-told : (here : Surrounding) (owner : Owner) (oneofs : List OneofDescriptorProto) (fields : List FieldDescriptorProto) (before : List Shown)
       → last (of_kind as_message before) ≡ Some owner
       → told before (message_front here oneofs fields)
-      ≡ flat_map (λ faults. faults) (each (λ n f. field_faults s owner (shown here message.FIELD n n (of_field f)) f) 0 fields)
+      ≡ flat_map (λ faults. faults) (map_enumerated (λ n f. field_faults s owner (shown here message.FIELD n n (of_field f)) f) 0 fields)
   front-told here owner oneofs fields before known =
       let first = parts of_oneof here message.ONEOF_DECL oneofs in
       let own = parts of_field here message.FIELD fields in

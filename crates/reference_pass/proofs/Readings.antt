@@ -2,13 +2,13 @@
 use Rattle.std.proofs.Common.{◌≡◌, ◌<◌, ◌+◌, ℕ, List, [], ◌++◌, length, map, take, get_or, refl, ap, subst, sym, ◌∙◌}
 use Rattle.std.specs.List.{flat_map}
 use Rattle.field_rules.specs.declared.findings.Findings.{Findings}
-use Rattle.field_rules.specs.Each.{each}
+use Rattle.plain_data.specs.Each.{map_enumerated}
 use Rattle.field_rules.specs.Tells.{Tells}
 use Rattle.field_rules.proofs.Each.{all-next}
 use Rattle.field_rules.proofs.Tells.{tells-none, tells-two}
 use Rattle.reference_pass.specs.Setting.{Setting}
 use Rattle.reference_pass.specs.declared.reading.Reading.{Reading}
-use Rattle.reference_pass.specs.Broken.{Faults}
+use Rattle.reference_pass.specs.SecondPass.{Faults}
 use Rattle.reference_pass.specs.Reading.{Reads, setting_of}
 
 -- no fault
@@ -42,8 +42,8 @@ reads-two first second = record {
 
 -- the entries of a list up to a position, and the one there
 pub reads-next : {X : Type 0} {a b c : Reading} {fs : Faults} (make : Setting → ℕ → X → Faults) (xs : List X) (i : ℕ) (x : X) → i < length xs → x ≡ get_or xs i x
-    → Reads a b (flat_map (λ ys. ys) (each (make (setting_of a)) 0 (take i xs))) → fs ≡ make (setting_of b) i x → Reads b c fs
-    → Reads a c (flat_map (λ ys. ys) (each (make (setting_of a)) 0 (take (i + 1) xs)))
+    → Reads a b (flat_map (λ ys. ys) (map_enumerated (make (setting_of a)) 0 (take i xs))) → fs ≡ make (setting_of b) i x → Reads b c fs
+    → Reads a c (flat_map (λ ys. ys) (map_enumerated (make (setting_of a)) 0 (take (i + 1) xs)))
 reads-next {X} {a} make xs i x below is so_far told next =
     reads-as (sym (all-next (make (setting_of a)) xs i x below is))
     (reads-two so_far (reads-as (told ∙ ap (λ s. make s i x) (same-setting so_far)) next))

@@ -4,8 +4,8 @@ use Rattle.pool_contents.specs.declared.inner.DescriptorPoolInner.{DescriptorPoo
 use Rattle.reference_pass.specs.Setting.{Setting}
 
 -- what is read against the files and the names of a pool, each file with those that it sees
-abbrev pub setting_with : DescriptorPoolInner → Setting
-setting_with p = record {
+abbrev pub setting_against : DescriptorPoolInner → Setting
+setting_against p = record {
   files = map (λ f. f.raw) p.files.items;
   names = p.names;
   file_names = p.file_names;

@@ -1,4 +1,5 @@
--- The default value of a field or of an extension, by the kind of its type (descriptor.proto on `default_value`).
+-- The default value of a field or of an extension, by the kind of its type (descriptor.proto on
+-- `default_value`).
 use Rattle.std.specs.Prelude.{ℕ, List, [], ◌∷◌}
 use Rattle.std.specs.Option.{option_and_then, option_map_or}
 use Rattle.std.specs.declared.option.Option.{Option}
@@ -10,37 +11,43 @@ use Rattle.pool_types.specs.declared.contents.definition.Definition.{Definition}
 use Rattle.pool_faults.specs.declared.fault.DescriptorErrorKind.{DescriptorErrorKind}
 use Rattle.record_walk.specs.Shown.{Shown}
 use Rattle.name_resolution.specs.Resolution.{Resolution}
-use Rattle.field_rules.specs.Defaults.{MeantEnum, default_value, default_faults}
+use Rattle.field_rules.specs.Defaults.{DefaultEnum, default_value, default_faults}
 use Rattle.reference_pass.specs.Definitions.{found_as, enum_record}
-use Rattle.reference_pass.specs.FieldTypes.{field_kind, type_meaning}
+use Rattle.reference_pass.specs.FieldTypes.{field_kind, resolve_type}
 use Rattle.reference_pass.specs.Setting.{Setting}
 
 -- no enum
-abbrev pub no_enum_meant : MeantEnum
+abbrev pub no_enum_meant : DefaultEnum
 no_enum_meant = record { full_name = []; values = [] }
 
 -- the enum with a definition: its full name, and the values in its record
-abbrev pub enum_defined : Setting → List ℕ × Definition → MeantEnum
-enum_defined s e = record { full_name = e.0; values = option_map_or (λ x. x.value) (enum_record s e.1) [] }
+abbrev pub enum_defined : Setting → List ℕ × Definition → DefaultEnum
+enum_defined s e = record {
+  full_name = e.0;
+  values = option_map_or (λ x. x.value) (enum_record s e.1) [];
+}
 
 -- the enum that was found
-abbrev pub enum_found : Setting → Resolution → MeantEnum
+abbrev pub enum_found : Setting → Resolution → DefaultEnum
 enum_found s r = option_map_or (enum_defined s) (found_as r) no_enum_meant
 
 -- the enum that a type name means
-abbrev pub type_enum : Setting → Shown → FieldDescriptorProto → MeantEnum
+abbrev pub type_enum : Setting → Shown → FieldDescriptorProto → DefaultEnum
 type_enum s d f = elim (text_of f.type_name) [
   | [] ↦ no_enum_meant
-  | _ ∷ _ ↦ enum_found s (type_meaning s d f)
+  | _ ∷ _ ↦ enum_found s (resolve_type s d f)
 ]
 
 -- the default value by the kind of a type, if it has one
-abbrev pub default_by : Option KindIndex → MeantEnum → Option (List ℕ) → Option DefaultValue
+abbrev pub default_by : Option KindIndex → DefaultEnum → Option (List ℕ) → Option DefaultValue
 default_by kind meant given = option_and_then (λ k. default_value k meant given) kind
 
 -- what it breaks
-abbrev pub default_faults_by : Setting → Shown → FieldDescriptorProto → Option KindIndex → List DescriptorErrorKind
-default_faults_by s d f kind = option_map_or (λ k. default_faults s.files d.file d.path k (type_enum s d f) f.default_value) kind []
+abbrev pub default_faults_by : Setting → Shown → FieldDescriptorProto → Option KindIndex
+    → List DescriptorErrorKind
+default_faults_by s d f kind =
+    option_map_or (λ k. default_faults s.files d.file d.path k (type_enum s d f) f.default_value)
+    kind []
 
 -- the same where the type has no fault
 abbrev pub field_default : Setting → Shown → FieldDescriptorProto → Option DefaultValue

@@ -17,12 +17,13 @@ found_as (found name def) = Some (name, def)
 found_as _ = None
 
 -- the path of a declaration, by that of its name
-abbrev pub around_name : List ℤ → List ℤ
-around_name path = take (length path - 1) path
+abbrev pub declaration_path : List ℤ → List ℤ
+declaration_path path = take (length path - 1) path
 
 -- the record at the path of a definition
 abbrev pub record_of : Setting → Definition → Option Proto
-record_of s def = option_and_then (λ f. leads f (around_name def.path)) (slice_get s.files def.file)
+record_of s def = option_and_then (λ f. leads f (declaration_path def.path))
+    (slice_get s.files def.file)
 
 -- of a message, and of an enum
 abbrev pub message_record : Setting → Definition → Option DescriptorProto

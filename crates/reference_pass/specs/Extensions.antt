@@ -1,11 +1,11 @@
--- What an extension breaks (descriptor.proto on `extendee`): that it names no message, and what its number breaks by the
--- record of the message that it names.
+-- What an extension breaks (descriptor.proto on `extendee`): that it names no message, and what its
+-- number breaks by the record of the message that it names.
 use Rattle.std.specs.Prelude.{ℕ, List, [], ◌∷◌, ◌++◌}
 use Rattle.std.specs.Option.{option_map_or}
 use Rattle.std.specs.declared.option.Option.TheVariants.{None}
 use Rattle.proto_types.specs.declared.tag.field.TheConstants as field
 use Rattle.proto_types.specs.declared.records.field.FieldDescriptorProto.{FieldDescriptorProto}
-use Rattle.proto_types.specs.Lists.{listed}
+use Rattle.plain_data.specs.Lists.{listed}
 use Rattle.proto_types.specs.Readers.{text_of}
 use Rattle.proto_types.specs.declared.message.DescriptorProto.{DescriptorProto}
 use Rattle.pool_types.specs.declared.contents.definition.Definition.{Definition}
@@ -15,23 +15,35 @@ use Rattle.record_walk.specs.Shown.{Shown}
 use Rattle.name_resolution.specs.References.{reference_fault}
 use Rattle.name_resolution.specs.Resolution.{Resolution}
 use Rattle.field_rules.specs.Numbers.{extension_number_faults}
-use Rattle.reference_pass.specs.Definitions.{found_as, around_name, message_record}
-use Rattle.reference_pass.specs.Messages.{message_meaning}
+use Rattle.reference_pass.specs.Definitions.{found_as, declaration_path, message_record}
+use Rattle.reference_pass.specs.Messages.{resolve_message}
 use Rattle.reference_pass.specs.Setting.{Setting}
 
 -- of the extendee, where it isn't found
 abbrev pub extendee_faults : Setting → Shown → FieldDescriptorProto → List DescriptorErrorKind
 extendee_faults s d x =
-    listed (reference_fault s.files (text_of x.extendee) d.file (d.path ++ field.EXTENDEE ∷ []) (message_meaning s d x.extendee))
+    listed (reference_fault s.files (text_of x.extendee) d.file (d.path ++ field.EXTENDEE ∷ [])
+    (resolve_message s d x.extendee))
 
 -- a message where its definition says
 abbrev pub defined_at : List ℕ → Definition → DescriptorProto → Shown
-defined_at name def m = record { file = def.file; parent = None; index = 0; path = around_name def.path; full_name = name; proto = of_message m }
+defined_at name def m = record {
+  file = def.file;
+  parent = None;
+  index = 0;
+  path = declaration_path def.path;
+  full_name = name;
+  proto = of_message m;
+}
 
 -- of the number, by the record of the message of a definition
-abbrev pub number_faults_by : Setting → Shown → FieldDescriptorProto → List ℕ × Definition → List DescriptorErrorKind
-number_faults_by s d x e = option_map_or (λ m. extension_number_faults s.files (defined_at e.0 e.1 m) m d x) (message_record s e.1) []
+abbrev pub number_faults_by : Setting → Shown → FieldDescriptorProto → List ℕ × Definition
+    → List DescriptorErrorKind
+number_faults_by s d x e =
+    option_map_or (λ m. extension_number_faults s.files (defined_at e.0 e.1 m) m d x)
+    (message_record s e.1) []
 
 -- of the number, where the extendee is found
-abbrev pub number_faults : Setting → Shown → FieldDescriptorProto → Resolution → List DescriptorErrorKind
+abbrev pub number_faults : Setting → Shown → FieldDescriptorProto → Resolution
+    → List DescriptorErrorKind
 number_faults s d x r = option_map_or (number_faults_by s d x) (found_as r) []

@@ -8,28 +8,31 @@ use Rattle.pool_types.specs.declared.kinds.KindIndex.{KindIndex}
 use Rattle.pool_faults.specs.declared.fault.DescriptorErrorKind.{DescriptorErrorKind}
 use Rattle.pool_faults.specs.declared.fault.DescriptorErrorKind.TheVariants.{MissingRequiredField}
 use Rattle.pool_faults.specs.Labels.{label_in}
-use Rattle.proto_types.specs.Lists.{listed, only_if}
+use Rattle.plain_data.specs.Lists.{listed, only_if}
 use Rattle.proto_types.specs.Readers.{text_of, type_of}
 use Rattle.record_walk.specs.Shown.{Shown}
 use Rattle.name_resolution.specs.declared.filter.ResolveNameFilter.TheVariants.{FieldType}
 use Rattle.name_resolution.specs.Kinds.{simple_kind, named_kind}
 use Rattle.name_resolution.specs.References.{reference_fault}
 use Rattle.name_resolution.specs.Resolution.{Resolution, kind_found}
-use Rattle.reference_pass.specs.Setting.{Setting, meaning}
+use Rattle.reference_pass.specs.Setting.{Setting, resolve}
 
 -- what its type name means
-abbrev pub type_meaning : Setting → Shown → FieldDescriptorProto → Resolution
-type_meaning s d f = meaning s d.file d.full_name FieldType (text_of f.type_name)
+abbrev pub resolve_type : Setting → Shown → FieldDescriptorProto → Resolution
+resolve_type s d f = resolve s d.file d.full_name FieldType (text_of f.type_name)
 
--- the kind: of the definition that a type name means, else of the type as it is written. None where there is a fault
+-- the kind: of the definition that a type name means, else of the type as it is written. None where
+-- there is a fault
 abbrev pub field_kind : Setting → Shown → FieldDescriptorProto → Option KindIndex
 field_kind s d f = elim (text_of f.type_name) [
   | [] ↦ simple_kind (type_of f.type_)
-  | _ ∷ _ ↦ option_and_then (named_kind (type_of f.type_)) (kind_found (type_meaning s d f))
+  | _ ∷ _ ↦ option_and_then (named_kind (type_of f.type_)) (kind_found (resolve_type s d f))
 ]
 
 abbrev pub type_faults : Setting → Shown → FieldDescriptorProto → List DescriptorErrorKind
 type_faults s d f = elim (text_of f.type_name) [
-  | [] ↦ only_if (not (is_some (simple_kind (type_of f.type_)))) (MissingRequiredField (label_in s.files d.file (d.path ++ field.TYPE_NAME ∷ [])))
-  | _ ∷ _ ↦ listed (reference_fault s.files (text_of f.type_name) d.file (d.path ++ field.TYPE_NAME ∷ []) (type_meaning s d f))
+  | [] ↦ only_if (not (is_some (simple_kind (type_of f.type_))))
+      (MissingRequiredField (label_in s.files d.file (d.path ++ field.TYPE_NAME ∷ [])))
+  | _ ∷ _ ↦ listed (reference_fault s.files (text_of f.type_name) d.file
+      (d.path ++ field.TYPE_NAME ∷ []) (resolve_type s d f))
 ]

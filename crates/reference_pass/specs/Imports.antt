@@ -1,25 +1,28 @@
--- What the imports of a file break (descriptor.proto on `dependency`, `public_dependency` and `weak_dependency`).
+-- What the imports of a file break (descriptor.proto on `dependency`, `public_dependency` and
+-- `weak_dependency`).
 use Rattle.std.specs.Prelude.{ℕ, ℤ, not, is_some, List, [], ◌++◌}
 use Rattle.std.specs.FinMap as finite
 use Rattle.std.specs.List.{flat_map}
 use Rattle.proto_types.specs.declared.tag.file.TheConstants as file
-use Rattle.proto_types.specs.Lists.{at, only_if}
+use Rattle.plain_data.specs.Lists.{at, only_if}
 use Rattle.proto_types.specs.declared.file.FileDescriptorProto.{FileDescriptorProto}
 use Rattle.record_walk.specs.Shown.{step}
 use Rattle.pool_faults.specs.Labels.{label_in}
 use Rattle.pool_faults.specs.declared.fault.DescriptorErrorKind.{DescriptorErrorKind}
 use Rattle.pool_faults.specs.declared.fault.DescriptorErrorKind.TheVariants.{FileNotFound, InvalidImportIndex}
-use Rattle.field_rules.specs.Each.{each}
+use Rattle.plain_data.specs.Each.{map_enumerated}
 use Rattle.reference_pass.specs.Setting.{Setting}
 
 -- of an import of the file with an index, by its place, that names no file
 abbrev pub missing_file : Setting → ℕ → ℕ → List ℕ → List DescriptorErrorKind
 missing_file s index place name =
-    only_if (not (is_some (finite.get s.file_names name))) (FileNotFound name (label_in s.files index (step [] file.DEPENDENCY place)))
+    only_if (not (is_some (finite.get s.file_names name)))
+    (FileNotFound name (label_in s.files index (step [] file.DEPENDENCY place)))
 
 -- of imports, one after another
 abbrev pub missing_files : Setting → ℕ → List (List ℕ) → List DescriptorErrorKind
-missing_files s index names = flat_map (λ faults. faults) (each (missing_file s index) 0 names)
+missing_files s index names =
+    flat_map (λ faults. faults) (map_enumerated (missing_file s index) 0 names)
 
 -- of an index that is no place of these imports
 abbrev pub index_fault : List (List ℕ) → ℤ → List DescriptorErrorKind
@@ -28,4 +31,5 @@ index_fault names n = only_if (not (is_some (at names n))) InvalidImportIndex
 -- of the imports of the file with an index, then of its public indexes, and then of its weak ones
 abbrev pub import_faults : Setting → ℕ → FileDescriptorProto → List DescriptorErrorKind
 import_faults s index f =
-    missing_files s index f.dependency ++ flat_map (index_fault f.dependency) f.public_dependency ++ flat_map (index_fault f.dependency) f.weak_dependency
+    missing_files s index f.dependency ++ flat_map (index_fault f.dependency) f.public_dependency
+    ++ flat_map (index_fault f.dependency) f.weak_dependency

@@ -31,15 +31,16 @@ use Rattle.field_rules.specs.Encoding.{is_packed, supports_presence}
 use Rattle.field_rules.specs.Maps.{by_number, by_name, by_json_name}
 use Rattle.field_rules.specs.DuplicateNumbers.{item_number}
 use Rattle.field_rules.specs.Oneofs.{members, oneof_of}
-use Rattle.field_rules.specs.Each.{each}
+use Rattle.plain_data.specs.Each.{map_enumerated}
 use Rattle.field_rules.specs.Identities.{identity}
 use Rattle.reference_pass.specs.FieldTypes.{field_kind}
 use Rattle.reference_pass.specs.Linked.{linked}
-use Rattle.reference_pass.specs.Messages.{message_found, or_missing, method_at, message_meaning}
+use Rattle.reference_pass.specs.Messages.{message_found, index_or_max, method_at, resolve_message}
 use Rattle.field_rules.specs.Places.{field_at, part_inside}
 use Rattle.reference_pass.specs.Setting.{Setting, seen_by}
 
--- the file with an index: its syntax, its linked record, the files that it imports, in order, and those that it sees
+-- the file with an index: its syntax, its linked record, the files that it imports, in order, and
+-- those that it sees
 abbrev pub file_item : Setting → ℕ → FileDescriptorProto → FileDescriptorInner
 file_item s index f = record {
   syntax = syntax_of f;
@@ -48,8 +49,10 @@ file_item s index f = record {
   transitive_dependencies = seen_by s index;
 }
 
--- a field with an identity, whose type is of a kind, with a default value, among the oneofs of its message
-abbrev pub item_at : Setting → List OneofDescriptorProto → Identity → FieldDescriptorProto → KindIndex → Option DefaultValue → FieldDescriptorInner
+-- a field with an identity, whose type is of a kind, with a default value, among the oneofs of its
+-- message
+abbrev pub item_at : Setting → List OneofDescriptorProto → Identity → FieldDescriptorProto
+    → KindIndex → Option DefaultValue → FieldDescriptorInner
 item_at s oneofs id f kind default = record {
   id = id;
   number = item_number (number_of f.number);
@@ -62,23 +65,31 @@ item_at s oneofs id f kind default = record {
   default = default;
 }
 
-abbrev pub item_of_kind : Setting → List OneofDescriptorProto → Shown → FieldDescriptorProto → KindIndex → Option DefaultValue → FieldDescriptorInner
+abbrev pub item_of_kind : Setting → List OneofDescriptorProto → Shown → FieldDescriptorProto
+    → KindIndex → Option DefaultValue → FieldDescriptorInner
 item_of_kind s oneofs d f kind default = item_at s oneofs (identity d) f kind default
 
 -- a field; where its type has a fault, a number stands in for it
-abbrev pub field_item : Setting → List OneofDescriptorProto → Shown → FieldDescriptorProto → FieldDescriptorInner
-field_item s oneofs d f = item_of_kind s oneofs d f (unwrap_or (field_kind s d f) Double) (field_default s d f)
+abbrev pub field_item : Setting → List OneofDescriptorProto → Shown → FieldDescriptorProto
+    → FieldDescriptorInner
+field_item s oneofs d f = item_of_kind s oneofs d f (unwrap_or (field_kind s d f) Double)
+    (field_default s d f)
 
 -- a oneof, by its position, with the positions of the fields that name it
 abbrev pub oneof_item : List FieldDescriptorProto → Shown → OneofDescriptorInner
 oneof_item fields d = record { id = identity d; fields = members fields d.index }
 
 -- those of the fields and of the oneofs that stand in surroundings
-abbrev pub field_items : Setting → List OneofDescriptorProto → Surrounding → List FieldDescriptorProto → List FieldDescriptorInner
-field_items s oneofs here fs = each (λ i f. field_item s oneofs (field_at here i f) f) 0 fs
+abbrev pub field_items : Setting → List OneofDescriptorProto → Surrounding
+    → List FieldDescriptorProto → List FieldDescriptorInner
+field_items s oneofs here fs =
+    map_enumerated (λ i f. field_item s oneofs (field_at here i f) f) 0 fs
 
-abbrev pub oneof_items : List FieldDescriptorProto → Surrounding → List OneofDescriptorProto → List OneofDescriptorInner
-oneof_items fields here os = each (λ i o. oneof_item fields (part_inside here message.ONEOF_DECL i (of_oneof o))) 0 os
+abbrev pub oneof_items : List FieldDescriptorProto → Surrounding → List OneofDescriptorProto
+    → List OneofDescriptorInner
+oneof_items fields here os =
+    map_enumerated (λ i o. oneof_item fields (part_inside here message.ONEOF_DECL i (of_oneof o))) 0
+    os
 
 -- a message with its fields and its oneofs, before what extends it is known
 abbrev pub message_item : Setting → Shown → DescriptorProto → MessageDescriptorInner
@@ -100,13 +111,14 @@ message_item s d m =
 abbrev pub method_item : Setting → Shown → MethodDescriptorProto → MethodDescriptorInner
 method_item s d m = record {
   id = identity d;
-  input = or_missing (message_found (message_meaning s d m.input_type));
-  output = or_missing (message_found (message_meaning s d m.output_type));
+  input = index_or_max (message_found (resolve_message s d m.input_type));
+  output = index_or_max (message_found (resolve_message s d m.output_type));
 }
 
 -- those of the methods that stand in surroundings
-abbrev pub method_items : Setting → Surrounding → List MethodDescriptorProto → List MethodDescriptorInner
-method_items s here ms = each (λ i m. method_item s (method_at here i m) m) 0 ms
+abbrev pub method_items : Setting → Surrounding → List MethodDescriptorProto
+    → List MethodDescriptorInner
+method_items s here ms = map_enumerated (λ i m. method_item s (method_at here i m) m) 0 ms
 
 -- a service with its methods
 abbrev pub service_item : Setting → Shown → ServiceDescriptorProto → ServiceDescriptorInner
@@ -128,7 +140,7 @@ extension_item s d x =
       parent = d.parent;
       number = item_number (number_of x.number);
       json_name = bracketed d.full_name;
-      extendee = or_missing (message_found (message_meaning s d x.extendee));
+      extendee = index_or_max (message_found (resolve_message s d x.extendee));
       kind = kind;
       is_packed = is_packed (is_proto3 (syntax_at s.files d.file)) kind x;
       cardinality = cardinality_of (label_of x.label);

@@ -9,7 +9,7 @@ pub mod Extensions
 pub mod Defaults
 pub mod Imports
 pub mod Items
-pub mod Broken
+pub mod SecondPass
 pub mod NamesBegin
 pub mod Reading
 pub mod Against

@@ -14,7 +14,7 @@ use Rattle.proto_types.specs.Readers.{text_of, type_of}
 use Rattle.record_walk.specs.Changed.{Changes, changed_file}
 use Rattle.name_resolution.specs.declared.filter.ResolveNameFilter.TheVariants.{Message, FieldType as AnyType}
 use Rattle.name_resolution.specs.Resolution.{Resolution, name_found, kind_found}
-use Rattle.reference_pass.specs.Setting.{Setting, meaning}
+use Rattle.reference_pass.specs.Setting.{Setting, resolve}
 
 -- a reference, or as it was where nothing was found
 abbrev pub resolved : Resolution → Option (List ℕ) → Option (List ℕ)
@@ -42,25 +42,30 @@ typed r f = record f {
 abbrev pub linked_field : Setting → ℕ → List ℕ → FieldDescriptorProto → FieldDescriptorProto
 linked_field s index full_name f = elim (text_of f.type_name) [
   | [] ↦ f
-  | _ ∷ _ ↦ typed (meaning s index full_name AnyType (text_of f.type_name)) f
+  | _ ∷ _ ↦ typed (resolve s index full_name AnyType (text_of f.type_name)) f
 ]
 
--- an extension of the file with an index, with its full name: the message that it extends, and its type
+-- an extension of the file with an index, with its full name: the message that it extends, and its
+-- type
 abbrev pub linked_extension : Setting → ℕ → List ℕ → FieldDescriptorProto → FieldDescriptorProto
 linked_extension s index full_name x = record (linked_field s index full_name x) {
-  extendee = resolved (meaning s index full_name Message (text_of x.extendee)) x.extendee;
+  extendee = resolved (resolve s index full_name Message (text_of x.extendee)) x.extendee;
 }
 
 -- a method of the file with an index, with its full name: the messages that it takes and gives
 abbrev pub linked_method : Setting → ℕ → List ℕ → MethodDescriptorProto → MethodDescriptorProto
 linked_method s index full_name m = record m {
-  input_type = resolved (meaning s index full_name Message (text_of m.input_type)) m.input_type;
-  output_type = resolved (meaning s index full_name Message (text_of m.output_type)) m.output_type;
+  input_type = resolved (resolve s index full_name Message (text_of m.input_type)) m.input_type;
+  output_type = resolved (resolve s index full_name Message (text_of m.output_type)) m.output_type;
 }
 
 -- what linking changes in a file: its fields, its extensions and its methods
 abbrev pub linking : Setting → Changes
-linking s = record { field = linked_field s; extension = linked_extension s; method = linked_method s }
+linking s = record {
+  field = linked_field s;
+  extension = linked_extension s;
+  method = linked_method s;
+}
 
 -- the file with an index
 abbrev pub linked : Setting → ℕ → FileDescriptorProto → FileDescriptorProto

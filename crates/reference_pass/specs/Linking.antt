@@ -1,5 +1,5 @@
--- Records that are linked by the items of a pool: which items names mean, which item each declaration has, and what is
--- written by them.
+-- Records that are linked by the items of a pool: which items names mean, which item each
+-- declaration has, and what is written by them.
 use Rattle.std.specs.Prelude.{◌≡◌, ◌≤◌, ℕ, ℤ, pos, List, [], ◌∷◌, length, map, slice_get}
 use Rattle.std.specs.FinMap as finite
 use Rattle.std.specs.List.{AllByRecursion}
@@ -32,7 +32,7 @@ use Rattle.record_walk.specs.Counts.{count_limit, counted}
 use Rattle.record_walk.specs.Declarations.{declarations, file_walk}
 use Rattle.record_walk.specs.Protos.{of_message, of_service, of_extension}
 use Rattle.record_walk.specs.Shown.{Shown, Surrounding, inside}
-use Rattle.field_rules.specs.Each.{each}
+use Rattle.plain_data.specs.Each.{map_enumerated}
 use Rattle.reference_pass.specs.Linked.{linked, linked_field, linked_method}
 use Rattle.reference_pass.specs.Setting.{Setting}
 use Rattle.reference_pass.specs.Items.{extension_item, field_items, method_items}
@@ -48,10 +48,20 @@ pub record ItemLists : Type 0 where
 
 -- those of the contents of a pool, and those that a program borrows
 abbrev pub lists_in : Contents → ItemLists
-lists_in p = record { messages = p.messages; enums = p.enums; services = p.services; extensions = p.extensions }
+lists_in p = record {
+  messages = p.messages;
+  enums = p.enums;
+  services = p.services;
+  extensions = p.extensions;
+}
 
 abbrev pub lists_of : Linker → ItemLists
-lists_of l = record { messages = l.messages.now; enums = l.enums.now; services = l.services.now; extensions = l.extensions.now }
+lists_of l = record {
+  messages = l.messages.now;
+  enums = l.enums.now;
+  services = l.services.now;
+  extensions = l.extensions.now;
+}
 
 -- the full name of the message with an index, and of the enum
 abbrev pub message_name : ItemLists → ℕ → Option (List ℕ)
@@ -67,7 +77,8 @@ kind_name it (index.Group n) = message_name it n
 kind_name it (index.Enum n) = enum_name it n
 kind_name it _ = None
 
--- the number of a type, by descriptor.proto; a group keeps its own, and so does a type that names nothing
+-- the number of a type, by descriptor.proto; a group keeps its own, and so does a type that names
+-- nothing
 abbrev pub kind_number : FieldType → KindIndex → Option ℤ → Option ℤ
 kind_number written.Group kind given = given
 kind_number _ (index.Message _) given = Some (pos 11)
@@ -91,7 +102,8 @@ abbrev pub reference_by : ItemLists → ℕ → Option (List ℕ) → Option (Li
 reference_by it n given = option_or (option_map (λ name. 46 ∷ name) (message_name it n)) given
 
 -- a method by its item
-abbrev pub method_by : ItemLists → MethodDescriptorInner → MethodDescriptorProto → MethodDescriptorProto
+abbrev pub method_by : ItemLists → MethodDescriptorInner → MethodDescriptorProto
+    → MethodDescriptorProto
 method_by it item m = record m {
   input_type = reference_by it item.input m.input_type;
   output_type = reference_by it item.output m.output_type;
@@ -110,12 +122,15 @@ pub record NamesMeanItems (s : Setting) (it : ItemLists) : Type 0 where
   pub services : length it.services ≤ count_limit
   pub extensions : length it.extensions ≤ count_limit
 
--- a declaration has its item: a message the items of its fields, a service those of its methods, and an extension its own
+-- a declaration has its item: a message the items of its fields, a service those of its methods,
+-- and an extension its own
 abbrev pub HasItem : Setting → ItemLists → Shown → Type 0
 HasItem s it d = elim d.proto [
   | of_message m ↦ option_map (λ item. item.fields) (slice_get it.messages d.index)
-      ≡ Some (field_items s (out-DescriptorProto m).oneof_decl (inside d) (out-DescriptorProto m).field)
-  | of_service v ↦ option_map (λ item. item.methods) (slice_get it.services d.index) ≡ Some (method_items s (inside d) v.method)
+      ≡ Some (field_items s (out-DescriptorProto m).oneof_decl (inside d)
+      (out-DescriptorProto m).field)
+  | of_service v ↦ option_map (λ item. item.methods) (slice_get it.services d.index)
+      ≡ Some (method_items s (inside d) v.method)
   | of_extension x ↦ slice_get it.extensions d.index ≡ Some (extension_item s d x)
   | _ ↦ Unit {0}
 ]
@@ -130,24 +145,33 @@ abbrev pub next_of : Counts → NextItems
 next_of c = record { messages = c.messages; services = c.services; extensions = c.extensions }
 
 -- fields with their items are linked, in any surroundings
-pub record LinksFields (it : ItemLists) (items : List FieldDescriptorInner) (old new : List FieldDescriptorProto) : Type 0 where
-  pub by : (s : Setting) (here : Surrounding) (oneofs : List OneofDescriptorProto) → NamesMeanItems s it
-      → items ≡ field_items s oneofs here old → new ≡ changed_fields (linked_field s) here.file here.scope old
+pub record LinksFields (it : ItemLists) (items : List FieldDescriptorInner)
+    (old new : List FieldDescriptorProto) : Type 0 where
+  pub by : (s : Setting) (here : Surrounding) (oneofs : List OneofDescriptorProto)
+      → NamesMeanItems s it
+      → items ≡ field_items s oneofs here old
+      → new ≡ changed_fields (linked_field s) here.file here.scope old
 
 -- so are methods
-pub record LinksMethods (it : ItemLists) (items : List MethodDescriptorInner) (old new : List MethodDescriptorProto) : Type 0 where
+pub record LinksMethods (it : ItemLists) (items : List MethodDescriptorInner)
+    (old new : List MethodDescriptorProto) : Type 0 where
   pub by : (s : Setting) (here : Surrounding) → NamesMeanItems s it
-      → items ≡ method_items s here old → new ≡ changed_methods (linked_method s) here.file here.scope old
+      → items ≡ method_items s here old
+      → new ≡ changed_methods (linked_method s) here.file here.scope old
 
 -- and so is what declares a list with the next items, which are taken
-pub record Links {X : Type 0} (it : ItemLists) (before after : NextItems) (declared : Surrounding → ℤ → ℕ → Counts → List Shown) (linked : Setting → Surrounding → X) (new : X) : Type 0 where
-  pub by : (s : Setting) (here : Surrounding) (tag : ℤ) (position : ℕ) (base : Counts) → before ≡ next_of base
+pub record Links {X : Type 0} (it : ItemLists) (before after : NextItems) (declared : Surrounding
+    → ℤ → ℕ → Counts → List Shown) (linked : Setting → Surrounding → X) (new : X) : Type 0 where
+  pub by : (s : Setting) (here : Surrounding) (tag : ℤ) (position : ℕ) (base : Counts)
+      → before ≡ next_of base
       → ItemsAre s it (declared here tag position base)
       → (new ≡ linked s here) × (after ≡ next_of (counted base (declared here tag position base)))
 
 -- a file is linked with the next items
-pub record LinksFile (it : ItemLists) (before after : NextItems) (old new : FileDescriptorProto) : Type 0 where
-  pub by : (s : Setting) (base : Counts) → before ≡ next_of base → ItemsAre s it (file_walk base old)
+pub record LinksFile (it : ItemLists) (before after : NextItems)
+    (old new : FileDescriptorProto) : Type 0 where
+  pub by : (s : Setting) (base : Counts) → before ≡ next_of base
+      → ItemsAre s it (file_walk base old)
       → (new ≡ linked s base.files old) × (after ≡ next_of (counted base (file_walk base old)))
 
 -- a file of a pool with its record linked
@@ -155,6 +179,9 @@ abbrev pub linked_item : Setting → ℕ → FileDescriptorInner → FileDescrip
 linked_item s n f = record f { raw = linked s n f.raw }
 
 -- files of a pool, which are numbered on, are linked with the next items
-pub record LinksFiles (it : ItemLists) (before after : NextItems) (old new : List FileDescriptorInner) : Type 0 where
-  pub by : (s : Setting) (base : Counts) → before ≡ next_of base → ItemsAre s it (declarations base (map (λ f. f.raw) old))
-      → (new ≡ each (linked_item s) base.files old) × (after ≡ next_of (counted base (declarations base (map (λ f. f.raw) old))))
+pub record LinksFiles (it : ItemLists) (before after : NextItems)
+    (old new : List FileDescriptorInner) : Type 0 where
+  pub by : (s : Setting) (base : Counts) → before ≡ next_of base
+      → ItemsAre s it (declarations base (map (λ f. f.raw) old))
+      → (new ≡ map_enumerated (linked_item s) base.files old)
+      × (after ≡ next_of (counted base (declarations base (map (λ f. f.raw) old))))

@@ -13,7 +13,7 @@ use Rattle.record_walk.specs.Shown.{Shown, Surrounding}
 use Rattle.name_resolution.specs.declared.filter.ResolveNameFilter.TheVariants.{Message}
 use Rattle.name_resolution.specs.Resolution.{Resolution, kind_found}
 use Rattle.field_rules.specs.Places.{part_inside}
-use Rattle.reference_pass.specs.Setting.{Setting, meaning}
+use Rattle.reference_pass.specs.Setting.{Setting, resolve}
 
 -- the index of a message
 abbrev pub message_index : DefinitionKind → Option ℕ
@@ -25,12 +25,12 @@ abbrev pub message_found : Resolution → Option ℕ
 message_found r = option_and_then message_index (kind_found r)
 
 -- an index, or where there is none the largest number of 32 bits
-abbrev pub or_missing : Option ℕ → ℕ
-or_missing n = unwrap_or n (2 ^ 32 - 1)
+abbrev pub index_or_max : Option ℕ → ℕ
+index_or_max n = unwrap_or n (2 ^ 32 - 1)
 
 -- what the name of a message means that a declaration refers to; a missing name is the empty text
-abbrev pub message_meaning : Setting → Shown → Option (List ℕ) → Resolution
-message_meaning s d name = meaning s d.file d.full_name Message (text_of name)
+abbrev pub resolve_message : Setting → Shown → Option (List ℕ) → Resolution
+resolve_message s d name = resolve s d.file d.full_name Message (text_of name)
 
 -- a method in surroundings, by its position
 abbrev pub method_at : Surrounding → ℕ → MethodDescriptorProto → Shown

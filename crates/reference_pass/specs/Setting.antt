@@ -19,5 +19,6 @@ abbrev pub seen_by : Setting → ℕ → BTreeSet ℕ
 seen_by s file = unwrap_or (slice_get s.seen file) (record { keys = [] })
 
 -- what a reference means that is written in a scope of a file
-abbrev pub meaning : Setting → ℕ → List ℕ → ResolveNameFilter → List ℕ → Resolution
-meaning s file scope filter written = resolution s.names (λ n. contains_by (nat_cmp n) (seen_by s file)) filter scope written
+abbrev pub resolve : Setting → ℕ → List ℕ → ResolveNameFilter → List ℕ → Resolution
+resolve s file scope filter written =
+    resolution s.names (λ n. contains_by (nat_cmp n) (seen_by s file)) filter scope written

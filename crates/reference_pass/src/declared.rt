@@ -1,6 +1,6 @@
 ghost use Rattle.std.specs.Prelude.{◌≡◌};
 ghost use Rattle.std.specs.Option.{option_copied};
-ghost use Rattle.reference_pass.specs.Definitions.{around_name, enum_record, message_record};
+ghost use Rattle.reference_pass.specs.Definitions.{declaration_path, enum_record, message_record};
 ghost use Rattle.reference_pass.specs.SettingCode.{setting_in};
 
 use crate::Setting;
@@ -16,7 +16,7 @@ pub(crate) fn message_record<'a>(
     ensures { option_copied result ≡ message_record (setting_in setting.entry) definition.now }
 {
     let file = setting.files.get(definition.file as usize)?;
-    find_message_proto(&file.raw, around_name(definition.path.as_slice()))
+    find_message_proto(&file.raw, declaration_path(definition.path.as_slice()))
 }
 
 /// The record of the enum with a definition.
@@ -27,12 +27,12 @@ pub(crate) fn enum_record<'a>(
     ensures { option_copied result ≡ enum_record (setting_in setting.entry) definition.now }
 {
     let file = setting.files.get(definition.file as usize)?;
-    find_enum_proto(&file.raw, around_name(definition.path.as_slice()))
+    find_enum_proto(&file.raw, declaration_path(definition.path.as_slice()))
 }
 
 /// The path of a declaration, by that of its name.
-pub(crate) fn around_name(path: &[i32]) -> &[i32]
-    ensures { result.now ≡ around_name path.now }
+pub(crate) fn declaration_path(path: &[i32]) -> &[i32]
+    ensures { result.now ≡ declaration_path path.now }
 {
     &path[..path.len().saturating_sub(1)]
 }

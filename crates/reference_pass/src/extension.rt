@@ -1,23 +1,23 @@
 ghost use Rattle.std.specs.Prelude.{◌≡◌, ◌++◌, IfOk, OnOk};
 ghost use Rattle.name_resolution.specs.Resolution.{resolution_in};
 ghost use Rattle.record_walk.specs.Protos.{of_extension};
-ghost use Rattle.reference_pass.specs.Broken.{extension_faults};
+ghost use Rattle.reference_pass.specs.SecondPass.{extension_faults};
 ghost use Rattle.reference_pass.specs.Extensions.{extendee_faults, number_faults};
 ghost use Rattle.reference_pass.specs.Items.{bracketed, extension_item};
-ghost use Rattle.reference_pass.specs.Messages.{message_found, message_meaning, or_missing};
+ghost use Rattle.reference_pass.specs.Messages.{message_found, resolve_message, index_or_max};
 ghost use Rattle.reference_pass.specs.Reading.{Reads, setting_of};
 ghost use Rattle.reference_pass.specs.Short.{ShortFiles};
 ghost use Rattle.field_rules.specs.Places.{shown_at};
 
-use crate::declared::{around_name, message_record};
+use crate::declared::{declaration_path, message_record};
 use crate::field::is_proto3;
 use crate::reading::Reading;
-use crate::references::message_found;
+use crate::references::message_index_or_max;
 use crate::types::type_and_default;
 use field_rules::{Owner, Place, check_extension_number, identity, is_packed, item_number};
+use name_resolution::{ResolveNameResult, cardinality_of};
 use plain_data::Text;
 use pool_types::{ExtensionDescriptorInner, KindIndex};
-use name_resolution::{ResolveNameResult, cardinality_of};
 use proto_types::{FieldDescriptorProto, tag};
 use std::alloc::{AllocError, Global};
 
@@ -67,20 +67,20 @@ fn read_extendee(
 ) -> Result<u32, AllocError>
     requires { ShortFiles (setting_of reading.old).files }
     ensures index { IfOk result (λ index. index
-        ≡ or_missing (message_found (message_meaning (setting_of reading.old)
+        ≡ index_or_max (message_found (resolve_message (setting_of reading.old)
         (shown_at place.entry (of_extension extension.now)) extension.now.extendee))) }
     ensures faults { OnOk result (Reads reading.old reading.new
         (extendee_faults (setting_of reading.old)
         (shown_at place.entry (of_extension extension.now)) extension.now
         ++ number_faults (setting_of reading.old)
         (shown_at place.entry (of_extension extension.now)) extension.now
-        (message_meaning (setting_of reading.old)
+        (resolve_message (setting_of reading.old)
         (shown_at place.entry (of_extension extension.now)) extension.now.extendee))) }
 {
     let extendee = extension.extendee();
     let meaning = reading.resolve_message(place, tag::field::EXTENDEE, extendee)?;
     check_number(reading, &meaning, place, extension)?;
-    Ok(message_found(&meaning))
+    Ok(message_index_or_max(&meaning))
 }
 
 /// Appends to `faults` what the number of an extension breaks, by the record of the message that
@@ -107,7 +107,7 @@ fn check_number(
         file: def.file,
         parent: None,
         index: 0,
-        path: around_name(def.path.as_slice()),
+        path: declaration_path(def.path.as_slice()),
         full_name: name.as_str(),
     };
     let owner = Owner {

@@ -5,7 +5,7 @@ ghost use Rattle.proto_types.specs.declared.message.DescriptorProto.{out-Descrip
 ghost use Rattle.record_walk.specs.Counts.{lists_fit};
 ghost use Rattle.record_walk.specs.Protos.{of_field, of_message};
 ghost use Rattle.field_rules.specs.Bounds.{AreRangesOf};
-ghost use Rattle.reference_pass.specs.Broken.{own_faults};
+ghost use Rattle.reference_pass.specs.SecondPass.{field_record_faults};
 ghost use Rattle.reference_pass.specs.Defaults.{field_default};
 ghost use Rattle.reference_pass.specs.FieldTypes.{field_kind};
 ghost use Rattle.reference_pass.specs.Items.{field_item, item_at};
@@ -16,13 +16,16 @@ ghost use Rattle.name_pass.specs.Syntaxes.{is_proto3, syntax_at};
 
 use crate::reading::Reading;
 use crate::types::type_and_default;
-use field_rules::{MessageRanges, Owner, Place, check_field_number, check_oneof_index, identity_inside, is_packed, item_number, oneof_of, supports_presence};
-use plain_data::duplicate_given;
-use pool_types::{DefaultValue, FieldDescriptorInner, Identity, KindIndex, Syntax};
+use field_rules::{
+    MessageRanges, Owner, Place, check_field_number, check_oneof_index, identity_inside, is_packed,
+    item_number, oneof_of, supports_presence,
+};
+use name_pass::syntax_at;
 use name_resolution::cardinality_of;
+use plain_data::duplicate_option;
+use pool_types::{DefaultValue, FieldDescriptorInner, Identity, KindIndex, Syntax};
 use proto_types::{FieldDescriptorProto, OneofDescriptorProto, tag};
 use std::alloc::AllocError;
-use name_pass::syntax_at;
 
 /// The item of the field of a message with a position. What the field breaks by itself is appended
 /// to `faults`: its number, its type, its default value, its oneof.
@@ -43,7 +46,7 @@ pub(crate) fn read_field(
         (get_or (out-DescriptorProto owner.entry.message.now).field position no_field)) }
     ensures begins { IfOk result (λ item. BeginsAtBoundary item.id) }
     ensures faults { OnOk result (Reads reading.old reading.new
-        (own_faults (setting_of reading.old)
+        (field_record_faults (setting_of reading.old)
         (message_at owner.entry.place owner.entry.message.now, owner.entry.message.now)
         (field_at (inside_of owner.entry.place) position
         (get_or (out-DescriptorProto owner.entry.message.now).field position no_field))
@@ -84,7 +87,7 @@ fn check_field(
         ≡ field_default (setting_of reading.old)
         (shown_at place.entry (of_field field.now)) field.now) }
     ensures faults { OnOk result (Reads reading.old reading.new
-        (own_faults (setting_of reading.old)
+        (field_record_faults (setting_of reading.old)
         (message_at owner.entry.place owner.entry.message.now, owner.entry.message.now)
         (shown_at place.entry (of_field field.now)) field.now)) }
 {
@@ -112,7 +115,7 @@ fn item_at(
     Ok(FieldDescriptorInner {
         id,
         number: item_number(field.number()),
-        json_name: duplicate_given(alloc, &field.json_name)?,
+        json_name: duplicate_option(alloc, &field.json_name)?,
         kind,
         oneof: oneof_of(oneofs, field),
         is_packed: is_packed(is_proto3, kind, field),

@@ -1,6 +1,6 @@
 ghost use Rattle.std.specs.Prelude.{◌≡◌, ◌<◌, ◌^◌, true, is_some, OnOk};
 ghost use Rattle.std.specs.List.{flat_map};
-ghost use Rattle.proto_types.specs.Lists.{at};
+ghost use Rattle.plain_data.specs.Lists.{at};
 ghost use Rattle.record_walk.specs.Counts.{fits_list, lists_fit};
 ghost use Rattle.record_walk.specs.Protos.{of_file};
 ghost use Rattle.reference_pass.specs.Imports.{missing_file, missing_files, index_fault, import_faults};
@@ -16,8 +16,8 @@ use record_walk::entry_path;
 use std::alloc::{AllocError, Global};
 
 /// Appends to `faults` one for each import of the file with an index that names no file, and then
-/// one for each public and each weak index that is no place of the list of imports. The index counts
-/// from 0 in the order of linking.
+/// one for each public and each weak index that is no place of the list of imports. The index
+/// counts from 0 in the order of linking.
 ///
 /// # Errors
 /// `AllocError` where memory was refused.

@@ -3,7 +3,9 @@
 ghost use Rattle.std.specs.Prelude.{◌≡◌, ◌++◌, ◌∷◌, [], OnOk};
 ghost use Rattle.reference_pass.specs.NamesBegin.{MessageNamesBegin, NamesBegin};
 
-use pool_types::{EnumDescriptorInner, ExtensionDescriptorInner, MessageDescriptorInner, ServiceDescriptorInner};
+use pool_types::{
+    EnumDescriptorInner, ExtensionDescriptorInner, MessageDescriptorInner, ServiceDescriptorInner,
+};
 use std::alloc::{AllocError, Global};
 
 /// The items of new messages, enums, services and extensions, in the order of their indexes.

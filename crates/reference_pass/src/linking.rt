@@ -16,8 +16,14 @@ ghost use Rattle.reference_pass.specs.Linking.{Links, LinksFields, LinksFile, Li
 ghost use Rattle.reference_pass.specs.Linking.{enum_name, kind_name, kind_number, message_name, method_by, next_of, reference_by, typed_by};
 
 use plain_data::Text;
-use pool_types::{EnumDescriptorInner, ExtensionDescriptorInner, FieldDescriptorInner, FileDescriptorInner, KindIndex, MessageDescriptorInner, MethodDescriptorInner, ServiceDescriptorInner};
-use proto_types::{DescriptorProto, FieldDescriptorProto, FieldType, FileDescriptorProto, MethodDescriptorProto, ServiceDescriptorProto};
+use pool_types::{
+    EnumDescriptorInner, ExtensionDescriptorInner, FieldDescriptorInner, FileDescriptorInner,
+    KindIndex, MessageDescriptorInner, MethodDescriptorInner, ServiceDescriptorInner,
+};
+use proto_types::{
+    DescriptorProto, FieldDescriptorProto, FieldType, FileDescriptorProto, MethodDescriptorProto,
+    ServiceDescriptorProto,
+};
 use std::alloc::{AllocError, Global};
 
 /// Writes what references mean into records, by the items of a pool.

@@ -6,7 +6,7 @@ ghost use Rattle.record_walk.specs.FullNames.{EndsWithName};
 ghost use Rattle.record_walk.specs.Protos.{of_message};
 ghost use Rattle.field_rules.specs.MapsOf.{AreMapsOf};
 ghost use Rattle.field_rules.specs.Bounds.{AreRangesOf};
-ghost use Rattle.reference_pass.specs.Broken.{faults_of_fields, message_faults};
+ghost use Rattle.reference_pass.specs.SecondPass.{faults_of_fields, message_faults};
 ghost use Rattle.reference_pass.specs.Items.{field_items, message_item, oneof_items};
 ghost use Rattle.field_rules.specs.NamesBegin.{BeginsAtBoundary};
 ghost use Rattle.reference_pass.specs.NamesBegin.{MessageNamesBegin};
@@ -21,9 +21,9 @@ use pool_types::{FieldDescriptorInner, MessageDescriptorInner, OneofDescriptorIn
 use proto_types::{DescriptorProto, tag};
 use std::alloc::{AllocError, Global};
 
-/// The item of a message, with its fields, its oneofs and its maps, before what extends it is known.
-/// What its fields break is appended to `faults`, one field after another: its number, its type, its
-/// default value, its oneof, and that an earlier field has its number or its JSON name.
+/// The item of a message, with its fields, its oneofs and its maps, before what extends it is
+/// known. What its fields break is appended to `faults`, one field after another: its number, its
+/// type, its default value, its oneof, and that an earlier field has its number or its JSON name.
 ///
 /// # Errors
 /// `AllocError` where memory was refused.

@@ -8,7 +8,7 @@ ghost use Rattle.field_rules.specs.Places.{enum_at, message_at, service_at, show
 ghost use Rattle.field_rules.specs.EnumItems.{enum_item};
 ghost use Rattle.field_rules.specs.EnumValues.{values_faults};
 ghost use Rattle.reference_pass.specs.SettingCode.{setting_in};
-ghost use Rattle.reference_pass.specs.Broken.{extension_faults, message_faults, service_faults};
+ghost use Rattle.reference_pass.specs.SecondPass.{extension_faults, message_faults, service_faults};
 ghost use Rattle.reference_pass.specs.Imports.{import_faults};
 ghost use Rattle.reference_pass.specs.Items.{extension_item, message_item, service_item};
 ghost use Rattle.reference_pass.specs.NamesBegin.{MessageNamesBegin};
@@ -17,8 +17,14 @@ ghost use Rattle.reference_pass.specs.Short.{ShortFiles};
 use crate::{Reading, Setting};
 use field_rules::{Findings, Place};
 use pool_faults::DescriptorErrorKind;
-use pool_types::{EnumDescriptorInner, ExtensionDescriptorInner, FileDescriptorInner, MessageDescriptorInner, ServiceDescriptorInner};
-use proto_types::{DescriptorProto, EnumDescriptorProto, FieldDescriptorProto, FileDescriptorProto, ServiceDescriptorProto};
+use pool_types::{
+    EnumDescriptorInner, ExtensionDescriptorInner, FileDescriptorInner, MessageDescriptorInner,
+    ServiceDescriptorInner,
+};
+use proto_types::{
+    DescriptorProto, EnumDescriptorProto, FieldDescriptorProto, FileDescriptorProto,
+    ServiceDescriptorProto,
+};
 use std::alloc::{AllocError, Global};
 
 /// Appends to `faults` what the imports of the file with an index break.

@@ -1,15 +1,15 @@
 ghost use Rattle.std.specs.Prelude.{◌≡◌, ◌++◌, ◌∷◌, [], IfOk, OnOk};
-ghost use Rattle.proto_types.specs.Lists.{listed};
+ghost use Rattle.plain_data.specs.Lists.{listed};
 ghost use Rattle.name_resolution.specs.References.{reference_fault};
 ghost use Rattle.name_resolution.specs.Resolution.{resolution_in};
-ghost use Rattle.reference_pass.specs.Setting.{meaning};
+ghost use Rattle.reference_pass.specs.Setting.{resolve};
 ghost use Rattle.reference_pass.specs.SettingCode.{setting_in};
 ghost use Rattle.field_rules.specs.Tells.{Tells, named_files};
 
 use crate::Setting;
-use name_tables::{FileNames, HashedNames};
 use field_rules::{Findings, Place};
 use name_resolution::{ResolveNameFilter, ResolveNameResult};
+use name_tables::{FileNames, HashedNames};
 use std::alloc::AllocError;
 
 /// What declarations are read with: the files that labels name, the faults that are found, and what
@@ -46,12 +46,12 @@ impl<'a> Reading<'a> {
         written: &str,
     ) -> Result<ResolveNameResult<'a>, AllocError>
         ensures { IfOk result (λ r. resolution_in r
-            ≡ meaning (setting_of self.now) place.entry.file place.entry.full_name.now
+            ≡ resolve (setting_of self.now) place.entry.file place.entry.full_name.now
             filter written.now) }
     {
         let alloc = self.findings.alloc;
         self.setting()
-            .meaning(alloc, place.file, place.full_name, filter, written)
+            .resolve(alloc, place.file, place.full_name, filter, written)
     }
 
     /// The same of the part of a declaration with a tag. Where it isn't found, that is appended to
@@ -67,11 +67,11 @@ impl<'a> Reading<'a> {
         written: &str,
     ) -> Result<ResolveNameResult<'a>, AllocError>
         ensures meaning { IfOk result (λ r. resolution_in r
-            ≡ meaning (setting_of self.old) place.entry.file place.entry.full_name.now
+            ≡ resolve (setting_of self.old) place.entry.file place.entry.full_name.now
             filter written.now) }
         ensures faults { OnOk result (Reads self.old self.new
             (listed (reference_fault (setting_of self.old).files written.now place.entry.file
-            (place.entry.path.now ++ tag ∷ []) (meaning (setting_of self.old)
+            (place.entry.path.now ++ tag ∷ []) (resolve (setting_of self.old)
             place.entry.file place.entry.full_name.now filter written.now)))) }
     {
         let meaning = self.resolve(place, filter, written)?;
@@ -91,11 +91,11 @@ impl<'a> Reading<'a> {
         written: &str,
     ) -> Result<ResolveNameResult<'a>, AllocError>
         ensures meaning { IfOk result (λ r. resolution_in r
-            ≡ meaning (setting_of self.old) place.entry.file place.entry.full_name.now
+            ≡ resolve (setting_of self.old) place.entry.file place.entry.full_name.now
             ResolveNameFilter.Message written.now) }
         ensures faults { OnOk result (Reads self.old self.new
             (listed (reference_fault (setting_of self.old).files written.now place.entry.file
-            (place.entry.path.now ++ tag ∷ []) (meaning (setting_of self.old)
+            (place.entry.path.now ++ tag ∷ []) (resolve (setting_of self.old)
             place.entry.file place.entry.full_name.now ResolveNameFilter.Message written.now)))) }
     {
         self.resolve_checked(place, tag, ResolveNameFilter::Message, written)

@@ -1,13 +1,13 @@
 ghost use Rattle.std.specs.Prelude.{◌≡◌};
 ghost use Rattle.name_resolution.specs.Resolution.{resolution_in};
-ghost use Rattle.reference_pass.specs.Messages.{message_found, message_index, or_missing};
+ghost use Rattle.reference_pass.specs.Messages.{message_found, message_index, index_or_max};
 
 use name_resolution::ResolveNameResult;
 use pool_types::DefinitionKind;
 
 /// The index of the message that was found, or the largest number where none was.
-pub(crate) fn message_found(meaning: &ResolveNameResult) -> u32
-    ensures { result ≡ or_missing (message_found (resolution_in meaning.now)) }
+pub(crate) fn message_index_or_max(meaning: &ResolveNameResult) -> u32
+    ensures { result ≡ index_or_max (message_found (resolution_in meaning.now)) }
 {
     match meaning {
         ResolveNameResult::Found { def, .. } => message_index(def.kind).unwrap_or(u32::MAX),

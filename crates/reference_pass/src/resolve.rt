@@ -2,21 +2,24 @@ ghost use Rattle.std.specs.Prelude.{map};
 ghost use Rattle.reference_pass.specs.NamesBegin.{NamesBegin};
 ghost use Rattle.reference_pass.specs.Short.{ShortFiles};
 
+use crate::Setting;
 use crate::items::NewItems;
 use crate::owner_reading::{check_imports, read_enum, read_extension, read_message, read_service};
-use crate::Setting;
 use field_rules::Place;
 use pool_faults::DescriptorErrorKind;
-use proto_types::{DescriptorProto, EnumDescriptorProto, EnumValueDescriptorProto, FieldDescriptorProto, FileDescriptorProto, MethodDescriptorProto, OneofDescriptorProto, ServiceDescriptorProto};
+use proto_types::{
+    DescriptorProto, EnumDescriptorProto, EnumValueDescriptorProto, FieldDescriptorProto,
+    FileDescriptorProto, MethodDescriptorProto, OneofDescriptorProto, ServiceDescriptorProto,
+};
 use record_walk::Visitor;
 use std::alloc::{AllocError, Global};
 
 /// The second pass: it reads a batch against a pool whose files and names are those of the batch as
 /// well, makes the items of messages, enums, services and extensions, and gathers the faults of
-/// imports, of fields, of extensions, of values and of references. A message is read with its oneofs
-/// and fields, an enum with its values, and a service with its methods. The full name of each
-/// declaration that it is shown ends with the declared name, and its lists are short enough for a
-/// pool, as are those of all files that it is read against.
+/// imports, of fields, of extensions, of values and of references. A message is read with its
+/// oneofs and fields, an enum with its values, and a service with its methods. The full name of
+/// each declaration that it is shown ends with the declared name, and its lists are short enough
+/// for a pool, as are those of all files that it is read against.
 #[derive(Drop)]
 pub struct ResolveVisitor<'a> {
     pub alloc: Global,

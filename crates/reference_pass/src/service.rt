@@ -1,20 +1,20 @@
 ghost use Rattle.std.specs.Prelude.{◌≡◌, ◌<◌, ◌^◌, ◌++◌, [], ◌∷◌, true, IfOk, OnOk};
-ghost use Rattle.proto_types.specs.Lists.{listed};
+ghost use Rattle.plain_data.specs.Lists.{listed};
 ghost use Rattle.record_walk.specs.Counts.{fits_list, lists_fit};
 ghost use Rattle.record_walk.specs.Protos.{of_service};
 ghost use Rattle.name_resolution.specs.References.{reference_fault};
-ghost use Rattle.reference_pass.specs.Broken.{faults_of_methods, method_faults, service_faults};
+ghost use Rattle.reference_pass.specs.SecondPass.{faults_of_methods, method_faults, service_faults};
 ghost use Rattle.reference_pass.specs.Items.{service_item, method_item, method_items};
-ghost use Rattle.reference_pass.specs.Messages.{message_found, message_index, method_at, or_missing};
+ghost use Rattle.reference_pass.specs.Messages.{message_found, message_index, method_at, index_or_max};
 ghost use Rattle.field_rules.specs.Places.{inside_of, service_at};
-ghost use Rattle.reference_pass.specs.Setting.{meaning};
+ghost use Rattle.reference_pass.specs.Setting.{resolve};
 ghost use Rattle.reference_pass.specs.Reading.{Reads, setting_of};
 
 use crate::reading::Reading;
-use crate::references::message_found;
+use crate::references::message_index_or_max;
 use field_rules::{Place, identity, identity_inside};
-use plain_data::Items;
 use name_resolution::ResolveNameFilter;
+use plain_data::Items;
 use pool_types::{MethodDescriptorInner, ServiceDescriptorInner};
 use proto_types::{MethodDescriptorProto, ServiceDescriptorProto, tag};
 use std::alloc::AllocError;
@@ -112,13 +112,13 @@ fn message_index(
     written: &str,
 ) -> Result<u32, AllocError>
     ensures index { IfOk result (λ index. index
-        ≡ or_missing (message_found (meaning (setting_of reading.old)
+        ≡ index_or_max (message_found (resolve (setting_of reading.old)
         place.entry.file place.entry.full_name.now ResolveNameFilter.Message written.now))) }
     ensures faults { OnOk result (Reads reading.old reading.new
         (listed (reference_fault (setting_of reading.old).files written.now place.entry.file
-        (place.entry.path.now ++ tag ∷ []) (meaning (setting_of reading.old)
+        (place.entry.path.now ++ tag ∷ []) (resolve (setting_of reading.old)
         place.entry.file place.entry.full_name.now ResolveNameFilter.Message written.now)))) }
 {
     let meaning = reading.resolve_message(place, tag, written)?;
-    Ok(message_found(&meaning))
+    Ok(message_index_or_max(&meaning))
 }

@@ -1,10 +1,10 @@
 ghost use Rattle.std.specs.Prelude.{IfOk, ◌≡◌, slice_get};
 ghost use Rattle.std.specs.Option.{option_copied};
 ghost use Rattle.name_resolution.specs.Resolution.{resolution_in};
-ghost use Rattle.reference_pass.specs.Setting.{meaning};
+ghost use Rattle.reference_pass.specs.Setting.{resolve};
 
-use name_tables::{FileNames, HashedNames};
 use name_resolution::{ResolveNameFilter, ResolveNameResult, resolve_name};
+use name_tables::{FileNames, HashedNames};
 use pool_types::FileDescriptorInner;
 use std::alloc::{AllocError, Global};
 use std::collections::BTreeSet;
@@ -25,7 +25,7 @@ impl<'a> Setting<'a> {
     ///
     /// # Errors
     /// `AllocError` where memory was refused.
-    pub fn meaning(
+    pub fn resolve(
         self,
         alloc: Global,
         file: u32,
@@ -34,7 +34,7 @@ impl<'a> Setting<'a> {
         written: &str,
     ) -> Result<ResolveNameResult<'a>, AllocError>
         ensures { IfOk result (λ r. resolution_in r
-            ≡ meaning (setting_in self.entry) file scope.now filter written.now) }
+            ≡ resolve (setting_in self.entry) file scope.now filter written.now) }
     {
         let nothing = BTreeSet::new(alloc);
         let visible = self.visible(file).unwrap_or(&nothing);

@@ -1,7 +1,7 @@
 ghost use Rattle.std.specs.Prelude.{◌≡◌, ◌++◌, [], ◌∷◌, not, is_some, IfOk, OnOk};
 ghost use Rattle.std.specs.Option.{option_and_then, option_map_or};
 ghost use Rattle.proto_types.specs.declared.tag.field.TheConstants.{TYPE_NAME};
-ghost use Rattle.proto_types.specs.Lists.{listed, only_if};
+ghost use Rattle.plain_data.specs.Lists.{listed, only_if};
 ghost use Rattle.proto_types.specs.Readers.{text_of, type_of};
 ghost use Rattle.pool_faults.specs.declared.fault.DescriptorErrorKind.TheVariants.{MissingRequiredField};
 ghost use Rattle.field_rules.specs.Labels.{part_label};
@@ -14,19 +14,19 @@ ghost use Rattle.field_rules.specs.DefaultEnumCode.{meant_in};
 ghost use Rattle.field_rules.specs.Defaults.{default_faults};
 ghost use Rattle.reference_pass.specs.Defaults.{default_by, enum_found, field_default};
 ghost use Rattle.reference_pass.specs.Defaults.{field_default_faults, no_enum_meant};
-ghost use Rattle.reference_pass.specs.FieldTypes.{field_kind, type_faults, type_meaning};
+ghost use Rattle.reference_pass.specs.FieldTypes.{field_kind, type_faults, resolve_type};
 ghost use Rattle.reference_pass.specs.Reading.{Reads, setting_of};
 ghost use Rattle.field_rules.specs.Places.{shown_at};
 ghost use Rattle.reference_pass.specs.SettingCode.{setting_in};
 
+use crate::Setting;
 use crate::declared::enum_record;
 use crate::reading::Reading;
-use field_rules::{Findings, MeantEnum, Place, read_default};
-use crate::Setting;
+use field_rules::{DefaultEnum, Findings, Place, read_default};
+use name_resolution::{ResolveNameFilter, ResolveNameResult, named_kind, simple_kind};
 use plain_data::Text;
 use pool_faults::DescriptorErrorKind;
 use pool_types::{DefaultValue, KindIndex};
-use name_resolution::{ResolveNameFilter, ResolveNameResult, named_kind, simple_kind};
 use proto_types::{FieldDescriptorProto, FieldType, tag};
 use std::alloc::AllocError;
 
@@ -91,25 +91,25 @@ fn named_type(
 ) -> Result<(Option<KindIndex>, Option<DefaultValue>), AllocError>
     ensures kind { IfOk result (λ t. t.0
         ≡ option_and_then (named_kind (type_of field.now.type_))
-        (kind_found (type_meaning (setting_of reading.old)
+        (kind_found (resolve_type (setting_of reading.old)
         (shown_at place.entry (of_field field.now)) field.now))) }
     ensures default { IfOk result (λ t. t.1
         ≡ default_by (option_and_then (named_kind (type_of field.now.type_))
-        (kind_found (type_meaning (setting_of reading.old)
+        (kind_found (resolve_type (setting_of reading.old)
         (shown_at place.entry (of_field field.now)) field.now)))
-        (enum_found (setting_of reading.old) (type_meaning (setting_of reading.old)
+        (enum_found (setting_of reading.old) (resolve_type (setting_of reading.old)
         (shown_at place.entry (of_field field.now)) field.now)) field.now.default_value) }
     ensures faults { OnOk result (Reads reading.old reading.new
         (listed (reference_fault (setting_of reading.old).files (text_of field.now.type_name)
         place.entry.file (place.entry.path.now ++ TYPE_NAME ∷ [])
-        (type_meaning (setting_of reading.old)
+        (resolve_type (setting_of reading.old)
         (shown_at place.entry (of_field field.now)) field.now))
         ++ option_map_or (λ k. default_faults (setting_of reading.old).files place.entry.file
         place.entry.path.now k (enum_found (setting_of reading.old)
-        (type_meaning (setting_of reading.old)
+        (resolve_type (setting_of reading.old)
         (shown_at place.entry (of_field field.now)) field.now)) field.now.default_value)
         (option_and_then (named_kind (type_of field.now.type_))
-        (kind_found (type_meaning (setting_of reading.old)
+        (kind_found (resolve_type (setting_of reading.old)
         (shown_at place.entry (of_field field.now)) field.now))) [])) }
 {
     let (tag, filter) = (tag::field::TYPE_NAME, ResolveNameFilter::FieldType);
@@ -130,7 +130,7 @@ fn meant_kind(written: FieldType, meaning: &ResolveNameResult) -> Option<KindInd
     }
 }
 
-/// The default value of a field or an extension whose type name has a meaning, if one is given.
+/// The default value of a field or an extension whose type name has a resolve, if one is given.
 fn named_default(
     reading: &mut Reading,
     place: Place,
@@ -159,7 +159,7 @@ fn kind_default(
     findings: &mut Findings,
     place: Place,
     kind: Option<KindIndex>,
-    meant: MeantEnum,
+    meant: DefaultEnum,
     given: &Option<Text>,
 ) -> Result<Option<DefaultValue>, AllocError>
     ensures value { IfOk result (λ value. value
@@ -175,7 +175,7 @@ fn kind_default(
 }
 
 /// The enum that was found, or none.
-fn enum_found<'n, 'v>(setting: Setting<'v>, meaning: &'n ResolveNameResult) -> MeantEnum<'n, 'v>
+fn enum_found<'n, 'v>(setting: Setting<'v>, meaning: &'n ResolveNameResult) -> DefaultEnum<'n, 'v>
     ensures { meant_in result
         ≡ enum_found (setting_in setting.entry) (resolution_in meaning.now) }
 {
@@ -186,17 +186,17 @@ fn enum_found<'n, 'v>(setting: Setting<'v>, meaning: &'n ResolveNameResult) -> M
         Some(found) => found.value.as_slice(),
         None => &[],
     };
-    MeantEnum {
+    DefaultEnum {
         full_name: name.as_str(),
         values,
     }
 }
 
 /// No enum.
-fn no_enum<'n, 'v>() -> MeantEnum<'n, 'v>
+fn no_enum<'n, 'v>() -> DefaultEnum<'n, 'v>
     ensures { meant_in result ≡ no_enum_meant }
 {
-    MeantEnum {
+    DefaultEnum {
         full_name: "",
         values: &[],
     }

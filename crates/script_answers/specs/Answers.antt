@@ -38,11 +38,14 @@ alone (c ∷ cs) = c ∷ cs
 
 -- how many of each kind there are
 abbrev pub counts_line : Counts → List ℕ
-counts_line c = line (codes "ok" ∷ decimal c.files ∷ decimal c.messages ∷ decimal c.enums ∷ decimal c.services ∷ decimal c.extensions ∷ [])
+counts_line c =
+    line (codes "ok" ∷ decimal c.files ∷ decimal c.messages ∷ decimal c.enums ∷ decimal c.services
+    ∷ decimal c.extensions ∷ [])
 
 -- how many faults there are, and a line for each
 abbrev pub refused_lines : List DescriptorErrorKind → List ℕ
-refused_lines faults = line (codes "refused" ∷ decimal (length faults) ∷ []) ++ flat_map (λ f. line (labelled_text f ∷ [])) faults
+refused_lines faults = line (codes "refused" ∷ decimal (length faults) ∷ [])
+    ++ flat_map (λ f. line (labelled_text f ∷ [])) faults
 
 -- what there is too much of, in the plural
 abbrev pub count_word : CountKind → List ℕ
@@ -90,17 +93,20 @@ declared_word declared.Extension = codes "extension"
 
 -- a declaration's kind, its own index, its full name and its path
 abbrev pub declaration_line : Declaration → List ℕ
-declaration_line d = line (declared_word d.kind ∷ decimal d.index ∷ alone d.full_name ∷ path_text d.path ∷ [])
+declaration_line d =
+    line (declared_word d.kind ∷ decimal d.index ∷ alone d.full_name ∷ path_text d.path ∷ [])
 
 -- how many declarations there are, and a line for each
 abbrev pub declaration_lines : List Declaration → List ℕ
-declaration_lines ds = line (codes "walk" ∷ decimal (length ds) ∷ []) ++ flat_map declaration_line ds
+declaration_lines ds = line (codes "walk" ∷ decimal (length ds) ∷ [])
+    ++ flat_map declaration_line ds
 
 -- what files declare
 abbrev pub walk_answer : List FileDescriptorProto → List ℕ
 walk_answer files = declaration_lines (map declaration_of (declarations no_counts files))
 
--- a reference: the full name of the declaration that refers, the part of its record, and the text there
+-- a reference: the full name of the declaration that refers, the part of its record, and the text
+-- there
 abbrev pub reference_line : Reference → List ℕ
 reference_line r = line (alone r.full_name ∷ r.part ∷ r.text ∷ [])
 
@@ -114,7 +120,8 @@ file_named files name = find (λ f. bytes_eq (text_of f.name) name) files
 
 -- the references of the first file with a name
 abbrev pub refs_answer : List FileDescriptorProto → List ℕ → List ℕ
-refs_answer files name = option_map_or (λ f. reference_lines (references (f ∷ []))) (file_named files name) none_line
+refs_answer files name = option_map_or (λ f. reference_lines (references (f ∷ [])))
+    (file_named files name) none_line
 
 -- the last line of a report, where the script has a fault
 abbrev pub fault_line : ℕ × ScriptFault → List ℕ

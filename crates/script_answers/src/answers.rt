@@ -10,10 +10,10 @@ ghost use Rattle.record_walk.specs.Fits.{counts_with};
 ghost use Rattle.record_lists.specs.Code.{reference_of};
 ghost use Rattle.script_answers.specs.Answers as spec;
 
-use record_lists::{Lister, Reference, references};
 use link_script::ScriptFault;
 use pool_faults::{DescriptorErrorKind, Labelled};
 use pool_types::{Definition, DefinitionKind, FileDescriptorInner};
+use record_lists::{Lister, Reference, references};
 use record_walk::{CountKind, Counts, Declaration, DeclarationKind, walk};
 use std::alloc::{AllocError, Global};
 use std::fmt;
@@ -65,7 +65,7 @@ fn count_word(kind: CountKind) -> &'static str
 }
 
 /// Tells how much there is of each kind.
-pub fn tell_counts(told: &mut String, counts: Counts) -> Result<(), AllocError>
+pub fn write_counts(told: &mut String, counts: Counts) -> Result<(), AllocError>
     ensures { OnOk result (string_bytes told.new ≡ string_bytes told.old
         ++ spec.counts_line counts) }
 {
@@ -83,7 +83,7 @@ pub fn tell_counts(told: &mut String, counts: Counts) -> Result<(), AllocError>
 }
 
 /// Tells what there is too much of.
-pub fn tell_too_many(told: &mut String, kind: CountKind) -> Result<(), AllocError>
+pub fn write_too_many(told: &mut String, kind: CountKind) -> Result<(), AllocError>
     ensures { OnOk result (string_bytes told.new ≡ string_bytes told.old
         ++ spec.too_many_line kind) }
 {
@@ -92,7 +92,7 @@ pub fn tell_too_many(told: &mut String, kind: CountKind) -> Result<(), AllocErro
 }
 
 /// Tells how many faults there are, and each on a line of its own.
-pub fn tell_refused(told: &mut String, faults: &[DescriptorErrorKind]) -> Result<(), AllocError>
+pub fn write_refused(told: &mut String, faults: &[DescriptorErrorKind]) -> Result<(), AllocError>
     ensures { OnOk result (string_bytes told.new ≡ string_bytes told.old
         ++ spec.refused_lines faults.now) }
 {
@@ -106,7 +106,7 @@ pub fn tell_refused(told: &mut String, faults: &[DescriptorErrorKind]) -> Result
 }
 
 /// Tells what a name means: the kind of the definition, the name of its file, and its path.
-pub fn tell_definition(
+pub fn write_definition(
     told: &mut String,
     definition: &Definition,
     file: &str,
@@ -121,7 +121,7 @@ pub fn tell_definition(
 }
 
 /// Tells that nothing has a name.
-pub fn tell_none(told: &mut String) -> Result<(), AllocError>
+pub fn write_none(told: &mut String) -> Result<(), AllocError>
     ensures { OnOk result (string_bytes told.new ≡ string_bytes told.old ++ spec.none_line) }
 {
     writeln!(told, "none")
@@ -145,7 +145,7 @@ fn declared_word(kind: DeclarationKind) -> &'static str
 }
 
 /// Tells a declaration: its kind, its own index, its full name and its path.
-fn tell_declaration(told: &mut String, declaration: &Declaration) -> Result<(), AllocError>
+fn write_declaration(told: &mut String, declaration: &Declaration) -> Result<(), AllocError>
     ensures { OnOk result (string_bytes told.new ≡ string_bytes told.old
         ++ spec.declaration_line declaration.now) }
 {
@@ -157,21 +157,21 @@ fn tell_declaration(told: &mut String, declaration: &Declaration) -> Result<(), 
 }
 
 /// Tells how many declarations there are, and each on a line of its own.
-fn tell_declarations(told: &mut String, list: &[Declaration]) -> Result<(), AllocError>
+fn write_declarations(told: &mut String, list: &[Declaration]) -> Result<(), AllocError>
     ensures { OnOk result (string_bytes told.new ≡ string_bytes told.old
         ++ spec.declaration_lines list.now) }
 {
     let count = list.len();
     writeln!(told, "walk {count}")?;
     for declaration in list {
-        tell_declaration(told, declaration)?;
+        write_declaration(told, declaration)?;
     }
     Ok(())
 }
 
 /// Tells what the linked records of files declare, which must fit into a pool, as `Counts::of`
 /// tells.
-pub fn tell_walk(
+pub fn write_walk(
     alloc: Global,
     told: &mut String,
     files: &[FileDescriptorInner],
@@ -189,7 +189,7 @@ pub fn tell_walk(
     };
     let mut lister = Lister::new(alloc);
     walk(alloc, base, files, &mut lister)?;
-    tell_declarations(told, lister.declarations())
+    write_declarations(told, lister.declarations())
 }
 
 /// The first file with a name.
@@ -201,7 +201,7 @@ fn file_named<'a>(files: &'a [FileDescriptorInner], name: &str) -> Option<&'a Fi
 }
 
 /// Tells a reference: the declaration that refers, the part of its record, and the text there.
-fn tell_reference(told: &mut String, reference: &Reference) -> Result<(), AllocError>
+fn write_reference(told: &mut String, reference: &Reference) -> Result<(), AllocError>
     ensures { OnOk result (string_bytes told.new ≡ string_bytes told.old
         ++ spec.reference_line (reference_of reference.now)) }
 {
@@ -212,21 +212,21 @@ fn tell_reference(told: &mut String, reference: &Reference) -> Result<(), AllocE
 }
 
 /// Tells how many references there are, and each on a line of its own.
-fn tell_references(told: &mut String, list: &[Reference]) -> Result<(), AllocError>
+fn write_references(told: &mut String, list: &[Reference]) -> Result<(), AllocError>
     ensures { OnOk result (string_bytes told.new ≡ string_bytes told.old
         ++ spec.reference_lines (map reference_of list.now)) }
 {
     let count = list.len();
     writeln!(told, "refs {count}")?;
     for reference in list {
-        tell_reference(told, reference)?;
+        write_reference(told, reference)?;
     }
     Ok(())
 }
 
 /// Tells to what the linked record of the first file with a name refers. What the records declare
 /// must fit into a pool, as `Counts::of` tells.
-pub fn tell_refs(
+pub fn write_refs(
     alloc: Global,
     told: &mut String,
     files: &[FileDescriptorInner],
@@ -237,13 +237,13 @@ pub fn tell_refs(
         ++ spec.refs_answer (map (λ f. f.raw) files.now) name.now) }
 {
     let Some(file) = file_named(files, name) else {
-        return tell_none(told);
+        return write_none(told);
     };
-    tell_references(told, &references(alloc, &file.raw)?)
+    write_references(told, &references(alloc, &file.raw)?)
 }
 
 /// Tells the fault of a script, and its line.
-pub fn tell_fault(told: &mut String, line: u64, fault: ScriptFault) -> Result<(), AllocError>
+pub fn write_fault(told: &mut String, line: u64, fault: ScriptFault) -> Result<(), AllocError>
     ensures { OnOk result (string_bytes told.new ≡ string_bytes told.old
         ++ spec.fault_line (line, fault)) }
 {

@@ -3,4 +3,7 @@
 
 mod answers;
 
-pub use answers::{tell_counts, tell_definition, tell_fault, tell_none, tell_refs, tell_refused, tell_too_many, tell_walk};
+pub use answers::{
+    write_counts, write_definition, write_fault, write_none, write_refs, write_refused,
+    write_too_many, write_walk,
+};

@@ -9,8 +9,8 @@ use Rattle.std.specs.declared.result.Result.TheVariants.{Ok, Err}
 abbrev pub failure_limit : ℕ
 failure_limit = 2 ^ 64 - 1
 
--- What a reader tells: the bytes that are still to come, or nothing of them; how many of its calls failed; and how many
--- reads there are at most before its end or a failure.
+-- What a reader tells: the bytes that are still to come, or nothing of them; how many of its calls
+-- failed; and how many reads there are at most before its end or a failure.
 pub record Source : Type 0 where
   pub bytes : Option (List ℕ)
   pub failures : ℕ
@@ -42,8 +42,8 @@ abbrev pub Reads : {E : Type 0} → Source → Source → List ℕ → Result �
 Reads old new buffer (Ok n) = HasRead old new buffer n
 Reads old new buffer (Err _) = HasFailedToRead old new
 
--- What a writer tells: the bytes that it took, or nothing of them; how many of its calls failed; and how many took no
--- byte of some.
+-- What a writer tells: the bytes that it took, or nothing of them; how many of its calls failed;
+-- and how many took no byte of some.
 pub record Sink : Type 0 where
   pub bytes : Option (List ℕ)
   pub failures : ℕ

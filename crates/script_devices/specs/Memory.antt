@@ -5,9 +5,14 @@ use Rattle.script_devices.specs.Devices.{Source, Sink}
 
 -- bytes to be read, of which the reads that failed are counted
 abbrev pub source_over : List ℕ → ℕ → Source
-source_over bytes failures = record { bytes = Some bytes; failures = failures; reads_left = length bytes }
+source_over bytes failures = record {
+  bytes = Some bytes;
+  failures = failures;
+  reads_left = length bytes;
+}
 
--- bytes that were taken, with the counts of the calls that failed and of those that took no byte of some
+-- bytes that were taken, with the counts of the calls that failed and of those that took no byte of
+-- some
 abbrev pub sink_over : List ℕ → ℕ → ℕ → Sink
 sink_over bytes failures idle = record { bytes = Some bytes; failures = failures; idle = idle }
 
@@ -16,8 +21,8 @@ pub record FusedSource : Type 0 where
   pub source : Source
   pub fuse : ℕ
 
--- A writer over memory: what it tells, how many bytes it still takes, and the number of the call, from here, that fails,
--- or 0.
+-- A writer over memory: what it tells, how many bytes it still takes, and the number of the call,
+-- from here, that fails, or 0.
 pub record FusedSink : Type 0 where
   pub sink : Sink
   pub room : ℕ
@@ -25,4 +30,5 @@ pub record FusedSink : Type 0 where
 
 -- a write over memory fails: its fuse burns, or it would take no byte of some and cannot be counted
 abbrev pub MustFail : FusedSink → List ℕ → Type 0
-MustFail old bytes = (old.fuse ≡ 1) ⊎ ((old.room ≡ 0) × (0 < length bytes) × (old.sink.idle ≡ 2 ^ 64 - 1))
+MustFail old bytes = (old.fuse ≡ 1)
+    ⊎ ((old.room ≡ 0) × (0 < length bytes) × (old.sink.idle ≡ 2 ^ 64 - 1))

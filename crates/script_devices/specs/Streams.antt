@@ -4,7 +4,11 @@ use Rattle.std.specs.declared.option.Option.TheVariants.{None}
 use Rattle.script_devices.specs.Devices.{Source, Sink}
 
 abbrev pub untold_source : ℕ → ℕ → Source
-untold_source failures reads_left = record { bytes = None; failures = failures; reads_left = reads_left }
+untold_source failures reads_left = record {
+  bytes = None;
+  failures = failures;
+  reads_left = reads_left;
+}
 
 abbrev pub untold_sink : ℕ → ℕ → Sink
 untold_sink failures idle = record { bytes = None; failures = failures; idle = idle }

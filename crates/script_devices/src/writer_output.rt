@@ -5,8 +5,8 @@ use crate::ReportOutput;
 use std::io::{self, Write};
 use std::marker::Model;
 
-/// Writes a report to a writer of the library, and counts the writes that failed and those that took
-/// no byte of some.
+/// Writes a report to a writer of the library, and counts the writes that failed and those that
+/// took no byte of some.
 #[derive(Drop)]
 pub struct WriterOutput<W: Write> {
     writer: W,
@@ -53,8 +53,8 @@ impl<W: Write> WriterOutput<W> {
 impl<W: Write> ReportOutput for WriterOutput<W> {
     ghost sink = { λ s. s };
 
-    /// Writes what the writer takes. It fails where the writer fails, and where a write took no byte
-    /// of some once more than can be counted.
+    /// Writes what the writer takes. It fails where the writer fails, and where a write took no
+    /// byte of some once more than can be counted.
     fn write(&mut self, bytes: &[u8]) -> io::Result<usize> {
         let mut went = self.writer.write(bytes);
         if self.idle == u64::MAX && !bytes.is_empty() && matches!(&went, Ok(0)) {

@@ -1,11 +1,12 @@
 ghost use Rattle.std.specs.Prelude.{◌≡◌, [], ◌++◌, length};
 ghost use Rattle.visitor_example.specs.Fields.{fields_in, longest_path};
 
-use record_walk::{Declaration, DeclarationKind, Visitor};
-
-use proto_types::{DescriptorProto, EnumDescriptorProto, EnumValueDescriptorProto, FieldDescriptorProto, FileDescriptorProto, MethodDescriptorProto, OneofDescriptorProto, ServiceDescriptorProto};
-
 use plain_data::{Items, Text};
+use proto_types::{
+    DescriptorProto, EnumDescriptorProto, EnumValueDescriptorProto, FieldDescriptorProto,
+    FileDescriptorProto, MethodDescriptorProto, OneofDescriptorProto, ServiceDescriptorProto,
+};
+use record_walk::{Declaration, DeclarationKind, Visitor};
 use std::alloc::{AllocError, Global};
 use std::marker::Model;
 

@@ -1,4 +1,5 @@
-//! An example: a visitor of one's own, which keeps the fields of messages, and what is proved of it.
+//! An example: a visitor of one's own, which keeps the fields of messages, and what is proved of
+//! it.
 #![tactic(auto)]
 
 ghost use Rattle.std.specs.Prelude.{◌≡◌, IsOk, IfOk};
@@ -9,8 +10,8 @@ ghost use Rattle.visitor_example.specs.Fields.{fields_in};
 mod field_visitor;
 
 pub use field_visitor::FieldVisitor;
-use record_walk::{Counts, visit};
 use proto_types::FileDescriptorProto;
+use record_walk::{Counts, visit};
 use std::alloc::{AllocError, Global};
 
 /// The fields of messages that files declare, in order, numbered on from the counts of a pool.

@@ -1,9 +1,8 @@
-//! The run of the linker over protobuf's own well-known files: `stdin` is their script, and `stdout`
-//! the report, as `tools/well_known.py` makes both of what `protoc` says of these files.
+//! The run of the linker over protobuf's own well-known files: `stdin` is their script, and
+//! `stdout` the report, as `tools/well_known.py` makes both of what `protoc` says of these files.
 #![tactic(auto)]
 
 use descriptor_linker::{Ending, run};
-
 use script_devices::{ReaderInput, WriterOutput};
 use std::process::ExitCode;
 

@@ -4,7 +4,7 @@ use Rattle.std.specs.Option.{option_map_or}
 use Rattle.proto_types.specs.Readers.{text_of}
 use Rattle.pool_types.specs.Contents.{Contents, no_contents, files_of}
 use Rattle.pool_faults.specs.Labels.{file_at}
-use Rattle.reference_pass.specs.Broken.{Faults}
+use Rattle.reference_pass.specs.SecondPass.{Faults}
 use Rattle.pool_contents.specs.Equality.{contents_eq}
 use Rattle.pool_contents.specs.LookUps.{definition_named}
 use Rattle.script_answers.specs.Answers.{line, none_line, definition_line}
@@ -12,18 +12,22 @@ use Rattle.descriptor_pool.specs.Pool.{faults, counts_after, link}
 
 -- what a name means in the pool
 abbrev pub find_answer : Contents → List ℕ → List ℕ
-find_answer p name = option_map_or (λ def. definition_line (text_of (file_at (files_of p) def.file).name) def) (definition_named p name) none_line
+find_answer p name =
+    option_map_or (λ def. definition_line (text_of (file_at (files_of p) def.file).name) def)
+    (definition_named p name) none_line
 
 -- whether a batch breaks no rule
 abbrev pub breaks_none : Faults → Bool
 breaks_none [] = true
 breaks_none (f ∷ fs) = false
 
--- whether the pool's linked files, linked at once from empty, fit, break no rule, and give equal contents
+-- whether the pool's linked files, linked at once from empty, fit, break no rule, and give equal
+-- contents
 abbrev pub relinks : Contents → Bool
 relinks p =
     let files = files_of p in
-    is_ok (counts_after no_contents files) && (breaks_none (faults no_contents files) && contents_eq (link no_contents files) p)
+    is_ok (counts_after no_contents files)
+    && (breaks_none (faults no_contents files) && contents_eq (link no_contents files) p)
 
 abbrev pub relink_answer : Contents → List ℕ
 relink_answer p = line ((if relinks p then codes "same" else codes "different") ∷ [])

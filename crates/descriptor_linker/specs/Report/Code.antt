@@ -5,4 +5,10 @@ use Rattle.descriptor_linker.specs.Report.Session.{Session}
 
 -- the innermost open record stands last
 abbrev pub session_in : Code → Session
-session_in h = record { open_records = reverse h.open_records.items; extends = h.extends; batch = h.batch.items; pool = h.pool; told = string_bytes h.told }
+session_in h = record {
+  open_records = reverse h.open_records.items;
+  extends = h.extends;
+  batch = h.batch.items;
+  pool = h.pool;
+  told = string_bytes h.told;
+}

@@ -9,7 +9,7 @@ ghost use Rattle.descriptor_linker.specs.Report.Answers.{find_answer};
 
 use descriptor_pool::DescriptorPool;
 use pool_types::FileDescriptor;
-use script_answers::{tell_definition, tell_none};
+use script_answers::{write_definition, write_none};
 use std::alloc::{AllocError, Global};
 
 /// The name of the file with an index, or the empty text where there is none.
@@ -23,7 +23,7 @@ fn file_name(pool: &DescriptorPool, file: u32) -> &str
 }
 
 /// Tells what a name means in a pool: its kind, its file and its path.
-pub(super) fn tell_found(
+pub(super) fn write_found(
     told: &mut String,
     pool: &DescriptorPool,
     name: &str,
@@ -32,13 +32,13 @@ pub(super) fn tell_found(
         ++ find_answer pool.now name.now) }
 {
     let Some(definition) = pool.get_by_name(name) else {
-        return tell_none(told);
+        return write_none(told);
     };
-    tell_definition(told, definition, file_name(pool, definition.file))
+    write_definition(told, definition, file_name(pool, definition.file))
 }
 
 /// Tells what the files of a pool declare.
-pub(super) fn tell_walk(
+pub(super) fn write_walk(
     alloc: Global,
     told: &mut String,
     pool: &DescriptorPool,
@@ -46,11 +46,11 @@ pub(super) fn tell_walk(
     ensures { OnOk result (string_bytes told.new ≡ string_bytes told.old
         ++ walk_answer (files_of pool.now)) }
 {
-    script_answers::tell_walk(alloc, told, pool.files())
+    script_answers::write_walk(alloc, told, pool.files())
 }
 
 /// Tells to what a pool's file with a name refers.
-pub(super) fn tell_refs(
+pub(super) fn write_refs(
     alloc: Global,
     told: &mut String,
     pool: &DescriptorPool,
@@ -59,5 +59,5 @@ pub(super) fn tell_refs(
     ensures { OnOk result (string_bytes told.new ≡ string_bytes told.old
         ++ refs_answer (files_of pool.now) name.now) }
 {
-    script_answers::tell_refs(alloc, told, pool.files(), name)
+    script_answers::write_refs(alloc, told, pool.files(), name)
 }

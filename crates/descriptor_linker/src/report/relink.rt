@@ -20,7 +20,7 @@ fn relinks(alloc: Global, pool: &DescriptorPool) -> Result<bool, AllocError>
 }
 
 /// Tells whether the linked files of a pool, linked at once from empty, give an equal pool.
-pub(super) fn tell_relink(
+pub(super) fn write_relink(
     alloc: Global,
     told: &mut String,
     pool: &DescriptorPool,

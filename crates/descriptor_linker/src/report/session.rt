@@ -4,11 +4,12 @@ ghost use Rattle.std.specs.Prelude.{◌≡◌, OnOk};
 ghost use Rattle.link_script.specs.declared.script.statement.Statement.TheVariants as say;
 ghost use Rattle.descriptor_linker.specs.Report.Session.{new_session, opening, stating, extends_after, step};
 
-use super::{answers::{tell_found, tell_refs, tell_walk}, relink::tell_relink};
+use super::answers::{write_found, write_refs, write_walk};
+use super::relink::write_relink;
 use descriptor_pool::{BuildError, DescriptorPool};
 use link_script::{Open, Statement};
 use proto_types::FileDescriptorProto;
-use script_answers::{tell_counts, tell_refused, tell_too_many};
+use script_answers::{write_counts, write_refused, write_too_many};
 use std::alloc::{AllocError, Global};
 use std::mem;
 
@@ -54,12 +55,12 @@ impl Session {
             Statement::Service(name) => self.open(Open::service(self.alloc, name)),
             Statement::End => self.close(),
             Statement::Link => self.link(),
-            Statement::Find(name) => tell_found(&mut self.told, &self.pool, name.as_str()),
-            Statement::Walk => tell_walk(self.alloc, &mut self.told, &self.pool),
+            Statement::Find(name) => write_found(&mut self.told, &self.pool, name.as_str()),
+            Statement::Walk => write_walk(self.alloc, &mut self.told, &self.pool),
             Statement::Refs(name) => {
-                tell_refs(self.alloc, &mut self.told, &self.pool, name.as_str())
+                write_refs(self.alloc, &mut self.told, &self.pool, name.as_str())
             }
-            Statement::Relink => tell_relink(self.alloc, &mut self.told, &self.pool),
+            Statement::Relink => write_relink(self.alloc, &mut self.told, &self.pool),
             said => self.state(said),
         }
     }
@@ -105,9 +106,9 @@ impl Session {
     {
         let batch = mem::replace(&mut self.batch, Vec::new(self.alloc));
         match self.pool.build_files(batch) {
-            Ok(()) => tell_counts(&mut self.told, self.pool.counts()),
-            Err(BuildError::TooMany(kind)) => tell_too_many(&mut self.told, kind),
-            Err(BuildError::Descriptor(error)) => tell_refused(&mut self.told, error.errors()),
+            Ok(()) => write_counts(&mut self.told, self.pool.counts()),
+            Err(BuildError::TooMany(kind)) => write_too_many(&mut self.told, kind),
+            Err(BuildError::Descriptor(error)) => write_refused(&mut self.told, error.errors()),
             Err(BuildError::OutOfMemory) => Err(AllocError),
         }
     }

@@ -49,4 +49,5 @@ text_said here line = of_words here line (words line)
 abbrev pub IsBegun : List ℕ → Line → Result (Option (Keyword × Words)) ScriptFault → Type 0
 IsBegun line said (Err fault) = said ≡ Err fault
 IsBegun line said (Ok None) = said ≡ Ok None
-IsBegun line said (Ok (Some b)) = said ≡ and_then (said_in line b.0 (words_left b.1)) (λ s. Ok (Some (b.0, s)))
+IsBegun line said (Ok (Some b)) =
+    said ≡ and_then (said_in line b.0 (words_left b.1)) (λ s. Ok (Some (b.0, s)))

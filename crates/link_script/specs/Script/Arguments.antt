@@ -24,7 +24,8 @@ is_absent text = bytes_eq text (codes "~")
 
 -- a text: `~` is none, and two quotes are the empty one
 abbrev pub text_in : List ℕ → Option (List ℕ)
-text_in text = if is_absent text then None else (if bytes_eq text (codes "''") then Some [] else Some text)
+text_in text = if is_absent text then None
+    else (if bytes_eq text (codes "''") then Some [] else Some text)
 
 -- names for the numbers from 1 on (descriptor.proto's labels and types)
 abbrev pub labels : List (List ℕ)
@@ -32,12 +33,16 @@ labels = codes "optional" ∷ codes "required" ∷ codes "repeated" ∷ []
 
 abbrev pub types : List (List ℕ)
 types =
-    codes "double" ∷ codes "float" ∷ codes "int64" ∷ codes "uint64" ∷ codes "int32" ∷ codes "fixed64" ∷ codes "fixed32" ∷ codes "bool" ∷ codes "string"
-    ∷ codes "group" ∷ codes "message" ∷ codes "bytes" ∷ codes "uint32" ∷ codes "enum" ∷ codes "sfixed32" ∷ codes "sfixed64" ∷ codes "sint32" ∷ codes "sint64" ∷ []
+    codes "double" ∷ codes "float" ∷ codes "int64" ∷ codes "uint64" ∷ codes "int32"
+    ∷ codes "fixed64" ∷ codes "fixed32" ∷ codes "bool" ∷ codes "string"
+    ∷ codes "group" ∷ codes "message" ∷ codes "bytes" ∷ codes "uint32" ∷ codes "enum"
+    ∷ codes "sfixed32" ∷ codes "sfixed64" ∷ codes "sint32" ∷ codes "sint64" ∷ []
 
 -- a name, or else a number
 abbrev pub named_in : List (List ℕ) → List ℕ → Option ℤ
-named_in names text = option_or (option_map (λ n. pos (n + 1)) (position_from (bytes_eq text) 0 names)) (whole_signed 32 text)
+named_in names text =
+    option_or (option_map (λ n. pos (n + 1)) (position_from (bytes_eq text) 0 names))
+    (whole_signed 32 text)
 
 abbrev given_or : ScriptFault → Option ℤ → Result (Option ℤ) ScriptFault
 given_or fault (Some n) = Ok (Some n)
@@ -52,7 +57,8 @@ abbrev pub named_or_bad : List (List ℕ) → List ℕ → Result (Option ℤ) S
 named_or_bad names text = if is_absent text then Ok None else given_or BadWord (named_in names text)
 
 -- what follows from a value, where it has no fault
-abbrev pub and_then : {X Y : Type 0} → Result X ScriptFault → (X → Result Y ScriptFault) → Result Y ScriptFault
+abbrev pub and_then : {X Y : Type 0} → Result X ScriptFault → (X → Result Y ScriptFault)
+    → Result Y ScriptFault
 and_then (Ok x) next = next x
 and_then (Err fault) next = Err fault
 
@@ -71,20 +77,32 @@ given_number_in text = number_or_bad (whole_signed 32 text)
 -- numbers in a row, or the first fault
 abbrev pub each_number : List (List ℕ) → Result (List ℤ) ScriptFault
 each_number [] = Ok []
-each_number (text ∷ texts) = and_then (given_number_in text) (λ n. and_then (each_number texts) (λ ns. Ok (n ∷ ns)))
+each_number (text ∷ texts) =
+    and_then (given_number_in text) (λ n. and_then (each_number texts) (λ ns. Ok (n ∷ ns)))
 
 -- numbers between commas, or none in two quotes
 abbrev pub numbers_in : List ℕ → Result (List ℤ) ScriptFault
-numbers_in text = if bytes_eq text (codes "''") then Ok [] else each_number (slice_split (λ c. c == 44) text)
+numbers_in text = if bytes_eq text (codes "''") then Ok []
+    else each_number (slice_split (λ c. c == 44) text)
 
 abbrev pub truth_in : List ℕ → Result Bool ScriptFault
 truth_in text = ok_or (truth_value text) BadWord
 
--- a field or an extension, of its name, number, label, type and type name: the leftmost fault is told
-abbrev pub typed_in : List ℕ → List ℕ → List ℕ → List ℕ → List ℕ → Result FieldDescriptorProto ScriptFault
+-- a field or an extension, of its name, number, label, type and type name: the leftmost fault is
+-- told
+abbrev pub typed_in : List ℕ → List ℕ → List ℕ → List ℕ → List ℕ
+    → Result FieldDescriptorProto ScriptFault
 typed_in name number label type type_name =
-    and_then (number_in number) (λ number. and_then (named_or_bad labels label) (λ label. and_then (named_or_bad types type) (λ type.
-    Ok (record no_field { name = text_in name; number = number; label = label; type_ = type; type_name = text_in type_name }))))
+    and_then (number_in number)
+    (λ number. and_then (named_or_bad labels label)
+    (λ label. and_then (named_or_bad types type) (λ type.
+    Ok (record no_field {
+      name = text_in name;
+      number = number;
+      label = label;
+      type_ = type;
+      type_name = text_in type_name;
+    }))))
 
 -- the statements that take no word, and those of one, two, three and six
 abbrev pub of_none : Keyword → Result Statement ScriptFault
@@ -100,7 +118,8 @@ of_one word.File name = Ok (say.File (text_in name))
 of_one word.Package name = Ok (say.Package (text_in name))
 of_one word.Syntax name = Ok (say.Syntax (text_in name))
 of_one word.Import name = and_then (given_text_in name) (λ name. Ok (say.Import name))
-of_one word.Public position = and_then (given_number_in position) (λ position. Ok (say.Public position))
+of_one word.Public position =
+    and_then (given_number_in position) (λ position. Ok (say.Public position))
 of_one word.Weak position = and_then (given_number_in position) (λ position. Ok (say.Weak position))
 of_one word.Service name = Ok (say.Service (text_in name))
 of_one word.Message name = Ok (say.Message (text_in name))
@@ -113,22 +132,40 @@ of_one word.Refs name = Ok (say.Refs (text_of (text_in name)))
 of_one _ _ = Err WrongCount
 
 abbrev pub of_two : Keyword → List ℕ → List ℕ → Result Statement ScriptFault
-of_two word.At path span = and_then (numbers_in path) (λ path. and_then (numbers_in span) (λ span. Ok (say.At (record no_location { path = path; span = span }))))
-of_two word.Reserved start «end» = and_then (number_in start) (λ start. and_then (number_in «end») (λ «end». Ok (say.Reserved start «end»)))
-of_two word.Extensions start «end» = and_then (number_in start) (λ start. and_then (number_in «end») (λ «end». Ok (say.Extensions start «end»)))
-of_two word.Value name number = and_then (number_in number) (λ number. Ok (say.Value (record no_value { name = text_in name; number = number })))
+of_two word.At path span =
+    and_then (numbers_in path)
+    (λ path. and_then (numbers_in span)
+    (λ span. Ok (say.At (record no_location { path = path; span = span }))))
+of_two word.Reserved start «end» =
+    and_then (number_in start)
+    (λ start. and_then (number_in «end») (λ «end». Ok (say.Reserved start «end»)))
+of_two word.Extensions start «end» =
+    and_then (number_in start)
+    (λ start. and_then (number_in «end») (λ «end». Ok (say.Extensions start «end»)))
+of_two word.Value name number =
+    and_then (number_in number)
+    (λ number. Ok (say.Value (record no_value { name = text_in name; number = number })))
 of_two _ _ _ = Err WrongCount
 
 abbrev pub of_three : Keyword → List ℕ → List ℕ → List ℕ → Result Statement ScriptFault
-of_three word.Method name input output = Ok (say.Method (record no_method { name = text_in name; input_type = text_in input; output_type = text_in output }))
+of_three word.Method name input output =
+    Ok (say.Method (record no_method {
+      name = text_in name;
+      input_type = text_in input;
+      output_type = text_in output;
+    }))
 of_three _ _ _ _ = Err WrongCount
 
 -- the last word is a field's oneof index, or an extension's extendee
-abbrev pub of_six : Keyword → List ℕ → List ℕ → List ℕ → List ℕ → List ℕ → List ℕ → Result Statement ScriptFault
+abbrev pub of_six : Keyword → List ℕ → List ℕ → List ℕ → List ℕ → List ℕ → List ℕ
+    → Result Statement ScriptFault
 of_six word.Field name number label type type_name oneof =
-    and_then (typed_in name number label type type_name) (λ f. and_then (number_in oneof) (λ oneof. Ok (say.Field (record f { oneof_index = oneof }))))
+    and_then (typed_in name number label type type_name)
+    (λ f. and_then (number_in oneof)
+    (λ oneof. Ok (say.Field (record f { oneof_index = oneof }))))
 of_six word.Extend name number label type type_name extendee =
-    and_then (typed_in name number label type type_name) (λ f. Ok (say.Extend (record f { extendee = text_in extendee })))
+    and_then (typed_in name number label type type_name)
+    (λ f. Ok (say.Extend (record f { extendee = text_in extendee })))
 of_six _ _ _ _ _ _ _ = Err WrongCount
 
 -- the statement that a keyword and the words behind it make

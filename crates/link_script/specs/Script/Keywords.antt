@@ -11,12 +11,17 @@ use Rattle.link_script.specs.declared.script.statement.Block.TheVariants as bloc
 -- each keyword as it is written
 abbrev pub spellings : List (List ℕ × Keyword)
 spellings =
-    (codes "file", word.File) ∷ (codes "package", word.Package) ∷ (codes "syntax", word.Syntax) ∷ (codes "import", word.Import) ∷ (codes "public", word.Public)
-    ∷ (codes "weak", word.Weak) ∷ (codes "at", word.At) ∷ (codes "service", word.Service) ∷ (codes "message", word.Message) ∷ (codes "enum", word.Enum)
-    ∷ (codes "extend", word.Extend) ∷ (codes "field", word.Field) ∷ (codes "oneof", word.Oneof) ∷ (codes "reserved", word.Reserved)
-    ∷ (codes "extensions", word.Extensions) ∷ (codes "value", word.Value) ∷ (codes "alias", word.Alias) ∷ (codes "method", word.Method)
+    (codes "file", word.File) ∷ (codes "package", word.Package) ∷ (codes "syntax", word.Syntax)
+    ∷ (codes "import", word.Import) ∷ (codes "public", word.Public)
+    ∷ (codes "weak", word.Weak) ∷ (codes "at", word.At) ∷ (codes "service", word.Service)
+    ∷ (codes "message", word.Message) ∷ (codes "enum", word.Enum)
+    ∷ (codes "extend", word.Extend) ∷ (codes "field", word.Field) ∷ (codes "oneof", word.Oneof)
+    ∷ (codes "reserved", word.Reserved)
+    ∷ (codes "extensions", word.Extensions) ∷ (codes "value", word.Value)
+    ∷ (codes "alias", word.Alias) ∷ (codes "method", word.Method)
     ∷ (codes "json", word.Json) ∷ (codes "packed", word.Packed) ∷ (codes "default", word.Default)
-    ∷ (codes "end", word.End) ∷ (codes "link", word.Link) ∷ (codes "find", word.Find) ∷ (codes "walk", word.Walk) ∷ (codes "refs", word.Refs)
+    ∷ (codes "end", word.End) ∷ (codes "link", word.Link) ∷ (codes "find", word.Find)
+    ∷ (codes "walk", word.Walk) ∷ (codes "refs", word.Refs)
     ∷ (codes "relink", word.Relink) ∷ []
 
 abbrev pub spelled : List (List ℕ × Keyword) → List ℕ → Option Keyword
@@ -80,7 +85,8 @@ in_services word.Method = true
 in_services word.End = true
 in_services _ = false
 
--- whether a statement may stand in the innermost open block, or outside of all; the innermost comes first
+-- whether a statement may stand in the innermost open block, or outside of all; the innermost comes
+-- first
 abbrev pub stands : List Block → Keyword → Bool
 stands [] keyword = outside keyword
 stands (block.File ∷ _) keyword = in_files keyword
@@ -96,12 +102,13 @@ says_more word.Default = true
 says_more _ = false
 
 -- whether more may be said after it
-abbrev pub may_say_more : Keyword → Bool
-may_say_more word.Field = true
-may_say_more word.Extend = true
-may_say_more keyword = says_more keyword
+abbrev pub may_be_amended : Keyword → Bool
+may_be_amended word.Field = true
+may_be_amended word.Extend = true
+may_be_amended keyword = says_more keyword
 
--- what stands before a statement: the open blocks, the innermost first, and whether more may be said of the last statement
+-- what stands before a statement: the open blocks, the innermost first, and whether more may be
+-- said of the last statement
 pub record Standing : Type 0 where
   pub blocks : List Block
   pub more : Bool
@@ -125,4 +132,7 @@ abbrev pub blocks_after : List Block → Keyword → List Block
 blocks_after blocks keyword = opening (opened keyword) keyword blocks
 
 abbrev pub standing_after : Standing → Keyword → Standing
-standing_after here keyword = record { blocks = blocks_after here.blocks keyword; more = may_say_more keyword }
+standing_after here keyword = record {
+  blocks = blocks_after here.blocks keyword;
+  more = may_be_amended keyword;
+}

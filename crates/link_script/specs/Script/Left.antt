@@ -32,7 +32,8 @@ abbrev pub error_in : ℕ → LineError → ScriptError
 error_in number (line.Fault fault) = Fault number fault
 error_in number line.OutOfMemory = OutOfMemory
 
--- what comes next: a statement, the end or the fault, unless memory was refused; but for a statement, as much is left as before
+-- what comes next: a statement, the end or the fault, unless memory was refused; but for a
+-- statement, as much is left as before
 abbrev pub IsNext : Script → Result (Option Statement) ScriptError → Script → Type 0
 IsNext old (Ok (Some s)) new = old ≡ after_statement s new
 IsNext old (Ok None) new = (old ≡ ended) × (new ≡ old)

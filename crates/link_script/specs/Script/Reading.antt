@@ -20,7 +20,8 @@ abbrev pub Line : Type 0
 Line = Result (Option (Keyword × Statement)) ScriptFault
 
 abbrev placed : List ℕ → Keyword → List (List ℕ) → Bool → Line
-placed line keyword rest may = if may then and_then (said_in line keyword rest) (λ s. Ok (Some (keyword, s))) else Err Misplaced
+placed line keyword rest may = if may
+    then and_then (said_in line keyword rest) (λ s. Ok (Some (keyword, s))) else Err Misplaced
 
 abbrev known : Standing → List ℕ → List (List ℕ) → Option Keyword → Line
 known here line rest None = Err UnknownWord
@@ -28,7 +29,8 @@ known here line rest (Some keyword) = placed line keyword rest (may_stand here k
 
 abbrev pub of_words : Standing → List ℕ → List (List ℕ) → Line
 of_words here line [] = Ok None
-of_words here line (w ∷ ws) = if says_nothing (w ∷ ws) then Ok None else known here line ws (keyword_of w)
+of_words here line (w ∷ ws) = if says_nothing (w ∷ ws) then Ok None
+    else known here line ws (keyword_of w)
 
 -- what a line says behind other statements
 abbrev pub line_said : Standing → List ℕ → Line

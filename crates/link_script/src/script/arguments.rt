@@ -3,8 +3,16 @@
 ghost use Rattle.link_script.specs.Script.Arguments as spec;
 ghost use Rattle.link_script.specs.Script.Answers.{IsAnswer, words_left};
 
-use super::{line_error::LineError, rest::rest, statement::{Keyword, ScriptFault, Statement}, values::{given_number, given_text, label_of, name_of, number_of, numbers, text, truth, type_of}, words::Words};
-use proto_types::{EnumValueDescriptorProto, FieldDescriptorProto, Location, MethodDescriptorProto};
+use super::line_error::LineError;
+use super::rest::rest;
+use super::statement::{Keyword, ScriptFault, Statement};
+use super::values::{
+    given_number, given_text, label_of, name_of, number_of, numbers, text, truth, type_of,
+};
+use super::words::Words;
+use proto_types::{
+    EnumValueDescriptorProto, FieldDescriptorProto, Location, MethodDescriptorProto,
+};
 use std::alloc::Global;
 
 /// The statement of a keyword and the words behind it, in a line.

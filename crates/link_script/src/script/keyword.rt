@@ -123,8 +123,8 @@ pub(super) fn says_more(keyword: Keyword) -> bool
 }
 
 /// Whether more may be said after a statement.
-pub(super) fn may_say_more(keyword: Keyword) -> bool
-    ensures { result ≡ spec.may_say_more keyword }
+pub(super) fn may_be_amended(keyword: Keyword) -> bool
+    ensures { result ≡ spec.may_be_amended keyword }
 {
     matches!(keyword, Keyword::Field | Keyword::Extend) || says_more(keyword)
 }

@@ -6,7 +6,12 @@ ghost use Rattle.link_script.specs.Script.Reading.{script, line_said};
 ghost use Rattle.link_script.specs.Script.Answers.{IsBegun, IsFaultOf, after_line, standing_in, text_said};
 ghost use Rattle.link_script.specs.Script.Left.{IsNext};
 
-use super::{arguments::statement, keyword::keyword_of, line_error::LineError, standing::Standing, statement::{Keyword, Script, ScriptError, ScriptFault, Statement}, words::{Words, first_line}};
+use super::arguments::statement;
+use super::keyword::keyword_of;
+use super::line_error::LineError;
+use super::standing::Standing;
+use super::statement::{Keyword, Script, ScriptError, ScriptFault, Statement};
+use super::words::{Words, first_line};
 use plain_data::Items;
 use std::alloc::{AllocError, Global};
 use std::marker::Model;

@@ -5,7 +5,8 @@ ghost use Rattle.std.specs.Option.{option_map};
 ghost use Rattle.link_script.specs.Script.Arguments as spec;
 ghost use Rattle.link_script.specs.Script.Answers.{IsAnswer};
 
-use super::{line_error::LineError, statement::ScriptFault};
+use super::line_error::LineError;
+use super::statement::ScriptFault;
 use plain_data::Text;
 use std::alloc::Global;
 

@@ -1,4 +1,5 @@
-use super::{keyword::{may_say_more, open_or_close, says_more, stands}, statement::{Block, Keyword}};
+use super::keyword::{may_be_amended, open_or_close, says_more, stands};
+use super::statement::{Block, Keyword};
 use std::alloc::{AllocError, Global};
 
 /// What stands before a statement.
@@ -43,7 +44,7 @@ impl Standing {
         ensures err { OnErr result (standing_in self.new ≡ standing_in self.old) }
     {
         open_or_close(&mut self.blocks, keyword)?;
-        self.more = may_say_more(keyword);
+        self.more = may_be_amended(keyword);
         Ok(())
     }
 

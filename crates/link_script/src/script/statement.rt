@@ -1,5 +1,7 @@
 use plain_data::{Items, Text};
-use proto_types::{EnumValueDescriptorProto, FieldDescriptorProto, Location, MethodDescriptorProto};
+use proto_types::{
+    EnumValueDescriptorProto, FieldDescriptorProto, Location, MethodDescriptorProto,
+};
 use std::alloc::AllocError;
 use std::fmt;
 

@@ -6,7 +6,9 @@ ghost use Rattle.proto_types.specs.Readers.{text_of};
 ghost use Rattle.link_script.specs.Script.Arguments as spec;
 ghost use Rattle.link_script.specs.Script.Answers.{IsAnswer};
 
-use super::{cuts::cut_at, line_error::LineError, statement::ScriptFault};
+use super::cuts::cut_at;
+use super::line_error::LineError;
+use super::statement::ScriptFault;
 use default_values::{parse_bool, parse_int32};
 use plain_data::{Items, Text};
 use std::alloc::{AllocError, Global};

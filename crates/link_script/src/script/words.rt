@@ -3,7 +3,8 @@
 ghost use Rattle.std.specs.Prelude.{◌≡◌, ◌<◌, [], ◌∷◌, length, MatchOption, IfSome};
 ghost use Rattle.link_script.specs.Script.Words as spec;
 
-use super::{cuts::{cut_at, first_place}, rest::behind_spaces};
+use super::cuts::{cut_at, first_place};
+use super::rest::behind_spaces;
 
 /// The first line, and what stands behind its line feed. There is none where there is nothing.
 pub(super) fn first_line(bytes: &[u8]) -> Option<(&[u8], &[u8])>

@@ -1,8 +1,8 @@
 //! Batches that a pool takes and refuses, and what its names mean then.
 
 use descriptor_pool::{BuildError, DescriptorPool};
-use pool_types::{DefinitionKind, ExtensionDescriptor, MessageDescriptor};
 use link_script::files_of;
+use pool_types::{DefinitionKind, ExtensionDescriptor, MessageDescriptor};
 use std::alloc::{AllocError, Global};
 use std::process::Abort;
 use std::test::Fail;

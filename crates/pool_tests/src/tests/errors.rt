@@ -1,11 +1,11 @@
 //! The faults of refused batches, as they are printed.
 
 use super::rules::built;
-use pool_faults::{DescriptorError, DescriptorErrorKind, Labelled};
 use descriptor_pool::BuildError;
-use plain_data::Text;
-use record_walk::CountKind;
 use link_script::files_of;
+use plain_data::Text;
+use pool_faults::{DescriptorError, DescriptorErrorKind, Labelled};
+use record_walk::CountKind;
 use std::alloc::{AllocError, Global};
 use std::fmt::Write;
 use std::test::Fail;

@@ -1,8 +1,11 @@
 //! The items of extensions, and the lists of those that extend a message.
 
-use super::{batches::pool_of, values::tell_value};
+use super::batches::pool_of;
+use super::values::tell_value;
 use descriptor_pool::DescriptorPool;
-use pool_types::{Cardinality, ExtensionDescriptor, ExtensionDescriptorInner, KindIndex, MessageDescriptor};
+use pool_types::{
+    Cardinality, ExtensionDescriptor, ExtensionDescriptorInner, KindIndex, MessageDescriptor,
+};
 use std::alloc::{AllocError, Global};
 use std::fmt::Write;
 use std::process::Abort;
@@ -40,10 +43,10 @@ const LATER: &str = "file b.proto\nimport a.proto\npackage q\nmessage C\nend\n\
 const UNNAMED: &str = "file a.proto\npackage p\nmessage ~\nextensions 1 10\nend\n\
     extend e 5 optional int32 ~ ~\nend\n";
 
-/// Batches that a pool is given in turn, the index of an extension, its kind and its cardinality, and
-/// what else the pool has of it: its full name, its name, its file and its path; the index of the
-/// message around it, its number, its JSON name and the index of the message that it extends; whether
-/// it is packed; and its default value, if it has one.
+/// Batches that a pool is given in turn, the index of an extension, its kind and its cardinality,
+/// and what else the pool has of it: its full name, its name, its file and its path; the index of
+/// the message around it, its number, its JSON name and the index of the message that it extends;
+/// whether it is packed; and its default value, if it has one.
 const ITEMS: &[(&[&str], u32, KindIndex, Cardinality, &str)] = &[
     (
         &[NESTED],

@@ -2,9 +2,12 @@
 
 use super::batches::FIRST;
 use descriptor_pool::{BuildError, DescriptorPool};
-use pool_types::{Cardinality, FieldDescriptorInner, FileDescriptor, FileDescriptorInner, KindIndex, MessageDescriptor, MessageDescriptorInner};
-use proto_types::FieldDescriptorProto;
 use link_script::files_of;
+use pool_types::{
+    Cardinality, FieldDescriptorInner, FileDescriptor, FileDescriptorInner, KindIndex,
+    MessageDescriptor, MessageDescriptorInner,
+};
+use proto_types::FieldDescriptorProto;
 use std::alloc::{AllocError, Global};
 use std::fmt::Write;
 use std::process::Abort;

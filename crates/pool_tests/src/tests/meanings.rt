@@ -1,11 +1,11 @@
 //! What labels and references tell among the files and the names of a pool.
 
+use link_script::files_of;
+use name_resolution::{CandidateParents, ResolveNameFilter, ResolveNameResult, resolve_name};
 use name_tables::{HashedNames, NameTable};
 use plain_data::Items;
 use pool_faults::{Label, Labelled, label_at};
-use name_resolution::{CandidateParents, ResolveNameFilter, ResolveNameResult, resolve_name};
 use pool_types::{Definition, DefinitionKind, FileDescriptorInner, Syntax};
-use link_script::files_of;
 use std::alloc::{AllocError, Global};
 use std::collections::BTreeSet;
 use std::fmt::Write;

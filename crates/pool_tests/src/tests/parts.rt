@@ -1,19 +1,23 @@
 //! What items hold that follows from their records: maps, oneofs, default values, values, methods,
 //! encodings.
 
-use super::{items::pool_of, values::tell_value};
+use super::items::pool_of;
+use super::values::tell_value;
 use descriptor_pool::{BuildError, DescriptorPool};
-use pool_types::{EnumDescriptor, EnumDescriptorInner, FieldDescriptorInner, MessageDescriptor, MessageDescriptorInner, ServiceDescriptor, ServiceDescriptorInner};
-use proto_types::{DescriptorProto, FileDescriptorProto};
 use link_script::files_of;
+use pool_types::{
+    EnumDescriptor, EnumDescriptorInner, FieldDescriptorInner, MessageDescriptor,
+    MessageDescriptorInner, ServiceDescriptor, ServiceDescriptorInner,
+};
+use proto_types::{DescriptorProto, FileDescriptorProto};
 use std::alloc::{AllocError, Global};
 use std::fmt::Write;
 use std::test::Fail;
 
-/// A batch, and what the pool has of its messages up to the second: how many numbers, names and JSON
-/// names are mapped; of each field its name, its number and its oneof, the positions that its number
-/// and its name are mapped to, its JSON name with its position, and its default value, if it has one;
-/// of each oneof its fields.
+/// A batch, and what the pool has of its messages up to the second: how many numbers, names and
+/// JSON names are mapped; of each field its name, its number and its oneof, the positions that its
+/// number and its name are mapped to, its JSON name with its position, and its default value, if it
+/// has one; of each oneof its fields.
 const MESSAGES: &[(&str, &str)] = &[
     (
         "file a.proto\nmessage M\noneof o\noneof q\nfield a 7 optional int32 ~ 0\n\
@@ -75,8 +79,8 @@ const MESSAGES: &[(&str, &str)] = &[
 ];
 
 /// A batch, and what the pool has of its enums up to the second: whether aliases are allowed, how
-/// many names are mapped, and the number of each value with its position; of each value its name, its
-/// number, and the position that its name is mapped to.
+/// many names are mapped, and the number of each value with its position; of each value its name,
+/// its number, and the position that its name is mapped to.
 const ENUMS: &[(&str, &str)] = &[
     (
         "file a.proto\nenum E\nalias\nvalue A 1\nvalue B 0\nvalue C 1\nend\nend\n",

@@ -1,11 +1,11 @@
 //! The faults of numbers, of ranges, of oneofs, of JSON names, of values, and of methods.
 
 use super::extension_faults::{DEFAULT_FAULTS, EXTENSION_FAULTS};
-use pool_faults::{DescriptorError, DescriptorErrorKind, Label, Labelled};
 use descriptor_pool::{BuildError, DescriptorPool};
-use plain_data::Text;
-use proto_types::FileDescriptorProto;
 use link_script::files_of;
+use plain_data::Text;
+use pool_faults::{DescriptorError, DescriptorErrorKind, Label, Labelled};
+use proto_types::FileDescriptorProto;
 use std::alloc::{AllocError, Global};
 use std::fmt::Write;
 use std::process::Abort;
@@ -225,9 +225,9 @@ const FAULTS: &[(&str, &str, &str)] = &[
     ),
 ];
 
-/// What it shows, a batch, the extendee that the last field of the last file's last message is given,
-/// and a line for each of its faults. No name is looked for: the field is one of its message. The
-/// last extension of that file is given a oneof, which counts for nothing.
+/// What it shows, a batch, the extendee that the last field of the last file's last message is
+/// given, and a line for each of its faults. No name is looked for: the field is one of its
+/// message. The last extension of that file is given a oneof, which counts for nothing.
 const EXTENDING: &[(&str, &str, &str, &str)] = &[
     (
         "no extension range holds the number",

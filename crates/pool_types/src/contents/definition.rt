@@ -2,8 +2,8 @@ ghost use Rattle.std.specs.Prelude.{◌≡◌, IfOk, drop};
 ghost use Rattle.std.specs.Str.{IsCharBoundary};
 ghost use Rattle.pool_types.specs.DefinitionKinds.{is_parent};
 
-use plain_data::{Items, Text};
 use crate::FileDescriptor;
+use plain_data::{Items, Text};
 use std::alloc::{AllocError, Global};
 
 /// Where a declaration stands, and its name.
@@ -26,7 +26,8 @@ pub struct Definition {
     pub kind: DefinitionKind,
 }
 
-/// What kind of thing it is, with its own index, or for a part the index of its message, service or enum.
+/// What kind of thing it is, with its own index, or for a part the index of its message, service or
+/// enum.
 #[derive(Clone, Copy, PartialEq)]
 pub enum DefinitionKind {
     Package,

@@ -1,8 +1,8 @@
 ghost use Rattle.std.specs.Prelude.{◌≡◌, IfOk};
 
 use super::definition::Identity;
-use plain_data::{Duplicate, Text, duplicate_given};
 use crate::{Cardinality, DefaultValue, KindIndex};
+use plain_data::{Duplicate, Text, duplicate_option};
 use std::alloc::{AllocError, Global};
 
 /// An extension: a field of a message that isn't declared in it.
@@ -38,7 +38,7 @@ impl ExtensionDescriptorInner {
             kind: self.kind,
             is_packed: self.is_packed,
             cardinality: self.cardinality,
-            default: duplicate_given(alloc, &self.default)?,
+            default: duplicate_option(alloc, &self.default)?,
         })
     }
 }

@@ -1,8 +1,8 @@
 ghost use Rattle.std.specs.Prelude.{◌≡◌, IfOk};
 
 use super::definition::Identity;
-use plain_data::{Duplicate, Text, duplicate_given};
 use crate::{Cardinality, DefaultValue, KindIndex};
+use plain_data::{Duplicate, Text, duplicate_option};
 use std::alloc::{AllocError, Global};
 
 /// A field of a message.
@@ -32,13 +32,13 @@ impl FieldDescriptorInner {
         Ok(FieldDescriptorInner {
             id: self.id.clone(alloc)?,
             number: self.number,
-            json_name: duplicate_given(alloc, &self.json_name)?,
+            json_name: duplicate_option(alloc, &self.json_name)?,
             kind: self.kind,
             oneof: self.oneof,
             is_packed: self.is_packed,
             supports_presence: self.supports_presence,
             cardinality: self.cardinality,
-            default: duplicate_given(alloc, &self.default)?,
+            default: duplicate_option(alloc, &self.default)?,
         })
     }
 }

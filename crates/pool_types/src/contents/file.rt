@@ -1,7 +1,7 @@
 ghost use Rattle.std.specs.Prelude.{◌≡◌, IfOk};
 
-use plain_data::{Duplicate, Items};
 use crate::Syntax;
+use plain_data::{Duplicate, Items};
 use proto_types::FileDescriptorProto;
 use std::alloc::{AllocError, Global};
 use std::collections::BTreeSet;

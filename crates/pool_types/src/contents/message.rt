@@ -1,6 +1,8 @@
 ghost use Rattle.std.specs.Prelude.{◌≡◌, IfOk};
 
-use super::{definition::Identity, field::FieldDescriptorInner, oneof::OneofDescriptorInner};
+use super::definition::Identity;
+use super::field::FieldDescriptorInner;
+use super::oneof::OneofDescriptorInner;
 use plain_data::{Duplicate, Items, NumberMap, TextMap};
 use std::alloc::{AllocError, Global};
 

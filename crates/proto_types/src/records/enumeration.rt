@@ -4,7 +4,7 @@ ghost use Rattle.proto_types.specs.Readers.{text_of, number_of};
 
 use super::options::{EnumOptions, Options, Unread};
 use crate::text;
-use plain_data::{Duplicate, Items, Text, duplicate_given};
+use plain_data::{Duplicate, Items, Text, duplicate_option};
 use std::alloc::{AllocError, Global};
 
 /// An enum type.
@@ -58,9 +58,9 @@ impl EnumDescriptorProto {
         ensures { IfOk result (λ copy. copy ≡ self.now) }
     {
         Ok(EnumDescriptorProto {
-            name: duplicate_given(alloc, &self.name)?,
+            name: duplicate_option(alloc, &self.name)?,
             value: self.value.clone(alloc)?,
-            options: duplicate_given(alloc, &self.options)?,
+            options: duplicate_option(alloc, &self.options)?,
             reserved_range: self.reserved_range.clone(alloc)?,
             reserved_name: self.reserved_name.clone(alloc)?,
         })
@@ -134,9 +134,9 @@ impl EnumValueDescriptorProto {
         ensures { IfOk result (λ copy. copy ≡ self.now) }
     {
         Ok(EnumValueDescriptorProto {
-            name: duplicate_given(alloc, &self.name)?,
+            name: duplicate_option(alloc, &self.name)?,
             number: self.number,
-            options: duplicate_given(alloc, &self.options)?,
+            options: duplicate_option(alloc, &self.options)?,
         })
     }
 }

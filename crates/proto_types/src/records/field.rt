@@ -4,7 +4,7 @@ ghost use Rattle.proto_types.specs.Empty.{no_field};
 
 use super::options::{FieldOptions, Options};
 use crate::text;
-use plain_data::{Duplicate, Text, duplicate_given};
+use plain_data::{Duplicate, Text, duplicate_option};
 use std::alloc::{AllocError, Global};
 
 /// A field of a message, or an extension.
@@ -170,7 +170,8 @@ impl FieldDescriptorProto {
         }
     }
 
-    /// The name of the message or enum that is the field's type; where it is missing, the empty text.
+    /// The name of the message or enum that is the field's type; where it is missing, the empty
+    /// text.
     pub fn type_name(&self) -> &str
         ensures { result.now ≡ text_of self.now.type_name }
     {
@@ -203,16 +204,16 @@ impl FieldDescriptorProto {
         ensures { IfOk result (λ copy. copy ≡ self.now) }
     {
         Ok(FieldDescriptorProto {
-            name: duplicate_given(alloc, &self.name)?,
-            extendee: duplicate_given(alloc, &self.extendee)?,
+            name: duplicate_option(alloc, &self.name)?,
+            extendee: duplicate_option(alloc, &self.extendee)?,
             number: self.number,
             label: self.label,
             type_: self.type_,
-            type_name: duplicate_given(alloc, &self.type_name)?,
-            default_value: duplicate_given(alloc, &self.default_value)?,
-            options: duplicate_given(alloc, &self.options)?,
+            type_name: duplicate_option(alloc, &self.type_name)?,
+            default_value: duplicate_option(alloc, &self.default_value)?,
+            options: duplicate_option(alloc, &self.options)?,
             oneof_index: self.oneof_index,
-            json_name: duplicate_given(alloc, &self.json_name)?,
+            json_name: duplicate_option(alloc, &self.json_name)?,
             proto3_optional: self.proto3_optional,
         })
     }

@@ -4,7 +4,7 @@ ghost use Rattle.proto_types.specs.Readers.{text_of};
 
 use super::options::{Options, Unread};
 use crate::text;
-use plain_data::{Duplicate, Items, Text, duplicate_given};
+use plain_data::{Duplicate, Items, Text, duplicate_option};
 use std::alloc::{AllocError, Global};
 
 /// A service.
@@ -50,9 +50,9 @@ impl ServiceDescriptorProto {
         ensures { IfOk result (λ copy. copy ≡ self.now) }
     {
         Ok(ServiceDescriptorProto {
-            name: duplicate_given(alloc, &self.name)?,
+            name: duplicate_option(alloc, &self.name)?,
             method: self.method.clone(alloc)?,
-            options: duplicate_given(alloc, &self.options)?,
+            options: duplicate_option(alloc, &self.options)?,
         })
     }
 }
@@ -98,10 +98,10 @@ impl MethodDescriptorProto {
         ensures { IfOk result (λ copy. copy ≡ self.now) }
     {
         Ok(MethodDescriptorProto {
-            name: duplicate_given(alloc, &self.name)?,
-            input_type: duplicate_given(alloc, &self.input_type)?,
-            output_type: duplicate_given(alloc, &self.output_type)?,
-            options: duplicate_given(alloc, &self.options)?,
+            name: duplicate_option(alloc, &self.name)?,
+            input_type: duplicate_option(alloc, &self.input_type)?,
+            output_type: duplicate_option(alloc, &self.output_type)?,
+            options: duplicate_option(alloc, &self.options)?,
             client_streaming: self.client_streaming,
             server_streaming: self.server_streaming,
         })

@@ -1,7 +1,7 @@
 ghost use Rattle.std.specs.Prelude.{◌≡◌, IfOk};
 ghost use Rattle.proto_types.specs.Empty.{no_source, no_location};
 
-use plain_data::{Duplicate, Items, Text, duplicate_given};
+use plain_data::{Duplicate, Items, Text, duplicate_option};
 use std::alloc::{AllocError, Global};
 
 /// Where the declarations of a file stand in its source.
@@ -10,7 +10,8 @@ pub struct SourceCodeInfo {
     pub location: Items<Location>,
 }
 
-/// A declaration, by its path of field numbers and positions, and its lines and columns, which count from 0.
+/// A declaration, by its path of field numbers and positions, and its lines and columns, which
+/// count from 0.
 #[derive(PartialEq, Drop)]
 pub struct Location {
     pub path: Items<i32>,
@@ -67,8 +68,8 @@ impl Location {
         Ok(Location {
             path: Items::from_slice(alloc, self.path.as_slice())?,
             span: Items::from_slice(alloc, self.span.as_slice())?,
-            leading_comments: duplicate_given(alloc, &self.leading_comments)?,
-            trailing_comments: duplicate_given(alloc, &self.trailing_comments)?,
+            leading_comments: duplicate_option(alloc, &self.leading_comments)?,
+            trailing_comments: duplicate_option(alloc, &self.trailing_comments)?,
             leading_detached_comments: self.leading_detached_comments.clone(alloc)?,
         })
     }

@@ -1,10 +1,14 @@
 ghost use Rattle.std.specs.Prelude.{◌≡◌};
 ghost use Rattle.std.specs.Option.{option_copied};
 ghost use Rattle.record_walk.specs.Leads.{last_entry};
-ghost use Rattle.proto_types.specs.Lists.{at};
+ghost use Rattle.plain_data.specs.Lists.{at};
 
 use plain_data::Items;
-use proto_types::{DescriptorProto, EnumDescriptorProto, EnumValueDescriptorProto, FieldDescriptorProto, FileDescriptorProto, MethodDescriptorProto, OneofDescriptorProto, ServiceDescriptorProto, tag::{enum_, file, message, service}};
+use proto_types::tag::{enum_, file, message, service};
+use proto_types::{
+    DescriptorProto, EnumDescriptorProto, EnumValueDescriptorProto, FieldDescriptorProto,
+    FileDescriptorProto, MethodDescriptorProto, OneofDescriptorProto, ServiceDescriptorProto,
+};
 
 /// A borrowed record that declares something.
 #[derive(Clone, Copy)]

@@ -2,7 +2,12 @@
 
 use super::copies::check_made;
 use plain_data::{Items, NumberMap, Text, TextMap, same};
-use pool_types::{Cardinality, DefaultValue, Definition, DefinitionKind, EnumDescriptorInner, EnumValueDescriptorInner, ExtensionDescriptorInner, FieldDescriptorInner, FileDescriptor, Identity, KindIndex, MessageDescriptor, MessageDescriptorInner, MethodDescriptorInner, OneofDescriptorInner, ServiceDescriptorInner};
+use pool_types::{
+    Cardinality, DefaultValue, Definition, DefinitionKind, EnumDescriptorInner,
+    EnumValueDescriptorInner, ExtensionDescriptorInner, FieldDescriptorInner, FileDescriptor,
+    Identity, KindIndex, MessageDescriptor, MessageDescriptorInner, MethodDescriptorInner,
+    OneofDescriptorInner, ServiceDescriptorInner,
+};
 use std::alloc::{AllocError, Global};
 use std::process::Abort;
 use std::test::Fail;

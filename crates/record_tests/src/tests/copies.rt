@@ -1,10 +1,13 @@
 //! Copies of records, and what compares equal.
 
 use super::whole::{Record, WHOLE_SCRIPT, options};
-use plain_data::{Duplicate, ExactEq, Items, duplicate_given, same};
-use pool_types::{FileDescriptorInner, Syntax};
-use proto_types::{DescriptorProto, EnumOptions, FieldOptions, FileDescriptorProto, FileDescriptorSet, Options, SourceCodeInfo, Unread};
 use link_script::files_of;
+use plain_data::{Duplicate, ExactEq, Items, duplicate_option, same};
+use pool_types::{FileDescriptorInner, Syntax};
+use proto_types::{
+    DescriptorProto, EnumOptions, FieldOptions, FileDescriptorProto, FileDescriptorSet, Options,
+    SourceCodeInfo, Unread,
+};
 use std::alloc::{AllocError, Global};
 use std::collections::BTreeSet;
 use std::process::Abort;
@@ -98,7 +101,7 @@ fn check_source(
     };
     check_all(rt, alloc, &source.location)?;
     check_whole(rt, alloc, source)?;
-    let copy = duplicate_given(alloc, given)?;
+    let copy = duplicate_option(alloc, given)?;
     assert!(rt; copy == *given);
     Ok(())
 }

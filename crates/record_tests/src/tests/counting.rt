@@ -1,8 +1,8 @@
 //! How many declarations files have.
 
+use link_script::files_of;
 use proto_types::FileDescriptorProto;
 use record_walk::{CountKind, Counts};
-use link_script::files_of;
 use std::process::Abort;
 use std::test::Fail;
 

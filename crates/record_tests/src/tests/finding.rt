@@ -1,10 +1,16 @@
 //! The records that paths lead to.
 
 use super::whole::WHOLE_SCRIPT;
-use proto_types::{DescriptorProto, EnumDescriptorProto, EnumValueDescriptorProto, FieldDescriptorProto, FileDescriptorProto, MethodDescriptorProto, OneofDescriptorProto, ServiceDescriptorProto};
-use record_walk::DeclarationKind;
-use record_lists::{find_enum_proto, find_enum_value_proto, find_field_proto, find_message_proto, find_method_proto, find_oneof_proto, find_service_proto};
 use link_script::files_of;
+use proto_types::{
+    DescriptorProto, EnumDescriptorProto, EnumValueDescriptorProto, FieldDescriptorProto,
+    FileDescriptorProto, MethodDescriptorProto, OneofDescriptorProto, ServiceDescriptorProto,
+};
+use record_lists::{
+    find_enum_proto, find_enum_value_proto, find_field_proto, find_message_proto,
+    find_method_proto, find_oneof_proto, find_service_proto,
+};
+use record_walk::DeclarationKind;
 use std::process::Abort;
 use std::test::Fail;
 

@@ -1,7 +1,7 @@
 //! Texts, lists, and names in scopes.
 
 use super::copies::check_made;
-use plain_data::{Items, Text, duplicate_given, duplicates};
+use plain_data::{Items, Text, duplicate_option, duplicates};
 use proto_types::join;
 use std::alloc::{AllocError, Global};
 use std::process::Abort;
@@ -13,7 +13,7 @@ fn text_of_string(alloc: Global, string: &str) -> Result<Text, AllocError> {
 
 /// A copy of a text that may be missing, as it is printed.
 fn words_of_copy(alloc: Global, given: &Option<Text>) -> Result<String, AllocError> {
-    match duplicate_given(alloc, given)? {
+    match duplicate_option(alloc, given)? {
         Some(text) => Ok(text.into_string()),
         None => String::from_str(alloc, "none"),
     }

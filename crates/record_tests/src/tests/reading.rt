@@ -1,9 +1,13 @@
 //! What records read as.
 
 use super::whole::{Record, WHOLE_SCRIPT};
-use plain_data::Text;
-use proto_types::{DescriptorProto, EnumDescriptorProto, EnumOptions, EnumValueDescriptorProto, ExtensionRange, FieldDescriptorProto, FileDescriptorProto, MethodDescriptorProto, OneofDescriptorProto, ReservedRange, ServiceDescriptorProto, SourceCodeInfo};
 use link_script::files_of;
+use plain_data::Text;
+use proto_types::{
+    DescriptorProto, EnumDescriptorProto, EnumOptions, EnumValueDescriptorProto, ExtensionRange,
+    FieldDescriptorProto, FileDescriptorProto, MethodDescriptorProto, OneofDescriptorProto,
+    ReservedRange, ServiceDescriptorProto, SourceCodeInfo,
+};
 use std::alloc::{AllocError, Global};
 use std::fmt::Write;
 use std::process::Abort;

@@ -1,10 +1,10 @@
 //! The declarations that the walk over files shows.
 
 use super::counting::{EVERY_KIND, NONE};
-use record_lists::{Lister, list_declarations};
-use proto_types::FileDescriptorProto;
-use record_walk::{Counts, Declaration, visit};
 use link_script::files_of;
+use proto_types::FileDescriptorProto;
+use record_lists::{Lister, list_declarations};
+use record_walk::{Counts, Declaration, visit};
 use std::alloc::{AllocError, Global};
 use std::fmt::Write;
 use std::process::Abort;

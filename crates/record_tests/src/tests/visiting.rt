@@ -5,10 +5,13 @@ ghost use Rattle.pool_types.specs.Contents.{no_contents};
 ghost use Rattle.record_walk.specs.Shown.{Shown};
 
 use super::counting::{EVERY_KIND, NONE};
-use record_lists::Lister;
-use proto_types::{DescriptorProto, EnumDescriptorProto, EnumValueDescriptorProto, FieldDescriptorProto, FileDescriptorProto, MethodDescriptorProto, OneofDescriptorProto, ServiceDescriptorProto};
-use record_walk::{Visitor, visit, visit_each};
 use link_script::files_of;
+use proto_types::{
+    DescriptorProto, EnumDescriptorProto, EnumValueDescriptorProto, FieldDescriptorProto,
+    FileDescriptorProto, MethodDescriptorProto, OneofDescriptorProto, ServiceDescriptorProto,
+};
+use record_lists::Lister;
+use record_walk::{Visitor, visit, visit_each};
 use std::alloc::{AllocError, Global};
 use std::cell::Cell;
 use std::process::Abort;

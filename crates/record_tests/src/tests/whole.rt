@@ -1,7 +1,12 @@
 //! Records with every part.
 
 use plain_data::{Duplicate, ExactEq, Items, Text};
-use proto_types::{DescriptorProto, EnumDescriptorProto, EnumOptions, EnumReservedRange, EnumValueDescriptorProto, ExtensionRange, FieldDescriptorProto, FieldOptions, FileDescriptorProto, Location, MethodDescriptorProto, OneofDescriptorProto, Options, ReservedRange, ServiceDescriptorProto, SourceCodeInfo, Unread};
+use proto_types::{
+    DescriptorProto, EnumDescriptorProto, EnumOptions, EnumReservedRange, EnumValueDescriptorProto,
+    ExtensionRange, FieldDescriptorProto, FieldOptions, FileDescriptorProto, Location,
+    MethodDescriptorProto, OneofDescriptorProto, Options, ReservedRange, ServiceDescriptorProto,
+    SourceCodeInfo, Unread,
+};
 use std::alloc::{AllocError, Global};
 
 /// A file whose records have all parts that statements set.

@@ -7,7 +7,9 @@ ghost use Rattle.record_walk.specs.Protos.{of_file, of_message, of_enum, of_serv
 
 use super::{CountKind, Counts};
 use plain_data::Items;
-use proto_types::{DescriptorProto, EnumDescriptorProto, FileDescriptorProto, ServiceDescriptorProto};
+use proto_types::{
+    DescriptorProto, EnumDescriptorProto, FileDescriptorProto, ServiceDescriptorProto,
+};
 
 /// The most entries of a list.
 const LIST_LIMIT: usize = 2_147_483_647;

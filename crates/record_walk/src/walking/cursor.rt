@@ -4,7 +4,10 @@ ghost use Rattle.record_walk.specs.Cursor.{Advances, Begins, IsSound};
 ghost use Rattle.record_walk.specs.Protos.{of_file};
 ghost use Rattle.record_walk.specs.Walking.{Room, within_file};
 
-use super::{located::Located, row::Row, rows::Rows, site::Site};
+use super::located::Located;
+use super::row::Row;
+use super::rows::Rows;
+use super::site::Site;
 use crate::counts::Counts;
 use proto_types::FileDescriptorProto;
 use std::alloc::{AllocError, Global};
@@ -32,8 +35,8 @@ impl<'a> Cursor<'a> {
         }
     }
 
-    /// Goes to all that stands in the next file, which is itself not counted. What was still to come
-    /// is left out.
+    /// Goes to all that stands in the next file, which is itself not counted. What was still to
+    /// come is left out.
     pub(crate) fn begin(&mut self, file: &'a FileDescriptorProto) -> Result<(), AllocError>
         requires short { lists_fit (of_file file.now) ≡ true }
         requires room { Room self.old.counts

@@ -3,7 +3,8 @@ ghost use Rattle.record_walk.specs.Progress.{HasSeen};
 ghost use Rattle.record_walk.specs.Shown.{file_shown};
 ghost use Rattle.record_walk.specs.Walking.{located};
 
-use super::{part::Part, site::Site};
+use super::part::Part;
+use super::site::Site;
 use crate::visitor::Visitor;
 use proto_types::FileDescriptorProto;
 use std::alloc::AllocError;

@@ -4,7 +4,10 @@ ghost use Rattle.record_walk.specs.Protos.{name_of};
 ghost use Rattle.record_walk.specs.Walking.{WithinLimits, index_at, proto_of};
 
 use crate::counts::Counts;
-use proto_types::{DescriptorProto, EnumDescriptorProto, EnumValueDescriptorProto, FieldDescriptorProto, MethodDescriptorProto, OneofDescriptorProto, ServiceDescriptorProto};
+use proto_types::{
+    DescriptorProto, EnumDescriptorProto, EnumValueDescriptorProto, FieldDescriptorProto,
+    MethodDescriptorProto, OneofDescriptorProto, ServiceDescriptorProto,
+};
 
 /// A record that stands in a file, behind the index of the message, enum or service around it.
 #[derive(Clone, Copy)]

@@ -2,7 +2,10 @@ ghost use Rattle.std.specs.Prelude.{◌≡◌, [], ◌∷◌, IfSome, MatchOptio
 ghost use Rattle.record_walk.specs.Walking.{parent_in, parent_of, proto_of, protos_in};
 
 use super::part::Part;
-use proto_types::{DescriptorProto, EnumDescriptorProto, EnumValueDescriptorProto, FieldDescriptorProto, MethodDescriptorProto, OneofDescriptorProto, ServiceDescriptorProto};
+use proto_types::{
+    DescriptorProto, EnumDescriptorProto, EnumValueDescriptorProto, FieldDescriptorProto,
+    MethodDescriptorProto, OneofDescriptorProto, ServiceDescriptorProto,
+};
 
 /// Records of one kind, behind the index of the message, enum or service around them.
 #[derive(Clone, Copy)]

@@ -1,7 +1,8 @@
 ghost use Rattle.std.specs.Prelude.{◌≡◌, ◌<◌, ◌+◌, ◌^◌};
 ghost use Rattle.record_walk.specs.Walking.{parent_in, parent_of};
 
-use super::{part::Part, records::Records};
+use super::part::Part;
+use super::records::Records;
 
 /// How long the path and the scope are in which a list stands.
 #[derive(Clone, Copy)]

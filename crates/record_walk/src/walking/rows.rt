@@ -2,7 +2,9 @@ ghost use Rattle.std.specs.Prelude.{◌≡◌, [], ◌∷◌, None, OnOk, MatchO
 ghost use Rattle.record_walk.specs.Walking.{parent_in, proto_of, protos_in};
 ghost use Rattle.record_walk.specs.Cursor.{file_lines, inner_lines, line, line_in, lines, message_lines, stacked, stacked_all};
 
-use super::{part::Part, records::Records, row::{Depth, Place, Row}};
+use super::part::Part;
+use super::records::Records;
+use super::row::{Depth, Place, Row};
 use proto_types::{DescriptorProto, FileDescriptorProto, tag};
 use std::alloc::{AllocError, Global};
 

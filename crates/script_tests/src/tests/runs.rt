@@ -1,6 +1,11 @@
 //! Runs of scripts from memory to memory, and their reports.
 
-use super::{faults::FAULTY, imports::IMPORTED, linking::LINKED, misplaced::MISPLACED, refusals::REFUSED, walks::WALKED};
+use super::faults::FAULTY;
+use super::imports::IMPORTED;
+use super::linking::LINKED;
+use super::misplaced::MISPLACED;
+use super::refusals::REFUSED;
+use super::walks::WALKED;
 use descriptor_linker::{Ending, report_of, run};
 use script_devices::{MemoryInput, MemoryOutput};
 use std::alloc::{AllocError, Global};

@@ -2,7 +2,9 @@
 
 use link_script::{ScriptError, ScriptFault, ScriptReader, Statement, read_script};
 use plain_data::Text;
-use proto_types::{EnumValueDescriptorProto, FieldDescriptorProto, Location, MethodDescriptorProto};
+use proto_types::{
+    EnumValueDescriptorProto, FieldDescriptorProto, Location, MethodDescriptorProto,
+};
 use std::alloc::{AllocError, Global};
 use std::fmt::Write;
 use std::process::Abort;

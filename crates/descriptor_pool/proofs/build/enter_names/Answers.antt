@@ -3,7 +3,7 @@ use Rattle.std.specs.List.{fold}
 use Rattle.pool_types.specs.Contents.{files_of}
 use Rattle.record_walk.specs.Declarations.{declarations}
 use Rattle.record_walk.proofs.Listings.{on-ok}
-use Rattle.pool_contents.specs.Held.{contents_in}
+use Rattle.pool_contents.specs.Inner.{contents_in}
 use Rattle.name_pass.specs.Steps.{NameState, name_step, state_at}
 use Rattle.pool_contents.specs.Growing.{new_records, records_from}
 use Rattle.descriptor_pool.proofs.NamesFold.{fold-names}

@@ -5,8 +5,8 @@ use Rattle.pool_types.specs.Contents.{Contents}
 use Rattle.reference_pass.specs.NamesBegin.{NamesBegin}
 use Rattle.pool_contents.specs.declared.growing.GrowingPool.{GrowingPool}
 use Rattle.pool_contents.specs.declared.inner.DescriptorPoolInner.{DescriptorPoolInner}
-use Rattle.descriptor_pool.specs.Behind.{faults_behind, linked_behind}
-use Rattle.pool_contents.specs.Held.{contents_in}
+use Rattle.descriptor_pool.specs.Linking.{batch_faults, linked_with}
+use Rattle.pool_contents.specs.Inner.{contents_in}
 use Rattle.descriptor_pool.specs.Tells.{TellsAll}
 use Rattle.descriptor_pool.proofs.Passed.{after-ok, after-err}
 use Rattle.descriptor_pool.proofs.build.link.Goals as goal
@@ -14,7 +14,7 @@ use Rattle.descriptor_pool.proofs.build.link.Goals.{then-is_err, else-is_err}
 
 pub returns-clause-faults : goal.returns-clause-faults
 returns-clause-faults c =
-    let Tells : DescriptorPoolInner → Type 0 = λ q. TellsAll c.link_new-linked.result (faults_behind (contents_in q) c.args.new.items) in
+    let Tells : DescriptorPoolInner → Type 0 = λ q. TellsAll c.link_new-linked.result (batch_faults (contents_in q) c.args.new.items) in
     subst Tells (c.new-growing.ensures.inner ∙ c.replace-before.ensures.value) c.link_new-linked.ensures.faults
 
 pub returns-clause-names : goal.returns-clause-names
@@ -43,5 +43,5 @@ returns-clause-ok c =
       | then-is_err w ↦ no-ok linked.result _ w.if-is_err.ensures.value
       | else-is_err w ↦
           let same = ap (λ (g : GrowingPool). contents_in g.inner) w.growing-is in
-          on-ok linked.result (λ is. same ∙ is ∙ ap (λ p. linked_behind p c.args.new.items) start) linked.ensures.ok
+          on-ok linked.result (λ is. same ∙ is ∙ ap (λ p. linked_with p c.args.new.items) start) linked.ensures.ok
     ]

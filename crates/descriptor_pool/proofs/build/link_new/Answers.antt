@@ -1,7 +1,7 @@
 use Rattle.std.proofs.Common.{subst, sym, ◌∙◌, rules}
-use Rattle.descriptor_pool.specs.Behind.{names_behind, references_behind}
+use Rattle.descriptor_pool.specs.Linking.{name_faults, reference_faults}
 use Rattle.descriptor_pool.specs.Tells.{TellsAll, TellsFaults}
-use Rattle.pool_contents.specs.Held.{contents_in}
+use Rattle.pool_contents.specs.Inner.{contents_in}
 use Rattle.descriptor_pool.proofs.Passed.{ok-is, tells-err}
 use Rattle.descriptor_pool.proofs.Stages.{before-seen, begin-seen, counts-added, counts-seen, few-files, imports-seen, items-seen, made-seen, names-told, places-lie, references-told, short-seen, told-first, told-second}
 use Rattle.descriptor_pool.proofs.build.link_new.Goals as goal
@@ -19,7 +19,7 @@ returns-in_err-enter_names-clause-faults c =
     let e = c.in_err-enter_names.field-0.0 in
     let told = names-told old c.add_files.new.self c.enter_names.new.pool new c.requires.base c.requires.whole c.in_ok-add_files.ensures.ok c.add_files.ensures.kept in
     tells-err _ e _ (search rules)
-    (told-first e (names_behind (contents_in old.inner) new) (references_behind (contents_in old.inner) new) (subst (TellsFaults e) told c.in_err-enter_names.ensures.faults))
+    (told-first e (name_faults (contents_in old.inner) new) (reference_faults (contents_in old.inner) new) (subst (TellsFaults e) told c.in_err-enter_names.ensures.faults))
 
 -- there are no more files than fit
 pub see_files-requires-clause-few : goal.see_files-requires-clause-few
@@ -82,5 +82,5 @@ returns-clause-faults c =
     let first = names-told c.args.pool.now c.add_files.new.self c.enter_names.new.pool c.args.new.items c.requires.base c.requires.whole c.in_ok-add_files.ensures.ok c.add_files.ensures.kept in
     let second = references-told c.args.pool.now c.add_files.new.self c.enter_names.new.pool c.args.new.items c.requires.base c.requires.whole c.in_ok-add_files.ensures.ok c.add_files.ensures.kept
     c.in_ok-enter_names.ensures.entered c.enter_names.ensures.kept c.see_files.new.self c.in_ok-see_files.ensures.ok c.see_files.ensures.kept in
-    told-second c.make_items.result (names_behind p new) (references_behind p new) (sym first ∙ c.in_ok-enter_names.ensures.faults)
+    told-second c.make_items.result (name_faults p new) (reference_faults p new) (sym first ∙ c.in_ok-enter_names.ensures.faults)
     (subst (TellsAll c.make_items.result) second c.make_items.ensures.faults)

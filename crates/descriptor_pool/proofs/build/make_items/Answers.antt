@@ -8,8 +8,8 @@ use Rattle.record_walk.specs.Declarations.{declarations}
 use Rattle.record_walk.proofs.Room.{room-fits}
 use Rattle.pool_contents.specs.Extended.{with_extended}
 use Rattle.pool_contents.specs.Growing.{before_items, first_extension, new_records}
-use Rattle.reference_pass.specs.Against.{setting_with}
-use Rattle.descriptor_pool.specs.Behind.{with_items}
+use Rattle.reference_pass.specs.Against.{setting_against}
+use Rattle.descriptor_pool.specs.Linking.{with_items}
 use Rattle.descriptor_pool.proofs.Declared.{counts-with}
 use Rattle.descriptor_pool.proofs.Listed.{names-extended}
 use Rattle.descriptor_pool.proofs.MadeItems.{made-is}
@@ -24,7 +24,7 @@ extend_messages-requires c =
     c.requires.imports c.requires.items c.in_ok-link_files.ensures.ok in
     let before = ap (λ (n : Counts). counted n ds) (sym c.requires.before) in
     let room = (room-fits p.base (new_records p) c.requires.counts).within.extensions in
-    let many = ap (λ (n : Counts). n.extensions) (counts-with (before_items p) (setting_with p.inner) ds ∙ before) in
+    let many = ap (λ (n : Counts). n.extensions) (counts-with (before_items p) (setting_against p.inner) ds ∙ before) in
     let extensions = ap (λ (x : Contents). length x.extensions) is in
     record { few = omega (arith, extensions, many, room) }
 
@@ -47,4 +47,4 @@ returns-clause-names c =
     let made = c.in_ok-extend_messages.ensures.ok ∙ (λ i. with_extended (first i) (is i)) in
     let both = All-append MessageNamesBegin p.inner.messages.items items.messages.items c.requires.names c.in_ok-items.ensures.names in
     let begin = subst (λ ms. NamesBegin (p.inner.messages.items ++ ms)) c.in_ok-items.ensures.items.messages both in
-    subst (λ (x : Contents). NamesBegin x.messages) (sym made) (names-extended (first_extension p) (with_items (before_items p) (setting_with p.inner) (declarations p.base (new_records p))) begin)
+    subst (λ (x : Contents). NamesBegin x.messages) (sym made) (names-extended (first_extension p) (with_items (before_items p) (setting_against p.inner) (declarations p.base (new_records p))) begin)

@@ -7,8 +7,8 @@ use Rattle.record_walk.specs.FullNames.{CanBeRead}
 use Rattle.record_walk.proofs.FullNames.{declarations-read}
 use Rattle.reference_pass.specs.Setting.{Setting}
 use Rattle.reference_pass.specs.SettingCode.{setting_in}
-use Rattle.reference_pass.specs.Broken.{second_pass}
-use Rattle.reference_pass.specs.Against.{setting_with}
+use Rattle.reference_pass.specs.SecondPass.{second_pass}
+use Rattle.reference_pass.specs.Against.{setting_against}
 use Rattle.reference_pass.specs.Steps.{ReferenceState}
 use Rattle.pool_contents.specs.Growing.{new_records}
 use Rattle.descriptor_pool.specs.Items.{HasItems}
@@ -49,7 +49,7 @@ returns-clause-items c =
       faults = c.new-2.ensures.items i;
     } in
     let has = (references-end (setting_in c.setting_of.result) v began p.base fs none (c.in_ok-walk.ensures.ok.after_is [])).0 in
-    subst (λ (gs : List FileDescriptorProto). HasItems v.items (setting_with p.inner) (declarations p.base gs)) rest
+    subst (λ (gs : List FileDescriptorProto). HasItems v.items (setting_against p.inner) (declarations p.base gs)) rest
     (subst (λ (s : Setting). HasItems v.items s (declarations p.base fs)) c.setting_of.ensures has)
 
 -- and there are no faults

@@ -7,7 +7,7 @@ use Rattle.std.specs.Bool.{if◌then◌else◌}
 use Rattle.std.specs.Option.{option_map}
 use Rattle.proto_types.specs.Readers.{number_of}
 use Rattle.proto_types.specs.declared.records.enumeration.EnumValueDescriptorProto.{EnumValueDescriptorProto}
-use Rattle.proto_types.specs.Lists.{listed}
+use Rattle.plain_data.specs.Lists.{listed}
 use Rattle.proto_types.specs.declared.file.FileDescriptorProto.{FileDescriptorProto}
 use Rattle.pool_faults.specs.declared.fault.DescriptorErrorKind.{DescriptorErrorKind}
 use Rattle.pool_faults.specs.declared.fault.DescriptorErrorKind.TheVariants.{DuplicateEnumNumber}
@@ -19,7 +19,7 @@ use Rattle.field_rules.specs.EnumValues.{number_label, value_faults}
 use Rattle.field_rules.proofs.Earlier.{positions-next, below-next}
 use Rattle.field_rules.proofs.ValueFaults.{told-alone, told-shared}
 use Rattle.field_rules.proofs.enum_values.check_values.Goals as goal
-use Rattle.field_rules.proofs.enum_values.check_values.Goals.{then-not-alias+in_ok-check_again, else-not-alias}
+use Rattle.field_rules.proofs.enum_values.check_values.Goals.{then-not-alias+in_ok-check_duplicate, else-not-alias}
 
 -- one more value is checked: its number has a position, and its faults are told
 pub loop-position-preserved : goal.loop-position-preserved
@@ -47,11 +47,11 @@ loop-position-preserved c =
       positions = positions-next e.value i v below is old new n number c.loop-position.invariant.positions after;
       below = below-next i old new n c.loop-position.invariant.below after;
       faults = elim c.if-not-alias.branch [
-        | then-not-alias+in_ok-check_again w ↦
+        | then-not-alias+in_ok-check_duplicate w ↦
             rw w.findings-is (next _ _
             (told-alone files owner e i v n number earlier c.allows_alias-alias.result c.allows_alias-alias.ensures w.if-not-alias.true
             (c.in_ok-earlier.ensures.earlier ∙ c.loop-position.invariant.positions n))
-            (tells-two reserved (tells-as (ap (λ fs. listed (option_map (again fs) earlier)) (same-files reserved)) w.in_ok-check_again.ensures)))
+            (tells-two reserved (tells-as (ap (λ fs. listed (option_map (again fs) earlier)) (same-files reserved)) w.in_ok-check_duplicate.ensures)))
         | else-not-alias w ↦
             rw w.findings-is (next _ _
             (told-shared files owner e i v n number c.allows_alias-alias.result c.allows_alias-alias.ensures w.if-not-alias.false) reserved)

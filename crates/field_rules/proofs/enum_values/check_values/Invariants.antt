@@ -4,7 +4,7 @@ use Rattle.std.specs.List.{enumerate_from, flat_map}
 use Rattle.std.specs.Option.{option_map}
 use Rattle.std.specs.Ordering.{int_cmp, int_eq}
 use Rattle.proto_types.specs.Readers.{number_of}
-use Rattle.field_rules.specs.Each.{each}
+use Rattle.plain_data.specs.Each.{map_enumerated}
 use Rattle.field_rules.specs.Places.{enum_at}
 use Rattle.field_rules.specs.Tells.{Tells, named_files}
 use Rattle.field_rules.specs.EnumValues.{value_faults}
@@ -17,5 +17,5 @@ invariant-loop-position l = record {
       ≡ option_map (λ e. e.0) (find (λ e. int_eq (number_of e.1.number) n) (enumerate_from 0 (take l.position l.enumeration.value)));
   below : (n : ℤ) → IfSome (get int_cmp l.positions n) (λ first. first < l.position);
   faults : Tells l.initial.findings l.findings
-      (flat_map (λ fs. fs) (each (value_faults (named_files l.initial.findings) (enum_at l.place l.enumeration) l.enumeration) 0 (take l.position l.enumeration.value)));
+      (flat_map (λ fs. fs) (map_enumerated (value_faults (named_files l.initial.findings) (enum_at l.place l.enumeration) l.enumeration) 0 (take l.position l.enumeration.value)));
 }

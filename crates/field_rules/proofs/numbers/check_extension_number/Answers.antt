@@ -23,7 +23,7 @@ returns c =
     let second : Tells c.check_valid.new.findings c.check_reserved_ranges.new.findings (reserved_faults (named_files a) d n owner m.reserved_range) =
     tells-as (λ j. reserved_faults (same-files first j) d (same j) owner m.reserved_range) c.in_ok-check_reserved_ranges.ensures in
     let files = same-files (tells-two first second) in
-    on-ok c.check_outside.result (λ third.
+    on-ok c.check_in_some_range.result (λ third.
     tells-three first second
     (tells-as (λ j. outside_faults (files j) d (same j) owner m.extension_range) third))
-    c.check_outside.ensures
+    c.check_in_some_range.ensures

@@ -24,7 +24,7 @@ returns c =
     let second : Tells c.check_valid.new.findings c.check_reserved_by.new.findings (reserved_faults (named_files a) d n owner m.reserved_range) =
     tells-as (λ j. reserved_faults (same-files first j) d (same j) owner m.reserved_range) c.in_ok-check_reserved_by.ensures in
     let files = same-files (tells-two first second) in
-    on-ok c.check_left_to_extensions.result (λ third.
+    on-ok c.check_extension_ranges.result (λ third.
     tells-three first second
     (tells-as (ap (λ fs. if is_some f.extendee then outside_faults fs d n owner m.extension_range else extension_range_faults fs d n owner m.extension_range) files) third))
-    c.check_left_to_extensions.ensures
+    c.check_extension_ranges.ensures

@@ -1,4 +1,4 @@
-use Rattle.pool_laws.proofs.Kept.{dot-says-nothing}
+use Rattle.pool_laws.proofs.Stays.{dot-says-nothing}
 use Rattle.pool_laws.proofs.laws.dot_says_nothing.Goals as goal
 
 pub returns : goal.returns

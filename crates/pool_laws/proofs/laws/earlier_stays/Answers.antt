@@ -1,4 +1,4 @@
-use Rattle.pool_laws.proofs.Kept.{earlier-stays}
+use Rattle.pool_laws.proofs.Stays.{earlier-stays}
 use Rattle.pool_laws.proofs.laws.earlier_stays.Goals as goal
 
 pub returns : goal.returns

@@ -11,7 +11,7 @@ use Rattle.name_pass.specs.Syntaxes.{is_proto3, syntax_at}
 use Rattle.reference_pass.specs.Defaults.{field_default, field_default_faults}
 use Rattle.reference_pass.specs.Extensions.{extendee_faults, number_faults}
 use Rattle.reference_pass.specs.FieldTypes.{field_kind, type_faults}
-use Rattle.reference_pass.specs.Messages.{message_meaning}
+use Rattle.reference_pass.specs.Messages.{resolve_message}
 use Rattle.reference_pass.specs.Reading.{setting_of}
 use Rattle.reference_pass.proofs.Readings.{reads-as, reads-two, same-setting}
 use Rattle.reference_pass.proofs.extension.read_extension.Goals as goal
@@ -47,5 +47,5 @@ returns-clause-faults c =
     let d : Shown = shown_at c.args.place (of_extension x) in
     let first = c.in_ok-extendee.ensures.faults in
     let rest = reads-as (ap (λ t. type_faults t d x ++ field_default_faults t d x) (same-setting first)) c.in_ok-kind.ensures.faults in
-    reads-as (sym (append_assoc (extendee_faults s d x ++ number_faults s d x (message_meaning s d x.extendee)) (type_faults s d x) (field_default_faults s d x)))
+    reads-as (sym (append_assoc (extendee_faults s d x ++ number_faults s d x (resolve_message s d x.extendee)) (type_faults s d x) (field_default_faults s d x)))
     (reads-two first rest)

@@ -6,7 +6,7 @@ use Rattle.record_walk.specs.Shown.{Shown}
 use Rattle.field_rules.specs.Oneofs.{oneof_faults}
 use Rattle.field_rules.specs.Numbers.{field_number_faults}
 use Rattle.field_rules.specs.Places.{message_at, shown_at}
-use Rattle.reference_pass.specs.Broken.{Faults}
+use Rattle.reference_pass.specs.SecondPass.{Faults}
 use Rattle.reference_pass.specs.Defaults.{field_default, field_default_faults}
 use Rattle.reference_pass.specs.FieldTypes.{field_kind, type_faults}
 use Rattle.reference_pass.specs.Reading.{setting_of}

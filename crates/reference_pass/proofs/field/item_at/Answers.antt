@@ -13,7 +13,7 @@ returns c =
     λ i. record {
       id = c.args.id;
       number = (c.item_number.ensures ∙ ap item_number (to_z-of_z number ∙ c.number.ensures)) i;
-      json_name = c.in_ok-duplicate_given.ensures i;
+      json_name = c.in_ok-duplicate_option.ensures i;
       kind = c.args.kind;
       oneof = c.oneof_of.ensures i;
       is_packed = (c.is_packed.ensures ∙ ap (λ three. is_packed three c.args.kind f) proto3) i;

@@ -14,7 +14,7 @@ use Rattle.record_walk.specs.Shown.{Shown, step}
 use Rattle.field_rules.specs.Identities.{identity, named_at}
 use Rattle.field_rules.specs.NamesBegin.{BeginsAtBoundary}
 use Rattle.field_rules.specs.Places.{field_at, inside_of, message_at}
-use Rattle.reference_pass.specs.Broken.{Owner, own_faults}
+use Rattle.reference_pass.specs.SecondPass.{Owner, field_record_faults}
 use Rattle.reference_pass.specs.Defaults.{field_default}
 use Rattle.reference_pass.specs.FieldTypes.{field_kind}
 use Rattle.reference_pass.specs.Items.{item_at}
@@ -77,4 +77,4 @@ returns-clause-faults c =
       full_name = (c.as_str.ensures ∙ ap (λ (d : Identity). d.full_name) id) j;
       proto = of_field (own j);
     } in
-    known-ok c.item_at.result (reads-as (λ j. own_faults s owner (same j) (own j)) c.in_ok-kind.ensures.faults)
+    known-ok c.item_at.result (reads-as (λ j. field_record_faults s owner (same j) (own j)) c.in_ok-kind.ensures.faults)

@@ -1,7 +1,7 @@
 use Rattle.std.proofs.Common.{◌≡◌, ◌∷◌, [], false, not, is_some, ap, sym, ◌∙◌, rules}
 use Rattle.std.specs.FinMap as finite
 use Rattle.proto_types.specs.declared.tag.file.TheConstants.{DEPENDENCY}
-use Rattle.proto_types.specs.Lists.{only_if}
+use Rattle.plain_data.specs.Lists.{only_if}
 use Rattle.record_walk.specs.Shown.{step}
 use Rattle.record_walk.proofs.Listings.{on-ok}
 use Rattle.pool_faults.specs.Labels.{label_in}

@@ -6,8 +6,8 @@ use Rattle.proto_types.specs.Empty.{no_field}
 use Rattle.proto_types.specs.declared.records.field.FieldDescriptorProto.{FieldDescriptorProto}
 use Rattle.proto_types.specs.declared.message.DescriptorProto.{out-DescriptorProto}
 use Rattle.pool_types.specs.declared.contents.field.FieldDescriptorInner.{FieldDescriptorInner}
-use Rattle.field_rules.specs.Again.{again_faults}
-use Rattle.reference_pass.specs.Broken.{Owner, field_faults}
+use Rattle.field_rules.specs.Duplicates.{duplicate_faults}
+use Rattle.reference_pass.specs.SecondPass.{Owner, field_faults}
 use Rattle.reference_pass.specs.Items.{field_item}
 use Rattle.reference_pass.specs.Reading.{setting_of}
 use Rattle.field_rules.specs.NamesBegin.{BeginsAtBoundary}
@@ -39,7 +39,7 @@ loop-position-preserved c =
           (All-push Begins c.loop-position.items.items c.in_ok-read_field.field-0 c.loop-position.invariant.begin c.in_ok-read_field.ensures.begins);
       maps = c.in_ok-insert.ensures.maps;
       faults = reads-next (λ t n g. field_faults t owner (field_at here n g) g) m.field i f below is so_far refl
-          (reads-two own (reads-as (ap (λ t. again_faults t.files owner.0.file owner.0.path (take i m.field) i f) (same-setting own)) (reads-told c.in_ok-insert.ensures.faults)));
+          (reads-two own (reads-as (ap (λ t. duplicate_faults t.files owner.0.file owner.0.path (take i m.field) i f) (same-setting own)) (reads-told c.in_ok-insert.ensures.faults)));
     }
 
 pub returns-clause-faults : goal.returns-clause-faults

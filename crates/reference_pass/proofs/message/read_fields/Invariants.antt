@@ -2,7 +2,7 @@ use Rattle.std.proofs.Common.{◌≡◌, take}
 use Rattle.std.specs.List.{All}
 use Rattle.proto_types.specs.declared.message.DescriptorProto.{out-DescriptorProto}
 use Rattle.field_rules.specs.MapsOf.{AreMapsOf}
-use Rattle.reference_pass.specs.Broken.{faults_of_fields}
+use Rattle.reference_pass.specs.SecondPass.{faults_of_fields}
 use Rattle.reference_pass.specs.Items.{field_items}
 use Rattle.reference_pass.specs.Reading.{Reads, setting_of}
 use Rattle.field_rules.specs.NamesBegin.{BeginsAtBoundary}

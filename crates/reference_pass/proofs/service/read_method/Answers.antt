@@ -2,16 +2,16 @@ use Rattle.std.proofs.Common.{◌≡◌, ℕ, ℤ, List, ◌++◌, ◌∷◌, []
 use Rattle.pool_types.specs.declared.contents.definition.Identity.{Identity}
 use Rattle.name_resolution.specs.declared.filter.ResolveNameFilter.TheVariants.{Message}
 use Rattle.name_resolution.specs.References.{reference_fault}
-use Rattle.proto_types.specs.Lists.{listed}
+use Rattle.plain_data.specs.Lists.{listed}
 use Rattle.proto_types.specs.Names.{join}
 use Rattle.proto_types.specs.declared.tag.method.TheConstants as method
 use Rattle.proto_types.specs.declared.tag.service.TheConstants.{METHOD}
 use Rattle.record_walk.specs.Shown.{step}
 use Rattle.field_rules.specs.Identities.{identity, named_at}
 use Rattle.field_rules.specs.Places.{inside_of}
-use Rattle.reference_pass.specs.Setting.{Setting, meaning}
-use Rattle.reference_pass.specs.Broken.{Faults}
-use Rattle.reference_pass.specs.Messages.{message_found, method_at, or_missing}
+use Rattle.reference_pass.specs.Setting.{Setting, resolve}
+use Rattle.reference_pass.specs.SecondPass.{Faults}
+use Rattle.reference_pass.specs.Messages.{message_found, method_at, index_or_max}
 use Rattle.reference_pass.specs.Reading.{setting_of}
 use Rattle.reference_pass.proofs.Readings.{reads-as, reads-two, same-setting}
 use Rattle.reference_pass.proofs.service.read_method.Goals as goal
@@ -26,7 +26,7 @@ returns-clause-item c =
     let id : c.in_ok-id.id ≡ identity (method_at (inside_of service) i m) =
     c.in_ok-id.ensures.id ∙ ap (λ n. named_at service.file (step service.path.now METHOD i) (join service.full_name.now n) n) c.name.ensures in
     let name = c.as_str.ensures ∙ ap (λ (d : Identity). d.full_name) id in
-    let index : Setting → List ℕ → List ℕ → ℕ = λ t full_name written. or_missing (message_found (meaning t service.file full_name Message written)) in
+    let index : Setting → List ℕ → List ℕ → ℕ = λ t full_name written. index_or_max (message_found (resolve t service.file full_name Message written)) in
     λ j. record {
       id = id j;
       input = (c.in_ok-input.ensures.index ∙ (λ k. index s (name k) (c.input_type.ensures k))) j;
@@ -44,7 +44,7 @@ returns-clause-faults c =
     c.in_ok-id.ensures.id ∙ ap (λ n. named_at service.file (step service.path.now METHOD i) (join service.full_name.now n) n) c.name.ensures in
     let path = c.as_slice.ensures ∙ ap (λ (d : Identity). d.path) id in
     let name = c.as_str.ensures ∙ ap (λ (d : Identity). d.full_name) id in
-    let fault : Setting → ℤ → List ℕ → List ℤ → List ℕ → Faults = λ t tag written at full_name. listed (reference_fault t.files written service.file (at ++ tag ∷ []) (meaning t service.file full_name Message written)) in
+    let fault : Setting → ℤ → List ℕ → List ℤ → List ℕ → Faults = λ t tag written at full_name. listed (reference_fault t.files written service.file (at ++ tag ∷ []) (resolve t service.file full_name Message written)) in
     reads-two
     (reads-as (λ j. fault s method.INPUT_TYPE (c.input_type.ensures j) (path j) (name j)) c.in_ok-input.ensures.faults)
     (reads-as (λ j. fault (same-setting c.in_ok-input.ensures.faults j) method.OUTPUT_TYPE (c.output_type.ensures j) (path j) (name j)) c.in_ok-output.ensures.faults)

@@ -1,6 +1,6 @@
 use Rattle.std.proofs.lemmas.Grind.{common_steps}
 use Rattle.std.proofs.Common.{◌++◌, ◌∷◌, [], refl, ap, ◌∙◌, sym, arith}
-use Rattle.reference_pass.specs.Broken.{method_faults}
+use Rattle.reference_pass.specs.SecondPass.{method_faults}
 use Rattle.reference_pass.specs.Items.{method_item}
 use Rattle.reference_pass.specs.Messages.{method_at}
 use Rattle.reference_pass.specs.Reading.{setting_of}

@@ -1,5 +1,5 @@
 use Rattle.std.proofs.Common.{◌≡◌, take}
-use Rattle.reference_pass.specs.Broken.{faults_of_methods}
+use Rattle.reference_pass.specs.SecondPass.{faults_of_methods}
 use Rattle.reference_pass.specs.Items.{method_items}
 use Rattle.reference_pass.specs.Reading.{Reads, setting_of}
 use Rattle.field_rules.specs.Places.{inside_of}

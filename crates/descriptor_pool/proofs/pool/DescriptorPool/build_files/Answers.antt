@@ -4,10 +4,10 @@ use Rattle.pool_types.specs.Contents.{Contents}
 use Rattle.proto_types.specs.declared.file.FileDescriptorProto.{FileDescriptorProto}
 use Rattle.record_walk.specs.Counts.{counts_in}
 use Rattle.record_walk.specs.Fits.{counts_with}
-use Rattle.pool_contents.specs.Held.{contents_in}
+use Rattle.pool_contents.specs.Inner.{contents_in}
 use Rattle.descriptor_pool.specs.Outcome.{Outcome, IsLinked}
 use Rattle.descriptor_pool.specs.Pool.{new_files, counts_after}
-use Rattle.descriptor_pool.proofs.Grown.{IsBehind, fits_of, outcome_behind, pool_behind}
+use Rattle.descriptor_pool.proofs.Grown.{IsBehind, fits_of, outcome_with, pool_after}
 use Rattle.descriptor_pool.proofs.Sound.{lists_lie, names_lie, short-behind}
 use Rattle.descriptor_pool.proofs.NewFiles.{nothing_linked}
 use Rattle.descriptor_pool.proofs.pool.DescriptorPool.build_files.Goals as goal
@@ -20,8 +20,8 @@ nothing_in (x ∷ xs) n is zero = absurd (grind (arith, nat_tests))
 pub returns-then-is_empty-clause-outcome : goal.returns-then-is_empty-clause-outcome
 returns-then-is_empty-clause-outcome c =
     let p = contents_in c.self.inside.inner in
-    let kept = c.keep_new.ensures in
-    let batch = c.keep_new.new.batch in
+    let kept = c.retain_new.ensures in
+    let batch = c.retain_new.new.batch in
     let none = nothing_in batch.items batch.len batch.ok.0 c.if-is_empty.ensures in
     let P : Contents → Type 0 = λ q. IsLinked q c.args.files.items q in
     subst P c.self.view_is (nothing_linked p c.args.files.items (sym kept ∙ none) c.self.invariant.within)
@@ -29,7 +29,7 @@ returns-then-is_empty-clause-outcome c =
 pub returns-in-Err-clause-outcome : goal.returns-in-Err-clause-outcome
 returns-in-Err-clause-outcome c =
     let p = c.args.self.now in
-    let kept = c.keep_new.ensures ∙ ap (λ q. new_files q c.args.files.items) c.self.view_is in
+    let kept = c.retain_new.ensures ∙ ap (λ q. new_files q c.args.files.items) c.self.view_is in
     let first : counts_after p c.args.files.items ≡ Err c.in-Err.kind =
     ap (λ new. counts_with (counts_in p) new) (sym (c.deref.ensures.value ∙ kept))
     ∙ ap (λ base. counts_with base c.deref.result.now) (sym c.counts-base.ensures) ∙ sym c.with_files.ensures ∙ c.in-Err.is in
@@ -38,20 +38,20 @@ returns-in-Err-clause-outcome c =
 pub returns-in-Err-clause-nothing_new : goal.returns-in-Err-clause-nothing_new
 returns-in-Err-clause-nothing_new c = λ nothing.
     let p = c.args.self.now in
-    let kept = c.keep_new.ensures ∙ ap (λ q. new_files q c.args.files.items) c.self.view_is in
-    let none : c.keep_new.new.batch.items ≡ [] = kept ∙ nothing in
+    let kept = c.retain_new.ensures ∙ ap (λ q. new_files q c.args.files.items) c.self.view_is in
+    let none : c.retain_new.new.batch.items ≡ [] = kept ∙ nothing in
     absurd (search rules)
 
 pub invariant_of-self : goal.invariant_of-self
 invariant_of-self c =
     let p = contents_in c.self.inside.inner in
-    let kept = c.keep_new.ensures in
+    let kept = c.retain_new.ensures in
     let base_is = c.counts-base.ensures ∙ ap counts_in (sym c.self.view_is) in
     let ok : IsOk (counts_with c.counts-base.result c.deref.result.now) = rw (← c.with_files.ensures, c.in_default.is) refl in
     let fits = fits_of p c.counts-base.result c.args.files.items c.deref.result.now base_is (c.deref.ensures.value ∙ kept) ok in
     let Behind : List FileDescriptorProto → Type 0 = λ new. IsBehind p new c.link.result (contents_in c.link.new.pool) in
-    let behind : Behind c.keep_new.new.batch.items = record { ok = c.link.ensures.ok; told = c.link.ensures.faults; err = c.link.ensures.err; names = c.link.ensures.names } in
-    pool_behind p c.args.files.items fits c.self.invariant c.link.result (contents_in c.link.new.pool) (subst Behind kept behind)
+    let behind : Behind c.retain_new.new.batch.items = record { ok = c.link.ensures.ok; told = c.link.ensures.faults; err = c.link.ensures.err; names = c.link.ensures.names } in
+    pool_after p c.args.files.items fits c.self.invariant c.link.result (contents_in c.link.new.pool) (subst Behind kept behind)
 
 pub link-requires-clause-before : goal.link-requires-clause-before
 link-requires-clause-before c = names_lie (contents_in c.self.inside.inner) c.self.invariant
@@ -66,23 +66,23 @@ link-requires-clause-short c =
     let base_is = c.counts-base.ensures ∙ ap counts_in (sym c.self.view_is) in
     let ok : IsOk (counts_with c.counts-base.result c.deref.result.now) = rw (← c.with_files.ensures, c.in_default.is) refl in
     let new = c.deref.ensures.value in
-    short-behind p c.self.invariant c.keep_new.new.batch.items (subst IsOk (λ i. counts_with (base_is i) (new i)) ok)
+    short-behind p c.self.invariant c.retain_new.new.batch.items (subst IsOk (λ i. counts_with (base_is i) (new i)) ok)
 
 pub returns-clause-outcome : goal.returns-clause-outcome
 returns-clause-outcome c =
     let p = contents_in c.self.inside.inner in
-    let kept = c.keep_new.ensures in
+    let kept = c.retain_new.ensures in
     let base_is = c.counts-base.ensures ∙ ap counts_in (sym c.self.view_is) in
     let ok : IsOk (counts_with c.counts-base.result c.deref.result.now) = rw (← c.with_files.ensures, c.in_default.is) refl in
     let fits = fits_of p c.counts-base.result c.args.files.items c.deref.result.now base_is (c.deref.ensures.value ∙ kept) ok in
     let Behind : List FileDescriptorProto → Type 0 = λ new. IsBehind p new c.link.result (contents_in c.link.new.pool) in
-    let behind : Behind c.keep_new.new.batch.items = record { ok = c.link.ensures.ok; told = c.link.ensures.faults; err = c.link.ensures.err; names = c.link.ensures.names } in
+    let behind : Behind c.retain_new.new.batch.items = record { ok = c.link.ensures.ok; told = c.link.ensures.faults; err = c.link.ensures.err; names = c.link.ensures.names } in
     let P : Contents → Type 0 = λ old. Outcome old c.args.files.items c.link.result (contents_in c.link.new.pool) in
-    subst P c.self.view_is (outcome_behind p c.args.files.items fits c.link.result (contents_in c.link.new.pool) (subst Behind kept behind))
+    subst P c.self.view_is (outcome_with p c.args.files.items fits c.link.result (contents_in c.link.new.pool) (subst Behind kept behind))
 
 pub returns-clause-nothing_new : goal.returns-clause-nothing_new
 returns-clause-nothing_new c = λ nothing.
     let p = c.args.self.now in
-    let kept = c.keep_new.ensures ∙ ap (λ q. new_files q c.args.files.items) c.self.view_is in
-    let none : c.keep_new.new.batch.items ≡ [] = kept ∙ nothing in
+    let kept = c.retain_new.ensures ∙ ap (λ q. new_files q c.args.files.items) c.self.view_is in
+    let none : c.retain_new.new.batch.items ≡ [] = kept ∙ nothing in
     absurd (search rules)

@@ -6,15 +6,15 @@ use Rattle.std.proofs.lemmas.Int.{to_z-of_z}
 use Rattle.std.proofs.lemmas.List.{get_or_default}
 use Rattle.proto_types.specs.declared.records.field.FieldDescriptorProto.{FieldDescriptorProto}
 use Rattle.proto_types.specs.Empty.{no_field}
-use Rattle.proto_types.specs.Lists.{listed}
+use Rattle.plain_data.specs.Lists.{listed}
 use Rattle.proto_types.specs.declared.message.DescriptorProto.{out-DescriptorProto}
 use Rattle.record_walk.proofs.Listings.{on-ok}
 use Rattle.field_rules.specs.Tells.{Tells, named_files}
 use Rattle.field_rules.proofs.Tells.{same-files, tells-as, tells-two}
-use Rattle.field_rules.specs.Again.{again_faults, number_again}
+use Rattle.field_rules.specs.Duplicates.{duplicate_faults, number_duplicate}
 use Rattle.field_rules.specs.DuplicateNumbers.{item_number}
 use Rattle.field_rules.specs.Same.{same_number, same_json_name}
-use Rattle.field_rules.proofs.Again.{number-told, json_name-told, next-maps, short-numbers, short-json_names}
+use Rattle.field_rules.proofs.Duplicates.{number-told, json_name-told, next-maps, short-numbers, short-json_names}
 use Rattle.field_rules.proofs.maps.FieldMaps.insert.Goals as goal
 
 pub check_number-requires-clause-holders_short : goal.check_number-requires-clause-holders_short
@@ -59,9 +59,9 @@ returns-clause-faults c =
     let names = json_name-told files file path i f maps earlier c.requires.maps in
     let own : f ≡ get_or fields i no_field = is ∙ get_or_default fields i f no_field c.requires.there in
     let told = λ (n : ℤ). listed (option_map (λ first. same_number files file path n first i) (finite.get maps.numbers (item_number n))) in
-    let first : Tells c.args.findings.now c.check_number.new.findings (number_again files file path earlier i f) =
+    let first : Tells c.args.findings.now c.check_number.new.findings (number_duplicate files file path earlier i f) =
     tells-as (ap told (to_z-of_z w32 number fits) ∙ numbers) c.in_ok-check_number.ensures in
     on-ok c.enter_json_name.result (λ entered.
-    tells-as (ap (again_faults files file path earlier i) own)
+    tells-as (ap (duplicate_faults files file path earlier i) own)
     (tells-two first (tells-as ((λ j. option_map_or (λ name. listed (option_map (λ first_i. same_json_name (same-files first j) file path name first_i i)
     (finite.get maps.json_names name))) f.json_name []) ∙ names) entered))) c.enter_json_name.ensures.faults

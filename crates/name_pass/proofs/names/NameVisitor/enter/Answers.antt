@@ -1,7 +1,7 @@
 use Rattle.std.proofs.Common.{◌++◌, refl, ap, sym, ◌∙◌, append-nil}
 use Rattle.std.specs.Option.{option_copied}
 use Rattle.pool_types.specs.declared.contents.definition.Definition.{Definition}
-use Rattle.proto_types.specs.Lists.{listed}
+use Rattle.plain_data.specs.Lists.{listed}
 use Rattle.name_pass.specs.State.{first_new, kept_of, records_of, state_of}
 use Rattle.name_pass.proofs.Entering.{new-name, held-name}
 use Rattle.name_pass.proofs.Kept.{stays-before}

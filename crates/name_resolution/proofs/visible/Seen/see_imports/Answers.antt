@@ -1,6 +1,6 @@
 use Rattle.std.proofs.Common.{◌<◌, length, get_or, ap, ◌∙◌, subst, List, ℕ}
 use Rattle.std.specs.FinMap as finite
-use Rattle.proto_types.specs.Lists.{listed}
+use Rattle.plain_data.specs.Lists.{listed}
 use Rattle.name_resolution.specs.Seen.{SeesEach}
 use Rattle.name_resolution.proofs.Seeing.{SeesEach-more}
 use Rattle.name_resolution.proofs.visible.Seen.see_imports.Goals as goal

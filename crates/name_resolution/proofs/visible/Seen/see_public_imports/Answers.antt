@@ -1,6 +1,6 @@
 use Rattle.std.proofs.Common.{◌≡◌, ◌<◌, ◌+◌, take, length, get_or, ap, sym, ◌∙◌, subst, List, ℕ, ℤ, pos, w32, FitsSigned, to_z, of_z, to_z-of_z, rules}
 use Rattle.std.specs.FinMap as finite
-use Rattle.proto_types.specs.Lists.{listed, at}
+use Rattle.plain_data.specs.Lists.{listed, at}
 use Rattle.std.specs.List.{filter_map}
 use Rattle.std.proofs.lemmas.List.{get_or_default}
 use Rattle.name_resolution.specs.declared.visible.Seen.{Seen}

@@ -1,7 +1,7 @@
 use Rattle.std.proofs.Common.{take}
 use Rattle.std.specs.FinMap as finite
 use Rattle.std.specs.List.{filter_map}
-use Rattle.proto_types.specs.Lists.{at}
+use Rattle.plain_data.specs.Lists.{at}
 use Rattle.name_resolution.specs.Seen.{SeesEach}
 use Rattle.name_resolution.proofs.visible.Seen.see_public_imports.Given as goal
 

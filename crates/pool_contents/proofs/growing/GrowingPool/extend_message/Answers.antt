@@ -1,8 +1,8 @@
 use Rattle.std.proofs.Common.{◌≤◌, ◌<◌, length, map, take, ap, ◌∙◌, arith}
 use Rattle.std.proofs.lemmas.List.{length-take-le}
 use Rattle.pool_contents.specs.Extended.{cut}
-use Rattle.pool_contents.specs.Growing.{kept_in}
-use Rattle.pool_contents.specs.Held.{contents_in}
+use Rattle.pool_contents.specs.Growing.{rolled_back}
+use Rattle.pool_contents.specs.Inner.{contents_in}
 use Rattle.pool_contents.proofs.Extending.{cut-messages, message-missing, message-pushed}
 use Rattle.pool_contents.proofs.growing.GrowingPool.extend_message.Goals as goal
 
@@ -25,7 +25,7 @@ returns-in_ok-push-clause-kept c =
     let first = length-take-le old.base.extensions old.inner.extensions.items old.extensions_within in
     let came : old.base.extensions ≤ c.args.extension = omega (arith, first, c.requires.came) in
     let kept = ap (λ xs. map (cut old.base.extensions) (take old.base.messages xs)) messages ∙ cut-messages old.base.extensions c.args.extension c.args.message old.base.messages ms came in
-    λ i. record (kept_in old) { messages = kept i }
+    λ i. record (rolled_back old) { messages = kept i }
 
 pub returns-else-index-len-clause-ok : goal.returns-else-index-len-clause-ok
 returns-else-index-len-clause-ok c =

@@ -1,9 +1,9 @@
 use Rattle.std.proofs.Common.{◌≡◌, ◌≤◌, ◌<◌, length, ap, sym, refl, ◌∙◌, arith, get_or}
 use Rattle.std.proofs.lemmas.List.{length-take-le}
 use Rattle.pool_types.specs.Contents.{Contents}
-use Rattle.field_rules.specs.Each.{each}
+use Rattle.plain_data.specs.Each.{map_enumerated}
 use Rattle.pool_contents.specs.Growing.{first_extension, with_extension}
-use Rattle.pool_contents.specs.Held.{contents_in}
+use Rattle.pool_contents.specs.Inner.{contents_in}
 use Rattle.pool_contents.specs.declared.growing.GrowingPool.{GrowingPool}
 use Rattle.pool_contents.proofs.Each.{one}
 use Rattle.pool_contents.proofs.Extending.{extended_between, extended-all, extended-next, extended-none}
@@ -48,7 +48,7 @@ loop-index-preserved c =
     let from : first_extension p ≤ k = omega (arith, first-is p, c.loop-index.auto.index) in
     let below : k < length xs = omega (arith, c.loop-index-test.true, c.len-index-end.ensures) in
     let read : x ≡ get_or xs k x = c.index.ensures ∙ ap (λ (y : Contents). get_or y.extensions k x) is in
-    let next = ap (λ (y : Contents). each (one (with_extension k) x.extendee) 0 y.messages) is ∙ extended-next (first_extension p) xs ms k x from below read in
+    let next = ap (λ (y : Contents). map_enumerated (one (with_extension k) x.extendee) 0 y.messages) is ∙ extended-next (first_extension p) xs ms k x from below read in
     record {
       is = c.in_ok-extend_message.ensures.ok ∙ (λ i. record (is i) { messages = next i });
       kept = c.extend_message.ensures.kept ∙ c.loop-index.invariant.kept;

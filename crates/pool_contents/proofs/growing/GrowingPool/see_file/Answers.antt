@@ -4,10 +4,10 @@ use Rattle.std.proofs.lemmas.List.{get_or_default}
 use Rattle.std.specs.FinMap as finite
 use Rattle.std.specs.List.{filter_map}
 use Rattle.name_resolution.specs.Visibility.{seen_from}
-use Rattle.field_rules.specs.Each.{each}
+use Rattle.plain_data.specs.Each.{map_enumerated}
 use Rattle.pool_types.specs.declared.contents.file.FileDescriptorInner.{FileDescriptorInner}
 use Rattle.pool_contents.specs.Growing.{file_seeing, seeing}
-use Rattle.pool_contents.specs.Held.{contents_in}
+use Rattle.pool_contents.specs.Inner.{contents_in}
 use Rattle.pool_contents.proofs.Each.{one, set-each}
 use Rattle.pool_contents.proofs.growing.GrowingPool.see_file.Goals as goal
 
@@ -27,7 +27,7 @@ returns-clause-ok c =
     λ i. record (is i) { dependencies = imports i; transitive_dependencies = record { keys = sees i } } in
     let first : 0 + n ≡ n = omega arith in
     let files : set fs n made ≡ file_seeing old n =
-    ap (set fs n) item ∙ set-each (seeing old n) 0 n fs was c.requires.here ∙ ap (λ m. each (one (seeing old n) m) 0 fs) first in
+    ap (set fs n) item ∙ set-each (seeing old n) 0 n fs was c.requires.here ∙ ap (λ m. map_enumerated (one (seeing old n) m) 0 fs) first in
     λ i. record (contents_in old.inner) { files = files i }
 
 pub returns-clause-kept : goal.returns-clause-kept

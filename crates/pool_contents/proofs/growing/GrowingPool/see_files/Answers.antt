@@ -3,7 +3,7 @@ use Rattle.std.proofs.lemmas.List.{length-take}
 use Rattle.name_tables.specs.NameTables.{FileNamesBefore}
 use Rattle.pool_types.specs.Contents.{Contents}
 use Rattle.pool_contents.specs.Growing.{first_new}
-use Rattle.pool_contents.specs.Held.{contents_in}
+use Rattle.pool_contents.specs.Inner.{contents_in}
 use Rattle.pool_contents.specs.declared.growing.GrowingPool.{GrowingPool}
 use Rattle.pool_contents.proofs.Seeing.{seeing_up_to, seeing-none, seeing-all, seeing-next, length-seeing}
 use Rattle.pool_contents.proofs.growing.GrowingPool.see_files.Goals as goal

@@ -1,6 +1,6 @@
 use Rattle.std.proofs.Common.{◌≡◌}
-use Rattle.pool_contents.specs.Growing.{kept_in}
-use Rattle.pool_contents.specs.Held.{contents_in}
+use Rattle.pool_contents.specs.Growing.{rolled_back}
+use Rattle.pool_contents.specs.Inner.{contents_in}
 use Rattle.pool_contents.proofs.Seeing.{seeing_up_to}
 use Rattle.pool_contents.proofs.growing.GrowingPool.see_files.Given as goal
 
@@ -8,5 +8,5 @@ use Rattle.pool_contents.proofs.growing.GrowingPool.see_files.Given as goal
 abbrev pub invariant-loop-file : goal.invariant-loop-file
 invariant-loop-file l = record {
   is : contents_in l.self.inner ≡ record (contents_in l.initial.self.inner) { files = seeing_up_to l.initial.self l.file };
-  kept : kept_in l.self ≡ kept_in l.initial.self;
+  kept : rolled_back l.self ≡ rolled_back l.initial.self;
 }

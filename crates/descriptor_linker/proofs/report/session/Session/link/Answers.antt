@@ -7,11 +7,11 @@ use Rattle.descriptor_linker.proofs.report.session.Session.link.Goals as goal
 pub returns-in-Ok : goal.returns-in-Ok
 returns-in-Ok c =
     let told = (session_in c.args.self.now).told in
-    let counted = subst (λ k. OnOk c.tell_counts.result (string_bytes c.tell_counts.new.told ≡ told ++ counts_line k)) c.counts.ensures c.tell_counts.ensures in
-    on-linked c.tell_counts.result (session_in c.args.self.now) c.replace-batch.result.items c.replace-batch.new.dest.items c.build_files.new.self (string_bytes c.tell_counts.new.told)
+    let counted = subst (λ k. OnOk c.write_counts.result (string_bytes c.write_counts.new.told ≡ told ++ counts_line k)) c.counts.ensures c.write_counts.ensures in
+    on-linked c.write_counts.result (session_in c.args.self.now) c.replace-batch.result.items c.replace-batch.new.dest.items c.build_files.new.self (string_bytes c.write_counts.new.told)
     (ap (λ b. b.items) c.replace-batch.ensures.value) (ap (λ b. b.items) c.replace-batch.ensures.after ∙ c.new.ensures.items) c.in-Ok.ensures.outcome counted
 
 pub returns-in-Err-Descriptor : goal.returns-in-Err-Descriptor
 returns-in-Err-Descriptor c =
-    on-refused c.tell_refused.result (session_in c.args.self.now) c.replace-batch.result.items c.replace-batch.new.dest.items c.build_files.new.self _ _ c.errors.result.now (string_bytes c.tell_refused.new.told)
-    (ap (λ b. b.items) c.replace-batch.ensures.value) (ap (λ b. b.items) c.replace-batch.ensures.after ∙ c.new.ensures.items) c.in-Err-Descriptor.field-0-is c.in-Err-Descriptor.ensures.outcome c.errors.ensures c.tell_refused.ensures
+    on-refused c.write_refused.result (session_in c.args.self.now) c.replace-batch.result.items c.replace-batch.new.dest.items c.build_files.new.self _ _ c.errors.result.now (string_bytes c.write_refused.new.told)
+    (ap (λ b. b.items) c.replace-batch.ensures.value) (ap (λ b. b.items) c.replace-batch.ensures.after ∙ c.new.ensures.items) c.in-Err-Descriptor.field-0-is c.in-Err-Descriptor.ensures.outcome c.errors.ensures c.write_refused.ensures

@@ -1,7 +1,7 @@
 use Rattle.std.proofs.Common.{rules, ◌≡◌, pos, Some, slice_index_or, sym, ◌∙◌}
 use Rattle.proto_types.specs.declared.message.DescriptorProto.{out-DescriptorProto}
 use Rattle.proto_types.specs.declared.tag.message.TheConstants as message
-use Rattle.proto_types.specs.Lists.{at}
+use Rattle.plain_data.specs.Lists.{at}
 use Rattle.record_lists.proofs.Finding.{leads-on}
 use Rattle.record_lists.proofs.find.record.Record.+in_message.Goals as goal
 

@@ -1,0 +1,56 @@
+-- What a field breaks that has the number or the JSON name of an earlier one (the protobuf language
+-- rules on field numbers, and on JSON names).
+use Rattle.std.specs.Prelude.{ℕ, ℤ, Bool, false, List, [], ◌++◌, reverse}
+use Rattle.std.specs.List.{find, enumerate_from}
+use Rattle.std.specs.Option.{option_map, option_map_or}
+use Rattle.std.specs.Ordering.{int_eq}
+use Rattle.std.specs.Str.{bytes_eq}
+use Rattle.std.specs.declared.option.Option.{Option}
+use Rattle.proto_types.specs.declared.tag.field.TheConstants as field
+use Rattle.proto_types.specs.declared.tag.message.TheConstants as message
+use Rattle.proto_types.specs.declared.records.field.FieldDescriptorProto.{FieldDescriptorProto}
+use Rattle.plain_data.specs.Lists.{listed}
+use Rattle.proto_types.specs.Readers.{number_of}
+use Rattle.proto_types.specs.declared.file.FileDescriptorProto.{FileDescriptorProto}
+use Rattle.pool_faults.specs.declared.label.Label.{Label}
+use Rattle.pool_faults.specs.declared.fault.DescriptorErrorKind.{DescriptorErrorKind}
+use Rattle.pool_faults.specs.declared.fault.DescriptorErrorKind.TheVariants as fault
+use Rattle.field_rules.specs.Labels.{entry_part_label}
+
+-- the last field that meets a test, with its position
+abbrev pub latest : (FieldDescriptorProto → Bool) → List FieldDescriptorProto
+    → Option (ℕ × FieldDescriptorProto)
+latest test fields = find (λ e. test e.1) (reverse (enumerate_from 0 fields))
+
+module _ (files : List FileDescriptorProto) (file : ℕ) (path : List ℤ) where
+  -- where the number of a field stands, by its position in the message at a path, and its name
+  abbrev pub number_label : ℕ → Label
+  number_label position = entry_part_label files file path message.FIELD position field.NUMBER
+
+  abbrev pub name_label : ℕ → Label
+  name_label position = entry_part_label files file path message.FIELD position field.NAME
+
+  -- of a number that earlier fields have: the latest of them is told
+  abbrev pub number_duplicate : List FieldDescriptorProto → ℕ → FieldDescriptorProto
+      → List DescriptorErrorKind
+  number_duplicate earlier position f =
+      listed (option_map
+      (λ e. fault.DuplicateFieldNumber (number_of f.number) (number_label e.0)
+      (number_label position))
+      (latest (λ g. int_eq (number_of g.number) (number_of f.number)) earlier))
+
+  -- of a given JSON name that earlier fields have: the latest of them is told
+  abbrev pub json_name_duplicate : List FieldDescriptorProto → ℕ → FieldDescriptorProto
+      → List DescriptorErrorKind
+  json_name_duplicate earlier position f =
+      option_map_or
+      (λ name. listed
+      (option_map (λ e. fault.DuplicateFieldJsonName name (name_label e.0)
+      (name_label position))
+      (latest (λ g. option_map_or (bytes_eq name) g.json_name false) earlier))) f.json_name []
+
+  -- of the field with a position, behind these
+  abbrev pub duplicate_faults : List FieldDescriptorProto → ℕ → FieldDescriptorProto
+      → List DescriptorErrorKind
+  duplicate_faults earlier position f = number_duplicate earlier position f
+      ++ json_name_duplicate earlier position f

@@ -1,0 +1,18 @@
+//! The parts of a pool: what it holds, what a name means, default values, and the faults of a
+//! batch.
+#![tactic(auto)]
+
+pub use default_values::{EscapeFault, ValueFault, parse_simple_value, unescape_c_escape_string};
+pub use name_resolution::{
+    CandidateParents, ResolveNameFilter, ResolveNameResult, cardinality_of, named_kind,
+    parents_count, resolve_name, simple_kind, visible_from,
+};
+pub use name_tables::{FileNames, HashedNames, NameTable};
+pub use pool_faults::{DescriptorError, DescriptorErrorKind, Label, label_at};
+pub use pool_types::{
+    Cardinality, DefaultValue, Definition, DefinitionKind, EnumDescriptor, EnumDescriptorInner,
+    EnumValueDescriptor, EnumValueDescriptorInner, ExtensionDescriptor, ExtensionDescriptorInner,
+    FieldDescriptor, FieldDescriptorInner, FileDescriptor, FileDescriptorInner, Identity, Kind,
+    KindIndex, MessageDescriptor, MessageDescriptorInner, MethodDescriptor, MethodDescriptorInner,
+    OneofDescriptor, OneofDescriptorInner, ServiceDescriptor, ServiceDescriptorInner, Syntax,
+};

@@ -1,5 +1,0 @@
-use Rattle.std.proofs.Common.{rules}
-use Rattle.script_answers.proofs.answers.tell_counts.Goals as goal
-
-pub returns : goal.returns
-returns c = search rules

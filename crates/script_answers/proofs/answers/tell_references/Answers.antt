@@ -1,6 +1,0 @@
-use Rattle.std.proofs.Common.{arith}
-use Rattle.std.proofs.lemmas.Grind.{common_steps}
-use Rattle.script_answers.proofs.answers.tell_references.Goals as goal
-
-pub loop-reference-preserved : goal.loop-reference-preserved
-loop-reference-preserved c = grind (arith, common_steps)

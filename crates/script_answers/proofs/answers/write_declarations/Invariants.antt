@@ -1,0 +1,9 @@
+use Rattle.std.proofs.Common.{◌≡◌, ◌++◌, string_bytes, take}
+use Rattle.std.specs.List.{flat_map}
+use Rattle.script_answers.specs.Answers.{declaration_line}
+use Rattle.script_answers.proofs.answers.write_declarations.Given as goal
+
+-- the declarations so far are told
+abbrev pub invariant-loop-declaration : goal.invariant-loop-declaration
+invariant-loop-declaration l =
+    string_bytes l.told ≡ string_bytes l.initial.told ++ flat_map declaration_line (take l.declaration-index l.list)

@@ -1,0 +1,10 @@
+use Rattle.std.proofs.Common.{◌≡◌, ◌++◌, string_bytes, map, take}
+use Rattle.std.specs.List.{flat_map}
+use Rattle.script_answers.specs.Answers.{reference_line}
+use Rattle.record_lists.specs.Code.{reference_of}
+use Rattle.script_answers.proofs.answers.write_references.Given as goal
+
+-- the references so far are told
+abbrev pub invariant-loop-reference : goal.invariant-loop-reference
+invariant-loop-reference l =
+    string_bytes l.told ≡ string_bytes l.initial.told ++ flat_map reference_line (map reference_of (take l.reference-index l.list))

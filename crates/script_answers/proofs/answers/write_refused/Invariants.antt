@@ -1,0 +1,9 @@
+use Rattle.std.proofs.Common.{◌≡◌, ◌++◌, [], ◌∷◌, string_bytes, take}
+use Rattle.std.specs.List.{flat_map}
+use Rattle.pool_faults.specs.Texts.{labelled_text}
+use Rattle.script_answers.specs.Answers.{line}
+use Rattle.script_answers.proofs.answers.write_refused.Given as goal
+
+abbrev pub invariant-loop-fault : goal.invariant-loop-fault
+invariant-loop-fault l =
+    string_bytes l.told ≡ string_bytes l.initial.told ++ flat_map (λ f. line (labelled_text f ∷ [])) (take l.fault-index l.faults)
