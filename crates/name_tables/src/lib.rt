@@ -9,5 +9,5 @@ mod name_table;
 
 pub use file_names::FileNames;
 pub use hashed_names::HashedNames;
-pub use laws::{earlier_names_stay, later_name_goes};
+pub use laws::{earlier_names_stay, later_name_goes, names_are_first};
 pub use name_table::NameTable;
