@@ -14,17 +14,18 @@ use Rattle.descriptor_pool.specs.Outcome.{IsLinked, IsRefused, Outcome}
 use Rattle.descriptor_pool.specs.declared.error.BuildError.{BuildError}
 use Rattle.descriptor_pool.specs.declared.error.BuildError.TheVariants.{Descriptor}
 use Rattle.script_answers.specs.Answers.{counts_line, refused_lines}
+use Rattle.link_script.specs.Records.{Building}
 use Rattle.descriptor_linker.specs.Report.Session.{Session, write, accepted_or, linking, link_step}
 
 -- the session with a pool and an empty batch, where a text is told
 abbrev behind : Session → Contents × List ℕ → Session
-behind s after = record (write s after.1) { pool = after.0; batch = [] }
+behind s after = record (write s after.1) { pool = after.0; building = record s.building { files = [] } }
 
-told-behind : (s : Session) (batch emptied : Batch) (new : Contents) (text told : List ℕ)
-    → batch ≡ s.batch → emptied ≡ [] → linking s.pool batch (counts_after s.pool batch) ≡ (new, text) → told ≡ s.told ++ text
-    → record s { pool = new; batch = emptied; told = told } ≡ link_step s
+told-behind : (s : Session) (batch : Batch) (emptied : Building) (new : Contents) (text told : List ℕ)
+    → batch ≡ s.building.files → emptied ≡ record s.building { files = [] } → linking s.pool batch (counts_after s.pool batch) ≡ (new, text) → told ≡ s.told ++ text
+    → record s { pool = new; building = emptied; told = told } ≡ link_step s
 told-behind s batch emptied new text told same none is more =
-    (λ i. record s { pool = new; batch = none i; told = more i })
+    (λ i. record s { pool = new; building = none i; told = more i })
     ∙ ap (behind s) (sym is ∙ ap (λ b. linking s.pool b (counts_after s.pool b)) same)
 
 pub no-faults : (first second : Faults) → first ≡ [] → second ≡ [] → first_of_both first second ≡ []
@@ -39,24 +40,24 @@ refusing p batch [] some = absurd (some refl)
 refusing p batch (f ∷ fs) some = refl
 
 -- the batch was linked
-told-linked : (s : Session) (batch emptied : Batch) (new : Contents) (told : List ℕ)
-    → batch ≡ s.batch → emptied ≡ [] → IsLinked s.pool batch new → told ≡ s.told ++ counts_line (counts_in new)
-    → record s { pool = new; batch = emptied; told = told } ≡ link_step s
+told-linked : (s : Session) (batch : Batch) (emptied : Building) (new : Contents) (told : List ℕ)
+    → batch ≡ s.building.files → emptied ≡ record s.building { files = [] } → IsLinked s.pool batch new → told ≡ s.told ++ counts_line (counts_in new)
+    → record s { pool = new; building = emptied; told = told } ≡ link_step s
 told-linked s batch emptied new told same none linked more =
     told-behind s batch emptied new (counts_line (counts_in new)) told same none
     (where-it-fits s.pool batch (counts_after s.pool batch) linked.fits
     ∙ ap (accepted_or s.pool batch) (no-faults (faults_of_names s.pool batch) (faults_of_references s.pool batch) linked.accepted.0 linked.accepted.1)
     ∙ ap (λ q. (q, counts_line (counts_in q))) (sym linked.is)) more
 
-pub on-linked : {U E : Type 0} (r : Result U E) (s : Session) (batch emptied : Batch) (new : Contents) (told : List ℕ)
-    → batch ≡ s.batch → emptied ≡ [] → IsLinked s.pool batch new → OnOk r (told ≡ s.told ++ counts_line (counts_in new))
-    → OnOk r (record s { pool = new; batch = emptied; told = told } ≡ link_step s)
+pub on-linked : {U E : Type 0} (r : Result U E) (s : Session) (batch : Batch) (emptied : Building) (new : Contents) (told : List ℕ)
+    → batch ≡ s.building.files → emptied ≡ record s.building { files = [] } → IsLinked s.pool batch new → OnOk r (told ≡ s.told ++ counts_line (counts_in new))
+    → OnOk r (record s { pool = new; building = emptied; told = told } ≡ link_step s)
 on-linked r s batch emptied new told same none linked more = on-ok r (told-linked s batch emptied new told same none linked) more
 
 -- the batch was refused
-told-refused : (s : Session) (batch emptied : Batch) (new : Contents) (error : DescriptorError) (fs : Faults) (told : List ℕ)
-    → batch ≡ s.batch → emptied ≡ [] → IsRefused s.pool batch error new → fs ≡ error.errors → told ≡ s.told ++ refused_lines fs
-    → record s { pool = new; batch = emptied; told = told } ≡ link_step s
+told-refused : (s : Session) (batch : Batch) (emptied : Building) (new : Contents) (error : DescriptorError) (fs : Faults) (told : List ℕ)
+    → batch ≡ s.building.files → emptied ≡ record s.building { files = [] } → IsRefused s.pool batch error new → fs ≡ error.errors → told ≡ s.told ++ refused_lines fs
+    → record s { pool = new; building = emptied; told = told } ≡ link_step s
 told-refused s batch emptied new error fs told same none refused shown more =
     let all = shown ∙ refused.all in
     told-behind s batch emptied new (refused_lines fs) told same none
@@ -65,9 +66,9 @@ told-refused s batch emptied new error fs told same none refused shown more =
     ∙ refusing s.pool batch fs (λ is. error.some (sym shown ∙ is))
     ∙ ap (λ q. (q, refused_lines fs)) (sym refused.unchanged)) more
 
-pub on-refused : {U E : Type 0} (r : Result U E) (s : Session) (batch emptied : Batch) (new : Contents) (why : BuildError) (error : DescriptorError) (fs : Faults) (told : List ℕ)
-    → batch ≡ s.batch → emptied ≡ [] → why ≡ Descriptor error → Outcome {U = U} s.pool batch (Err why) new → fs ≡ error.errors
-    → OnOk r (told ≡ s.told ++ refused_lines fs) → OnOk r (record s { pool = new; batch = emptied; told = told } ≡ link_step s)
+pub on-refused : {U E : Type 0} (r : Result U E) (s : Session) (batch : Batch) (emptied : Building) (new : Contents) (why : BuildError) (error : DescriptorError) (fs : Faults) (told : List ℕ)
+    → batch ≡ s.building.files → emptied ≡ record s.building { files = [] } → why ≡ Descriptor error → Outcome {U = U} s.pool batch (Err why) new → fs ≡ error.errors
+    → OnOk r (told ≡ s.told ++ refused_lines fs) → OnOk r (record s { pool = new; building = emptied; told = told } ≡ link_step s)
 on-refused {U} r s batch emptied new why error fs told same none is outcome shown more =
     let refused : IsRefused s.pool batch error new = subst (λ e. Outcome {U = U} s.pool batch (Err e) new) is outcome in
     on-ok r (told-refused s batch emptied new error fs told same none refused shown) more

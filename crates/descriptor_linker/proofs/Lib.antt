@@ -1,5 +1,4 @@
 pub mod Pieces
-pub mod Innermost
 pub mod Batches
 pub mod Relinked
 mod Computed

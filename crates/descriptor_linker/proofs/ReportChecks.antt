@@ -111,7 +111,7 @@ nameless_file = simp (get-with {X = Definition}, get-with {X = ℕ}, get-empty {
 
 -- the references of the files that a script declares, as they are told
 abbrev references_of : List ℕ → List ℕ
-references_of text = flat_map (λ f. reference_lines (references (f ∷ []))) (fold step new_session (script text).statements).batch
+references_of text = flat_map (λ f. reference_lines (references (f ∷ []))) (fold step new_session (script text).statements).building.files
 
 pub references_in_order : references_of (codes "file a.proto\npackage p\nmessage M\nfield f 1 optional message .p.M ~\nfield g 2 optional int32 ~ ~\nmessage N\nfield h 1 repeated message .p.M ~\nend\nfield i 3 optional message .p.M.N ~\nend\nend\n")
     ≡ codes "refs 3\np.M.f type_name .p.M\np.M.i type_name .p.M.N\np.M.N.h type_name .p.M\n"

@@ -1,4 +1,3 @@
 pub mod Answers
 pub mod Session
 pub mod Code
-pub mod Obeyed

@@ -1,27 +1,36 @@
-//! The linker of file descriptors.
-//! It hands on what its calls and its data name: the pool, the script, and the records and contents
-//! that these hold.
+//! The linker of file descriptors: the pool, its laws, scripts, and the run of a script over devices.
+//! Every record, item and index that these name is handed on.
 #![tactic(auto)]
 
 mod ending;
+pub mod laws;
 mod report;
 mod runs;
 
 pub use descriptor_pool::{BuildError, DescriptorPool};
 pub use ending::Ending;
-pub use link_script::{Block, Keyword, Open, Script, ScriptFault, Statement, read_script};
-pub use plain_data::{Items, Text};
+pub use link_script::{
+    Block, Keyword, Open, RecordBuilder, Script, ScriptError, ScriptFault, ScriptReader, Statement,
+    files_of, read_script,
+};
+pub use name_pass::NameVisitor;
+pub use plain_data::{Items, NumberMap, Text, TextMap};
 pub use pool_faults::{DescriptorError, DescriptorErrorKind, Label};
 pub use pool_types::{
-    Cardinality, Definition, DefinitionKind, FieldDescriptorInner, FileDescriptor,
-    FileDescriptorInner, Identity, KindIndex, MessageDescriptor, MessageDescriptorInner,
-    OneofDescriptorInner, Syntax,
+    Cardinality, DefaultValue, Definition, DefinitionKind, EnumDescriptor, EnumDescriptorInner,
+    EnumValueDescriptor, EnumValueDescriptorInner, ExtensionDescriptor, ExtensionDescriptorInner,
+    FieldDescriptor, FieldDescriptorInner, FileDescriptor, FileDescriptorInner, Identity, Kind,
+    KindIndex, MessageDescriptor, MessageDescriptorInner, MethodDescriptor, MethodDescriptorInner,
+    OneofDescriptor, OneofDescriptorInner, ServiceDescriptor, ServiceDescriptorInner, Syntax,
 };
 pub use proto_types::{
-    DescriptorProto, EnumDescriptorProto, EnumValueDescriptorProto, FieldDescriptorProto,
-    FileDescriptorProto, Location, MethodDescriptorProto, ServiceDescriptorProto,
+    DescriptorProto, EnumDescriptorProto, EnumOptions, EnumReservedRange, EnumValueDescriptorProto,
+    ExtensionRange, FieldDescriptorProto, FieldLabel, FieldOptions, FieldType, FileDescriptorProto,
+    Location, MethodDescriptorProto, OneofDescriptorProto, Options, ReservedRange,
+    ServiceDescriptorProto, SourceCodeInfo, Unread,
 };
 pub use record_walk::{CountKind, Counts};
+pub use reference_pass::ResolveVisitor;
 pub use report::{Report, report_of};
 pub use runs::run;
 pub use script_devices::{

@@ -1,8 +1,8 @@
 ghost use Rattle.std.specs.Prelude.{◌≡◌, ◌≢◌, true, false, None, IfOk, string_bytes};
 ghost use Rattle.link_script.specs.Script.Reading.{script};
 ghost use Rattle.descriptor_linker.specs.Report.Code.{session_in};
-ghost use Rattle.descriptor_linker.specs.Report.Obeyed.{IsObeyed};
-ghost use Rattle.descriptor_linker.specs.Report.Session.{report};
+ghost use Rattle.link_script.specs.Obeyed.{IsObeyed};
+ghost use Rattle.descriptor_linker.specs.Report.Session.{report, step};
 
 mod answers;
 mod relink;
@@ -46,7 +46,7 @@ pub fn report_of(alloc: Global, bytes: &[u8]) -> Result<Report, AllocError>
 /// # Errors
 /// `Fault` with the fault behind the statements, and `OutOfMemory` where memory was refused.
 fn obey(session: &mut Session, script: &mut ScriptReader<'_>) -> Result<(), ScriptError>
-    ensures { IsObeyed script.old (session_in session.old) result (session_in session.new) }
+    ensures { IsObeyed step script.old (session_in session.old) result (session_in session.new) }
 {
     while let Some(statement) = script.next()? {
         session.step(statement)?;

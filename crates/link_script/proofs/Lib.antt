@@ -3,3 +3,4 @@ pub mod NumberLists
 pub mod Words
 pub mod Reading
 pub mod LastStated
+pub mod Innermost

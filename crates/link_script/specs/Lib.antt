@@ -1,2 +1,5 @@
 pub mod Script
 pub mod Building
+pub mod Records
+pub mod RecordsCode
+pub mod Obeyed

@@ -2,11 +2,11 @@
 #![tactic(auto)]
 
 mod building;
-mod files;
+mod records;
 mod script;
 
 pub use building::Open;
-pub use files::files_of;
+pub use records::{RecordBuilder, files_of};
 pub use script::{
     Block, Keyword, Script, ScriptError, ScriptFault, ScriptReader, Statement, read_script,
 };

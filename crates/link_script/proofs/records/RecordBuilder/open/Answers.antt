@@ -1,6 +1,6 @@
 use Rattle.std.proofs.Common.{arith}
 use Rattle.std.proofs.lemmas.Grind.{common_steps}
-use Rattle.descriptor_linker.proofs.report.session.Session.open.Goals as goal
+use Rattle.link_script.proofs.records.RecordBuilder.open.Goals as goal
 
 pub returns : goal.returns
 returns c = grind (arith, common_steps)

@@ -1,7 +1,7 @@
 use Rattle.std.proofs.lemmas.Grind.{common_steps}
 use Rattle.std.proofs.Common.{refl, ap, reverse, ◌∙◌, arith}
-use Rattle.descriptor_linker.proofs.Innermost.{innermost_of, reverse-last}
-use Rattle.descriptor_linker.proofs.report.session.Session.close.Goals as goal
+use Rattle.link_script.proofs.Innermost.{innermost_of, reverse-last}
+use Rattle.link_script.proofs.records.RecordBuilder.close.Goals as goal
 
 pub returns-in_ok-close_in : goal.returns-in_ok-close_in
 returns-in_ok-close_in c =

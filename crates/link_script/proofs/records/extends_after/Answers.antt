@@ -2,8 +2,8 @@ use Rattle.std.proofs.Common.{◌≡◌, ◌≢◌, Bool, refl}
 use Rattle.proto_types.specs.declared.records.field.FieldDescriptorProto.{FieldDescriptorProto}
 use Rattle.link_script.specs.declared.script.statement.Statement.{Statement}
 use Rattle.link_script.specs.declared.script.statement.Statement.TheVariants.{Extend, Field}
-use Rattle.descriptor_linker.specs.Report.Session.{extends_after}
-use Rattle.descriptor_linker.proofs.report.session.extends_after.Goals as goal
+use Rattle.link_script.specs.Records.{extends_after}
+use Rattle.link_script.proofs.records.extends_after.Goals as goal
 
 -- any statement but a field and an extension
 other : (before : Bool) (said : Statement) → ((field : FieldDescriptorProto) → said ≢ Extend field)

@@ -1,7 +1,7 @@
 use Rattle.std.proofs.lemmas.Grind.{common_steps}
 use Rattle.std.proofs.Common.{refl, arith}
-use Rattle.descriptor_linker.proofs.Innermost.{innermost_of}
-use Rattle.descriptor_linker.proofs.report.session.Session.state.Goals as goal
+use Rattle.link_script.proofs.Innermost.{innermost_of}
+use Rattle.link_script.proofs.records.RecordBuilder.amend.Goals as goal
 
 pub returns-in_ok-state : goal.returns-in_ok-state
 returns-in_ok-state c =

@@ -1,0 +1,140 @@
+//! The records that the statements of a script build, statement by statement.
+
+ghost use Rattle.std.specs.Prelude.{◌≡◌, [], OnOk, result_map};
+ghost use Rattle.link_script.specs.declared.script.statement.Statement.TheVariants as say;
+ghost use Rattle.link_script.specs.Obeyed.{DeclaresFiles, IsObeyed};
+ghost use Rattle.link_script.specs.Records.{built, extends_after, nothing_built, opening, stating};
+ghost use Rattle.link_script.specs.RecordsCode.{building_in};
+ghost use Rattle.link_script.specs.Script.Reading.{script};
+
+use crate::building::Open;
+use crate::script::{ScriptError, ScriptReader, Statement};
+use proto_types::FileDescriptorProto;
+use std::alloc::{AllocError, Global};
+use std::mem;
+
+/// The files that a script declares, in order. Its commands are passed over.
+///
+/// # Errors
+/// `Fault` with the line, from 1, and the script's first fault; `OutOfMemory` where memory was
+/// refused.
+pub fn files_of(alloc: Global, bytes: &[u8]) -> Result<Vec<FileDescriptorProto>, ScriptError>
+    ensures { DeclaresFiles (script bytes.now) (result_map (λ files. files.items) result) }
+{
+    let mut builder = RecordBuilder::new(alloc);
+    build(&mut builder, &mut ScriptReader::new(alloc, bytes))?;
+    Ok(builder.files)
+}
+
+/// Builds what the statements that are left of a script declare.
+fn build(builder: &mut RecordBuilder, script: &mut ScriptReader<'_>) -> Result<(), ScriptError>
+    ensures { IsObeyed built script.old (building_in builder.old) result (building_in builder.new) }
+{
+    while let Some(statement) = script.next()? {
+        builder.state(statement)?;
+    }
+    Ok(())
+}
+
+/// What the statements so far have built.
+#[derive(Drop)]
+pub struct RecordBuilder {
+    alloc: Global,
+    /// The records whose blocks are open, the innermost last.
+    open_records: Vec<Open>,
+    /// Whether the last of fields and extensions is an extension.
+    extends: bool,
+    /// The files whose blocks have closed.
+    files: Vec<FileDescriptorProto>,
+}
+
+impl RecordBuilder {
+    /// Before the first statement, which takes no memory.
+    pub fn new(alloc: Global) -> RecordBuilder
+        ensures { building_in result ≡ nothing_built }
+    {
+        RecordBuilder {
+            alloc,
+            open_records: Vec::new(alloc),
+            extends: false,
+            files: Vec::new(alloc),
+        }
+    }
+
+    /// Does what a statement says of records; a command says nothing of them.
+    ///
+    /// # Errors
+    /// `AllocError` where memory was refused.
+    pub fn state(&mut self, said: Statement) -> Result<(), AllocError>
+        ensures { OnOk result (building_in self.new ≡ built (building_in self.old) said) }
+    {
+        match said {
+            Statement::File(name) => self.open(Open::file(self.alloc, name)),
+            Statement::Message(name) => self.open(Open::message(self.alloc, name)),
+            Statement::Enum(name) => self.open(Open::enumeration(self.alloc, name)),
+            Statement::Service(name) => self.open(Open::service(self.alloc, name)),
+            Statement::End => self.close(),
+            Statement::Link
+            | Statement::Find(_)
+            | Statement::Walk
+            | Statement::Refs(_)
+            | Statement::Relink => Ok(()),
+            said => self.amend(said),
+        }
+    }
+
+    /// The files whose blocks have closed. There are none then.
+    pub fn take_files(&mut self) -> Vec<FileDescriptorProto>
+        ensures files { result.items ≡ (building_in self.old).files }
+        ensures rest { building_in self.new ≡ record (building_in self.old) { files = [] } }
+    {
+        mem::replace(&mut self.files, Vec::new(self.alloc))
+    }
+
+    /// Opens a record in the innermost open one.
+    fn open(&mut self, opened: Open) -> Result<(), AllocError>
+        ensures { OnOk result (building_in self.new ≡ opening (building_in self.old) opened) }
+    {
+        self.open_records.push(opened)?;
+        Ok(())
+    }
+
+    /// Does what a statement says of the innermost open record.
+    fn amend(&mut self, said: Statement) -> Result<(), AllocError>
+        ensures { OnOk result (building_in self.new ≡ stating (building_in self.old) said) }
+    {
+        let extends = self.extends;
+        self.extends = extends_after(extends, &said);
+        if let Some(innermost) = self.open_records.last_mut() {
+            innermost.state(self.alloc, extends, said)?;
+        }
+        Ok(())
+    }
+
+    /// Closes the innermost open record: it goes into the one around it, and a file behind the
+    /// others.
+    fn close(&mut self) -> Result<(), AllocError>
+        ensures { OnOk result (building_in self.new ≡ built (building_in self.old) say.End) }
+    {
+        let Some(inner) = self.open_records.pop() else {
+            return Ok(());
+        };
+        if let Some(outer) = self.open_records.last_mut() {
+            outer.close_in(inner)?;
+        } else if let Open::File(file) = inner {
+            self.files.push(file)?;
+        }
+        Ok(())
+    }
+}
+
+/// Whether the last of fields and extensions is an extension, behind a statement.
+fn extends_after(before: bool, said: &Statement) -> bool
+    ensures { result ≡ extends_after before said.now }
+{
+    match said {
+        Statement::Extend(_) => true,
+        Statement::Field(_) => false,
+        _ => before,
+    }
+}
