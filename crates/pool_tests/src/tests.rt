@@ -4,6 +4,7 @@ mod batches;
 mod errors;
 mod extension_faults;
 mod extensions;
+mod face;
 mod items;
 mod kinds;
 mod meanings;
@@ -11,3 +12,14 @@ mod names;
 mod parts;
 mod rules;
 mod values;
+
+use proto_types::FileDescriptorProto;
+use std::alloc::{AllocError, Global};
+
+/// The files that a script declares, which has no fault.
+fn files_of(alloc: Global, script: &str) -> Result<Vec<FileDescriptorProto>, AllocError> {
+    match link_script::files_of(alloc, script.as_bytes()) {
+        Ok(files) => Ok(files),
+        Err(_) => Err(AllocError),
+    }
+}

@@ -1,7 +1,7 @@
 //! Batches that a pool takes and refuses, and what its names mean then.
 
+use super::files_of;
 use descriptor_pool::{BuildError, DescriptorPool};
-use link_script::files_of;
 use pool_types::{DefinitionKind, ExtensionDescriptor, MessageDescriptor};
 use std::alloc::{AllocError, Global};
 use std::process::Abort;

@@ -1,8 +1,8 @@
 //! The faults of refused batches, as they are printed.
 
+use super::files_of;
 use super::rules::built;
 use descriptor_pool::BuildError;
-use link_script::files_of;
 use plain_data::Text;
 use pool_faults::{DescriptorError, DescriptorErrorKind, Labelled};
 use record_walk::CountKind;

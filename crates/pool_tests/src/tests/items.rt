@@ -1,8 +1,8 @@
 //! The items and the linked records of a pool.
 
 use super::batches::FIRST;
+use super::files_of;
 use descriptor_pool::{BuildError, DescriptorPool};
-use link_script::files_of;
 use pool_types::{
     Cardinality, FieldDescriptorInner, FileDescriptor, FileDescriptorInner, KindIndex,
     MessageDescriptor, MessageDescriptorInner,

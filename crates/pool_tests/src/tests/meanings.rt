@@ -1,6 +1,6 @@
 //! What labels and references tell among the files and the names of a pool.
 
-use link_script::files_of;
+use super::files_of;
 use name_resolution::{CandidateParents, ResolveNameFilter, ResolveNameResult, resolve_name};
 use name_tables::{HashedNames, NameTable};
 use plain_data::Items;

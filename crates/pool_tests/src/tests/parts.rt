@@ -1,10 +1,10 @@
 //! What items hold that follows from their records: maps, oneofs, default values, values, methods,
 //! encodings.
 
+use super::files_of;
 use super::items::pool_of;
 use super::values::tell_value;
 use descriptor_pool::{BuildError, DescriptorPool};
-use link_script::files_of;
 use pool_types::{
     EnumDescriptor, EnumDescriptorInner, FieldDescriptorInner, MessageDescriptor,
     MessageDescriptorInner, ServiceDescriptor, ServiceDescriptorInner,

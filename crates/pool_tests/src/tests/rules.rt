@@ -1,8 +1,8 @@
 //! The faults of numbers, of ranges, of oneofs, of JSON names, of values, and of methods.
 
 use super::extension_faults::{DEFAULT_FAULTS, EXTENSION_FAULTS};
+use super::files_of;
 use descriptor_pool::{BuildError, DescriptorPool};
-use link_script::files_of;
 use plain_data::Text;
 use pool_faults::{DescriptorError, DescriptorErrorKind, Label, Labelled};
 use proto_types::FileDescriptorProto;

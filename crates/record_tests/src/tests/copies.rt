@@ -1,7 +1,7 @@
 //! Copies of records, and what compares equal.
 
+use super::files_of;
 use super::whole::{Record, WHOLE_SCRIPT, options};
-use link_script::files_of;
 use plain_data::{Duplicate, ExactEq, Items, duplicate_option, same};
 use pool_types::{FileDescriptorInner, Syntax};
 use proto_types::{

@@ -1,6 +1,6 @@
 //! How many declarations files have.
 
-use link_script::files_of;
+use super::files_of;
 use proto_types::FileDescriptorProto;
 use record_walk::{CountKind, Counts};
 use std::process::Abort;

@@ -1,7 +1,7 @@
 //! The records that paths lead to.
 
+use super::files_of;
 use super::whole::WHOLE_SCRIPT;
-use link_script::files_of;
 use proto_types::{
     DescriptorProto, EnumDescriptorProto, EnumValueDescriptorProto, FieldDescriptorProto,
     FileDescriptorProto, MethodDescriptorProto, OneofDescriptorProto, ServiceDescriptorProto,

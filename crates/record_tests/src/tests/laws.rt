@@ -1,7 +1,7 @@
 //! The laws of the walk, and the example of a visitor of a user's own, on the file of each kind.
 
 use super::counting::{EVERY_KIND, NONE};
-use link_script::files_of;
+use super::files_of;
 use proto_types::FileDescriptorProto;
 use record_walk::{declared_indexes, declared_paths};
 use std::alloc::{AllocError, Global};

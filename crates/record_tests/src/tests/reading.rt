@@ -1,7 +1,7 @@
 //! What records read as.
 
+use super::files_of;
 use super::whole::{Record, WHOLE_SCRIPT};
-use link_script::files_of;
 use plain_data::Text;
 use proto_types::{
     DescriptorProto, EnumDescriptorProto, EnumOptions, EnumValueDescriptorProto, ExtensionRange,

@@ -1,7 +1,7 @@
 //! The declarations that the walk over files shows.
 
 use super::counting::{EVERY_KIND, NONE};
-use link_script::files_of;
+use super::files_of;
 use proto_types::FileDescriptorProto;
 use record_lists::{Lister, list_declarations};
 use record_walk::{Counts, Declaration, visit};

@@ -5,7 +5,7 @@ ghost use Rattle.pool_types.specs.Contents.{no_contents};
 ghost use Rattle.record_walk.specs.Shown.{Shown};
 
 use super::counting::{EVERY_KIND, NONE};
-use link_script::files_of;
+use super::files_of;
 use proto_types::{
     DescriptorProto, EnumDescriptorProto, EnumValueDescriptorProto, FieldDescriptorProto,
     FileDescriptorProto, MethodDescriptorProto, OneofDescriptorProto, ServiceDescriptorProto,

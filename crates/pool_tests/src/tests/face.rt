@@ -1,0 +1,19 @@
+//! Each name of the face `pool_parts`: where one is lost, this is not compiled.
+
+use pool_parts::{
+    CandidateParents, Cardinality, DefaultValue, Definition, DefinitionKind, DescriptorError,
+    DescriptorErrorKind, EnumDescriptor, EnumDescriptorInner, EnumValueDescriptor,
+    EnumValueDescriptorInner, EscapeFault, ExtensionDescriptor, ExtensionDescriptorInner,
+    FieldDescriptor, FieldDescriptorInner, FileDescriptor, FileDescriptorInner, FileNames,
+    HashedNames, Identity, Kind, KindIndex, Label, MessageDescriptor, MessageDescriptorInner,
+    MethodDescriptor, MethodDescriptorInner, NameTable, OneofDescriptor, OneofDescriptorInner,
+    ResolveNameFilter, ResolveNameResult, ServiceDescriptor, ServiceDescriptorInner, Syntax,
+    ValueFault, cardinality_of, label_at, named_kind, parents_count, parse_simple_value,
+    resolve_name, simple_kind, unescape_c_escape_string, visible_from,
+};
+use std::test::Fail;
+
+#[test]
+fn the_face_has_each_of_its_names(_rt: HostRuntime) -> Result<(), Fail> {
+    Ok(())
+}
