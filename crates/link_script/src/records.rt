@@ -1,6 +1,7 @@
 //! The records that the statements of a script build, statement by statement.
 
-ghost use Rattle.std.specs.Prelude.{◌≡◌, [], OnOk, result_map};
+ghost use Rattle.std.specs.Prelude.{◌≡◌, [], OnOk};
+ghost use Rattle.std.specs.Result.{result_map_both};
 ghost use Rattle.link_script.specs.declared.script.statement.Statement.TheVariants as say;
 ghost use Rattle.link_script.specs.Obeyed.{DeclaresFiles, IsObeyed};
 ghost use Rattle.link_script.specs.Records.{built, extends_after, nothing_built, opening, stating};
@@ -19,7 +20,7 @@ use std::mem;
 /// `Fault` with the line, from 1, and the script's first fault; `OutOfMemory` where memory was
 /// refused.
 pub fn files_of(alloc: Global, bytes: &[u8]) -> Result<Vec<FileDescriptorProto>, ScriptError>
-    ensures { DeclaresFiles (script bytes.now) (result_map (λ files. files.items) result) }
+    ensures { DeclaresFiles (script bytes.now) (result_map_both (λ files. files.items) (λ e. e) result) }
 {
     let mut builder = RecordBuilder::new(alloc);
     build(&mut builder, &mut ScriptReader::new(alloc, bytes))?;
