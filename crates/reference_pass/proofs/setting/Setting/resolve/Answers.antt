@@ -5,7 +5,7 @@ use Rattle.std.specs.Ordering.{nat_cmp}
 use Rattle.name_resolution.specs.Resolution.{resolution, resolution_in}
 use Rattle.reference_pass.specs.Setting.{seen_by}
 use Rattle.reference_pass.specs.SettingCode.{setting_in}
-use Rattle.reference_pass.proofs.setting.Setting.meaning.Goals as goal
+use Rattle.reference_pass.proofs.setting.Setting.resolve.Goals as goal
 
 given-copied : {X : Type 0} (o : Option (Bor X)) (other : Bor X) → (unwrap_or o other).now ≡ unwrap_or (option_copied o) other.now
 given-copied None other = refl
