@@ -21,7 +21,10 @@ pub struct Report {
     pub has_fault: bool,
 }
 
-/// The report of a script's bytes. The error comes where memory is refused.
+/// The report of a script's bytes.
+///
+/// # Errors
+/// `AllocError` where memory was refused.
 pub fn report_of(alloc: Global, bytes: &[u8]) -> Result<Report, AllocError>
     ensures text { IfOk result (λ r. string_bytes r.text ≡ report (script bytes.now)) }
     ensures fault { IfOk result (λ r. (r.has_fault ≡ false → (script bytes.now).fault ≡ None)

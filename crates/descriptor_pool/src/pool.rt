@@ -174,6 +174,11 @@ impl DescriptorPool {
     /// The pool is changed in place. Where memory is refused, where there is too much of a kind, or
     /// where the new files break a rule, it is as it was: what came behind is taken away, without
     /// memory. Of broken rules all of the first failing pass are told.
+    ///
+    /// # Errors
+    /// `TooMany` with the first kind, in the order of `CountKind`, of which the new files alone or
+    /// together with the pool have too much, told before any pass; `Descriptor` with all faults of the
+    /// first failing pass, in order; `OutOfMemory` where memory was refused.
     pub fn build_files(&mut self, mut files: Vec<FileDescriptorProto>) -> Result<(), BuildError>
         ensures outcome { Outcome self.old files.items result self.new }
         ensures nothing_new { new_files self.old files.items ≡ [] → IsOk result }

@@ -66,6 +66,9 @@ impl Open {
 
     /// Does what a statement says of the record. `extends` tells whether an extension was stated
     /// last, of which more may be said then, or a field.
+    ///
+    /// # Errors
+    /// `AllocError` where memory was refused.
     pub fn state(&mut self, alloc: Global, extends: bool, said: Statement) -> Result<(), AllocError>
         ensures { OnOk result (self.new ≡ applied extends said self.old) }
     {
@@ -78,6 +81,9 @@ impl Open {
     }
 
     /// Takes in a record whose block has closed: it stands behind the others of its list.
+    ///
+    /// # Errors
+    /// `AllocError` where memory was refused.
     pub fn close_in(&mut self, inner: Open) -> Result<(), AllocError>
         ensures { OnOk result (self.new ≡ closed_in inner self.old) }
     {

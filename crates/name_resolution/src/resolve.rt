@@ -188,6 +188,9 @@ impl<'a> ResolveNameResult<'a> {
 
     /// The fault of a reference as it is written, at a path of the file with an index; none where
     /// it is found.
+    ///
+    /// # Errors
+    /// `AllocError` where memory was refused.
     pub fn fault(
         &self,
         alloc: Global,

@@ -61,6 +61,9 @@ impl<T> Items<T> {
 
 impl<T: Copy> Items<T> {
     /// A copy of the items.
+    ///
+    /// # Errors
+    /// `AllocError` where memory was refused.
     pub fn from_slice(alloc: Global, items: &[T]) -> Result<Items<T>, AllocError>
         ensures { IfOk result (λ it. it ≡ items.now) }
     {
@@ -71,6 +74,9 @@ impl<T: Copy> Items<T> {
 
 impl<T: Drop> Items<T> {
     /// Puts an item behind the others.
+    ///
+    /// # Errors
+    /// `AllocError` where memory was refused.
     pub fn push(&mut self, item: T) -> Result<(), AllocError>
         ensures ok { OnOk result (self.new ≡ self.old ++ item ∷ []) }
         ensures err { OnErr result (self.new ≡ self.old) }
@@ -92,6 +98,9 @@ impl<T> Items<T> {
 
 impl<T: Duplicate> Items<T> {
     /// An equal list.
+    ///
+    /// # Errors
+    /// `AllocError` where memory was refused.
     pub fn clone(&self, alloc: Global) -> Result<Items<T>, AllocError>
         ensures { IfOk result (λ copy. copy ≡ self.now) }
     {
@@ -101,6 +110,9 @@ impl<T: Duplicate> Items<T> {
 }
 
 /// A copy of each item, in order.
+///
+/// # Errors
+/// `AllocError` where memory was refused.
 pub fn duplicates<T: Duplicate>(alloc: Global, items: &[T]) -> Result<Vec<T>, AllocError>
     ensures { IfOk result (λ copies. copies.items ≡ items.now) }
 {

@@ -10,6 +10,9 @@ use std::alloc::{AllocError, Global};
 
 impl DescriptorPoolInner {
     /// An equal one, of copies.
+    ///
+    /// # Errors
+    /// `AllocError` where memory was refused.
     pub fn clone(&self, alloc: Global) -> Result<DescriptorPoolInner, AllocError>
         ensures { IfOk result (λ copy. contents_in copy ≡ contents_in self.now) }
     {

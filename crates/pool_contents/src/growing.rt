@@ -71,6 +71,9 @@ impl GrowingPool {
 
     /// Gives each file that came the files that it imports and those that it sees, of all that
     /// there are.
+    ///
+    /// # Errors
+    /// `AllocError` where memory was refused.
     pub fn see_files(&mut self, alloc: Global) -> Result<(), AllocError>
         requires few { length self.old.inner.files.items < 2 ^ 32 }
         requires places { FileNamesBefore (length self.old.inner.files.items)
@@ -105,6 +108,9 @@ impl GrowingPool {
     }
 
     /// Puts the index of each extension that came behind the list of the message that it extends.
+    ///
+    /// # Errors
+    /// `AllocError` where memory was refused.
     pub fn extend_messages(&mut self) -> Result<(), AllocError>
         requires few { length self.old.inner.extensions.items < 2 ^ 32 }
         ensures ok { OnOk result (contents_in self.new.inner

@@ -8,6 +8,9 @@ use std::alloc::{AllocError, Global};
 
 /// The label of a path in the file with an index, from 0 in the order of linking; where there is
 /// no such file, of no file.
+///
+/// # Errors
+/// `AllocError` where memory was refused.
 pub fn label_at(
     alloc: Global,
     files: &[FileDescriptorInner],

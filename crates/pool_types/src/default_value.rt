@@ -21,6 +21,9 @@ pub enum DefaultValue {
 
 impl DefaultValue {
     /// An equal value.
+    ///
+    /// # Errors
+    /// `AllocError` where memory was refused.
     pub fn clone(&self, alloc: Global) -> Result<DefaultValue, AllocError>
         ensures { IfOk result (λ copy. copy ≡ self.now) }
     {

@@ -47,6 +47,9 @@ impl FileDescriptorSet {
     }
 
     /// An equal set.
+    ///
+    /// # Errors
+    /// `AllocError` where memory was refused.
     pub fn clone(&self, alloc: Global) -> Result<FileDescriptorSet, AllocError>
         ensures { IfOk result (λ copy. copy ≡ self.now) }
     {
@@ -92,6 +95,9 @@ impl FileDescriptorProto {
     }
 
     /// An equal file.
+    ///
+    /// # Errors
+    /// `AllocError` where memory was refused.
     pub fn clone(&self, alloc: Global) -> Result<FileDescriptorProto, AllocError>
         ensures { IfOk result (λ copy. copy ≡ self.now) }
     {

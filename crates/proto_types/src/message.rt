@@ -72,6 +72,9 @@ impl DescriptorProto {
     }
 
     /// An equal message.
+    ///
+    /// # Errors
+    /// `AllocError` where memory was refused.
     pub fn clone(&self, alloc: Global) -> Result<DescriptorProto, AllocError>
         ensures { IfOk result (λ copy. copy ≡ self.now) }
     {
@@ -141,6 +144,9 @@ impl ExtensionRange {
     }
 
     /// An equal range.
+    ///
+    /// # Errors
+    /// `AllocError` where memory was refused.
     pub fn clone(&self, alloc: Global) -> Result<ExtensionRange, AllocError>
         ensures { IfOk result (λ copy. copy ≡ self.now) }
     {
@@ -178,6 +184,9 @@ impl ReservedRange {
     }
 
     /// An equal range.
+    ///
+    /// # Errors
+    /// `AllocError` where memory was refused.
     pub fn clone(&self, alloc: Global) -> Result<ReservedRange, AllocError>
         ensures { IfOk result (λ copy. copy ≡ self.now) }
     {
@@ -207,6 +216,9 @@ impl OneofDescriptorProto {
     }
 
     /// An equal oneof.
+    ///
+    /// # Errors
+    /// `AllocError` where memory was refused.
     pub fn clone(&self, alloc: Global) -> Result<OneofDescriptorProto, AllocError>
         ensures { IfOk result (λ copy. copy ≡ self.now) }
     {

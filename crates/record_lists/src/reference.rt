@@ -32,6 +32,9 @@ pub struct Reference<'a> {
 
 /// The references of a file's record, in the order of the walk. What the file declares must fit
 /// into a pool, as `Counts::of` tells.
+///
+/// # Errors
+/// `AllocError` where memory was refused.
 pub fn references<'a>(
     alloc: Global,
     file: &'a FileDescriptorProto,

@@ -30,9 +30,11 @@ impl Counts {
     ghost use Rattle.record_walk.specs.Fits.{counts_with};
     ghost use Rattle.record_walk.specs.Declarations.{declarations};
 
-    /// The counts of all that files declare, or the first kind of which there is too much: a list
-    /// with more than 2,147,483,647 entries, and then files, messages, enums, services and
-    /// extensions past 4,294,967,295.
+    /// The counts of all that files declare. No memory is taken.
+    ///
+    /// # Errors
+    /// The first kind of which there is too much: a list with more than 2,147,483,647 entries, and
+    /// then files, messages, enums, services and extensions past 4,294,967,295.
     pub fn of(files: &[FileDescriptorProto]) -> Result<Counts, CountKind>
         ensures { result ≡ counts_of (declarations no_counts files.now) }
     {
@@ -42,7 +44,10 @@ impl Counts {
         }
     }
 
-    /// The sums of two counts, or the first kind whose sum is past 4,294,967,295.
+    /// The sums of two counts. No memory is taken.
+    ///
+    /// # Errors
+    /// The first kind whose sum is past 4,294,967,295.
     pub fn plus(&self, other: &Counts) -> Result<Counts, CountKind>
         ensures { result ≡ within_limit (sums self.now other.now) }
     {
@@ -50,8 +55,10 @@ impl Counts {
         sums.within_limits()
     }
 
-    /// These counts together with those of all that files declare, or what there is too much of: in
-    /// the files alone, as `of` tells it, or else in the sums.
+    /// These counts together with those of all that files declare. No memory is taken.
+    ///
+    /// # Errors
+    /// What there is too much of: in the files alone, as `of` tells it, or else in the sums.
     pub fn with_files(&self, files: &[FileDescriptorProto]) -> Result<Counts, CountKind>
         ensures { result ≡ counts_with self.now files.now }
     {

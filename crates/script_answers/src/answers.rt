@@ -65,6 +65,9 @@ fn count_word(kind: CountKind) -> &'static str
 }
 
 /// Tells how much there is of each kind.
+///
+/// # Errors
+/// `AllocError` where memory was refused.
 pub fn write_counts(told: &mut String, counts: Counts) -> Result<(), AllocError>
     ensures { OnOk result (string_bytes told.new ≡ string_bytes told.old
         ++ spec.counts_line counts) }
@@ -83,6 +86,9 @@ pub fn write_counts(told: &mut String, counts: Counts) -> Result<(), AllocError>
 }
 
 /// Tells what there is too much of.
+///
+/// # Errors
+/// `AllocError` where memory was refused.
 pub fn write_too_many(told: &mut String, kind: CountKind) -> Result<(), AllocError>
     ensures { OnOk result (string_bytes told.new ≡ string_bytes told.old
         ++ spec.too_many_line kind) }
@@ -92,6 +98,9 @@ pub fn write_too_many(told: &mut String, kind: CountKind) -> Result<(), AllocErr
 }
 
 /// Tells how many faults there are, and each on a line of its own.
+///
+/// # Errors
+/// `AllocError` where memory was refused.
 pub fn write_refused(told: &mut String, faults: &[DescriptorErrorKind]) -> Result<(), AllocError>
     ensures { OnOk result (string_bytes told.new ≡ string_bytes told.old
         ++ spec.refused_lines faults.now) }
@@ -106,6 +115,9 @@ pub fn write_refused(told: &mut String, faults: &[DescriptorErrorKind]) -> Resul
 }
 
 /// Tells what a name means: the kind of the definition, the name of its file, and its path.
+///
+/// # Errors
+/// `AllocError` where memory was refused.
 pub fn write_definition(
     told: &mut String,
     definition: &Definition,
@@ -121,6 +133,9 @@ pub fn write_definition(
 }
 
 /// Tells that nothing has a name.
+///
+/// # Errors
+/// `AllocError` where memory was refused.
 pub fn write_none(told: &mut String) -> Result<(), AllocError>
     ensures { OnOk result (string_bytes told.new ≡ string_bytes told.old ++ spec.none_line) }
 {
@@ -171,6 +186,9 @@ fn write_declarations(told: &mut String, list: &[Declaration]) -> Result<(), All
 
 /// Tells what the linked records of files declare, which must fit into a pool, as `Counts::of`
 /// tells.
+///
+/// # Errors
+/// `AllocError` where memory was refused.
 pub fn write_walk(
     alloc: Global,
     told: &mut String,
@@ -226,6 +244,9 @@ fn write_references(told: &mut String, list: &[Reference]) -> Result<(), AllocEr
 
 /// Tells to what the linked record of the first file with a name refers. What the records declare
 /// must fit into a pool, as `Counts::of` tells.
+///
+/// # Errors
+/// `AllocError` where memory was refused.
 pub fn write_refs(
     alloc: Global,
     told: &mut String,
@@ -243,6 +264,9 @@ pub fn write_refs(
 }
 
 /// Tells the fault of a script, and its line.
+///
+/// # Errors
+/// `AllocError` where memory was refused.
 pub fn write_fault(told: &mut String, line: u64, fault: ScriptFault) -> Result<(), AllocError>
     ensures { OnOk result (string_bytes told.new ≡ string_bytes told.old
         ++ spec.fault_line (line, fault)) }

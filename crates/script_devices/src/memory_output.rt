@@ -36,8 +36,10 @@ impl Model for MemoryOutput {
 }
 
 impl MemoryOutput {
-    /// A writer that takes as many bytes as there is room, and does not fail. The error comes where
-    /// memory is refused.
+    /// A writer that takes as many bytes as there is room, and does not fail.
+    ///
+    /// # Errors
+    /// `AllocError` where memory was refused.
     pub fn new(alloc: Global, room: usize) -> Result<MemoryOutput, AllocError>
         ensures sink { IfOk result (λ s. s.sink ≡ sink_over [] 0 0) }
         ensures room { IfOk result (λ s. s.room ≡ room) }
@@ -47,7 +49,10 @@ impl MemoryOutput {
     }
 
     /// A writer that takes as many bytes as there is room, and whose call of this number, from 1,
-    /// fails. With 0 it does not fail. The error comes where memory is refused.
+    /// fails. With 0 it does not fail.
+    ///
+    /// # Errors
+    /// `AllocError` where memory was refused.
     pub fn with_fuse(alloc: Global, room: usize, fuse: u64) -> Result<MemoryOutput, AllocError>
         ensures sink { IfOk result (λ s. s.sink ≡ sink_over [] 0 0) }
         ensures room { IfOk result (λ s. s.room ≡ room) }

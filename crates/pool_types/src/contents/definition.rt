@@ -69,6 +69,9 @@ impl Identity {
     }
 
     /// An equal identity.
+    ///
+    /// # Errors
+    /// `AllocError` where memory was refused.
     pub fn clone(&self, alloc: Global) -> Result<Identity, AllocError>
         ensures { IfOk result (λ copy. copy ≡ self.now) }
     {
@@ -98,6 +101,9 @@ impl DefinitionKind {
 
 impl Definition {
     /// An equal definition.
+    ///
+    /// # Errors
+    /// `AllocError` where memory was refused.
     pub fn clone(&self, alloc: Global) -> Result<Definition, AllocError>
         ensures { IfOk result (λ copy. copy ≡ self.now) }
     {

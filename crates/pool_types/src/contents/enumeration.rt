@@ -29,6 +29,9 @@ pub struct EnumValueDescriptorInner {
 
 impl EnumDescriptorInner {
     /// An equal enum.
+    ///
+    /// # Errors
+    /// `AllocError` where memory was refused.
     pub fn clone(&self, alloc: Global) -> Result<EnumDescriptorInner, AllocError>
         ensures { IfOk result (λ copy. copy ≡ self.now) }
     {
@@ -54,6 +57,9 @@ impl Duplicate for EnumDescriptorInner {
 
 impl EnumValueDescriptorInner {
     /// An equal value.
+    ///
+    /// # Errors
+    /// `AllocError` where memory was refused.
     pub fn clone(&self, alloc: Global) -> Result<EnumValueDescriptorInner, AllocError>
         ensures { IfOk result (λ copy. copy ≡ self.now) }
     {

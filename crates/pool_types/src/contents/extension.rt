@@ -26,6 +26,9 @@ pub struct ExtensionDescriptorInner {
 
 impl ExtensionDescriptorInner {
     /// An equal extension.
+    ///
+    /// # Errors
+    /// `AllocError` where memory was refused.
     pub fn clone(&self, alloc: Global) -> Result<ExtensionDescriptorInner, AllocError>
         ensures { IfOk result (λ copy. copy ≡ self.now) }
     {

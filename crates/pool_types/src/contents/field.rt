@@ -26,6 +26,9 @@ pub struct FieldDescriptorInner {
 
 impl FieldDescriptorInner {
     /// An equal field.
+    ///
+    /// # Errors
+    /// `AllocError` where memory was refused.
     pub fn clone(&self, alloc: Global) -> Result<FieldDescriptorInner, AllocError>
         ensures { IfOk result (λ copy. copy ≡ self.now) }
     {

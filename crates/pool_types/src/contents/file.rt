@@ -21,6 +21,9 @@ pub struct FileDescriptorInner {
 
 impl FileDescriptorInner {
     /// An equal file.
+    ///
+    /// # Errors
+    /// `AllocError` where memory was refused.
     pub fn clone(&self, alloc: Global) -> Result<FileDescriptorInner, AllocError>
         ensures { IfOk result (λ copy. copy ≡ self.now) }
     {

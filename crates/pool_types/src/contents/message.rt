@@ -27,6 +27,9 @@ pub struct MessageDescriptorInner {
 
 impl MessageDescriptorInner {
     /// An equal message.
+    ///
+    /// # Errors
+    /// `AllocError` where memory was refused.
     pub fn clone(&self, alloc: Global) -> Result<MessageDescriptorInner, AllocError>
         ensures { IfOk result (λ copy. copy ≡ self.now) }
     {

@@ -14,6 +14,9 @@ pub struct OneofDescriptorInner {
 
 impl OneofDescriptorInner {
     /// An equal oneof.
+    ///
+    /// # Errors
+    /// `AllocError` where memory was refused.
     pub fn clone(&self, alloc: Global) -> Result<OneofDescriptorInner, AllocError>
         ensures { IfOk result (λ copy. copy ≡ self.now) }
     {

@@ -23,6 +23,9 @@ pub struct MethodDescriptorInner {
 
 impl ServiceDescriptorInner {
     /// An equal service.
+    ///
+    /// # Errors
+    /// `AllocError` where memory was refused.
     pub fn clone(&self, alloc: Global) -> Result<ServiceDescriptorInner, AllocError>
         ensures { IfOk result (λ copy. copy ≡ self.now) }
     {
@@ -41,6 +44,9 @@ impl Duplicate for ServiceDescriptorInner {
 
 impl MethodDescriptorInner {
     /// An equal method.
+    ///
+    /// # Errors
+    /// `AllocError` where memory was refused.
     pub fn clone(&self, alloc: Global) -> Result<MethodDescriptorInner, AllocError>
         ensures { IfOk result (λ copy. copy ≡ self.now) }
     {

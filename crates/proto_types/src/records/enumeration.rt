@@ -54,6 +54,9 @@ impl EnumDescriptorProto {
     }
 
     /// An equal enum.
+    ///
+    /// # Errors
+    /// `AllocError` where memory was refused.
     pub fn clone(&self, alloc: Global) -> Result<EnumDescriptorProto, AllocError>
         ensures { IfOk result (λ copy. copy ≡ self.now) }
     {
@@ -93,6 +96,9 @@ impl EnumReservedRange {
     }
 
     /// An equal range.
+    ///
+    /// # Errors
+    /// `AllocError` where memory was refused.
     pub fn clone(&self, alloc: Global) -> Result<EnumReservedRange, AllocError>
         ensures { IfOk result (λ copy. copy ≡ self.now) }
     {
@@ -130,6 +136,9 @@ impl EnumValueDescriptorProto {
     }
 
     /// An equal value.
+    ///
+    /// # Errors
+    /// `AllocError` where memory was refused.
     pub fn clone(&self, alloc: Global) -> Result<EnumValueDescriptorProto, AllocError>
         ensures { IfOk result (λ copy. copy ≡ self.now) }
     {

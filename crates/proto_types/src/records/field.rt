@@ -200,6 +200,9 @@ impl FieldDescriptorProto {
     }
 
     /// An equal field.
+    ///
+    /// # Errors
+    /// `AllocError` where memory was refused.
     pub fn clone(&self, alloc: Global) -> Result<FieldDescriptorProto, AllocError>
         ensures { IfOk result (λ copy. copy ≡ self.now) }
     {

@@ -41,6 +41,9 @@ impl EnumOptions {
 
 impl<T: Copy> Options<T> {
     /// Equal options.
+    ///
+    /// # Errors
+    /// `AllocError` where memory was refused.
     pub fn clone(&self, alloc: Global) -> Result<Options<T>, AllocError>
         ensures { IfOk result (λ copy. copy ≡ self.now) }
     {

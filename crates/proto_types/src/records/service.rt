@@ -46,6 +46,9 @@ impl ServiceDescriptorProto {
     }
 
     /// An equal service.
+    ///
+    /// # Errors
+    /// `AllocError` where memory was refused.
     pub fn clone(&self, alloc: Global) -> Result<ServiceDescriptorProto, AllocError>
         ensures { IfOk result (λ copy. copy ≡ self.now) }
     {
@@ -94,6 +97,9 @@ impl MethodDescriptorProto {
     }
 
     /// An equal method.
+    ///
+    /// # Errors
+    /// `AllocError` where memory was refused.
     pub fn clone(&self, alloc: Global) -> Result<MethodDescriptorProto, AllocError>
         ensures { IfOk result (λ copy. copy ≡ self.now) }
     {

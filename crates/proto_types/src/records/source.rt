@@ -32,6 +32,9 @@ impl SourceCodeInfo {
     }
 
     /// An equal record.
+    ///
+    /// # Errors
+    /// `AllocError` where memory was refused.
     pub fn clone(&self, alloc: Global) -> Result<SourceCodeInfo, AllocError>
         ensures { IfOk result (λ copy. copy ≡ self.now) }
     {
@@ -62,6 +65,9 @@ impl Location {
     }
 
     /// An equal location.
+    ///
+    /// # Errors
+    /// `AllocError` where memory was refused.
     pub fn clone(&self, alloc: Global) -> Result<Location, AllocError>
         ensures { IfOk result (λ copy. copy ≡ self.now) }
     {
