@@ -14,8 +14,9 @@ pub use link_script::{
     files_of, read_script,
 };
 pub use name_pass::NameVisitor;
+pub use name_tables::{FileNames, HashedNames, NameTable};
 pub use plain_data::{Items, NumberMap, Text, TextMap};
-pub use pool_faults::{DescriptorError, DescriptorErrorKind, Label};
+pub use pool_faults::{DescriptorError, DescriptorErrorKind, Label, Labelled};
 pub use pool_types::{
     Cardinality, DefaultValue, Definition, DefinitionKind, EnumDescriptor, EnumDescriptorInner,
     EnumValueDescriptor, EnumValueDescriptorInner, ExtensionDescriptor, ExtensionDescriptorInner,
@@ -29,8 +30,8 @@ pub use proto_types::{
     Location, MethodDescriptorProto, OneofDescriptorProto, Options, ReservedRange,
     ServiceDescriptorProto, SourceCodeInfo, Unread,
 };
-pub use record_walk::{CountKind, Counts};
-pub use reference_pass::ResolveVisitor;
+pub use record_walk::{CountKind, Counts, Visitor};
+pub use reference_pass::{NewItems, ResolveVisitor, Setting};
 pub use report::{Report, report_of};
 pub use runs::run;
 pub use script_devices::{

@@ -1,5 +1,5 @@
-//! The parts of a pool: what it holds, what a name means, default values, and the faults of a
-//! batch.
+//! The parts of a pool: what it holds, what a name means, default values, and the faults of a batch.
+//! Every record, list and map that these name is handed on.
 #![tactic(auto)]
 
 pub use default_values::{EscapeFault, ValueFault, parse_simple_value, unescape_c_escape_string};
@@ -8,7 +8,8 @@ pub use name_resolution::{
     parents_count, resolve_name, simple_kind, visible_from,
 };
 pub use name_tables::{FileNames, HashedNames, NameTable};
-pub use pool_faults::{DescriptorError, DescriptorErrorKind, Label, label_at};
+pub use plain_data::{Items, NumberMap, Text, TextMap};
+pub use pool_faults::{DescriptorError, DescriptorErrorKind, Label, Labelled, label_at};
 pub use pool_types::{
     Cardinality, DefaultValue, Definition, DefinitionKind, EnumDescriptor, EnumDescriptorInner,
     EnumValueDescriptor, EnumValueDescriptorInner, ExtensionDescriptor, ExtensionDescriptorInner,
@@ -16,3 +17,4 @@ pub use pool_types::{
     KindIndex, MessageDescriptor, MessageDescriptorInner, MethodDescriptor, MethodDescriptorInner,
     OneofDescriptor, OneofDescriptorInner, ServiceDescriptor, ServiceDescriptorInner, Syntax,
 };
+pub use proto_types::{FieldLabel, FieldType, FileDescriptorProto};

@@ -1,13 +1,17 @@
-//! The records of descriptor.proto, what they declare, the walk over it, and the record at a path.
+//! The records of descriptor.proto, what they declare, the walk over it, the record at a path, and
+//! the references. Every item, list and map that these name is handed on.
 #![tactic(auto)]
 
-pub use plain_data::{Duplicate, ExactEq, Items, Text, duplicate_option, duplicates, same};
+pub use plain_data::{
+    Duplicate, ExactEq, Items, NumberMap, Text, TextMap, duplicate_option, duplicates, same,
+};
 pub use pool_faults::{DescriptorErrorKind, Label, Labelled};
 pub use pool_types::{
-    Cardinality, Definition, DefinitionKind, EnumDescriptorInner, EnumValueDescriptorInner,
-    ExtensionDescriptorInner, FieldDescriptorInner, FileDescriptor, FileDescriptorInner, Identity,
-    KindIndex, MessageDescriptor, MessageDescriptorInner, MethodDescriptorInner,
-    OneofDescriptorInner, ServiceDescriptorInner, Syntax,
+    Cardinality, DefaultValue, Definition, DefinitionKind, EnumDescriptor, EnumDescriptorInner,
+    EnumValueDescriptor, EnumValueDescriptorInner, ExtensionDescriptor, ExtensionDescriptorInner,
+    FieldDescriptor, FieldDescriptorInner, FileDescriptor, FileDescriptorInner, Identity, Kind,
+    KindIndex, MessageDescriptor, MessageDescriptorInner, MethodDescriptor, MethodDescriptorInner,
+    OneofDescriptor, OneofDescriptorInner, ServiceDescriptor, ServiceDescriptorInner, Syntax,
 };
 pub use proto_types::{
     DescriptorProto, EnumDescriptorProto, EnumOptions, EnumReservedRange, EnumValueDescriptorProto,
@@ -16,8 +20,9 @@ pub use proto_types::{
     ReservedRange, ServiceDescriptorProto, SourceCodeInfo, Unread, join, tag,
 };
 pub use record_lists::{
-    Lister, find_enum_proto, find_enum_value_proto, find_field_proto, find_message_proto,
-    find_method_proto, find_oneof_proto, find_service_proto, list_declarations,
+    Lister, Reference, find_enum_proto, find_enum_value_proto, find_field_proto,
+    find_message_proto, find_method_proto, find_oneof_proto, find_service_proto, list_declarations,
+    references,
 };
 pub use record_walk::{
     CountKind, Counts, Declaration, DeclarationKind, Visitor, declared_changed, declared_in_turn,

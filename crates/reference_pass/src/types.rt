@@ -130,7 +130,7 @@ fn meant_kind(written: FieldType, meaning: &ResolveNameResult) -> Option<KindInd
     }
 }
 
-/// The default value of a field or an extension whose type name has a resolve, if one is given.
+/// The default value of a field or an extension whose type name has a meaning, if one is given.
 fn named_default(
     reading: &mut Reading,
     place: Place,

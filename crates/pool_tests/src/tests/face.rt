@@ -4,11 +4,12 @@ use pool_parts::{
     CandidateParents, Cardinality, DefaultValue, Definition, DefinitionKind, DescriptorError,
     DescriptorErrorKind, EnumDescriptor, EnumDescriptorInner, EnumValueDescriptor,
     EnumValueDescriptorInner, EscapeFault, ExtensionDescriptor, ExtensionDescriptorInner,
-    FieldDescriptor, FieldDescriptorInner, FileDescriptor, FileDescriptorInner, FileNames,
-    HashedNames, Identity, Kind, KindIndex, Label, MessageDescriptor, MessageDescriptorInner,
-    MethodDescriptor, MethodDescriptorInner, NameTable, OneofDescriptor, OneofDescriptorInner,
-    ResolveNameFilter, ResolveNameResult, ServiceDescriptor, ServiceDescriptorInner, Syntax,
-    ValueFault, cardinality_of, label_at, named_kind, parents_count, parse_simple_value,
+    FieldDescriptor, FieldDescriptorInner, FieldLabel, FieldType, FileDescriptor,
+    FileDescriptorInner, FileDescriptorProto, FileNames, HashedNames, Identity, Items, Kind,
+    KindIndex, Label, Labelled, MessageDescriptor, MessageDescriptorInner, MethodDescriptor,
+    MethodDescriptorInner, NameTable, NumberMap, OneofDescriptor, OneofDescriptorInner,
+    ResolveNameFilter, ResolveNameResult, ServiceDescriptor, ServiceDescriptorInner, Syntax, Text,
+    TextMap, ValueFault, cardinality_of, label_at, named_kind, parents_count, parse_simple_value,
     resolve_name, simple_kind, unescape_c_escape_string, visible_from,
 };
 use std::test::Fail;

@@ -10,14 +10,14 @@ use descriptor_linker::{
     EnumValueDescriptorInner, EnumValueDescriptorProto, ExtensionDescriptor,
     ExtensionDescriptorInner, ExtensionRange, FieldDescriptor, FieldDescriptorInner,
     FieldDescriptorProto, FieldLabel, FieldOptions, FieldType, FileDescriptor, FileDescriptorInner,
-    FileDescriptorProto, Identity, Items, Keyword, Kind, KindIndex, Label, Location, MemoryInput,
-    MemoryOutput, MessageDescriptor, MessageDescriptorInner, MethodDescriptor,
-    MethodDescriptorInner, MethodDescriptorProto, NameVisitor, NumberMap, OneofDescriptor,
-    OneofDescriptorInner, OneofDescriptorProto, Open, Options, ReaderInput, RecordBuilder, Report,
-    ReportOutput, ReservedRange, ResolveVisitor, Script, ScriptError, ScriptFault, ScriptInput,
-    ScriptReader, ServiceDescriptor, ServiceDescriptorInner, ServiceDescriptorProto,
-    SourceCodeInfo, Statement, Syntax, Text, TextMap, Unread, WriterOutput, files_of, read_script,
-    report_of, run,
+    FileDescriptorProto, FileNames, HashedNames, Identity, Items, Keyword, Kind, KindIndex, Label,
+    Labelled, Location, MemoryInput, MemoryOutput, MessageDescriptor, MessageDescriptorInner,
+    MethodDescriptor, MethodDescriptorInner, MethodDescriptorProto, NameTable, NameVisitor,
+    NewItems, NumberMap, OneofDescriptor, OneofDescriptorInner, OneofDescriptorProto, Open,
+    Options, ReaderInput, RecordBuilder, Report, ReportOutput, ReservedRange, ResolveVisitor,
+    Script, ScriptError, ScriptFault, ScriptInput, ScriptReader, ServiceDescriptor,
+    ServiceDescriptorInner, ServiceDescriptorProto, Setting, SourceCodeInfo, Statement, Syntax,
+    Text, TextMap, Unread, Visitor, WriterOutput, files_of, read_script, report_of, run,
 };
 use std::test::Fail;
 
