@@ -8,7 +8,7 @@ use Rattle.record_walk.specs.Fits.{counts_with}
 use Rattle.record_walk.specs.Walking.{WithinLimits}
 use Rattle.record_walk.proofs.Room.{room-fits}
 use Rattle.reference_pass.specs.SecondPass.{Faults}
-use Rattle.reference_pass.specs.NamesBegin.{NamesBegin}
+use Rattle.reference_pass.specs.NamesBegin.{AllNamesBegin}
 use Rattle.descriptor_pool.specs.declared.error.BuildError.{BuildError}
 use Rattle.descriptor_pool.specs.declared.error.BuildError.TheVariants.{TooMany, Descriptor, OutOfMemory}
 use Rattle.descriptor_pool.specs.Linking.{declared_with, setting_with, batch_faults, first_of_both, linked_with, with_items, with_names}
@@ -30,7 +30,7 @@ pub record IsBehind {U : Type 0} (p : Contents) (new : List FileDescriptorProto)
   pub ok : OnOk r (q ≡ linked_with p new)
   pub told : TellsAll r (batch_faults p new)
   pub err : OnErr r (q ≡ p)
-  pub names : NamesBegin q.messages
+  pub names : AllNamesBegin q
 
 -- a batch fits whose new files were counted
 pub fits_of : (p : Contents) (base : Counts) (batch counted : Batch) → base ≡ counts_in p → counted ≡ new_files p batch → IsOk (counts_with base counted) → Fits p batch

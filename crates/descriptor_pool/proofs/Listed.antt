@@ -9,7 +9,7 @@ use Rattle.pool_types.specs.declared.contents.extension.ExtensionDescriptorInner
 use Rattle.pool_types.specs.declared.contents.message.MessageDescriptorInner.{MessageDescriptorInner}
 use Rattle.record_walk.specs.Counts.{counts_in}
 use Rattle.record_walk.proofs.Counted.{counts_are}
-use Rattle.reference_pass.specs.NamesBegin.{MessageNamesBegin, NamesBegin}
+use Rattle.reference_pass.specs.NamesBegin.{AllNamesBegin, MessageNamesBegin}
 use Rattle.pool_contents.specs.Extended.{extended_by, extending, with_extended}
 use Rattle.pool_contents.proofs.Each.{all-each, length-each}
 
@@ -18,10 +18,14 @@ pub counts-extended : (first : ℕ) (p : Contents) → counts_in (with_extended 
 counts-extended first p = counts_are _ _ refl (length-each (extended_by first (drop first p.extensions)) 0 p.messages) refl refl refl
 
 -- names begin where they began
-pub names-extended : (first : ℕ) (p : Contents) → NamesBegin p.messages → NamesBegin (with_extended first p).messages
-names-extended first p begin =
-    all-each MessageNamesBegin MessageNamesBegin (extended_by first (drop first p.extensions))
-    (λ n m here. record { own = here.own; fields = here.fields; oneofs = here.oneofs }) 0 p.messages begin
+pub names-extended : (first : ℕ) (p : Contents) → AllNamesBegin p → AllNamesBegin (with_extended first p)
+names-extended first p begin = record {
+  messages = all-each MessageNamesBegin MessageNamesBegin (extended_by first (drop first p.extensions))
+      (λ n m here. record { own = here.own; fields = here.fields; oneofs = here.oneofs }) 0 p.messages begin.messages;
+  enums = begin.enums;
+  services = begin.services;
+  extensions = begin.extensions;
+}
 
 -- what is put behind lists are indexes of the extensions
 extending-lies : (message end first : ℕ) (xs : List ExtensionDescriptorInner) → first + length xs ≤ end → AllByRecursion (λ x. x < end) (extending message first xs)

@@ -8,7 +8,7 @@ use Rattle.name_tables.specs.NameTables.{FileNamesBefore}
 use Rattle.record_walk.specs.Fits.{counts_with}
 use Rattle.record_walk.specs.Shown.{Shown}
 use Rattle.reference_pass.specs.Setting.{Setting}
-use Rattle.reference_pass.specs.NamesBegin.{NamesBegin}
+use Rattle.reference_pass.specs.NamesBegin.{AllNamesBegin}
 use Rattle.reference_pass.specs.Short.{ShortFiles}
 use Rattle.name_pass.specs.Entered.{file_entries}
 use Rattle.reference_pass.specs.Linking.{ItemsAre, lists_in}
@@ -166,10 +166,9 @@ module _ (old added r : GrowingPool) (new : List FileDescriptorProto) (base_is :
       pub short-seen : ShortFiles (files_of before ++ new) → ShortFiles (files_of (contents_in t.inner))
       short-seen short = subst ShortFiles (sym files-seen) short
 
-      pub begin-seen : NamesBegin before.messages → NamesBegin t.inner.messages.items
+      pub begin-seen : AllNamesBegin before → AllNamesBegin (contents_in t.inner)
       begin-seen begin =
-          subst (λ (x : Contents). NamesBegin x.messages) (sym seen) (subst (λ (x : Contents). NamesBegin x.messages) (sym entered-is)
-          (subst (λ (x : Contents). NamesBegin x.messages) (sym put) begin))
+          subst AllNamesBegin (sym seen) (subst AllNamesBegin (sym entered-is) (subst AllNamesBegin (sym put) begin))
 
       pub imports-seen : AllByRecursion (HasImports (setting_against t.inner)) (drop t.base.files t.inner.files.items)
       imports-seen =

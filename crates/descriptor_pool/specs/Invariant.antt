@@ -4,13 +4,13 @@ use Rattle.record_walk.specs.Counts.{no_counts, counted, counts_in}
 use Rattle.record_walk.specs.Declarations.{declarations}
 use Rattle.record_walk.specs.Walking.{WithinLimits}
 use Rattle.pool_types.specs.Contents.{Contents, files_of}
-use Rattle.reference_pass.specs.NamesBegin.{NamesBegin}
+use Rattle.reference_pass.specs.NamesBegin.{AllNamesBegin}
 use Rattle.descriptor_pool.specs.Pool.{Made}
 
 -- the contents are made, their counts are those of what the files declare and are within the
--- limits, and each name begins where a character begins
+-- limits, and the name of each item begins where a character begins
 pub record IsPool (p : Contents) : Type 0 where
   pub made : Made p
   pub counts_are : counts_in p ≡ counted no_counts (declarations no_counts (files_of p))
   pub within : WithinLimits (counts_in p)
-  pub names_begin : NamesBegin p.messages
+  pub names_begin : AllNamesBegin p

@@ -7,7 +7,7 @@ ghost use Rattle.record_walk.specs.Counts.{counts_in};
 ghost use Rattle.record_walk.specs.Fits.{counts_with};
 ghost use Rattle.record_walk.specs.Declarations.{declarations};
 ghost use Rattle.reference_pass.specs.SecondPass.{second_pass};
-ghost use Rattle.reference_pass.specs.NamesBegin.{NamesBegin};
+ghost use Rattle.reference_pass.specs.NamesBegin.{AllNamesBegin, NamesBegin};
 ghost use Rattle.reference_pass.specs.Short.{ShortFiles};
 ghost use Rattle.descriptor_pool.specs.Linking.{batch_faults, linked_with, with_items, with_names};
 ghost use Rattle.pool_contents.specs.Extended.{with_extended};
@@ -47,13 +47,13 @@ pub(crate) fn link(
     requires counts { IsOk (counts_with base new.items) }
     requires before { NamesLieIn (contents_in pool.old) }
     requires lists { ListsLieIn (contents_in pool.old) }
-    requires names { NamesBegin pool.old.messages.items }
+    requires names { AllNamesBegin (contents_in pool.old) }
     requires short { ShortFiles (files_of (contents_in pool.old) ++ new.items) }
     ensures ok { OnOk result (contents_in pool.new
         ≡ linked_with (contents_in pool.old) new.items) }
     ensures faults { TellsAll result (batch_faults (contents_in pool.old) new.items) }
     ensures err { OnErr result (contents_in pool.new ≡ contents_in pool.old) }
-    ensures names { NamesBegin pool.new.messages.items }
+    ensures names { AllNamesBegin (contents_in pool.new) }
 {
     let before = mem::replace(pool, DescriptorPoolInner::new(alloc));
     let mut growing = GrowingPool::new(base, before);
@@ -78,13 +78,13 @@ fn link_new(
     requires counts { IsOk (counts_with pool.old.base new.items) }
     requires whole { rolled_back pool.old ≡ contents_in pool.old.inner }
     requires before { NamesLieIn (contents_in pool.old.inner) }
-    requires names { NamesBegin pool.old.inner.messages.items }
+    requires names { AllNamesBegin (contents_in pool.old.inner) }
     requires short { ShortFiles (files_of (contents_in pool.old.inner) ++ new.items) }
     ensures ok { OnOk result (contents_in pool.new.inner
         ≡ linked_with (contents_in pool.old.inner) new.items) }
     ensures faults { TellsAll result (batch_faults (contents_in pool.old.inner) new.items) }
     ensures kept { OnErr result (rolled_back pool.new ≡ rolled_back pool.old) }
-    ensures names { OnOk result (NamesBegin pool.new.inner.messages.items) }
+    ensures names { OnOk result (AllNamesBegin (contents_in pool.new.inner)) }
 {
     pool.add_files(alloc, new)?;
     enter_names(alloc, pool)?;
@@ -153,7 +153,7 @@ fn show_names(
 fn make_items(alloc: Global, pool: &mut GrowingPool) -> Result<(), BuildError>
     requires counts { IsOk (counts_with pool.old.base (new_records pool.old)) }
     requires before { pool.old.base ≡ counts_in (before_items pool.old) }
-    requires names { NamesBegin pool.old.inner.messages.items }
+    requires names { AllNamesBegin (contents_in pool.old.inner) }
     requires short { ShortFiles (files_of (contents_in pool.old.inner)) }
     requires imports { AllByRecursion (HasImports (setting_against pool.old.inner))
         (drop pool.old.base.files pool.old.inner.files.items) }
@@ -168,7 +168,7 @@ fn make_items(alloc: Global, pool: &mut GrowingPool) -> Result<(), BuildError>
     ensures faults { TellsAll result (second_pass (setting_against pool.old.inner)
         (declarations pool.old.base (new_records pool.old))) }
     ensures kept { OnErr result (rolled_back pool.new ≡ rolled_back pool.old) }
-    ensures names { OnOk result (NamesBegin pool.new.inner.messages.items) }
+    ensures names { OnOk result (AllNamesBegin (contents_in pool.new.inner)) }
 {
     let items = read_items(alloc, pool)?;
     put_items(pool, items)?;
@@ -185,7 +185,8 @@ fn read_items(alloc: Global, pool: &GrowingPool) -> Result<NewItems, BuildError>
         (declarations pool.now.base (new_records pool.now))) }
     ensures faults { TellsAll result (second_pass (setting_against pool.now.inner)
         (declarations pool.now.base (new_records pool.now))) }
-    ensures names { IfOk result (λ items. NamesBegin items.messages.items) }
+    ensures names { IfOk result (λ items. NamesBegin items.messages.items items.enums.items
+        items.services.items items.extensions.items) }
 {
     let base = pool.base;
     let inner = &pool.inner;

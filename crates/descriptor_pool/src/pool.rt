@@ -44,7 +44,8 @@ impl DescriptorPool {
     ghost use Rattle.descriptor_pool.specs.Extensions.{ExtendeesLieIn, ListsAreWhole};
     ghost use Rattle.descriptor_pool.specs.Invariant.{IsPool};
     ghost use Rattle.pool_contents.specs.LookUps.{definition_named};
-    ghost use Rattle.reference_pass.specs.NamesBegin.{MessageNamesBegin};
+    ghost use Rattle.field_rules.specs.NamesBegin.{EnumNamesBegin};
+    ghost use Rattle.reference_pass.specs.NamesBegin.{ExtensionNameBegins, MessageNamesBegin, ServiceNamesBegin};
     ghost use Rattle.descriptor_pool.specs.Outcome.{Outcome};
     ghost use Rattle.descriptor_pool.specs.Pool.{new_files};
     ghost use Rattle.descriptor_pool.specs.References.{AllResolved};
@@ -88,9 +89,9 @@ impl DescriptorPool {
         self.inner.file(file)
     }
 
-    /// The message with an index, or none past the end. Its name, and that of each of its fields,
-    /// begins in the full name where a character begins. It lists the indexes of all extensions of
-    /// the pool that extend it, in rising order.
+    /// The message with an index, or none past the end. Its name, and that of each of its fields
+    /// and oneofs, begins in the full name where a character begins. It lists the indexes of all
+    /// extensions of the pool that extend it, in rising order.
     #[tactic(auto, using(crate::proofs::Extendees::lists_are_whole))]
     pub fn message(&self, message: MessageDescriptor) -> Option<&MessageDescriptorInner>
         ensures item { option_copied result ≡ slice_get self.now.messages message.index }
@@ -100,25 +101,31 @@ impl DescriptorPool {
         self.inner.message(message)
     }
 
-    /// The enum with an index, or none past the end.
+    /// The enum with an index, or none past the end. Its name, and that of each of its values,
+    /// begins in the full name where a character begins.
     pub fn enum_(&self, enumeration: EnumDescriptor) -> Option<&EnumDescriptorInner>
-        ensures { option_copied result ≡ slice_get self.now.enums enumeration.index }
+        ensures item { option_copied result ≡ slice_get self.now.enums enumeration.index }
+        ensures names { IfSome result (λ e. EnumNamesBegin e.now) }
     {
         self.inner.enum_(enumeration)
     }
 
-    /// The extension with an index, or none past the end. Each extends a message of the pool.
+    /// The extension with an index, or none past the end. Its name begins in the full name where a
+    /// character begins. Each extends a message of the pool.
     #[tactic(auto, using(crate::proofs::Extendees::extendees_lie))]
     pub fn extension(&self, extension: ExtensionDescriptor) -> Option<&ExtensionDescriptorInner>
         ensures item { option_copied result ≡ slice_get self.now.extensions extension.index }
+        ensures names { IfSome result (λ x. ExtensionNameBegins x.now) }
         ensures extendees { ExtendeesLieIn self.now }
     {
         self.inner.extension(extension)
     }
 
-    /// The service with an index, or none past the end.
+    /// The service with an index, or none past the end. Its name, and that of each of its methods,
+    /// begins in the full name where a character begins.
     pub fn service(&self, service: ServiceDescriptor) -> Option<&ServiceDescriptorInner>
-        ensures { option_copied result ≡ slice_get self.now.services service.index }
+        ensures item { option_copied result ≡ slice_get self.now.services service.index }
+        ensures names { IfSome result (λ v. ServiceNamesBegin v.now) }
     {
         self.inner.service(service)
     }

@@ -1,7 +1,9 @@
 ghost use Rattle.std.specs.Prelude.{◌≡◌, true, IfOk, OnOk};
+ghost use Rattle.std.specs.List.{All};
 ghost use Rattle.record_walk.specs.Counts.{lists_fit};
 ghost use Rattle.record_walk.specs.FullNames.{EndsWithName};
 ghost use Rattle.record_walk.specs.Protos.{of_enum};
+ghost use Rattle.field_rules.specs.NamesBegin.{BeginsAtBoundary, EnumNamesBegin};
 ghost use Rattle.field_rules.specs.Places.{enum_at};
 ghost use Rattle.field_rules.specs.Tells.{Tells, named_files};
 ghost use Rattle.field_rules.specs.EnumItems.{enum_item, value_items};
@@ -29,6 +31,7 @@ pub fn read_enum(
     requires ends { EndsWithName (enum_at place enumeration.now) }
     ensures item { IfOk result (λ item. item
         ≡ enum_item (enum_at place.entry enumeration.now) enumeration.now) }
+    ensures begins { IfOk result (λ item. EnumNamesBegin item) }
     ensures faults { OnOk result (Tells findings.old findings.new
         (values_faults (named_files findings.old)
         (enum_at place.entry enumeration.now) enumeration.now)) }
@@ -44,8 +47,9 @@ fn enum_item(
 ) -> Result<EnumDescriptorInner, AllocError>
     requires short { lists_fit (of_enum enumeration.now) ≡ true }
     requires ends { EndsWithName (enum_at place enumeration.now) }
-    ensures { IfOk result (λ item. item
+    ensures item { IfOk result (λ item. item
         ≡ enum_item (enum_at place.entry enumeration.now) enumeration.now) }
+    ensures begins { IfOk result (λ item. EnumNamesBegin item) }
 {
     let values = enumeration.value.as_slice();
     Ok(EnumDescriptorInner {
@@ -65,8 +69,9 @@ fn read_values(
 ) -> Result<Vec<EnumValueDescriptorInner>, AllocError>
     requires short { lists_fit (of_enum enumeration.now) ≡ true }
     requires ends { EndsWithName (enum_at place enumeration.now) }
-    ensures { IfOk result (λ items. items.items
+    ensures items { IfOk result (λ items. items.items
         ≡ value_items (enum_at place.entry enumeration.now) enumeration.now.value) }
+    ensures begin { IfOk result (λ items. All (λ v. BeginsAtBoundary v.id) items.items) }
 {
     let mut items = Vec::new(alloc);
     let own_name = enumeration.name();

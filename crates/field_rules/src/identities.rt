@@ -67,9 +67,10 @@ pub fn identity_beside(
 ) -> Result<Identity, AllocError>
     requires position { position < 2 ^ 31 }
     requires ends { EndsWith place.full_name.now own_name.now }
-    ensures { IfOk result (λ id. id ≡ named_at place.entry.file
+    ensures id { IfOk result (λ id. id ≡ named_at place.entry.file
         (step place.entry.path.now tag position)
         (before_ending place.entry.full_name.now own_name.now ++ name.now) name.now) }
+    ensures begins { IfOk result (λ id. BeginsAtBoundary id) }
 {
     let path = Items::from_vec(entry_path(alloc, place.path, tag, position)?);
     let around = front(place.full_name, own_name);

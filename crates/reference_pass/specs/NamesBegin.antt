@@ -1,8 +1,12 @@
--- That the names of messages, fields and oneofs begin in their full names where a character begins.
+-- That the names of items begin in their full names where a character begins.
 use Rattle.std.specs.Prelude.{List}
 use Rattle.std.specs.List.{All}
+use Rattle.pool_types.specs.Contents.{Contents}
+use Rattle.pool_types.specs.declared.contents.enumeration.EnumDescriptorInner.{EnumDescriptorInner}
+use Rattle.pool_types.specs.declared.contents.extension.ExtensionDescriptorInner.{ExtensionDescriptorInner}
 use Rattle.pool_types.specs.declared.contents.message.MessageDescriptorInner.{MessageDescriptorInner}
-use Rattle.field_rules.specs.NamesBegin.{BeginsAtBoundary}
+use Rattle.pool_types.specs.declared.contents.service.ServiceDescriptorInner.{ServiceDescriptorInner}
+use Rattle.field_rules.specs.NamesBegin.{BeginsAtBoundary, EnumNamesBegin}
 
 -- the name of a message does, and those of its fields and oneofs
 pub record MessageNamesBegin (m : MessageDescriptorInner) : Type 0 where
@@ -10,6 +14,23 @@ pub record MessageNamesBegin (m : MessageDescriptorInner) : Type 0 where
   pub fields : All (λ f. BeginsAtBoundary f.id) m.fields
   pub oneofs : All (λ o. BeginsAtBoundary o.id) m.oneofs
 
--- the names of messages do, and those of their fields and oneofs
-abbrev pub NamesBegin : List MessageDescriptorInner → Type 0
-NamesBegin ms = All MessageNamesBegin ms
+-- the name of a service does, and those of its methods
+pub record ServiceNamesBegin (v : ServiceDescriptorInner) : Type 0 where
+  pub own : BeginsAtBoundary v.id
+  pub methods : All (λ m. BeginsAtBoundary m.id) v.methods
+
+-- the name of an extension does
+abbrev pub ExtensionNameBegins : ExtensionDescriptorInner → Type 0
+ExtensionNameBegins x = BeginsAtBoundary x.id
+
+-- the names of messages, enums, services and extensions do, and those of their parts
+pub record NamesBegin (ms : List MessageDescriptorInner) (es : List EnumDescriptorInner)
+    (vs : List ServiceDescriptorInner) (xs : List ExtensionDescriptorInner) : Type 0 where
+  pub messages : All MessageNamesBegin ms
+  pub enums : All EnumNamesBegin es
+  pub services : All ServiceNamesBegin vs
+  pub extensions : All ExtensionNameBegins xs
+
+-- those of all items of a pool
+abbrev pub AllNamesBegin : Contents → Type 0
+AllNamesBegin p = NamesBegin p.messages p.enums p.services p.extensions

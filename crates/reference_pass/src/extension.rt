@@ -1,10 +1,12 @@
 ghost use Rattle.std.specs.Prelude.{◌≡◌, ◌++◌, IfOk, OnOk};
 ghost use Rattle.name_resolution.specs.Resolution.{resolution_in};
+ghost use Rattle.record_walk.specs.FullNames.{EndsWithName};
 ghost use Rattle.record_walk.specs.Protos.{of_extension};
 ghost use Rattle.reference_pass.specs.SecondPass.{extension_faults};
 ghost use Rattle.reference_pass.specs.Extensions.{extendee_faults, number_faults};
 ghost use Rattle.reference_pass.specs.Items.{bracketed, extension_item};
 ghost use Rattle.reference_pass.specs.Messages.{message_found, resolve_message, index_or_max};
+ghost use Rattle.reference_pass.specs.NamesBegin.{ExtensionNameBegins};
 ghost use Rattle.reference_pass.specs.Reading.{Reads, setting_of};
 ghost use Rattle.reference_pass.specs.Short.{ShortFiles};
 ghost use Rattle.field_rules.specs.Places.{shown_at};
@@ -36,6 +38,9 @@ pub fn read_extension(
     ensures item { IfOk result (λ item. item
         ≡ extension_item (setting_of reading.old)
         (shown_at place.entry (of_extension extension.now)) extension.now) }
+    ensures begins { IfOk result (λ item.
+        EndsWithName (shown_at place.entry (of_extension extension.now))
+        → ExtensionNameBegins item) }
     ensures faults { OnOk result (Reads reading.old reading.new
         (extension_faults (setting_of reading.old)
         (shown_at place.entry (of_extension extension.now)) extension.now)) }

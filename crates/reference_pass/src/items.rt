@@ -1,7 +1,8 @@
 //! The items that the second pass makes.
 
 ghost use Rattle.std.specs.Prelude.{◌≡◌, ◌++◌, ◌∷◌, [], OnOk};
-ghost use Rattle.reference_pass.specs.NamesBegin.{MessageNamesBegin, NamesBegin};
+ghost use Rattle.field_rules.specs.NamesBegin.{EnumNamesBegin};
+ghost use Rattle.reference_pass.specs.NamesBegin.{ExtensionNameBegins, MessageNamesBegin, NamesBegin, ServiceNamesBegin};
 
 use pool_types::{
     EnumDescriptorInner, ExtensionDescriptorInner, MessageDescriptorInner, ServiceDescriptorInner,
@@ -39,10 +40,61 @@ impl NewItems {
         ensures enums { self.new.enums ≡ self.old.enums }
         ensures services { self.new.services ≡ self.old.services }
         ensures extensions { self.new.extensions ≡ self.old.extensions }
-        ensures names { NamesBegin self.old.messages.items → MessageNamesBegin message
-            → NamesBegin self.new.messages.items }
+        ensures names { NamesBegin self.old.messages.items self.old.enums.items
+            self.old.services.items self.old.extensions.items → MessageNamesBegin message
+            → NamesBegin self.new.messages.items self.new.enums.items
+            self.new.services.items self.new.extensions.items }
     {
         self.messages.push(message)?;
+        Ok(())
+    }
+
+    /// Appends the item of an enum.
+    pub(crate) fn push_enum(&mut self, enumeration: EnumDescriptorInner) -> Result<(), AllocError>
+        ensures ok { OnOk result (self.new.enums.items ≡ self.old.enums.items ++ enumeration ∷ []) }
+        ensures messages { self.new.messages ≡ self.old.messages }
+        ensures services { self.new.services ≡ self.old.services }
+        ensures extensions { self.new.extensions ≡ self.old.extensions }
+        ensures names { NamesBegin self.old.messages.items self.old.enums.items
+            self.old.services.items self.old.extensions.items → EnumNamesBegin enumeration
+            → NamesBegin self.new.messages.items self.new.enums.items
+            self.new.services.items self.new.extensions.items }
+    {
+        self.enums.push(enumeration)?;
+        Ok(())
+    }
+
+    /// Appends the item of a service.
+    pub(crate) fn push_service(&mut self, service: ServiceDescriptorInner) -> Result<(), AllocError>
+        ensures ok { OnOk result (self.new.services.items ≡ self.old.services.items ++ service ∷ []) }
+        ensures messages { self.new.messages ≡ self.old.messages }
+        ensures enums { self.new.enums ≡ self.old.enums }
+        ensures extensions { self.new.extensions ≡ self.old.extensions }
+        ensures names { NamesBegin self.old.messages.items self.old.enums.items
+            self.old.services.items self.old.extensions.items → ServiceNamesBegin service
+            → NamesBegin self.new.messages.items self.new.enums.items
+            self.new.services.items self.new.extensions.items }
+    {
+        self.services.push(service)?;
+        Ok(())
+    }
+
+    /// Appends the item of an extension.
+    pub(crate) fn push_extension(
+        &mut self,
+        extension: ExtensionDescriptorInner,
+    ) -> Result<(), AllocError>
+        ensures ok { OnOk result (self.new.extensions.items
+            ≡ self.old.extensions.items ++ extension ∷ []) }
+        ensures messages { self.new.messages ≡ self.old.messages }
+        ensures enums { self.new.enums ≡ self.old.enums }
+        ensures services { self.new.services ≡ self.old.services }
+        ensures names { NamesBegin self.old.messages.items self.old.enums.items
+            self.old.services.items self.old.extensions.items → ExtensionNameBegins extension
+            → NamesBegin self.new.messages.items self.new.enums.items
+            self.new.services.items self.new.extensions.items }
+    {
+        self.extensions.push(extension)?;
         Ok(())
     }
 }

@@ -11,7 +11,8 @@ ghost use Rattle.reference_pass.specs.SettingCode.{setting_in};
 ghost use Rattle.reference_pass.specs.SecondPass.{extension_faults, message_faults, service_faults};
 ghost use Rattle.reference_pass.specs.Imports.{import_faults};
 ghost use Rattle.reference_pass.specs.Items.{extension_item, message_item, service_item};
-ghost use Rattle.reference_pass.specs.NamesBegin.{MessageNamesBegin};
+ghost use Rattle.field_rules.specs.NamesBegin.{EnumNamesBegin};
+ghost use Rattle.reference_pass.specs.NamesBegin.{ExtensionNameBegins, MessageNamesBegin, ServiceNamesBegin};
 ghost use Rattle.reference_pass.specs.Short.{ShortFiles};
 
 use crate::{Reading, Setting};
@@ -93,6 +94,8 @@ pub(crate) fn read_service(
     ensures item { IfOk result (λ item. item
         ≡ service_item (setting_in setting.entry)
         (service_at place.entry service.now) service.now) }
+    ensures begins { IfOk result (λ item.
+        EndsWithName (service_at place.entry service.now) → ServiceNamesBegin item) }
     ensures faults { OnOk result (faults.new.items ≡ faults.old.items
         ++ service_faults (setting_in setting.entry)
         (service_at place.entry service.now) service.now) }
@@ -121,6 +124,9 @@ pub(crate) fn read_extension(
     ensures item { IfOk result (λ item. item
         ≡ extension_item (setting_in setting.entry)
         (shown_at place.entry (of_extension extension.now)) extension.now) }
+    ensures begins { IfOk result (λ item.
+        EndsWithName (shown_at place.entry (of_extension extension.now))
+        → ExtensionNameBegins item) }
     ensures faults { OnOk result (faults.new.items ≡ faults.old.items
         ++ extension_faults (setting_in setting.entry)
         (shown_at place.entry (of_extension extension.now)) extension.now) }
@@ -149,6 +155,7 @@ pub(crate) fn read_enum(
     requires ends { EndsWithName (enum_at place enumeration.now) }
     ensures item { IfOk result (λ item. item
         ≡ enum_item (enum_at place.entry enumeration.now) enumeration.now) }
+    ensures begins { IfOk result (λ item. EnumNamesBegin item) }
     ensures faults { OnOk result (faults.new.items ≡ faults.old.items
         ++ values_faults (map (λ f. f.raw) files.now)
         (enum_at place.entry enumeration.now) enumeration.now) }

@@ -26,7 +26,8 @@ pub struct ResolveVisitor<'a> {
     pub setting: Setting<'a>,
     pub items: NewItems,
     pub faults: Vec<DescriptorErrorKind>,
-    ghost names_begin: { NamesBegin items.messages.items },
+    ghost names_begin: { NamesBegin items.messages.items items.enums.items items.services.items
+        items.extensions.items },
     ghost short: { ShortFiles (map (λ f. f.raw) setting.files.now) },
 }
 
@@ -119,8 +120,7 @@ impl Visitor for ResolveVisitor<'_> {
             full_name,
         };
         let item = read_service(self.alloc, self.setting, place, service, &mut self.faults)?;
-        self.items.services.push(item)?;
-        Ok(())
+        self.items.push_service(item)
     }
 
     fn visit_method(
@@ -153,8 +153,7 @@ impl Visitor for ResolveVisitor<'_> {
         };
         let files = self.setting.files;
         let item = read_enum(self.alloc, files, place, enumeration, &mut self.faults)?;
-        self.items.enums.push(item)?;
-        Ok(())
+        self.items.push_enum(item)
     }
 
     fn visit_enum_value(
@@ -186,7 +185,6 @@ impl Visitor for ResolveVisitor<'_> {
             full_name,
         };
         let item = read_extension(self.alloc, self.setting, place, extension, &mut self.faults)?;
-        self.items.extensions.push(item)?;
-        Ok(())
+        self.items.push_extension(item)
     }
 }

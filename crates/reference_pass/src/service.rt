@@ -1,12 +1,16 @@
 ghost use Rattle.std.specs.Prelude.{◌≡◌, ◌<◌, ◌^◌, ◌++◌, [], ◌∷◌, true, IfOk, OnOk};
+ghost use Rattle.std.specs.List.{All};
 ghost use Rattle.plain_data.specs.Lists.{listed};
 ghost use Rattle.record_walk.specs.Counts.{fits_list, lists_fit};
+ghost use Rattle.record_walk.specs.FullNames.{EndsWithName};
 ghost use Rattle.record_walk.specs.Protos.{of_service};
 ghost use Rattle.name_resolution.specs.References.{reference_fault};
 ghost use Rattle.reference_pass.specs.SecondPass.{faults_of_methods, method_faults, service_faults};
 ghost use Rattle.reference_pass.specs.Items.{service_item, method_item, method_items};
 ghost use Rattle.reference_pass.specs.Messages.{message_found, message_index, method_at, index_or_max};
+ghost use Rattle.field_rules.specs.NamesBegin.{BeginsAtBoundary};
 ghost use Rattle.field_rules.specs.Places.{inside_of, service_at};
+ghost use Rattle.reference_pass.specs.NamesBegin.{ServiceNamesBegin};
 ghost use Rattle.reference_pass.specs.Setting.{resolve};
 ghost use Rattle.reference_pass.specs.Reading.{Reads, setting_of};
 
@@ -33,6 +37,8 @@ pub fn read_service(
     ensures item { IfOk result (λ item. item
         ≡ service_item (setting_of reading.old)
         (service_at place.entry service.now) service.now) }
+    ensures begins { IfOk result (λ item.
+        EndsWithName (service_at place.entry service.now) → ServiceNamesBegin item) }
     ensures faults { OnOk result (Reads reading.old reading.new
         (service_faults (setting_of reading.old)
         (service_at place.entry service.now) service.now)) }
@@ -52,6 +58,7 @@ fn read_methods(
     requires { fits_list methods.now ≡ true }
     ensures items { IfOk result (λ items. items.items
         ≡ method_items (setting_of reading.old) (inside_of service.entry) methods.now) }
+    ensures begin { IfOk result (λ items. All (λ m. BeginsAtBoundary m.id) items.items) }
     ensures faults { OnOk result (Reads reading.old reading.new
         (faults_of_methods (setting_of reading.old) (inside_of service.entry) methods.now)) }
 {
@@ -74,6 +81,7 @@ fn read_method(
     ensures item { IfOk result (λ item. item
         ≡ method_item (setting_of reading.old)
         (method_at (inside_of service.entry) position method.now) method.now) }
+    ensures begins { IfOk result (λ item. BeginsAtBoundary item.id) }
     ensures faults { OnOk result (Reads reading.old reading.new
         (method_faults (setting_of reading.old)
         (method_at (inside_of service.entry) position method.now) method.now)) }

@@ -1,8 +1,7 @@
 use Rattle.std.proofs.Common.{◌≡◌, rules, true, Result, Ok, Err, OnOk, ap, subst, sym, ◌∙◌}
 use Rattle.std.specs.Result.{is_err}
 use Rattle.record_walk.proofs.Listings.{on-ok}
-use Rattle.pool_types.specs.Contents.{Contents}
-use Rattle.reference_pass.specs.NamesBegin.{NamesBegin}
+use Rattle.reference_pass.specs.NamesBegin.{AllNamesBegin}
 use Rattle.pool_contents.specs.declared.growing.GrowingPool.{GrowingPool}
 use Rattle.pool_contents.specs.declared.inner.DescriptorPoolInner.{DescriptorPoolInner}
 use Rattle.descriptor_pool.specs.Linking.{batch_faults, linked_with}
@@ -24,10 +23,9 @@ returns-clause-names c =
       | then-is_err w ↦
           let same = ap (λ (g : GrowingPool). contents_in g.inner) w.growing-is ∙ w.rollback.ensures ∙ after-err linked.result w.if-is_err.ensures.value linked.ensures.kept
           ∙ c.new-growing.ensures.kept ∙ ap contents_in c.replace-before.ensures.value in
-          let Begin : Contents → Type 0 = λ q. NamesBegin q.messages in
-          subst Begin (sym same) c.requires.names
+          subst AllNamesBegin (sym same) c.requires.names
       | else-is_err w ↦
-          let Begin : GrowingPool → Type 0 = λ g. NamesBegin g.inner.messages.items in
+          let Begin : GrowingPool → Type 0 = λ g. AllNamesBegin (contents_in g.inner) in
           subst Begin (sym w.growing-is) (after-ok linked.result w.if-is_err.ensures.value linked.ensures.names)
     ]
 

@@ -1,7 +1,9 @@
 use Rattle.std.proofs.Common.{◌++◌, length, ap, subst, sym, ◌∙◌, arith}
 use Rattle.std.proofs.lemmas.List.Elements.{All-append}
+use Rattle.std.specs.List.{All}
 use Rattle.pool_types.specs.Contents.{Contents}
-use Rattle.reference_pass.specs.NamesBegin.{MessageNamesBegin, NamesBegin}
+use Rattle.field_rules.specs.NamesBegin.{EnumNamesBegin}
+use Rattle.reference_pass.specs.NamesBegin.{AllNamesBegin, ExtensionNameBegins, MessageNamesBegin, ServiceNamesBegin}
 use Rattle.record_walk.specs.declared.counts.Counts.{Counts}
 use Rattle.record_walk.specs.Counts.{counted}
 use Rattle.record_walk.specs.Declarations.{declarations}
@@ -36,7 +38,7 @@ returns-clause-made c =
     let first = ap (λ (x : Contents). length x.extensions) (c.in_ok-link_files.ensures.kept ∙ c.in_ok-put_items.ensures.kept) in
     c.in_ok-extend_messages.ensures.ok ∙ (λ i. with_extended (first i) (is i))
 
--- the names of old messages begin where a character begins, and so do those of new ones
+-- the names of old items begin where a character begins, and so do those of new ones
 pub returns-clause-names : goal.returns-clause-names
 returns-clause-names c =
     let p = c.args.pool.now in
@@ -45,6 +47,18 @@ returns-clause-names c =
     c.requires.imports c.requires.items c.in_ok-link_files.ensures.ok in
     let first = ap (λ (x : Contents). length x.extensions) (c.in_ok-link_files.ensures.kept ∙ c.in_ok-put_items.ensures.kept) in
     let made = c.in_ok-extend_messages.ensures.ok ∙ (λ i. with_extended (first i) (is i)) in
-    let both = All-append MessageNamesBegin p.inner.messages.items items.messages.items c.requires.names c.in_ok-items.ensures.names in
-    let begin = subst (λ ms. NamesBegin (p.inner.messages.items ++ ms)) c.in_ok-items.ensures.items.messages both in
-    subst (λ (x : Contents). NamesBegin x.messages) (sym made) (names-extended (first_extension p) (with_items (before_items p) (setting_against p.inner) (declarations p.base (new_records p))) begin)
+    let has = c.in_ok-items.ensures.items in
+    let came = c.in_ok-items.ensures.names in
+    let old = c.requires.names in
+    let all = with_items (before_items p) (setting_against p.inner) (declarations p.base (new_records p)) in
+    let begin : AllNamesBegin all = record {
+      messages = subst (λ ms. All MessageNamesBegin (p.inner.messages.items ++ ms)) has.messages
+          (All-append MessageNamesBegin p.inner.messages.items items.messages.items old.messages came.messages);
+      enums = subst (λ es. All EnumNamesBegin (p.inner.enums.items ++ es)) has.enums
+          (All-append EnumNamesBegin p.inner.enums.items items.enums.items old.enums came.enums);
+      services = subst (λ vs. All ServiceNamesBegin (p.inner.services.items ++ vs)) has.services
+          (All-append ServiceNamesBegin p.inner.services.items items.services.items old.services came.services);
+      extensions = subst (λ xs. All ExtensionNameBegins (p.inner.extensions.items ++ xs)) has.extensions
+          (All-append ExtensionNameBegins p.inner.extensions.items items.extensions.items old.extensions came.extensions);
+    } in
+    subst AllNamesBegin (sym made) (names-extended (first_extension p) all begin)

@@ -6,5 +6,9 @@ use Rattle.reference_pass.proofs.items.NewItems.push_message.Goals as goal
 
 -- the names of one more message begin where a character begins
 pub returns-clause-names : goal.returns-clause-names
-returns-clause-names c = λ old own.
-    subst (All MessageNamesBegin) (sym c.in_ok-push.ensures.items) (All-push MessageNamesBegin c.args.self.now.messages.items c.args.message old own)
+returns-clause-names c = λ old own. record {
+  messages = subst (All MessageNamesBegin) (sym c.in_ok-push.ensures.items) (All-push MessageNamesBegin c.args.self.now.messages.items c.args.message old.messages own);
+  enums = old.enums;
+  services = old.services;
+  extensions = old.extensions;
+}
