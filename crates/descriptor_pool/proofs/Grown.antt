@@ -54,14 +54,17 @@ module _ (p : Contents) (batch : Batch) (fits : Fits p batch) where
   pub pool_after : {U : Type 0} → IsPool p → (r : Result U BuildError) (q : Contents) → IsBehind p (new_files p batch) r q → IsPool q
   pool_after pool (Ok u) q behind =
       let made = linked_to batch pool.made (accepted behind.told) fits behind.ok in
+      let known = (made-sound q made).known in
       let new = new_files p batch in
       let ds = declared_with p new in
       let items = with_items (with_names p ds) (setting_with p new) ds in
       let counts = ap counts_in behind.ok ∙ counts-extended (length p.extensions) items ∙ counts-with (with_names p ds) (setting_with p new) ds in
       record {
         made = made;
-        counts_are = (made-sound q made).known.counts_are;
+        counts_are = known.counts_are;
         within = subst WithinLimits (sym counts) (room-fits (counts_in p) new fits).within;
+        names_are = known.names_are;
+        file_names_are = known.file_names_are;
         names_begin = behind.names;
       }
   pool_after pool (Err error) q behind = subst IsPool (sym behind.err) pool

@@ -131,7 +131,8 @@ impl DescriptorPool {
     }
 
     /// What is true of every pool: its contents are made, from nothing, by batches that were
-    /// accepted and fit. A call does nothing; laws of pools are proved by it.
+    /// accepted and fit, and its names are those that its files enter. A call does nothing; laws of
+    /// pools are proved by it.
     pub fn made(&self)
         ensures { IsPool self.now }
     {

@@ -12,6 +12,8 @@ empty_pool = record {
   made = empty refl;
   counts_are = refl;
   within = record { files = omega arith; messages = omega arith; enums = omega arith; services = omega arith; extensions = omega arith };
+  names_are = refl;
+  file_names_are = refl;
   names_begin = record {
     messages = All-nil MessageNamesBegin;
     enums = All-nil EnumNamesBegin;
