@@ -14,6 +14,8 @@ pub mod Wanted
 pub mod Indexed
 pub mod Extendees
 pub mod NamedItems
+pub mod Definitions
+pub mod OwnNames
 pub mod LinkedFiles
 pub mod MadeItems
 pub mod Bases

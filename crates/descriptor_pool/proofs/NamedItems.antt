@@ -48,13 +48,13 @@ get-behind [] y ys = refl
 get-behind (x ∷ xs) y ys = get-behind xs y ys
 
 -- an item before others
-get-before : {X Y : Type 0} (f : X → Y) (xs ys : List X) (n : ℕ) (y : Y) → option_map f (slice_get xs n) ≡ Some y → option_map f (slice_get (xs ++ ys) n) ≡ Some y
+pub get-before : {X Y : Type 0} (f : X → Y) (xs ys : List X) (n : ℕ) (y : Y) → option_map f (slice_get xs n) ≡ Some y → option_map f (slice_get (xs ++ ys) n) ≡ Some y
 get-before f [] ys n y got = absurd (cc)
 get-before f (x ∷ xs) ys zero y got = got
 get-before f (x ∷ xs) ys (suc n) y got = get-before f xs ys n y got
 
 -- an item that was made of another, and has what it had
-get-each : {X Y : Type 0} (f : X → Y) (make : ℕ → X → X) → ((n : ℕ) (x : X) → f (make n x) ≡ f x) → (from : ℕ) (xs : List X) (n : ℕ)
+pub get-each : {X Y : Type 0} (f : X → Y) (make : ℕ → X → X) → ((n : ℕ) (x : X) → f (make n x) ≡ f x) → (from : ℕ) (xs : List X) (n : ℕ)
     → option_map f (slice_get (map_enumerated make from xs) n) ≡ option_map f (slice_get xs n)
 get-each f make same from [] n = refl
 get-each f make same from (x ∷ xs) zero = ap Some (same from x)

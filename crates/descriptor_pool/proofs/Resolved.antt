@@ -97,7 +97,7 @@ no_items [] ys none = (refl, none)
 no_items (x ∷ xs) ys none = absurd (cc)
 
 -- the type of a field is among what it breaks
-type-told : (s : Setting) (owner : Owner) (d : Shown) (f : FieldDescriptorProto) → field_faults s owner d f ≡ [] → type_faults s d f ≡ []
+pub type-told : (s : Setting) (owner : Owner) (d : Shown) (f : FieldDescriptorProto) → field_faults s owner d f ≡ [] → type_faults s d f ≡ []
 type-told s owner d f none =
     let m = out-DescriptorProto owner.1 in
     let again = duplicate_faults s.files owner.0.file owner.0.path (take d.index m.field) d.index f in

@@ -48,7 +48,7 @@ impl DescriptorPool {
     ghost use Rattle.reference_pass.specs.NamesBegin.{ExtensionNameBegins, MessageNamesBegin, ServiceNamesBegin};
     ghost use Rattle.descriptor_pool.specs.Outcome.{Outcome};
     ghost use Rattle.descriptor_pool.specs.Pool.{new_files};
-    ghost use Rattle.descriptor_pool.specs.References.{AllResolved};
+    ghost use Rattle.descriptor_pool.specs.References.{AllNamed, AllResolved};
 
     /// A pool without files, which takes no memory.
     pub fn new(alloc: Global) -> DescriptorPool
@@ -164,15 +164,17 @@ impl DescriptorPool {
     }
 
     /// The linked records of the pool's files, in the order of linking. In them each reference that
-    /// is resolved is a dot and the full name of its definition, which the pool has. What they
-    /// declare fits into a pool, as `Counts::of` tells.
+    /// is resolved is a dot and the full name of its definition, which the pool has. That is the
+    /// message or the enum whose index the item has, of a field, a method or an extension. What
+    /// they declare fits into a pool, as `Counts::of` tells.
     ///
     /// # Errors
     /// `AllocError` where memory was refused.
-    #[tactic(auto, using(crate::proofs::Sound::all_resolved, crate::proofs::Sound::fits_again))]
+    #[tactic(auto, using(crate::proofs::Sound::all_resolved, crate::proofs::OwnNames::all_named, crate::proofs::Sound::fits_again))]
     pub fn linked_files(&self) -> Result<Vec<FileDescriptorProto>, AllocError>
         ensures files { IfOk result (λ files. files.items ≡ files_of self.now) }
         ensures resolved { AllResolved self.now }
+        ensures named { AllNamed self.now }
         ensures fit { IsOk (counts_with no_counts (files_of self.now)) }
     {
         self.inner.records(self.alloc)
