@@ -9,6 +9,7 @@ mod runs;
 
 pub use descriptor_pool::{BuildError, DescriptorPool};
 pub use ending::Ending;
+pub use field_rules::Faults;
 pub use link_script::{
     Block, Keyword, Open, RecordBuilder, Script, ScriptError, ScriptFault, ScriptReader, Statement,
     files_of, read_script,
@@ -16,7 +17,7 @@ pub use link_script::{
 pub use name_pass::NameVisitor;
 pub use name_tables::{FileNames, HashedNames, NameTable};
 pub use plain_data::{Items, NumberMap, Text, TextMap};
-pub use pool_faults::{DescriptorError, DescriptorErrorKind, Label, Labelled};
+pub use pool_faults::{DescriptorError, DescriptorErrorKind, Label, Labelled, Labels};
 pub use pool_types::{
     Cardinality, DefaultValue, Definition, DefinitionKind, EnumDescriptor, EnumDescriptorInner,
     EnumValueDescriptor, EnumValueDescriptorInner, ExtensionDescriptor, ExtensionDescriptorInner,

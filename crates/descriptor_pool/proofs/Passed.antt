@@ -1,9 +1,9 @@
 -- What a pass has found once its visitor has been shown all declarations, and is gone.
-use Rattle.std.proofs.Common.{rules, ◌≡◌, ℕ, true, false, List, [], ◌∷◌, ◌++◌, length, ap, sym, subst, ◌∙◌, append-nil, Result, Ok, Err, OnOk, OnErr, IfErr, Vec, Global}
+use Rattle.std.proofs.Common.{rules, ◌≡◌, ℕ, true, false, List, [], ◌∷◌, ◌++◌, length, ap, sym, subst, ◌∙◌, append-nil, Result, Ok, Err, OnOk, OnErr, IfErr}
 use Rattle.std.specs.List.{fold}
 use Rattle.std.specs.Result.{is_err}
 use Rattle.std.specs.declared.alloc.AllocError.{AllocError}
-use Rattle.pool_faults.specs.declared.fault.DescriptorErrorKind.{DescriptorErrorKind}
+use Rattle.field_rules.specs.declared.findings.Faults.{Faults as PassFaults}
 use Rattle.pool_types.specs.Contents.{ByText, Contents, no_contents}
 use Rattle.pool_types.specs.declared.contents.file.FileDescriptorInner.{FileDescriptorInner}
 use Rattle.proto_types.specs.declared.file.FileDescriptorProto.{FileDescriptorProto}
@@ -49,13 +49,13 @@ module _ (new : NameVisitor) {m n k : ℕ} (same : borrows_of new ≡ m ∷ n �
   file-names-left : y ≡ new.file_names.now
   file-names-left = y-is (sym (ap second-of same))
 
-  pub names-end : (z : Vec DescriptorErrorKind Global) → (k ≡ new.faults.ghost_name → z ≡ new.faults.now) → (r : Result (Unit {0}) AllocError)
+  pub names-end : (z : PassFaults) → (k ≡ new.faults.ghost_name → z ≡ new.faults.now) → (r : Result (Unit {0}) AllocError)
       → (records : List FileDescriptorProto) (state : NameState) (ds : List Shown) (A : List Shown → Progress) (R S : List Shown → Type 0)
       → A (ds ++ []) ≡ name_progress (fold (name_step records) state (ds ++ []))
       → OnOk r (HasSeen A R (λ es. name_progress (fold (name_step (records_of new)) (state_of new) es)) S ds)
-      → OnOk r (state_at x y z.items ≡ fold (name_step records) state ds)
+      → OnOk r (state_at x y z.found.items ≡ fold (name_step records) state ds)
   names-end z z-is (Ok u) records state ds A R S began seen =
-      let faults-left = ap (λ (v : Vec DescriptorErrorKind Global). v.items) (z-is (sym (ap third-of same))) in
+      let faults-left = ap (λ (v : PassFaults). v.found.items) (z-is (sym (ap third-of same))) in
       let is = seen.after_is [] ∙ began ∙ (λ i. name_progress (fold (name_step records) state (append-nil ds i))) in
       λ i. state_at ((names-left ∙ ap (λ (p : Progress). p.contents.names) is) i) ((file-names-left ∙ ap (λ (p : Progress). p.contents.file_names) is) i)
       ((faults-left ∙ ap (λ (p : Progress). p.faults) is) i)
@@ -85,7 +85,7 @@ no_items = record { messages = []; enums = []; services = []; extensions = []; f
 pub references-end : (s : Setting) (v : ResolveVisitor) (old : ReferenceState) (base : Counts) (fs : List FileDescriptorProto)
     → old ≡ no_items
     → reference_progress (state_of_references v) ≡ reference_progress (fold (reference_step s) old (declarations base fs ++ []))
-    → HasItems v.items s (declarations base fs) × (v.faults.items ≡ second_pass s (declarations base fs))
+    → HasItems v.items s (declarations base fs) × (v.faults.found.items ≡ second_pass s (declarations base fs))
 references-end s v old base fs none seen =
     let ds = declarations base fs in
     let e = seen ∙ (λ i. reference_progress (fold (reference_step s) (none i) (append-nil ds i))) ∙ ap reference_progress (fold-seen s no_items ds) in (

@@ -13,7 +13,6 @@ ghost use Rattle.descriptor_pool.specs.Linking.{batch_faults, linked_with, with_
 ghost use Rattle.pool_contents.specs.Extended.{with_extended};
 ghost use Rattle.name_pass.specs.FirstPass.{first_pass};
 ghost use Rattle.pool_contents.specs.Growing.{before_items, first_extension, rolled_back, new_records, records_from};
-ghost use Rattle.reference_pass.specs.SettingCode.{setting_in};
 ghost use Rattle.name_tables.specs.NameTables.{file_names_before, without_files_from};
 ghost use Rattle.name_pass.specs.Steps.{name_step, state_at};
 ghost use Rattle.descriptor_pool.specs.Items.{HasImports, HasItems, LinksNew, with_new_items};
@@ -24,14 +23,14 @@ ghost use Rattle.reference_pass.specs.Linking.{ItemsAre, lists_in};
 ghost use Rattle.descriptor_pool.specs.Pool.{Made};
 
 use crate::error::BuildError;
+use field_rules::Faults;
 use name_pass::NameVisitor;
 use name_tables::{FileNames, HashedNames};
 use pool_contents::{DescriptorPoolInner, GrowingPool};
 use pool_faults::{DescriptorError, DescriptorErrorKind};
-use pool_types::FileDescriptorInner;
 use proto_types::FileDescriptorProto;
 use record_walk::{Counts, walk};
-use reference_pass::{Linker, NewItems, NextItems, ResolveVisitor, Setting};
+use reference_pass::{Linker, NewItems, NextItems, ResolveVisitor};
 use std::alloc::{AllocError, Global};
 use std::mem;
 
@@ -104,42 +103,42 @@ fn enter_names(alloc: Global, pool: &mut GrowingPool) -> Result<(), BuildError>
         (declarations pool.old.base (new_records pool.old))) }
     ensures kept { rolled_back pool.new ≡ rolled_back pool.old }
 {
-    let mut faults = Vec::new(alloc);
+    let mut faults = Faults::new(alloc, &pool.inner.files);
     show_names(
         alloc,
         pool.base,
-        &pool.inner.files,
         &mut pool.inner.names,
         &mut pool.inner.file_names,
         &mut faults,
     )?;
-    refuse(faults)
+    let Faults { found, .. } = faults;
+    refuse(found)
 }
 
-/// Shows the new files of a pool, which begin at the base's count, to the first pass.
+/// Shows the new files of a pool, which are those that labels name from the base's count on, to the
+/// first pass.
 fn show_names(
     alloc: Global,
     base: Counts,
-    files: &[FileDescriptorInner],
     names: &mut HashedNames,
     file_names: &mut FileNames,
-    faults: &mut Vec<DescriptorErrorKind>,
+    faults: &mut Faults,
 ) -> Result<(), AllocError>
-    requires here { base.files ≤ length files.now }
-    requires counts { IsOk (counts_with base (records_from base.files files.now)) }
-    ensures ok { OnOk result (state_at names.new file_names.new faults.new.items
-        ≡ fold (name_step (map (λ f. f.raw) files.now))
-        (state_at names.old file_names.old faults.old.items)
-        (declarations base (records_from base.files files.now))) }
+    requires here { base.files ≤ length faults.old.labels }
+    requires counts { IsOk (counts_with base (records_from base.files faults.old.labels)) }
+    ensures ok { OnOk result (state_at names.new file_names.new faults.new.found.items
+        ≡ fold (name_step (map (λ f. f.raw) faults.old.labels))
+        (state_at names.old file_names.old faults.old.found.items)
+        (declarations base (records_from base.files faults.old.labels))) }
     ensures names { without_files_from base.files names.new
         ≡ without_files_from base.files names.old }
     ensures file_names { file_names_before base.files file_names.new
         ≡ file_names_before base.files file_names.old }
 {
+    let files = faults.labels.files();
     let mut visitor = NameVisitor {
         alloc,
         first: base.files,
-        files,
         names,
         file_names,
         faults,
@@ -192,9 +191,10 @@ fn read_items(alloc: Global, pool: &GrowingPool) -> Result<NewItems, BuildError>
     let inner = &pool.inner;
     let mut visitor = ResolveVisitor {
         alloc,
-        setting: setting_of(inner),
+        names: &inner.names,
+        file_names: &inner.file_names,
         items: NewItems::new(alloc),
-        faults: Vec::new(alloc),
+        faults: Faults::new(alloc, &inner.files),
     };
     walk(
         alloc,
@@ -203,19 +203,9 @@ fn read_items(alloc: Global, pool: &GrowingPool) -> Result<NewItems, BuildError>
         &mut visitor,
     )?;
     let ResolveVisitor { items, faults, .. } = visitor;
-    refuse(faults)?;
+    let Faults { found, .. } = faults;
+    refuse(found)?;
     Ok(items)
-}
-
-/// What is read against the files and names that a pool holds.
-fn setting_of(inner: &DescriptorPoolInner) -> Setting<'_>
-    ensures { setting_in result ≡ setting_against inner.now }
-{
-    Setting {
-        files: &inner.files,
-        names: &inner.names,
-        file_names: &inner.file_names,
-    }
 }
 
 /// Puts new items behind those of a pool.

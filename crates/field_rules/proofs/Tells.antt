@@ -10,22 +10,25 @@ use Rattle.field_rules.proofs.Each.{all-next}
 
 -- no fault
 pub tells-none : (found : Findings) → Tells found found []
-tells-none found = record { told = sym (append-nil found.faults.now.items); files = refl; reference = refl }
+tells-none found = record { told = sym (append-nil found.faults.found.items); files = refl }
 
 -- labels name the same files
 pub same-files : {a b : Findings} {fs : List DescriptorErrorKind} → Tells a b fs → named_files b ≡ named_files a
-same-files first = ap (λ files. map (λ f. f.raw) files.now) first.files
+same-files first = ap (λ files. map (λ f. f.raw) files) first.files
 
 -- the same faults, as they are said otherwise
 pub tells-as : {a b : Findings} {fs gs : List DescriptorErrorKind} → fs ≡ gs → Tells a b fs → Tells a b gs
 tells-as {a} {b} is tells = subst (Tells a b) is tells
 
+-- a check behind one that changes nothing
+pub tells-from : {a b c : Findings} {fs : List DescriptorErrorKind} → b ≡ a → Tells b c fs → Tells a c fs
+tells-from {c = c} {fs = fs} same tells = subst (λ found. Tells found c fs) same tells
+
 -- two checks
 pub tells-two : {a b c : Findings} {fs gs : List DescriptorErrorKind} → Tells a b fs → Tells b c gs → Tells a c (fs ++ gs)
 tells-two {a} {b} {c} {fs} {gs} first second = record {
-  told = second.told ∙ ap (λ xs. xs ++ gs) first.told ∙ append_assoc a.faults.now.items fs gs;
+  told = second.told ∙ ap (λ xs. xs ++ gs) first.told ∙ append_assoc a.faults.found.items fs gs;
   files = second.files ∙ first.files;
-  reference = second.reference ∙ first.reference;
 }
 
 -- three checks

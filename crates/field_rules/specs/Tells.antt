@@ -6,10 +6,9 @@ use Rattle.field_rules.specs.declared.findings.Findings.{Findings}
 
 -- the records of the files that labels name
 abbrev pub named_files : Findings → List FileDescriptorProto
-named_files findings = map (λ f. f.raw) findings.files.now
+named_files findings = map (λ f. f.raw) findings.faults.labels
 
 -- that faults were appended to those found before, and no more
 pub record Tells (old new : Findings) (faults : List DescriptorErrorKind) : Type 0 where
-  pub told : new.faults.now.items ≡ old.faults.now.items ++ faults
-  pub files : new.files ≡ old.files
-  pub reference : new.faults.ghost_name ≡ old.faults.ghost_name
+  pub told : new.faults.found.items ≡ old.faults.found.items ++ faults
+  pub files : new.faults.labels ≡ old.faults.labels

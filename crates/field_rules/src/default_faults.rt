@@ -15,15 +15,16 @@ use std::alloc::{AllocError, Global};
 
 /// The fault of a text that writes no value of a kind.
 pub(crate) fn default_fault(
-    findings: &Findings,
+    findings: &mut Findings,
     place: Place,
     kind: KindIndex,
     meant: DefaultEnum,
     text: &str,
 ) -> Result<DescriptorErrorKind, AllocError>
-    ensures { IfOk result (λ fault. fault
-        ≡ default_fault (named_files findings.now) place.entry.file place.entry.path.now kind
+    ensures fault { IfOk result (λ fault. fault
+        ≡ default_fault (named_files findings.old) place.entry.file place.entry.path.now kind
         (meant_in meant.entry) text.now) }
+    ensures stays { findings.new ≡ findings.old }
 {
     Ok(DescriptorErrorKind::InvalidFieldDefault {
         value: Text::from_str(findings.alloc, text)?,

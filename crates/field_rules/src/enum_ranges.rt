@@ -49,7 +49,7 @@ fn reserves(range: &EnumReservedRange, number: i32) -> bool
 /// The fault of the number of the value with a position, and of a reserved range, given with its
 /// own.
 fn reserved_fault(
-    findings: &Findings,
+    findings: &mut Findings,
     place: Place,
     position: usize,
     number: i32,
@@ -57,12 +57,13 @@ fn reserved_fault(
 ) -> Result<DescriptorErrorKind, AllocError>
     requires position { position < 2 ^ 31 }
     requires index { entry.0 < 2 ^ 31 }
-    ensures { IfOk result (λ fault. fault ≡ EnumNumberInReservedRange number
+    ensures fault { IfOk result (λ fault. fault ≡ EnumNumberInReservedRange number
         (number_of entry.entry.1.now.start) (number_of entry.entry.1.now.«end»)
-        (entry_label (named_files findings.now) place.entry.file place.entry.path.now
+        (entry_label (named_files findings.old) place.entry.file place.entry.path.now
         RESERVED_RANGE entry.entry.0)
-        (entry_part_label (named_files findings.now) place.entry.file place.entry.path.now
+        (entry_part_label (named_files findings.old) place.entry.file place.entry.path.now
         VALUE position NUMBER)) }
+    ensures stays { findings.new ≡ findings.old }
 {
     let (index, range) = entry;
     let (values, part) = (tag::enum_::VALUE, tag::enum_value::NUMBER);

@@ -111,10 +111,11 @@ fn check_duplicate(
 }
 
 /// The label of the number of the value with a position.
-fn number_label(findings: &Findings, place: Place, position: usize) -> Result<Label, AllocError>
+fn number_label(findings: &mut Findings, place: Place, position: usize) -> Result<Label, AllocError>
     requires { position < 2 ^ 31 }
-    ensures { IfOk result (λ l. l ≡ entry_part_label (named_files findings.now)
+    ensures label { IfOk result (λ l. l ≡ entry_part_label (named_files findings.old)
         place.entry.file place.entry.path.now VALUE position NUMBER) }
+    ensures stays { findings.new ≡ findings.old }
 {
     let (values, part) = (tag::enum_::VALUE, tag::enum_value::NUMBER);
     findings.entry_part_label(place, values, position, part)

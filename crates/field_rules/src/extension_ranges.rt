@@ -107,16 +107,17 @@ fn check_not_in_ranges(
 
 /// The fault of an extension range, given with its position, that holds the number of a field.
 fn extension_range_fault(
-    findings: &Findings,
+    findings: &mut Findings,
     owner: Place,
     entry: (usize, &ExtensionRange),
     place: Place,
     number: i32,
 ) -> Result<DescriptorErrorKind, AllocError>
     requires { entry.0 < 2 ^ 31 }
-    ensures { IfOk result (λ fault. fault
-        ≡ extension_range_fault (named_files findings.now) (any_at place.entry) number
+    ensures fault { IfOk result (λ fault. fault
+        ≡ extension_range_fault (named_files findings.old) (any_at place.entry) number
         (any_at owner.entry) (entry.entry.0, entry.entry.1.now)) }
+    ensures stays { findings.new ≡ findings.old }
 {
     let (position, range) = entry;
     Ok(DescriptorErrorKind::FieldNumberInExtensionRange {

@@ -31,7 +31,7 @@ pub use enum_items::read_enum;
 pub use enum_tables::{value_names, value_numbers};
 pub use enum_values::{allows_alias, check_values};
 pub use field_number::is_valid_number;
-pub use findings::Findings;
+pub use findings::{Faults, Findings};
 pub use identities::{identity, identity_beside, identity_inside};
 pub use maps::{FieldMaps, item_number};
 pub use message_ranges::MessageRanges;

@@ -147,7 +147,7 @@ fn check_json_name(
 
 /// The fault of two fields with one number, the earlier first.
 fn same_number(
-    findings: &Findings,
+    findings: &mut Findings,
     owner: Place,
     number: i32,
     first: usize,
@@ -155,8 +155,9 @@ fn same_number(
 ) -> Result<DescriptorErrorKind, AllocError>
     requires first_short { first < 2 ^ 31 }
     requires second_short { second < 2 ^ 31 }
-    ensures { IfOk result (λ fault. fault ≡ same_number (named_files findings.now)
+    ensures fault { IfOk result (λ fault. fault ≡ same_number (named_files findings.old)
         owner.entry.file owner.entry.path.now number first second) }
+    ensures stays { findings.new ≡ findings.old }
 {
     let (message, part) = (tag::message::FIELD, tag::field::NUMBER);
     Ok(DescriptorErrorKind::DuplicateFieldNumber {
@@ -168,7 +169,7 @@ fn same_number(
 
 /// The fault of two fields with one JSON name, the earlier first.
 fn same_json_name(
-    findings: &Findings,
+    findings: &mut Findings,
     owner: Place,
     name: &Text,
     first: usize,
@@ -176,8 +177,9 @@ fn same_json_name(
 ) -> Result<DescriptorErrorKind, AllocError>
     requires first_short { first < 2 ^ 31 }
     requires second_short { second < 2 ^ 31 }
-    ensures { IfOk result (λ fault. fault ≡ same_json_name (named_files findings.now)
+    ensures fault { IfOk result (λ fault. fault ≡ same_json_name (named_files findings.old)
         owner.entry.file owner.entry.path.now name.now first second) }
+    ensures stays { findings.new ≡ findings.old }
 {
     let (message, part) = (tag::message::FIELD, tag::field::NAME);
     Ok(DescriptorErrorKind::DuplicateFieldJsonName {

@@ -10,21 +10,21 @@ abbrev pub state_of : NameVisitor → NameState
 state_of v = record {
   names = v.names.now;
   file_names = v.file_names.now;
-  faults = v.faults.now.items;
+  faults = v.faults.now.found.items;
 }
 
 -- the records that labels name
 abbrev pub records_of : NameVisitor → List FileDescriptorProto
-records_of v = map (λ f. f.raw) v.files.now
+records_of v = map (λ f. f.raw) v.faults.now.labels
 
 -- the index of the first new file
 abbrev pub first_new : NameVisitor → ℕ
-first_new v = length (take v.first v.files.now)
+first_new v = length (take v.first v.faults.now.labels)
 
 -- what a roll-back leaves of files and names
 abbrev pub kept_of : NameVisitor → Contents
 kept_of v = record no_contents {
-  files = take v.first v.files.now;
+  files = take v.first v.faults.now.labels;
   names = without_files_from (first_new v) v.names.now;
   file_names = file_names_before (first_new v) v.file_names.now;
 }
@@ -34,6 +34,6 @@ borrows_of v = v.names.ghost_name ∷ v.file_names.ghost_name ∷ v.faults.ghost
 
 -- nothing changes but names and faults, and what a roll-back leaves stays
 pub record Stays (old new : NameVisitor) : Type 0 where
-  pub files : new.files.now ≡ old.files.now
+  pub files : new.faults.now.labels ≡ old.faults.now.labels
   pub kept : kept_of new ≡ kept_of old
   pub borrows : borrows_of new ≡ borrows_of old

@@ -35,7 +35,7 @@ pub fn check_camel_case_names(
     ensures { OnOk result (Tells findings.old findings.new
         (message_own_faults (named_files findings.old) file path.now message.now)) }
 {
-    match syntax_at(findings.files, file) {
+    match syntax_at(findings.files(), file) {
         Syntax::Proto2 => Ok(()),
         Syntax::Proto3 => check_keys(findings, file, path, message.field.as_slice()),
     }
@@ -91,7 +91,7 @@ fn first_holder(
 
 /// The fault of two fields, given with their positions, whose names have one key.
 fn camel_case_fault(
-    findings: &Findings,
+    findings: &mut Findings,
     file: u32,
     path: &[i32],
     first: (usize, &FieldDescriptorProto),
@@ -99,9 +99,10 @@ fn camel_case_fault(
 ) -> Result<DescriptorErrorKind, AllocError>
     requires first_short { first.0 < 2 ^ 31 }
     requires second_short { second.0 < 2 ^ 31 }
-    ensures { IfOk result (λ fault. fault
-        ≡ camel_case_fault (named_files findings.now) file path.now
+    ensures fault { IfOk result (λ fault. fault
+        ≡ camel_case_fault (named_files findings.old) file path.now
         (first.entry.0, first.entry.1.now) (second.entry.0, second.entry.1.now)) }
+    ensures stays { findings.new ≡ findings.old }
 {
     Ok(DescriptorErrorKind::DuplicateFieldCamelCaseName {
         first_name: Text::from_str(findings.alloc, first.1.name())?,
@@ -113,14 +114,15 @@ fn camel_case_fault(
 
 /// The label of a field's name.
 fn name_label(
-    findings: &Findings,
+    findings: &mut Findings,
     file: u32,
     path: &[i32],
     position: usize,
 ) -> Result<Label, AllocError>
     requires { position < 2 ^ 31 }
-    ensures { IfOk result (λ l. l
-        ≡ label_in (named_files findings.now) file (name_path path.now position)) }
+    ensures label { IfOk result (λ l. l
+        ≡ label_in (named_files findings.old) file (name_path path.now position)) }
+    ensures stays { findings.new ≡ findings.old }
 {
     let mut name_path = entry_path(findings.alloc, path, tag::message::FIELD, position)?;
     name_path.push(tag::field::NAME)?;

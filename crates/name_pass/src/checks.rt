@@ -7,69 +7,73 @@ ghost use Rattle.name_pass.specs.CamelCase.{message_own_faults};
 ghost use Rattle.name_pass.specs.Enumeration.{enum_faults};
 ghost use Rattle.name_pass.specs.Syntaxes.{syntax_faults};
 
-use field_rules::Findings;
-use pool_faults::DescriptorErrorKind;
-use pool_types::FileDescriptorInner;
+use field_rules::{Faults, Findings};
 use proto_types::{DescriptorProto, EnumDescriptorProto, FileDescriptorProto};
 use std::alloc::{AllocError, Global};
 
 /// Appends to `faults` what the syntax of the file with an index breaks.
 pub(crate) fn check_syntax(
     alloc: Global,
-    files: &[FileDescriptorInner],
     index: u32,
     file: &FileDescriptorProto,
-    faults: &mut Vec<DescriptorErrorKind>,
+    faults: &mut Faults,
 ) -> Result<(), AllocError>
-    ensures { OnOk result (faults.new.items ≡ faults.old.items
-        ++ syntax_faults (map (λ f. f.raw) files.now) index file.now) }
+    ensures told { OnOk result (faults.new.found.items ≡ faults.old.found.items
+        ++ syntax_faults (map (λ f. f.raw) faults.old.labels) index file.now) }
+    ensures labels { faults.new.labels ≡ faults.old.labels }
 {
     let mut findings = Findings {
         alloc,
-        files,
-        faults,
+        faults: faults.take(alloc),
     };
-    crate::check_syntax(&mut findings, index, file)
+    crate::check_syntax(&mut findings, index, file)?;
+    let Findings { faults: found, .. } = findings;
+    *faults = found;
+    Ok(())
 }
 
 /// Appends to `faults` what the names of the fields of a message break, at a path of the file with
 /// an index.
 pub(crate) fn check_camel_case_names(
     alloc: Global,
-    files: &[FileDescriptorInner],
     file: u32,
     path: &[i32],
     message: &DescriptorProto,
-    faults: &mut Vec<DescriptorErrorKind>,
+    faults: &mut Faults,
 ) -> Result<(), AllocError>
     requires { lists_fit (of_message message.now) ≡ true }
-    ensures { OnOk result (faults.new.items ≡ faults.old.items
-        ++ message_own_faults (map (λ f. f.raw) files.now) file path.now message.now) }
+    ensures told { OnOk result (faults.new.found.items ≡ faults.old.found.items
+        ++ message_own_faults (map (λ f. f.raw) faults.old.labels) file path.now message.now) }
+    ensures labels { faults.new.labels ≡ faults.old.labels }
 {
     let mut findings = Findings {
         alloc,
-        files,
-        faults,
+        faults: faults.take(alloc),
     };
-    crate::check_camel_case_names(&mut findings, file, path, message)
+    crate::check_camel_case_names(&mut findings, file, path, message)?;
+    let Findings { faults: found, .. } = findings;
+    *faults = found;
+    Ok(())
 }
 
 /// Appends to `faults` what the first value of an enum breaks, at a path of the file with an index.
 pub(crate) fn check_enum_values(
     alloc: Global,
-    files: &[FileDescriptorInner],
     file: u32,
     path: &[i32],
     enumeration: &EnumDescriptorProto,
-    faults: &mut Vec<DescriptorErrorKind>,
+    faults: &mut Faults,
 ) -> Result<(), AllocError>
-    ensures { OnOk result (faults.new.items ≡ faults.old.items
-        ++ enum_faults (map (λ f. f.raw) files.now) file path.now enumeration.now) }
+    ensures told { OnOk result (faults.new.found.items ≡ faults.old.found.items
+        ++ enum_faults (map (λ f. f.raw) faults.old.labels) file path.now enumeration.now) }
+    ensures labels { faults.new.labels ≡ faults.old.labels }
 {
     let mut findings = Findings {
         alloc,
-        files,
-        faults,
+        faults: faults.take(alloc),
     };
-    crate::check_enum_values(&mut findings, file, path, enumeration)
+    crate::check_enum_values(&mut findings, file, path, enumeration)?;
+    let Findings { faults: found, .. } = findings;
+    *faults = found;
+    Ok(())
 }

@@ -28,7 +28,7 @@ pub fn check_enum_values(
         let found = findings.label(file, path)?;
         return findings.push(DescriptorErrorKind::EmptyEnum { found });
     };
-    if syntax_at(findings.files, file) == Syntax::Proto3 && first.number() != 0 {
+    if syntax_at(findings.files(), file) == Syntax::Proto3 && first.number() != 0 {
         let mut number_path = Vec::from_slice(findings.alloc, path)?;
         number_path.push(tag::enum_::VALUE)?;
         number_path.push(0)?;

@@ -1,16 +1,16 @@
 ghost use Rattle.std.specs.Prelude.{◌≡◌, ◌≤◌, ◌∷◌, ◌++◌, [], IfOk, OnOk, Some, map};
 ghost use Rattle.std.specs.List.{fold};
-ghost use Rattle.plain_data.specs.Lists.{listed};
 ghost use Rattle.proto_types.specs.declared.tag.message.TheConstants.{NAME};
 ghost use Rattle.name_resolution.specs.Kinds.{is_package};
 ghost use Rattle.name_pass.specs.Entered.{packages, package_entry};
 ghost use Rattle.name_pass.specs.FirstPass.{holder_faults};
 
 use crate::checks::{check_camel_case_names, check_enum_values, check_syntax};
+use field_rules::Faults;
 use name_tables::{FileNames, HashedNames, NameTable};
 use plain_data::{Items, Text};
-use pool_faults::{DescriptorErrorKind, label_at};
-use pool_types::{Definition, DefinitionKind, FileDescriptorInner};
+use pool_faults::DescriptorErrorKind;
+use pool_types::{Definition, DefinitionKind};
 use proto_types::{
     DescriptorProto, EnumDescriptorProto, EnumValueDescriptorProto, FieldDescriptorProto,
     FileDescriptorProto, MethodDescriptorProto, OneofDescriptorProto, ServiceDescriptorProto, tag,
@@ -22,17 +22,16 @@ use std::alloc::{AllocError, Global};
 /// those of a batch as well, and gathers the faults of names, and of what a file, a message or an
 /// enum shows by itself.
 #[derive(Drop)]
-pub struct NameVisitor<'a> {
+pub struct NameVisitor<'a, 'f> {
     pub alloc: Global,
     /// The index of the first file of the batch.
     pub first: u32,
-    pub files: &'a [FileDescriptorInner],
     pub names: &'a mut HashedNames,
     pub file_names: &'a mut FileNames,
-    pub faults: &'a mut Vec<DescriptorErrorKind>,
+    pub faults: &'a mut Faults<'f>,
 }
 
-impl NameVisitor<'_> {
+impl NameVisitor<'_, '_> {
     ghost use Rattle.name_pass.specs.Steps.{entered, file_named};
     ghost use Rattle.name_pass.specs.State.{first_new, records_of, state_of, Stays};
 
@@ -54,10 +53,7 @@ impl NameVisitor<'_> {
         let Some(holder) = self.names.get(name) else {
             return self.names.insert(name, definition);
         };
-        if let Some(fault) = clash(self.alloc, self.files, name, holder, &definition)? {
-            self.faults.push(fault)?;
-        }
-        Ok(())
+        check_clash(self.alloc, self.faults, name, holder, &definition)
     }
 
     /// Enters a package and those around it, from the outermost in.
@@ -101,6 +97,7 @@ impl NameVisitor<'_> {
         }
         let name = Text::from_str(self.alloc, name)?;
         self.faults
+            .found
             .push(DescriptorErrorKind::DuplicateFileName { name })?;
         Ok(())
     }
@@ -126,7 +123,7 @@ impl NameVisitor<'_> {
     }
 }
 
-impl Visitor for NameVisitor<'_> {
+impl Visitor for NameVisitor<'_, '_> {
     ghost use Rattle.std.specs.List.{fold};
     ghost use Rattle.name_pass.specs.Steps.{CanBeEntered, front-entered, name_progress, name_step};
     ghost use Rattle.name_pass.specs.State.{borrows_of, first_new, kept_of, records_of, state_of};
@@ -147,7 +144,7 @@ impl Visitor for NameVisitor<'_> {
         index: u32,
         file: &FileDescriptorProto,
     ) -> Result<(), AllocError> {
-        check_syntax(self.alloc, self.files, index, file, self.faults)?;
+        check_syntax(self.alloc, index, file, self.faults)?;
         self.name_file(file.name(), index)?;
         self.enter_packages(index, file.package())
     }
@@ -162,7 +159,7 @@ impl Visitor for NameVisitor<'_> {
         message: &DescriptorProto,
     ) -> Result<(), AllocError> {
         self.enter_own(full_name, file, path, DefinitionKind::Message(index))?;
-        check_camel_case_names(self.alloc, self.files, file, path, message, self.faults)
+        check_camel_case_names(self.alloc, file, path, message, self.faults)
     }
 
     fn visit_field(
@@ -222,7 +219,7 @@ impl Visitor for NameVisitor<'_> {
         enumeration: &EnumDescriptorProto,
     ) -> Result<(), AllocError> {
         self.enter_own(full_name, file, path, DefinitionKind::Enum(index))?;
-        check_enum_values(self.alloc, self.files, file, path, enumeration, self.faults)
+        check_enum_values(self.alloc, file, path, enumeration, self.faults)
     }
 
     fn visit_enum_value(
@@ -250,25 +247,30 @@ impl Visitor for NameVisitor<'_> {
     }
 }
 
-/// The fault of a name that is defined already; a package may be entered again as a package.
-fn clash(
+/// Appends to `faults` that of a name that is defined already; a package may be entered again as a
+/// package.
+fn check_clash(
     alloc: Global,
-    files: &[FileDescriptorInner],
+    faults: &mut Faults,
     name: &str,
     holder: &Definition,
     new: &Definition,
-) -> Result<Option<DescriptorErrorKind>, AllocError>
-    ensures { IfOk result (λ fault. listed fault
-        ≡ holder_faults (map (λ f. f.raw) files.now) (Some holder.now) (name.now, new.now)) }
+) -> Result<(), AllocError>
+    ensures told { OnOk result (faults.new.found.items ≡ faults.old.found.items
+        ++ holder_faults (map (λ f. f.raw) faults.old.labels) (Some holder.now)
+        (name.now, new.now)) }
+    ensures labels { faults.new.labels ≡ faults.old.labels }
 {
     if is_package(holder.kind) && is_package(new.kind) {
-        return Ok(None);
+        return Ok(());
     }
-    Ok(Some(DescriptorErrorKind::DuplicateName {
+    let fault = DescriptorErrorKind::DuplicateName {
         name: Text::from_str(alloc, name)?,
-        first: label_at(alloc, files, holder.file, holder.path.as_slice())?,
-        second: label_at(alloc, files, new.file, new.path.as_slice())?,
-    }))
+        first: faults.labels.label(holder.file, holder.path.as_slice())?,
+        second: faults.labels.label(new.file, new.path.as_slice())?,
+    };
+    faults.found.push(fault)?;
+    Ok(())
 }
 
 fn is_package(kind: DefinitionKind) -> bool

@@ -15,8 +15,8 @@ use crate::filter::ResolveNameFilter;
 use crate::parents::CandidateParents;
 use name_tables::NameTable;
 use plain_data::Text;
-use pool_faults::{DescriptorErrorKind, Label, label_at};
-use pool_types::{Definition, FileDescriptorInner};
+use pool_faults::{DescriptorErrorKind, Label, Labels};
+use pool_types::Definition;
 use proto_types::join;
 use std::alloc::{AllocError, Global};
 use std::collections::BTreeSet;
@@ -195,31 +195,32 @@ impl<'a> ResolveNameResult<'a> {
         &self,
         alloc: Global,
         orig_name: &str,
-        files: &[FileDescriptorInner],
+        labels: &mut Labels,
         found_file: u32,
         path: &[i32],
     ) -> Result<Option<DescriptorErrorKind>, AllocError>
-        ensures { IfOk result (λ fault. fault
-            ≡ reference_fault (map (λ f. f.raw) files.now) orig_name.now found_file path.now
+        ensures fault { IfOk result (λ fault. fault
+            ≡ reference_fault (map (λ f. f.raw) labels.old) orig_name.now found_file path.now
             (resolution_in self.now)) }
+        ensures labels { labels.new ≡ labels.old }
     {
         let fault = match self {
             ResolveNameResult::Found { .. } => return Ok(None),
             ResolveNameResult::InvalidType { name, def, filter } => {
-                let found = label_at(alloc, files, found_file, path)?;
-                let defined = label_at(alloc, files, def.file, def.path.as_slice())?;
+                let found = labels.label(found_file, path)?;
+                let defined = labels.label(def.file, def.path.as_slice())?;
                 invalid_type(alloc, name.as_str(), *filter, found, defined)?
             }
             ResolveNameResult::NotImported { name, .. } => {
-                let found = label_at(alloc, files, found_file, path)?;
+                let found = labels.label(found_file, path)?;
                 name_not_found(alloc, name.as_str(), found)?
             }
             ResolveNameResult::Shadowed { shadowed_name, .. } => {
-                let found = label_at(alloc, files, found_file, path)?;
+                let found = labels.label(found_file, path)?;
                 name_shadowed(alloc, orig_name, shadowed_name.as_str(), found)?
             }
             ResolveNameResult::NotFound => {
-                let found = label_at(alloc, files, found_file, path)?;
+                let found = labels.label(found_file, path)?;
                 name_not_found(alloc, orig_name, found)?
             }
         };

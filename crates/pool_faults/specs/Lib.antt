@@ -1,4 +1,5 @@
 pub mod Labels
 pub mod LabelEquality
+pub mod Indexed
 pub mod Texts
 pub mod Equality

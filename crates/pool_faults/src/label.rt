@@ -118,7 +118,7 @@ fn first_location<'a>(locations: &'a [Location], path: &[i32]) -> Option<&'a Loc
 }
 
 /// The four numbers of a span, which is written by three where it ends in the line of its start.
-fn span_of(numbers: &[i32]) -> Option<[i32; 4]>
+pub(crate) fn span_of(numbers: &[i32]) -> Option<[i32; 4]>
     ensures { result ≡ span_of numbers.now }
 {
     if numbers.iter().any(|number| *number < 0) {

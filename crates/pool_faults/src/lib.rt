@@ -8,8 +8,11 @@ mod fault;
 mod files;
 mod label;
 mod label_exact;
+mod labels;
+mod spans;
 
 pub use error::DescriptorError;
 pub use fault::{DescriptorErrorKind, Labelled};
 pub use files::label_at;
 pub use label::Label;
+pub use labels::Labels;

@@ -4,3 +4,4 @@ pub mod Readings
 pub mod Found
 pub mod Owners
 pub mod ByItems
+pub mod Seen

@@ -26,10 +26,10 @@ reads-told told = record { findings = told; names = refl; file_names = refl }
 -- declarations are read against the same
 pub same-setting : {a b : Reading} {fs : Faults} → Reads a b fs → setting_of b ≡ setting_of a
 same-setting reads = λ j. record {
-  files = map (λ f. f.raw) (reads.findings.files j).now;
+  files = map (λ f. f.raw) (reads.findings.files j);
   names = (reads.names j).now;
   file_names = (reads.file_names j).now;
-  seen = map (λ f. f.transitive_dependencies) (reads.findings.files j).now;
+  seen = map (λ f. f.transitive_dependencies) (reads.findings.files j);
 }
 
 -- two readings

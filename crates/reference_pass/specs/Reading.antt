@@ -11,7 +11,7 @@ setting_of r = record {
   files = named_files r.findings;
   names = r.names.now;
   file_names = r.file_names.now;
-  seen = map (λ f. f.transitive_dependencies) r.findings.files.now;
+  seen = map (λ f. f.transitive_dependencies) r.findings.faults.labels;
 }
 
 -- that faults were appended to those found before, and no more

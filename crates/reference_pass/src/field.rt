@@ -129,7 +129,7 @@ fn item_at(
 pub(crate) fn is_proto3(reading: &Reading, file: u32) -> bool
     ensures { result ≡ is_proto3 (syntax_at (setting_of reading.now).files file) }
 {
-    match syntax_at(reading.findings.files, file) {
+    match syntax_at(reading.findings.files(), file) {
         Syntax::Proto2 => false,
         Syntax::Proto3 => true,
     }

@@ -15,21 +15,21 @@ use std::alloc::AllocError;
 /// What declarations are read with: the files that labels name, the faults that are found, and what
 /// names mean.
 #[derive(Drop)]
-pub struct Reading<'a> {
-    pub findings: Findings<'a>,
-    pub names: &'a HashedNames,
-    pub file_names: &'a FileNames,
+pub struct Reading<'f> {
+    pub findings: Findings<'f>,
+    pub names: &'f HashedNames,
+    pub file_names: &'f FileNames,
 }
 
-impl<'a> Reading<'a> {
+impl<'f> Reading<'f> {
     ghost use Rattle.reference_pass.specs.Reading.{Reads, setting_of};
 
     /// What declarations are read against.
-    pub(crate) fn setting(&self) -> Setting<'a>
+    pub(crate) fn setting(&self) -> Setting<'f>
         ensures { setting_in result ≡ setting_of self.now }
     {
         Setting {
-            files: self.findings.files,
+            files: self.findings.files(),
             names: self.names,
             file_names: self.file_names,
         }
@@ -44,7 +44,7 @@ impl<'a> Reading<'a> {
         place: Place,
         filter: ResolveNameFilter,
         written: &str,
-    ) -> Result<ResolveNameResult<'a>, AllocError>
+    ) -> Result<ResolveNameResult<'f>, AllocError>
         ensures { IfOk result (λ r. resolution_in r
             ≡ resolve (setting_of self.now) place.entry.file place.entry.full_name.now
             filter written.now) }
@@ -65,7 +65,7 @@ impl<'a> Reading<'a> {
         tag: i32,
         filter: ResolveNameFilter,
         written: &str,
-    ) -> Result<ResolveNameResult<'a>, AllocError>
+    ) -> Result<ResolveNameResult<'f>, AllocError>
         ensures meaning { IfOk result (λ r. resolution_in r
             ≡ resolve (setting_of self.old) place.entry.file place.entry.full_name.now
             filter written.now) }
@@ -89,7 +89,7 @@ impl<'a> Reading<'a> {
         place: Place,
         tag: i32,
         written: &str,
-    ) -> Result<ResolveNameResult<'a>, AllocError>
+    ) -> Result<ResolveNameResult<'f>, AllocError>
         ensures meaning { IfOk result (λ r. resolution_in r
             ≡ resolve (setting_of self.old) place.entry.file place.entry.full_name.now
             ResolveNameFilter.Message written.now) }
@@ -118,10 +118,11 @@ fn check_found(
     if meaning.is_found() {
         return Ok(());
     }
-    let (alloc, files) = (findings.alloc, findings.files);
+    let alloc = findings.alloc;
     let mut path = Vec::from_slice(alloc, place.path)?;
     path.push(tag)?;
-    if let Some(fault) = meaning.fault(alloc, written, files, place.file, &path)? {
+    let labels = &mut findings.faults.labels;
+    if let Some(fault) = meaning.fault(alloc, written, labels, place.file, &path)? {
         findings.push(fault)?;
     }
     Ok(())

@@ -1,12 +1,13 @@
-ghost use Rattle.std.specs.Prelude.{map};
+ghost use Rattle.std.specs.Prelude.{◌≡◌, map};
+ghost use Rattle.reference_pass.specs.SettingCode.{setting_in};
 ghost use Rattle.reference_pass.specs.NamesBegin.{NamesBegin};
 ghost use Rattle.reference_pass.specs.Short.{ShortFiles};
 
 use crate::Setting;
 use crate::items::NewItems;
 use crate::owner_reading::{check_imports, read_enum, read_extension, read_message, read_service};
-use field_rules::Place;
-use pool_faults::DescriptorErrorKind;
+use field_rules::{Faults, Place};
+use name_tables::{FileNames, HashedNames};
 use proto_types::{
     DescriptorProto, EnumDescriptorProto, EnumValueDescriptorProto, FieldDescriptorProto,
     FileDescriptorProto, MethodDescriptorProto, OneofDescriptorProto, ServiceDescriptorProto,
@@ -19,16 +20,33 @@ use std::alloc::{AllocError, Global};
 /// imports, of fields, of extensions, of values and of references. A message is read with its
 /// oneofs and fields, an enum with its values, and a service with its methods. The full name of
 /// each declaration that it is shown ends with the declared name, and its lists are short enough
-/// for a pool, as are those of all files that it is read against.
+/// for a pool, as are those of all files that it is read against, which are those that labels name.
 #[derive(Drop)]
 pub struct ResolveVisitor<'a> {
     pub alloc: Global,
-    pub setting: Setting<'a>,
+    pub names: &'a HashedNames,
+    pub file_names: &'a FileNames,
     pub items: NewItems,
-    pub faults: Vec<DescriptorErrorKind>,
+    pub faults: Faults<'a>,
     ghost names_begin: { NamesBegin items.messages.items items.enums.items items.services.items
         items.extensions.items },
-    ghost short: { ShortFiles (map (λ f. f.raw) setting.files.now) },
+    ghost short: { ShortFiles (map (λ f. f.raw) faults.labels) },
+}
+
+impl<'a> ResolveVisitor<'a> {
+    ghost use Rattle.reference_pass.specs.State.{setting_of};
+
+    /// What declarations are read against.
+    fn setting(&self) -> Setting<'a>
+        ensures setting { setting_in result ≡ setting_of self.now }
+        ensures files { result.files.now ≡ self.now.faults.labels }
+    {
+        Setting {
+            files: self.faults.labels.files(),
+            names: self.names,
+            file_names: self.file_names,
+        }
+    }
 }
 
 impl Visitor for ResolveVisitor<'_> {
@@ -36,12 +54,11 @@ impl Visitor for ResolveVisitor<'_> {
     ghost use Rattle.std.specs.Prelude.{[]};
     ghost use Rattle.pool_types.specs.Contents.{no_contents};
     ghost use Rattle.record_walk.specs.FullNames.{CanBeRead, front-read};
-    ghost use Rattle.reference_pass.specs.SettingCode.{setting_in};
     ghost use Rattle.reference_pass.specs.Steps.{reference_progress, reference_step};
-    ghost use Rattle.reference_pass.specs.State.{state_of};
+    ghost use Rattle.reference_pass.specs.State.{setting_of, state_of};
 
     ghost after = { λ v ds.
-        reference_progress (fold (reference_step (setting_in v.setting)) (state_of v) ds) };
+        reference_progress (fold (reference_step (setting_of v)) (state_of v) ds) };
 
     ghost ready = { λ _ ds. CanBeRead ds };
 
@@ -57,7 +74,8 @@ impl Visitor for ResolveVisitor<'_> {
         index: u32,
         file: &FileDescriptorProto,
     ) -> Result<(), AllocError> {
-        check_imports(self.alloc, self.setting, index, file, &mut self.faults)
+        let setting = self.setting();
+        check_imports(self.alloc, setting, index, file, &mut self.faults)
     }
 
     fn visit_message(
@@ -76,7 +94,8 @@ impl Visitor for ResolveVisitor<'_> {
             path,
             full_name,
         };
-        let item = read_message(self.alloc, self.setting, place, message, &mut self.faults)?;
+        let setting = self.setting();
+        let item = read_message(self.alloc, setting, place, message, &mut self.faults)?;
         self.items.push_message(item)
     }
 
@@ -119,7 +138,8 @@ impl Visitor for ResolveVisitor<'_> {
             path,
             full_name,
         };
-        let item = read_service(self.alloc, self.setting, place, service, &mut self.faults)?;
+        let setting = self.setting();
+        let item = read_service(self.alloc, setting, place, service, &mut self.faults)?;
         self.items.push_service(item)
     }
 
@@ -151,8 +171,7 @@ impl Visitor for ResolveVisitor<'_> {
             path,
             full_name,
         };
-        let files = self.setting.files;
-        let item = read_enum(self.alloc, files, place, enumeration, &mut self.faults)?;
+        let item = read_enum(self.alloc, place, enumeration, &mut self.faults)?;
         self.items.push_enum(item)
     }
 
@@ -184,7 +203,8 @@ impl Visitor for ResolveVisitor<'_> {
             path,
             full_name,
         };
-        let item = read_extension(self.alloc, self.setting, place, extension, &mut self.faults)?;
+        let setting = self.setting();
+        let item = read_extension(self.alloc, setting, place, extension, &mut self.faults)?;
         self.items.push_extension(item)
     }
 }

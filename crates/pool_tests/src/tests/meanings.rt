@@ -4,7 +4,7 @@ use super::files_of;
 use name_resolution::{CandidateParents, ResolveNameFilter, ResolveNameResult, resolve_name};
 use name_tables::{HashedNames, NameTable};
 use plain_data::Items;
-use pool_faults::{Label, Labelled, label_at};
+use pool_faults::{Label, Labelled, Labels, label_at};
 use pool_types::{Definition, DefinitionKind, FileDescriptorInner, Syntax};
 use std::alloc::{AllocError, Global};
 use std::collections::BTreeSet;
@@ -73,8 +73,8 @@ fn check_label(
     Ok(())
 }
 
-/// Asserts that three ways make one label of the second file, and that a file that is not there
-/// has no name.
+/// Asserts that four ways make one label of the second file, and that a file that is not there has
+/// no name.
 fn check_labels(
     rt: &impl Abort,
     alloc: Global,
@@ -96,7 +96,12 @@ fn check_labels(
         "'b.proto' [4]",
     )?;
     check_label(rt, alloc, label_at(alloc, linked, 1, &[4]), "'b.proto' [4]")?;
-    check_label(rt, alloc, label_at(alloc, linked, 2, &[4]), "'' [4]")
+    check_label(rt, alloc, label_at(alloc, linked, 2, &[4]), "'' [4]")?;
+    let mut labels = Labels::new(alloc, linked);
+    for _ in 0..2 {
+        check_label(rt, alloc, labels.label(1, &[4]), "'b.proto' [4]")?;
+    }
+    check_label(rt, alloc, labels.label(2, &[4]), "'' [4]")
 }
 
 #[test]
@@ -171,7 +176,8 @@ fn fault_words(
     name: &str,
     linked: &[FileDescriptorInner],
 ) -> Result<String, AllocError> {
-    match resolved.fault(alloc, name, linked, 1, &[4])? {
+    let mut labels = Labels::new(alloc, linked);
+    match resolved.fault(alloc, name, &mut labels, 1, &[4])? {
         Some(fault) => {
             let fault = Labelled(&fault);
             format!(in alloc; "{fault}")

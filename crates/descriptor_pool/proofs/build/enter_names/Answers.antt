@@ -14,18 +14,18 @@ pub returns-clause-faults : goal.returns-clause-faults
 returns-clause-faults c =
     let g = c.args.pool.now in
     let p = contents_in g.inner in
-    let files = c.deref.ensures.value in
+    let files = c.new-faults.ensures.labels ∙ c.deref.ensures.value in
     let is = c.in_ok-show_names.ensures.ok
-    ∙ (λ i. fold (name_step (map (λ f. f.raw) (files i))) (state_at p.names p.file_names (c.new-faults.ensures.items i)) (declarations g.base (records_from g.base.files (files i))))
+    ∙ (λ i. fold (name_step (map (λ f. f.raw) (files i))) (state_at p.names p.file_names (c.new-faults.ensures.found i)) (declarations g.base (records_from g.base.files (files i))))
     ∙ fold-names p (files_of p) (declarations g.base (new_records g)) in
-    refuse-tells c.refuse.result c.show_names.new.faults.items _ c.refuse.ensures.ok c.refuse.ensures.err (ap (λ (s : NameState). s.faults) is)
+    refuse-tells c.refuse.result c.show_names.new.faults.found.items _ c.refuse.ensures.ok c.refuse.ensures.err (ap (λ (s : NameState). s.faults) is)
 
 pub returns-clause-entered : goal.returns-clause-entered
 returns-clause-entered c =
     let g = c.args.pool.now in
     let p = contents_in g.inner in
-    let files = c.deref.ensures.value in
+    let files = c.new-faults.ensures.labels ∙ c.deref.ensures.value in
     let is = c.in_ok-show_names.ensures.ok
-    ∙ (λ i. fold (name_step (map (λ f. f.raw) (files i))) (state_at p.names p.file_names (c.new-faults.ensures.items i)) (declarations g.base (records_from g.base.files (files i))))
+    ∙ (λ i. fold (name_step (map (λ f. f.raw) (files i))) (state_at p.names p.file_names (c.new-faults.ensures.found i)) (declarations g.base (records_from g.base.files (files i))))
     ∙ fold-names p (files_of p) (declarations g.base (new_records g)) in
     on-ok c.refuse.result (λ none. λ i. record p { names = ap (λ (s : NameState). s.names) is i; file_names = ap (λ (s : NameState). s.file_names) is i }) c.refuse.ensures.ok

@@ -1,4 +1,4 @@
-use Rattle.std.proofs.Common.{◌≡◌, ◌-◌, List, [], length, map, take, drop, rules, sym, subst, ◌∙◌}
+use Rattle.std.proofs.Common.{◌≡◌, ◌-◌, List, [], length, map, take, drop, rules, ap, sym, subst, ◌∙◌}
 use Rattle.pool_types.specs.declared.contents.file.FileDescriptorInner.{FileDescriptorInner}
 use Rattle.proto_types.specs.declared.file.FileDescriptorProto.{FileDescriptorProto}
 use Rattle.record_walk.specs.declared.counts.Counts.{Counts}
@@ -6,7 +6,7 @@ use Rattle.record_walk.specs.Declarations.{declarations}
 use Rattle.record_walk.specs.FullNames.{CanBeRead}
 use Rattle.record_walk.proofs.FullNames.{declarations-read}
 use Rattle.reference_pass.specs.Setting.{Setting}
-use Rattle.reference_pass.specs.SettingCode.{setting_in}
+use Rattle.pool_contents.specs.declared.inner.DescriptorPoolInner.{DescriptorPoolInner}
 use Rattle.reference_pass.specs.SecondPass.{second_pass}
 use Rattle.reference_pass.specs.Against.{setting_against}
 use Rattle.reference_pass.specs.Steps.{ReferenceState}
@@ -21,10 +21,14 @@ use Rattle.descriptor_pool.proofs.build.read_items.Goals as goal
 abbrev shown : Counts → List FileDescriptorInner → List FileDescriptorProto
 shown base files = map (λ f. f.raw) (take (length files - base.files) (drop base.files files))
 
+-- what declarations are read against, where labels name these files
+abbrev setting_at : List FileDescriptorInner → DescriptorPoolInner → Setting
+setting_at files p = record { files = map (λ f. f.raw) files; names = p.names; file_names = p.file_names; seen = map (λ f. f.transitive_dependencies) files }
+
 pub walk-requires-clause-ready : goal.walk-requires-clause-ready
 walk-requires-clause-ready c =
     let p = c.args.pool.now in
-    let rest = rest-records p.base.files c.deref.result.now p.inner.files.items c.deref.ensures.value in
+    let rest = rest-records p.base.files c.deref-2.result.now p.inner.files.items c.deref-2.ensures.value in
     subst (λ (fs : List FileDescriptorProto). CanBeRead (declarations p.base fs)) (sym rest) (declarations-read p.base (new_records p) c.requires.counts)
 
 -- all items are there
@@ -32,71 +36,74 @@ pub returns-clause-items : goal.returns-clause-items
 returns-clause-items c =
     let p = c.args.pool.now in
     let v = c.walk.new.visitor in
-    let fs = shown p.base c.deref.result.now in
-    let rest = rest-records p.base.files c.deref.result.now p.inner.files.items c.deref.ensures.value in
+    let fs = shown p.base c.deref-2.result.now in
+    let rest = rest-records p.base.files c.deref-2.result.now p.inner.files.items c.deref-2.ensures.value in
     let began : ReferenceState = record {
       messages = c.new.result.messages.items;
       enums = c.new.result.enums.items;
       services = c.new.result.services.items;
       extensions = c.new.result.extensions.items;
-      faults = c.new-2.result.items;
+      faults = c.new-2.result.found.items;
     } in
+    let is = ap (λ files. setting_at files p.inner) (c.new-2.ensures.labels ∙ c.deref.ensures.value) in
     let none : began ≡ no_items = λ i. record {
       messages = c.new.ensures.messages i;
       enums = c.new.ensures.enums i;
       services = c.new.ensures.services i;
       extensions = c.new.ensures.extensions i;
-      faults = c.new-2.ensures.items i;
+      faults = c.new-2.ensures.found i;
     } in
-    let has = (references-end (setting_in c.setting_of.result) v began p.base fs none (c.in_ok-walk.ensures.ok.after_is [])).0 in
+    let has = (references-end (setting_at c.new-2.result.labels p.inner) v began p.base fs none (c.in_ok-walk.ensures.ok.after_is [])).0 in
     subst (λ (gs : List FileDescriptorProto). HasItems v.items (setting_against p.inner) (declarations p.base gs)) rest
-    (subst (λ (s : Setting). HasItems v.items s (declarations p.base fs)) c.setting_of.ensures has)
+    (subst (λ (s : Setting). HasItems v.items s (declarations p.base fs)) is has)
 
 -- and there are no faults
 pub returns-clause-faults : goal.returns-clause-faults
 returns-clause-faults c =
     let p = c.args.pool.now in
     let v = c.walk.new.visitor in
-    let fs = shown p.base c.deref.result.now in
-    let rest = rest-records p.base.files c.deref.result.now p.inner.files.items c.deref.ensures.value in
+    let fs = shown p.base c.deref-2.result.now in
+    let rest = rest-records p.base.files c.deref-2.result.now p.inner.files.items c.deref-2.ensures.value in
     let began : ReferenceState = record {
       messages = c.new.result.messages.items;
       enums = c.new.result.enums.items;
       services = c.new.result.services.items;
       extensions = c.new.result.extensions.items;
-      faults = c.new-2.result.items;
+      faults = c.new-2.result.found.items;
     } in
+    let is = ap (λ files. setting_at files p.inner) (c.new-2.ensures.labels ∙ c.deref.ensures.value) in
     let none : began ≡ no_items = λ i. record {
       messages = c.new.ensures.messages i;
       enums = c.new.ensures.enums i;
       services = c.new.ensures.services i;
       extensions = c.new.ensures.extensions i;
-      faults = c.new-2.ensures.items i;
+      faults = c.new-2.ensures.found i;
     } in
-    let told = (references-end (setting_in c.setting_of.result) v began p.base fs none (c.in_ok-walk.ensures.ok.after_is [])).1 in
-    sym (told ∙ (λ i. second_pass (c.setting_of.ensures i) (declarations p.base (rest i)))) ∙ c.in_ok-refuse.ensures.ok
+    let told = (references-end (setting_at c.new-2.result.labels p.inner) v began p.base fs none (c.in_ok-walk.ensures.ok.after_is [])).1 in
+    sym (told ∙ (λ i. second_pass (is i) (declarations p.base (rest i)))) ∙ c.in_ok-refuse.ensures.ok
 
 -- or all of them are told
 pub returns-in_err-refuse-clause-faults : goal.returns-in_err-refuse-clause-faults
 returns-in_err-refuse-clause-faults c =
     let p = c.args.pool.now in
     let v = c.walk.new.visitor in
-    let fs = shown p.base c.deref.result.now in
-    let rest = rest-records p.base.files c.deref.result.now p.inner.files.items c.deref.ensures.value in
+    let fs = shown p.base c.deref-2.result.now in
+    let rest = rest-records p.base.files c.deref-2.result.now p.inner.files.items c.deref-2.ensures.value in
     let began : ReferenceState = record {
       messages = c.new.result.messages.items;
       enums = c.new.result.enums.items;
       services = c.new.result.services.items;
       extensions = c.new.result.extensions.items;
-      faults = c.new-2.result.items;
+      faults = c.new-2.result.found.items;
     } in
+    let is = ap (λ files. setting_at files p.inner) (c.new-2.ensures.labels ∙ c.deref.ensures.value) in
     let none : began ≡ no_items = λ i. record {
       messages = c.new.ensures.messages i;
       enums = c.new.ensures.enums i;
       services = c.new.ensures.services i;
       extensions = c.new.ensures.extensions i;
-      faults = c.new-2.ensures.items i;
+      faults = c.new-2.ensures.found i;
     } in
-    let told = (references-end (setting_in c.setting_of.result) v began p.base fs none (c.in_ok-walk.ensures.ok.after_is [])).1 in
-    let all = told ∙ (λ i. second_pass (c.setting_of.ensures i) (declarations p.base (rest i))) in
+    let told = (references-end (setting_at c.new-2.result.labels p.inner) v began p.base fs none (c.in_ok-walk.ensures.ok.after_is [])).1 in
+    let all = told ∙ (λ i. second_pass (is i) (declarations p.base (rest i))) in
     tells-err _ c.in_err-refuse.field-0.0 _ (search rules) (subst (TellsFaults c.in_err-refuse.field-0.0) all c.in_err-refuse.ensures.err)

@@ -6,7 +6,7 @@ use Rattle.pool_faults.specs.declared.fault.DescriptorErrorKind.{DescriptorError
 use Rattle.field_rules.specs.declared.findings.Findings.{Findings}
 use Rattle.field_rules.specs.Places.{enum_at}
 use Rattle.field_rules.specs.Tells.{Tells, named_files}
-use Rattle.field_rules.proofs.Tells.{tells-as, tells-next, tells-none}
+use Rattle.field_rules.proofs.Tells.{tells-as, tells-from, tells-next, tells-none}
 use Rattle.field_rules.specs.EnumValues.{reserved_fault, reserved_faults}
 use Rattle.field_rules.proofs.Told.{told-held, told-free}
 use Rattle.field_rules.proofs.enum_ranges.check_reserved.Goals as goal
@@ -32,8 +32,8 @@ loop-index-preserved c =
     elim c.if-reserves.branch [
       | then-reserves+in_ok-fault+in_ok-push w ↦
           next _ (w.in_ok-fault.fault ∷ [])
-          (told-held (named_files b) owner c.args.position n i range c.reserves.result w.in_ok-fault.fault c.reserves.ensures w.if-reserves.true w.in_ok-fault.ensures)
-          (rw w.findings-is w.in_ok-push.ensures)
+          (told-held (named_files b) owner c.args.position n i range c.reserves.result w.in_ok-fault.fault c.reserves.ensures w.if-reserves.true w.in_ok-fault.ensures.fault)
+          (rw w.findings-is (tells-from w.in_ok-fault.ensures.stays w.in_ok-push.ensures))
       | else-reserves w ↦
           next _ []
           (told-free (named_files b) owner c.args.position n i range c.reserves.result c.reserves.ensures w.if-reserves.false)

@@ -6,7 +6,7 @@ use Rattle.plain_data.specs.Lists.{listed}
 use Rattle.proto_types.specs.declared.message.ExtensionRange.{ExtensionRange}
 use Rattle.pool_faults.specs.declared.fault.DescriptorErrorKind.{DescriptorErrorKind}
 use Rattle.field_rules.specs.Tells.{named_files}
-use Rattle.field_rules.proofs.Tells.{tells-as, tells-none}
+use Rattle.field_rules.proofs.Tells.{tells-as, tells-from, tells-none}
 use Rattle.field_rules.specs.At.{any_at}
 use Rattle.field_rules.specs.Numbers.{extension_range_fault}
 use Rattle.field_rules.specs.Ranges.{extends}
@@ -29,10 +29,10 @@ returns-in_ok-push c =
     let told : ℤ → ℕ × ExtensionRange → DescriptorErrorKind = λ m. extension_range_fault files (any_at c.args.place) m (any_at c.args.owner.place) in
     let found = first-from (extends n) 0 ranges i (sym c.requires.holder ∙ c.in-Some.is) in
     let whole : i - 0 ≡ i = omega arith in
-    tells-as (ap (λ fault. fault ∷ []) (c.in_ok-fault.ensures ∙ ap (λ m. told m (i, range)) fits)
+    tells-from c.in_ok-fault.ensures.stays (tells-as (ap (λ fault. fault ∷ []) (c.in_ok-fault.ensures.fault ∙ ap (λ m. told m (i, range)) fits)
     ∙ ap (λ e. listed (option_map (told n) e))
     (sym (found.entry range (c.index-as_slice-position.is ∙ (λ j. get_or (c.as_slice.ensures j) (sym whole j) range)))))
-    c.in_ok-push.ensures
+    c.in_ok-push.ensures)
 
 -- no range holds the number
 pub returns-in_default : goal.returns-in_default

@@ -4,7 +4,7 @@ use Rattle.std.specs.List.{enumerate_from}
 use Rattle.std.specs.Option.{option_map}
 use Rattle.std.specs.Str.{bytes_eq}
 use Rattle.field_rules.specs.Tells.{named_files}
-use Rattle.field_rules.proofs.Tells.{same-files, tells-as, tells-none, tells-two}
+use Rattle.field_rules.proofs.Tells.{same-files, tells-as, tells-from, tells-none, tells-two}
 use Rattle.name_pass.specs.CamelCase.{camel_case_fault, camel_case_key, key_at}
 use Rattle.name_pass.proofs.CamelCase.{told-next}
 use Rattle.name_pass.proofs.Holders.{held-before, none-before, holders-next, entries-next, short-list}
@@ -52,8 +52,8 @@ loop-position-preserved c =
         | then-first-position+in_ok-fault+in_ok-push w ↦
             let held = held-before fields i first below key_at key _ first_is holder_is w.if-first-position.true in
             let found = told (Some (first, w.index-fields-first.result)) (held.entry w.index-fields-first.result w.index-fields-first.is) in
-            let fault = w.in_ok-fault.ensures ∙ ap (λ fs. camel_case_fault fs c.args.file c.args.path.now (first, w.index-fields-first.result) (i, f)) (same-files so_far) in
-            rw w.findings-is (tells-as found (tells-two so_far (tells-as (ap (λ x. x ∷ []) fault) w.in_ok-push.ensures)))
+            let fault = w.in_ok-fault.ensures.fault ∙ ap (λ fs. camel_case_fault fs c.args.file c.args.path.now (first, w.index-fields-first.result) (i, f)) (same-files so_far) in
+            rw w.findings-is (tells-as found (tells-two so_far (tells-from w.in_ok-fault.ensures.stays (tells-as (ap (λ x. x ∷ []) fault) w.in_ok-push.ensures))))
         | else-first-position w ↦
             let found = told None (none-before fields i first below key_at key _ first_is holder_is w.if-first-position.false) in
             rw w.findings-is (tells-as found (tells-two so_far (tells-none b)))

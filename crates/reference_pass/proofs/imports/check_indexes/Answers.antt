@@ -10,5 +10,4 @@ loop-index-preserved c =
     record {
       told = grind (arith, common_steps, before.told, next.told);
       files = next.files ∙ before.files;
-      reference = next.reference ∙ before.reference;
     }

@@ -7,6 +7,7 @@ use Rattle.record_walk.proofs.Listings.{on-ok}
 use Rattle.pool_faults.specs.Labels.{label_in}
 use Rattle.pool_faults.specs.declared.fault.DescriptorErrorKind.{DescriptorErrorKind}
 use Rattle.pool_faults.specs.declared.fault.DescriptorErrorKind.TheVariants.{FileNotFound}
+use Rattle.field_rules.proofs.Tells.{tells-from}
 use Rattle.reference_pass.specs.Reading.{setting_of}
 use Rattle.reference_pass.proofs.Readings.{reads-as, reads-told}
 use Rattle.reference_pass.proofs.imports.check_name.Goals as goal
@@ -19,8 +20,8 @@ returns c =
     let name = c.args.name.now in
     let absent : is_some (finite.get s.file_names name) ≡ false = search rules in
     let path = c.deref.ensures.value ∙ c.in_ok-path.ensures in
-    let found = c.in_ok-found.ensures ∙ ap (label_in s.files c.args.index) path in
+    let found = c.in_ok-found.ensures.label ∙ ap (label_in s.files c.args.index) path in
     let fault : DescriptorErrorKind = FileNotFound name (label_in s.files c.args.index (step [] DEPENDENCY c.args.position)) in
     on-ok c.push.result (λ told.
-    reads-as ((λ i. FileNotFound (c.in_ok-name.ensures i) (found i) ∷ []) ∙ ap (λ here. only_if (not here) fault) (sym absent)) (reads-told {r = a} told))
+    reads-as ((λ i. FileNotFound (c.in_ok-name.ensures i) (found i) ∷ []) ∙ ap (λ here. only_if (not here) fault) (sym absent)) (reads-told {r = a} (tells-from c.in_ok-found.ensures.stays told)))
     c.push.ensures

@@ -1,12 +1,12 @@
-use Rattle.std.proofs.Common.{◌++◌, refl, ap, sym, ◌∙◌, append-nil}
+use Rattle.std.proofs.Common.{refl, ap, sym, ◌∙◌}
 use Rattle.std.specs.Option.{option_copied}
+use Rattle.std.proofs.lemmas.Result.{on_ok_weaker}
+use borrow.Rule.Reborrow.{re_v}
 use Rattle.pool_types.specs.declared.contents.definition.Definition.{Definition}
-use Rattle.plain_data.specs.Lists.{listed}
 use Rattle.name_pass.specs.State.{first_new, kept_of, records_of, state_of}
 use Rattle.name_pass.proofs.Entering.{new-name, held-name}
 use Rattle.name_pass.proofs.Kept.{stays-before}
 use Rattle.name_pass.proofs.names.NameVisitor.enter.Goals as goal
-use Rattle.name_pass.proofs.names.NameVisitor.enter.Goals.{in-Some-2+in_ok-push, in_default-2}
 
 -- the name is a new one
 pub returns-in_default-clause-ok : goal.returns-in_default-clause-ok
@@ -31,12 +31,13 @@ returns-clause-ok c =
     let d : Definition = record { file = c.args.file; path = c.args.path; kind = c.args.kind } in
     let holder = c.in-Some.holder.now in
     let present = sym c.get.ensures ∙ ap option_copied c.in-Some.is in
-    let clash = c.in_ok-fault.ensures in
-    elim c.match-branch-2.branch [
-      | in-Some-2+in_ok-push w ↦
-          ap state_of w.self-is
-          ∙ held-name files state (c.args.name.now, d) holder _ present (w.in_ok-push.ensures.items ∙ ap (λ fs. state.faults ++ fs) (sym (ap listed w.in-Some-2.is) ∙ clash))
-      | in_default-2 w ↦
-          ap state_of w.self-is
-          ∙ held-name files state (c.args.name.now, d) holder state.faults present (sym (append-nil state.faults) ∙ ap (λ fs. state.faults ++ fs) (sym (ap listed w.in_default-2.is) ∙ clash))
-    ]
+    on_ok_weaker c.check_clash.result (λ told. held-name files state (c.args.name.now, d) holder c.check_clash.new.faults.found.items present told) c.check_clash.ensures.told
+
+pub returns-clause-stays : goal.returns-clause-stays
+returns-clause-stays c =
+    let v = c.args.self.now in
+    record {
+      files = c.check_clash.ensures.labels;
+      kept = λ i. kept_of (record v { faults = re_v (record c.check_clash.new.faults { labels = c.check_clash.ensures.labels i }) v.faults });
+      borrows = refl;
+    }

@@ -14,7 +14,7 @@ returns-clause-ok c =
     let d : Shown = shown_as c.args.path.now c.args.full_name.now c.args.file c.args._parent c.args.index (of_enum c.args.enumeration.now) in
     let here = c.enter_own.new.self in
     let stays = c.enter_own.ensures.stays in
-    let more = ap (λ (fs : List FileDescriptorInner). here.faults.now.items ++ enum_faults (map (λ f. f.raw) fs) c.args.file c.args.path.now c.args.enumeration.now) stays.files in
+    let more = ap (λ (fs : List FileDescriptorInner). here.faults.now.found.items ++ enum_faults (map (λ f. f.raw) fs) c.args.file c.args.path.now c.args.enumeration.now) stays.files in
     on_ok_weaker c.check_enum_values.result (λ told. shown-own c.args.self.now here d stays c.requires c.check_enum_values.new.faults
     (enum_faults (records_of c.args.self.now) c.args.file c.args.path.now c.args.enumeration.now)
-    c.in_ok-enter_own.ensures.ok (told ∙ more) (λ state. refl)) c.check_enum_values.ensures
+    c.in_ok-enter_own.ensures.ok (told ∙ more) c.check_enum_values.ensures.labels (λ state. refl)) c.check_enum_values.ensures.told

@@ -14,7 +14,7 @@ returns-clause-ok c =
     let d : Shown = shown_as c.args.path.now c.args.full_name.now c.args.file c.args._parent c.args.index (of_message c.args.message.now) in
     let here = c.enter_own.new.self in
     let stays = c.enter_own.ensures.stays in
-    let more = ap (λ (fs : List FileDescriptorInner). here.faults.now.items ++ message_own_faults (map (λ f. f.raw) fs) c.args.file c.args.path.now c.args.message.now) stays.files in
+    let more = ap (λ (fs : List FileDescriptorInner). here.faults.now.found.items ++ message_own_faults (map (λ f. f.raw) fs) c.args.file c.args.path.now c.args.message.now) stays.files in
     on_ok_weaker c.check_camel_case_names.result (λ told. shown-own c.args.self.now here d stays c.requires c.check_camel_case_names.new.faults
     (message_own_faults (records_of c.args.self.now) c.args.file c.args.path.now c.args.message.now)
-    c.in_ok-enter_own.ensures.ok (told ∙ more) (λ state. refl)) c.check_camel_case_names.ensures
+    c.in_ok-enter_own.ensures.ok (told ∙ more) c.check_camel_case_names.ensures.labels (λ state. refl)) c.check_camel_case_names.ensures.told

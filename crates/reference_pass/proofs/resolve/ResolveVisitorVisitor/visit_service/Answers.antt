@@ -1,0 +1,36 @@
+use Rattle.std.proofs.Common.{ap, ◌∙◌, ◌++◌, ◌∷◌, []}
+use Rattle.record_walk.specs.Shown.{Shown, shown_as}
+use Rattle.record_walk.specs.Protos.{of_service}
+use Rattle.std.specs.declared.option.Option.TheVariants.{None}
+use Rattle.reference_pass.specs.SecondPass.{service_faults}
+use Rattle.reference_pass.specs.Items.{service_item}
+use Rattle.reference_pass.specs.State.{setting_of, state_of}
+use Rattle.reference_pass.specs.Steps.{ReferenceState}
+use Rattle.reference_pass.proofs.Seen.{seen, setting_over}
+use Rattle.reference_pass.proofs.resolve.ResolveVisitorVisitor.visit_service.Goals as goal
+
+-- its item is made, and what it breaks is told
+pub returns-clause-ok : goal.returns-clause-ok
+returns-clause-ok c =
+    let v = c.args.self.now in
+    let x = c.args.service.now in
+    let d : Shown = shown_as c.args.path.now c.args.full_name.now c.args.file None c.args.index (of_service x) in
+    let faults = c.read_service.new.faults in
+    let same = ap (setting_over v) c.read_service.ensures.labels in
+    let setting = c.setting-setting.ensures.setting in
+    let item = c.in_ok-item.ensures.item ∙ ap (λ s. service_item s d x) setting in
+    let told = c.in_ok-item.ensures.faults ∙ ap (λ s. v.faults.found.items ++ service_faults s d x) setting in
+    let after : ReferenceState = record {
+      messages = v.items.messages.items;
+      enums = v.items.enums.items;
+      services = c.push.new.self.items;
+      extensions = v.items.extensions.items;
+      faults = faults.found.items;
+    } in
+    seen (setting_of v) (setting_over v faults.labels) (state_of v) after d same c.requires (λ i. record {
+      messages = v.items.messages.items;
+      enums = v.items.enums.items;
+      services = (c.in_ok-push.ensures.items ∙ ap (λ y. v.items.services.items ++ y ∷ []) item) i;
+      extensions = v.items.extensions.items;
+      faults = told i;
+    })
