@@ -16,7 +16,7 @@ use crate::parents::CandidateParents;
 use name_tables::NameTable;
 use plain_data::Text;
 use pool_faults::{DescriptorErrorKind, Label, Labels};
-use pool_types::Definition;
+use pool_types::{Definition, FileDescriptorInner};
 use proto_types::join;
 use std::alloc::{AllocError, Global};
 use std::collections::BTreeSet;
@@ -192,6 +192,26 @@ impl<'a> ResolveNameResult<'a> {
     /// # Errors
     /// `AllocError` where memory was refused.
     pub fn fault(
+        &self,
+        alloc: Global,
+        orig_name: &str,
+        files: &[FileDescriptorInner],
+        found_file: u32,
+        path: &[i32],
+    ) -> Result<Option<DescriptorErrorKind>, AllocError>
+        ensures { IfOk result (λ fault. fault
+            ≡ reference_fault (map (λ f. f.raw) files.now) orig_name.now found_file path.now
+            (resolution_in self.now)) }
+    {
+        let mut labels = Labels::new(alloc, files);
+        self.labelled_fault(alloc, orig_name, &mut labels, found_file, path)
+    }
+
+    /// The same, with labels that are made by an index of the locations of files.
+    ///
+    /// # Errors
+    /// `AllocError` where memory was refused.
+    pub fn labelled_fault(
         &self,
         alloc: Global,
         orig_name: &str,

@@ -122,7 +122,7 @@ fn check_found(
     let mut path = Vec::from_slice(alloc, place.path)?;
     path.push(tag)?;
     let labels = &mut findings.faults.labels;
-    if let Some(fault) = meaning.fault(alloc, written, labels, place.file, &path)? {
+    if let Some(fault) = meaning.labelled_fault(alloc, written, labels, place.file, &path)? {
         findings.push(fault)?;
     }
     Ok(())

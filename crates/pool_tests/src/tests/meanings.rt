@@ -176,8 +176,7 @@ fn fault_words(
     name: &str,
     linked: &[FileDescriptorInner],
 ) -> Result<String, AllocError> {
-    let mut labels = Labels::new(alloc, linked);
-    match resolved.fault(alloc, name, &mut labels, 1, &[4])? {
+    match resolved.fault(alloc, name, linked, 1, &[4])? {
         Some(fault) => {
             let fault = Labelled(&fault);
             format!(in alloc; "{fault}")

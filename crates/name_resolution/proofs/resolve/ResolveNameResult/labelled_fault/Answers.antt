@@ -1,5 +1,5 @@
 use Rattle.std.proofs.Common.{rules}
-use Rattle.name_resolution.proofs.resolve.ResolveNameResult.fault.Goals as goal
+use Rattle.name_resolution.proofs.resolve.ResolveNameResult.labelled_fault.Goals as goal
 
 pub returns : goal.returns
 returns c = search rules
