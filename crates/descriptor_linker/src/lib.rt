@@ -32,7 +32,7 @@ pub use proto_types::{
     ServiceDescriptorProto, SourceCodeInfo, Unread,
 };
 pub use record_walk::{CountKind, Counts, Visitor};
-pub use reference_pass::{NewItems, ResolveVisitor, Setting};
+pub use reference_pass::{NewItems, ResolveVisitor};
 pub use report::{Report, report_of};
 pub use runs::run;
 pub use script_devices::{

@@ -16,9 +16,8 @@ use descriptor_linker::{
     NameTable, NameVisitor, NewItems, NumberMap, OneofDescriptor, OneofDescriptorInner,
     OneofDescriptorProto, Open, Options, ReaderInput, RecordBuilder, Report, ReportOutput,
     ReservedRange, ResolveVisitor, Script, ScriptError, ScriptFault, ScriptInput, ScriptReader,
-    ServiceDescriptor, ServiceDescriptorInner, ServiceDescriptorProto, Setting, SourceCodeInfo,
-    Statement, Syntax, Text, TextMap, Unread, Visitor, WriterOutput, files_of, read_script,
-    report_of, run,
+    ServiceDescriptor, ServiceDescriptorInner, ServiceDescriptorProto, SourceCodeInfo, Statement,
+    Syntax, Text, TextMap, Unread, Visitor, WriterOutput, files_of, read_script, report_of, run,
 };
 use std::test::Fail;
 
