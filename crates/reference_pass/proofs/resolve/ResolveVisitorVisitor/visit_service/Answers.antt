@@ -1,5 +1,6 @@
 use Rattle.std.proofs.Common.{ap, ◌∙◌, ◌++◌, ◌∷◌, []}
 use Rattle.record_walk.specs.Shown.{Shown, shown_as}
+use Rattle.std.proofs.lemmas.Result.{on_ok_weaker}
 use Rattle.record_walk.specs.Protos.{of_service}
 use Rattle.std.specs.declared.option.Option.TheVariants.{None}
 use Rattle.reference_pass.specs.SecondPass.{service_faults}
@@ -16,21 +17,22 @@ returns-clause-ok c =
     let x = c.args.service.now in
     let d : Shown = shown_as c.args.path.now c.args.full_name.now c.args.file None c.args.index (of_service x) in
     let faults = c.read_service.new.faults in
+    let items = c.push_service.new.self in
     let same = ap (setting_over v) c.read_service.ensures.labels in
     let setting = c.setting-setting.ensures.setting in
     let item = c.in_ok-item.ensures.item ∙ ap (λ s. service_item s d x) setting in
     let told = c.in_ok-item.ensures.faults ∙ ap (λ s. v.faults.found.items ++ service_faults s d x) setting in
     let after : ReferenceState = record {
-      messages = v.items.messages.items;
-      enums = v.items.enums.items;
-      services = c.push.new.self.items;
-      extensions = v.items.extensions.items;
+      messages = items.messages.items;
+      enums = items.enums.items;
+      services = items.services.items;
+      extensions = items.extensions.items;
       faults = faults.found.items;
     } in
-    seen (setting_of v) (setting_over v faults.labels) (state_of v) after d same c.requires (λ i. record {
-      messages = v.items.messages.items;
-      enums = v.items.enums.items;
-      services = (c.in_ok-push.ensures.items ∙ ap (λ y. v.items.services.items ++ y ∷ []) item) i;
-      extensions = v.items.extensions.items;
+    on_ok_weaker c.push_service.result (λ pushed. seen (setting_of v) (setting_over v faults.labels) (state_of v) after d same c.requires (λ i. record {
+      messages = (c.push_service.ensures.messages i).items;
+      enums = (c.push_service.ensures.enums i).items;
+      services = (pushed ∙ ap (λ y. v.items.services.items ++ y ∷ []) item) i;
+      extensions = (c.push_service.ensures.extensions i).items;
       faults = told i;
-    })
+    })) c.push_service.ensures.ok
