@@ -1,13 +1,10 @@
 -- `==` of each record tells whether two values are one.
-use Rattle.std.proofs.Common.{◌≡◌, ℕ, ◌<◌, zero, suc, max, Bool, ◌&&◌, List, [], ◌∷◌, Option, refl, sym, ap, subst, ◌∙◌, arith, Decides, rules, nat_eq}
+use Rattle.std.proofs.Common.{Bool, ◌&&◌, rules, nat_eq}
 use Rattle.std.specs.Cmp.Lexicographic.{pointwise}
 use Rattle.std.specs.Option.{option_eq}
-use Rattle.std.proofs.lemmas.Bool.Decides.{Decides-and, Decides-like}
-use Rattle.plain_data.specs.Exact.{Exact, ◌and◌, pair-decides, by-parts, given, items-exact, text-exact, numbers-exact, texts-exact, given-text, given-number, given-flag}
+use Rattle.plain_data.specs.Exact.{Exact, ◌and◌, by-parts, given, items-exact, text-exact, numbers-exact, texts-exact, given-text, given-number, given-flag}
 use Rattle.proto_types.specs.declared.records.options.Options.{Options}
 use Rattle.proto_types.specs.declared.records.options.Unread.{Unread}
-use Rattle.proto_types.specs.declared.records.enumeration.EnumDescriptorProto.{EnumDescriptorProto}
-use Rattle.proto_types.specs.declared.records.field.FieldDescriptorProto.{FieldDescriptorProto}
 use Rattle.proto_types.specs.contracts.records.options.FieldOptionsPartialEq.TheImpl as field_options
 use Rattle.proto_types.specs.contracts.records.options.EnumOptionsPartialEq.TheImpl as enum_options
 use Rattle.proto_types.specs.contracts.records.options.UnreadPartialEq.TheImpl as unread

@@ -8,7 +8,6 @@ use Rattle.field_rules.proofs.Tells.{tells-as}
 use Rattle.field_rules.specs.At.{any_at}
 use Rattle.field_rules.specs.Numbers.{outside_faults, extension_range_faults}
 use Rattle.std.specs.Prelude.{ℕ, ℤ, List, Option}
-use Rattle.std.specs.List.{list_any, position_from}
 use Rattle.proto_types.specs.declared.message.ExtensionRange.{ExtensionRange}
 use Rattle.number_ranges.specs.Holds.{holds, first_from}
 use Rattle.number_ranges.proofs.Firsts.{first-any, first-map, position-first, option_map-id}
