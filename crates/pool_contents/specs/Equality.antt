@@ -3,9 +3,8 @@ use Rattle.std.proofs.Common.{ℕ, Bool, ◌&&◌, List, nat_eq, ap, sym, ◌∙
 use Rattle.std.specs.Cmp.{IsPartialEquivalence, both_ways, unsigned_Decides}
 use Rattle.std.specs.Cmp.Lexicographic.{pointwise}
 use Rattle.std.specs.Str.{bytes_eq}
-use Rattle.plain_data.specs.Exact.{Exact, ◌and◌, by-parts, items-exact, text-exact}
+use Rattle.plain_data.specs.Exact.{Exact, ◌and◌, by-parts, items-exact, text-exact, maps-exact}
 use Rattle.plain_data.specs.Maps.{map_eq}
-use Rattle.plain_data.specs.MapEquality.{maps-exact}
 use Rattle.pool_types.specs.Contents.{Contents, ByText}
 use Rattle.pool_types.specs.Equality.{definition-exact, file_inner-exact, message_inner-exact, enum_inner-exact, service_inner-exact, extension_inner-exact}
 use Rattle.pool_types.specs.declared.contents.definition.Definition.{Definition}

@@ -1,13 +1,17 @@
--- `==` of faults tells whether two of them are one.
-use Rattle.std.proofs.Common.{Bool, true, false, refl, ap, ◌⊎◌, inl, inr}
+-- `==` of labels and of faults tells whether two of them are one.
+use Rattle.std.proofs.Common.{rules, Bool, true, false, refl, ap, ◌⊎◌, inl, inr}
+use Rattle.plain_data.specs.Exact.{Exact, ◌and◌, by-parts, given, text-exact, numbers-exact}
+use Rattle.pool_faults.specs.contracts.label.LabelPartialEq.TheImpl as label
 use Rattle.std.specs.Cmp.{signed_Decides}
 use Rattle.std.proofs.lemmas.Bool.Decides.{Decides-like}
-use Rattle.plain_data.specs.Exact.{Exact, ◌and◌, text-exact}
-use Rattle.pool_faults.specs.LabelEquality.{label-exact}
 use Rattle.pool_faults.specs.contracts.fault.DescriptorErrorKind.{enum}
 use Rattle.pool_faults.specs.contracts.fault.DescriptorErrorKindPartialEq.TheImpl as fault
 use mathlib.Core.Logic.{⊎_elim}
 use denote.Enum.Declared.{values_one, left_or, right_or}
+
+pub label-exact : Exact label.ghosts.eq
+label-exact = by-parts (λ l. (l.file, (l.path, l.span))) (λ a b e. search rules)
+    (text-exact and numbers-exact and given numbers-exact)
 
 infixr 30 ◌or◌
 -- the tests of one variant and of the further ones

@@ -7,7 +7,6 @@ mod exact;
 mod fault;
 mod files;
 mod label;
-mod label_exact;
 mod labels;
 mod spans;
 

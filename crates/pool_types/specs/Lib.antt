@@ -1,6 +1,5 @@
 pub mod Kinds
 pub mod Ranks
-pub mod KindEquality
 pub mod DefinitionKinds
 pub mod Contents
 pub mod ContentsCode

@@ -6,7 +6,6 @@ mod contents;
 mod default_value;
 mod exact;
 mod indexes;
-mod kind_exact;
 mod kinds;
 
 pub use contents::{

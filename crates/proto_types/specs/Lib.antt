@@ -4,4 +4,3 @@ pub mod Empty
 pub mod Equality
 pub mod EmptyFile
 pub mod Computed
-pub mod FileEquality

@@ -1,15 +1,7 @@
-ghost use Rattle.proto_types.specs.Equality.{options-exact, field_options-exact, enum_options-exact, unread-exact, field-exact, enum_range-exact, value-exact, enum-exact, method-exact, service-exact, location-exact, source-exact};
+ghost use Rattle.proto_types.specs.Equality.{options-exact, field_options-exact, enum_options-exact, unread-exact, field-exact, enum_range-exact, value-exact, enum-exact, method-exact, service-exact, location-exact, source-exact, extension_range-exact, reserved_range-exact, oneof-exact, message-exact, file-exact, file_set-exact};
 
-use crate::{
-    EnumDescriptorProto, EnumOptions, EnumReservedRange, EnumValueDescriptorProto,
-    FieldDescriptorProto, FieldOptions, Location, MethodDescriptorProto, Options,
-    ServiceDescriptorProto, SourceCodeInfo, Unread,
-};
+use crate::{DescriptorProto, EnumDescriptorProto, EnumOptions, EnumReservedRange, EnumValueDescriptorProto, ExtensionRange, FieldDescriptorProto, FieldOptions, FileDescriptorProto, FileDescriptorSet, Location, MethodDescriptorProto, OneofDescriptorProto, Options, ReservedRange, ServiceDescriptorProto, SourceCodeInfo, Unread};
 use plain_data::ExactEq;
-
-impl<T: ExactEq> ExactEq for Options<T> {
-    ghost exact = { options-exact T.exact };
-}
 
 impl ExactEq for FieldOptions {
     ghost exact = { field_options-exact };
@@ -53,4 +45,28 @@ impl ExactEq for Location {
 
 impl ExactEq for SourceCodeInfo {
     ghost exact = { source-exact };
+}
+
+impl ExactEq for ExtensionRange {
+    ghost exact = { extension_range-exact };
+}
+
+impl ExactEq for ReservedRange {
+    ghost exact = { reserved_range-exact };
+}
+
+impl ExactEq for OneofDescriptorProto {
+    ghost exact = { oneof-exact };
+}
+
+impl ExactEq for DescriptorProto {
+    ghost exact = { message-exact };
+}
+
+impl ExactEq for FileDescriptorProto {
+    ghost exact = { file-exact };
+}
+
+impl ExactEq for FileDescriptorSet {
+    ghost exact = { file_set-exact };
 }

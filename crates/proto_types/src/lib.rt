@@ -3,7 +3,6 @@
 
 mod exact;
 mod file;
-mod file_exact;
 mod message;
 mod names;
 mod records;

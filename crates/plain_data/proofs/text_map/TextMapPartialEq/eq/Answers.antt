@@ -2,7 +2,7 @@ use Rattle.std.proofs.Common.{◌∙◌}
 use Rattle.std.specs.Cmp.{unsigned_Decides}
 use Rattle.std.specs.Prelude.{nat_eq}
 use Rattle.std.specs.Str.{bytes_eq}
-use Rattle.plain_data.specs.MapEquality.{text_map-exact}
+use Rattle.plain_data.specs.Exact.{text_map-exact}
 use Rattle.plain_data.specs.Maps.{by_text, map_eq}
 use Rattle.plain_data.proofs.Entries.{same_test}
 use Rattle.plain_data.proofs.Texts.{by_text-Decides}
