@@ -30,13 +30,21 @@ module _ (files : List FileDescriptorProto) (file : ℕ) (path : List ℤ) where
   abbrev pub name_label : ℕ → Label
   name_label position = entry_part_label files file path message.FIELD position field.NAME
 
+  -- of two fields with one number, or one JSON name, by their positions, the earlier first
+  abbrev pub same_number : ℤ → ℕ → ℕ → DescriptorErrorKind
+  same_number number first second =
+      fault.DuplicateFieldNumber number (number_label first) (number_label second)
+
+  abbrev pub same_json_name : List ℕ → ℕ → ℕ → DescriptorErrorKind
+  same_json_name name first second =
+      fault.DuplicateFieldJsonName name (name_label first) (name_label second)
+
   -- of a number that earlier fields have: the latest of them is told
   abbrev pub number_duplicate : List FieldDescriptorProto → ℕ → FieldDescriptorProto
       → List DescriptorErrorKind
   number_duplicate earlier position f =
       listed (option_map
-      (λ e. fault.DuplicateFieldNumber (number_of f.number) (number_label e.0)
-      (number_label position))
+      (λ e. same_number (number_of f.number) e.0 position)
       (latest (λ g. int_eq (number_of g.number) (number_of f.number)) earlier))
 
   -- of a given JSON name that earlier fields have: the latest of them is told
@@ -45,8 +53,7 @@ module _ (files : List FileDescriptorProto) (file : ℕ) (path : List ℤ) where
   json_name_duplicate earlier position f =
       option_map_or
       (λ name. listed
-      (option_map (λ e. fault.DuplicateFieldJsonName name (name_label e.0)
-      (name_label position))
+      (option_map (λ e. same_json_name name e.0 position)
       (latest (λ g. option_map_or (bytes_eq name) g.json_name false) earlier))) f.json_name []
 
   -- of the field with a position, behind these

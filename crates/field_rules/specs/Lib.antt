@@ -6,12 +6,10 @@ pub mod Tells
 pub mod FieldNumbers
 pub mod Ranges
 pub mod Numbers
-pub mod At
 pub mod Bounds
 pub mod DuplicateNumbers
 pub mod Maps
 pub mod Duplicates
-pub mod Same
 pub mod Oneofs
 pub mod Encoding
 pub mod MapsOf

@@ -15,23 +15,23 @@ use Rattle.proto_types.specs.declared.message.ReservedRange.{ReservedRange}
 use Rattle.pool_faults.specs.declared.label.Label.{Label}
 use Rattle.pool_faults.specs.declared.fault.DescriptorErrorKind.{DescriptorErrorKind}
 use Rattle.pool_faults.specs.declared.fault.DescriptorErrorKind.TheVariants as fault
-use Rattle.record_walk.specs.Shown.{Shown}
+use Rattle.record_walk.specs.Shown.{Shown, Surrounding, inside}
 use Rattle.field_rules.specs.FieldNumbers.{is_valid_number}
 use Rattle.plain_data.specs.Each.{map_enumerated}
 use Rattle.field_rules.specs.Labels.{part_label, entry_label}
 use Rattle.field_rules.specs.Ranges.{reserves, extends}
 
-module _ (files : List FileDescriptorProto) (d : Shown) (n : ℤ) where
-  -- where the number stands that a declaration has
+module _ (files : List FileDescriptorProto) (file : ℕ) (path : List ℤ) (n : ℤ) where
+  -- where the number stands of the field at a path
   abbrev pub number_label : Label
-  number_label = part_label files d.file d.path field.NUMBER
+  number_label = part_label files file path field.NUMBER
 
   -- of a number that no field may have
   abbrev pub invalid_faults : List DescriptorErrorKind
   invalid_faults = only_if (not (is_valid_number n)) (fault.InvalidFieldNumber n number_label)
 
   -- of a reserved range of a message, by its position, that holds the number
-  abbrev pub reserved_fault : Shown → ℕ → ReservedRange → List DescriptorErrorKind
+  abbrev pub reserved_fault : Surrounding → ℕ → ReservedRange → List DescriptorErrorKind
   reserved_fault owner position range =
       let defined = entry_label files owner.file owner.path message.RESERVED_RANGE position in
       only_if (reserves n range)
@@ -39,32 +39,33 @@ module _ (files : List FileDescriptorProto) (d : Shown) (n : ℤ) where
       (number_of range.«end») defined number_label)
 
   -- of each of these
-  abbrev pub reserved_faults : Shown → List ReservedRange → List DescriptorErrorKind
+  abbrev pub reserved_faults : Surrounding → List ReservedRange → List DescriptorErrorKind
   reserved_faults owner ranges =
       flat_map (λ faults. faults) (map_enumerated (reserved_fault owner) 0 ranges)
 
   -- of an extension range, by its position, that holds the number of a field
-  abbrev pub extension_range_fault : Shown → ℕ × ExtensionRange → DescriptorErrorKind
+  abbrev pub extension_range_fault : Surrounding → ℕ × ExtensionRange → DescriptorErrorKind
   extension_range_fault owner e =
       let defined = entry_label files owner.file owner.path message.EXTENSION_RANGE e.0 in
       fault.FieldNumberInExtensionRange n (number_of e.1.start)
       (number_of e.1.«end») defined number_label
 
   -- of the first of these
-  abbrev pub extension_range_faults : Shown → List ExtensionRange → List DescriptorErrorKind
+  abbrev pub extension_range_faults : Surrounding → List ExtensionRange → List DescriptorErrorKind
   extension_range_faults owner ranges =
       listed (option_map (extension_range_fault owner)
       (find (λ e. extends n e.1) (enumerate_from 0 ranges)))
 
   -- of an extension's number that no extension range holds
-  abbrev pub outside_faults : Shown → List ExtensionRange → List DescriptorErrorKind
+  abbrev pub outside_faults : Surrounding → List ExtensionRange → List DescriptorErrorKind
   outside_faults owner ranges =
       only_if (not (list_any (extends n) ranges))
-      (fault.ExtensionNumberOutOfRange n owner.full_name number_label)
+      (fault.ExtensionNumberOutOfRange n owner.scope number_label)
 
   -- of a field's number by the record of its message; one with an extendee has the number of an
   -- extension
-  abbrev pub by_message : Shown → DescriptorProto → FieldDescriptorProto → List DescriptorErrorKind
+  abbrev pub by_message : Surrounding → DescriptorProto → FieldDescriptorProto
+      → List DescriptorErrorKind
   by_message owner m f =
       let ranges = (out-DescriptorProto m).extension_range in
       invalid_faults ++ reserved_faults owner (out-DescriptorProto m).reserved_range
@@ -72,7 +73,7 @@ module _ (files : List FileDescriptorProto) (d : Shown) (n : ℤ) where
       else extension_range_faults owner ranges)
 
   -- of an extension's number by the record of the message that it extends
-  abbrev pub by_extendee : Shown → DescriptorProto → List DescriptorErrorKind
+  abbrev pub by_extendee : Surrounding → DescriptorProto → List DescriptorErrorKind
   by_extendee owner m =
       invalid_faults ++ reserved_faults owner (out-DescriptorProto m).reserved_range
       ++ outside_faults owner (out-DescriptorProto m).extension_range
@@ -80,9 +81,11 @@ module _ (files : List FileDescriptorProto) (d : Shown) (n : ℤ) where
 -- of the number of a field that stands in a message
 abbrev pub field_number_faults : List FileDescriptorProto → Shown → DescriptorProto → Shown
     → FieldDescriptorProto → List DescriptorErrorKind
-field_number_faults files owner m d f = by_message files d (number_of f.number) owner m f
+field_number_faults files owner m d f =
+    by_message files d.file d.path (number_of f.number) (inside owner) m f
 
 -- of the number of an extension of a message
 abbrev pub extension_number_faults : List FileDescriptorProto → Shown → DescriptorProto → Shown
     → FieldDescriptorProto → List DescriptorErrorKind
-extension_number_faults files owner m d x = by_extendee files d (number_of x.number) owner m
+extension_number_faults files owner m d x =
+    by_extendee files d.file d.path (number_of x.number) (inside owner) m

@@ -5,7 +5,7 @@ ghost use Rattle.proto_types.specs.declared.message.DescriptorProto.{out-Descrip
 ghost use Rattle.record_walk.specs.Counts.{fits_list};
 ghost use Rattle.proto_types.specs.Readers.{number_of};
 ghost use Rattle.field_rules.specs.Tells.{Tells, named_files};
-ghost use Rattle.field_rules.specs.At.{any_at};
+ghost use Rattle.field_rules.specs.Places.{inside_of};
 ghost use Rattle.field_rules.specs.Bounds.{extension_bounds};
 ghost use Rattle.field_rules.specs.Numbers.{extension_range_fault, extension_range_faults};
 ghost use Rattle.field_rules.specs.Numbers.{outside_faults};
@@ -31,11 +31,11 @@ pub(crate) fn check_extension_ranges(
     requires ranges { ranges.now
         ≡ extension_bounds (out-DescriptorProto owner.message.now).extension_range }
     ensures { OnOk result (Tells findings.old findings.new (if is_some field.now.extendee
-        then outside_faults (named_files findings.old) (any_at place.entry)
-        (number_of field.now.number) (any_at owner.entry.place)
+        then outside_faults (named_files findings.old) place.entry.file place.entry.path.now
+        (number_of field.now.number) (inside_of owner.entry.place)
         (out-DescriptorProto owner.entry.message.now).extension_range
-        else extension_range_faults (named_files findings.old) (any_at place.entry)
-        (number_of field.now.number) (any_at owner.entry.place)
+        else extension_range_faults (named_files findings.old) place.entry.file place.entry.path.now
+        (number_of field.now.number) (inside_of owner.entry.place)
         (out-DescriptorProto owner.entry.message.now).extension_range)) }
 {
     let number = field.number();
@@ -59,8 +59,8 @@ pub(crate) fn check_in_some_range(
     requires { is_inside ≡ list_any (extends number)
         (out-DescriptorProto owner.message.now).extension_range }
     ensures { OnOk result (Tells findings.old findings.new
-        (outside_faults (named_files findings.old) (any_at place.entry) number
-        (any_at owner.entry.place)
+        (outside_faults (named_files findings.old) place.entry.file place.entry.path.now number
+        (inside_of owner.entry.place)
         (out-DescriptorProto owner.entry.message.now).extension_range)) }
 {
     if !is_inside {
@@ -90,8 +90,8 @@ fn check_not_in_ranges(
     requires there { IfSome holder (λ found. found
         < length (out-DescriptorProto owner.message.now).extension_range) }
     ensures { OnOk result (Tells findings.old findings.new
-        (extension_range_faults (named_files findings.old) (any_at place.entry) number
-        (any_at owner.entry.place)
+        (extension_range_faults (named_files findings.old) place.entry.file place.entry.path.now number
+        (inside_of owner.entry.place)
         (out-DescriptorProto owner.entry.message.now).extension_range)) }
 {
     if let Some(position) = holder {
@@ -115,8 +115,8 @@ fn extension_range_fault(
 ) -> Result<DescriptorErrorKind, AllocError>
     requires { entry.0 < 2 ^ 31 }
     ensures fault { IfOk result (λ fault. fault
-        ≡ extension_range_fault (named_files findings.old) (any_at place.entry) number
-        (any_at owner.entry) (entry.entry.0, entry.entry.1.now)) }
+        ≡ extension_range_fault (named_files findings.old) place.entry.file place.entry.path.now number
+        (inside_of owner.entry) (entry.entry.0, entry.entry.1.now)) }
     ensures stays { findings.new ≡ findings.old }
 {
     let (position, range) = entry;

@@ -7,8 +7,7 @@ ghost use Rattle.proto_types.specs.Empty.{no_field};
 ghost use Rattle.proto_types.specs.declared.message.DescriptorProto.{out-DescriptorProto};
 ghost use Rattle.record_walk.specs.Counts.{fits_list};
 ghost use Rattle.field_rules.specs.Tells.{Tells, named_files};
-ghost use Rattle.field_rules.specs.Duplicates.{duplicate_faults};
-ghost use Rattle.field_rules.specs.Same.{same_number, same_json_name};
+ghost use Rattle.field_rules.specs.Duplicates.{duplicate_faults, same_number, same_json_name};
 ghost use Rattle.field_rules.specs.MapsOf.{AreMapsOf};
 ghost use Rattle.field_rules.specs.DuplicateNumbers.{item_number};
 

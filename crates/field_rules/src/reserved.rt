@@ -2,7 +2,7 @@ ghost use Rattle.std.specs.Prelude.{◌≡◌, ◌<◌, ◌^◌, true, OnOk};
 ghost use Rattle.proto_types.specs.declared.message.DescriptorProto.{out-DescriptorProto};
 ghost use Rattle.record_walk.specs.Counts.{fits_list};
 ghost use Rattle.field_rules.specs.Tells.{Tells, named_files};
-ghost use Rattle.field_rules.specs.At.{any_at};
+ghost use Rattle.field_rules.specs.Places.{inside_of};
 ghost use Rattle.field_rules.specs.Bounds.{reserved_bounds};
 ghost use Rattle.field_rules.specs.Numbers.{invalid_faults, reserved_fault, reserved_faults};
 ghost use Rattle.field_rules.specs.Ranges.{reserves};
@@ -21,7 +21,7 @@ pub(crate) fn check_valid(
     number: i32,
 ) -> Result<(), AllocError>
     ensures { OnOk result (Tells findings.old findings.new
-        (invalid_faults (named_files findings.old) (any_at place.entry) number)) }
+        (invalid_faults (named_files findings.old) place.entry.file place.entry.path.now number)) }
 {
     if !is_valid_number(number) {
         let found = findings.part_label(place, tag::field::NUMBER)?;
@@ -39,8 +39,8 @@ pub(crate) fn check_reserved_ranges(
 ) -> Result<(), AllocError>
     requires { fits_list (out-DescriptorProto owner.message.now).reserved_range ≡ true }
     ensures { OnOk result (Tells findings.old findings.new
-        (reserved_faults (named_files findings.old) (any_at place.entry) number
-        (any_at owner.entry.place)
+        (reserved_faults (named_files findings.old) place.entry.file place.entry.path.now number
+        (inside_of owner.entry.place)
         (out-DescriptorProto owner.entry.message.now).reserved_range)) }
 {
     for (position, range) in owner.message.reserved_range.as_slice().iter().enumerate() {
@@ -63,8 +63,8 @@ pub(crate) fn check_reserved_by(
     requires ranges { ranges.now
         ≡ reserved_bounds (out-DescriptorProto owner.message.now).reserved_range }
     ensures { OnOk result (Tells findings.old findings.new
-        (reserved_faults (named_files findings.old) (any_at place.entry) number
-        (any_at owner.entry.place)
+        (reserved_faults (named_files findings.old) place.entry.file place.entry.path.now number
+        (inside_of owner.entry.place)
         (out-DescriptorProto owner.entry.message.now).reserved_range)) }
 {
     let list = owner.message.reserved_range.as_slice();
@@ -88,8 +88,8 @@ fn check_reserved_range(
 ) -> Result<(), AllocError>
     requires { entry.0 < 2 ^ 31 }
     ensures { OnOk result (Tells findings.old findings.new
-        (reserved_fault (named_files findings.old) (any_at place.entry) number
-        (any_at owner.entry) entry.entry.0 entry.entry.1.now)) }
+        (reserved_fault (named_files findings.old) place.entry.file place.entry.path.now number
+        (inside_of owner.entry) entry.entry.0 entry.entry.1.now)) }
 {
     let (position, range) = entry;
     if reserves(range, number) {

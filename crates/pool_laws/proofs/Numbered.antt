@@ -10,7 +10,7 @@ use Rattle.proto_types.specs.declared.message.DescriptorProto.{DescriptorProto, 
 use Rattle.proto_types.specs.declared.message.ExtensionRange.{ExtensionRange}
 use Rattle.proto_types.specs.declared.message.ReservedRange.{ReservedRange}
 use Rattle.pool_types.specs.declared.contents.definition.Definition.{Definition}
-use Rattle.record_walk.specs.Shown.{Shown}
+use Rattle.record_walk.specs.Shown.{Shown, Surrounding, inside}
 use Rattle.field_rules.specs.FieldNumbers.{is_valid_number}
 use Rattle.plain_data.specs.Each.{map_enumerated}
 use Rattle.field_rules.specs.Numbers.{by_extendee, extension_number_faults, extension_range_faults, field_number_faults, invalid_faults, outside_faults, reserved_fault, reserved_faults}
@@ -30,59 +30,59 @@ pub none-listed : {X Y : Type 0} (o : Option X) (f g : X → Y) → listed (opti
 none-listed None f g none = refl
 none-listed (Some x) f g none = absurd (cc)
 
-module _ (fs gs : List FileDescriptorProto) (owner other d e : Shown) (n : ℤ) where
-  invalid-again : invalid_faults fs d n ≡ [] → invalid_faults gs e n ≡ []
+module _ (fs gs : List FileDescriptorProto) (owner other : Surrounding) (d e : Shown) (n : ℤ) where
+  invalid-again : invalid_faults fs d.file d.path n ≡ [] → invalid_faults gs e.file e.path n ≡ []
   invalid-again none = no-fault (not (is_valid_number n)) _ _ none
 
-  each-reserved : (k : ℕ) (ranges : List ReservedRange) → flat_map (λ faults. faults) (map_enumerated (reserved_fault fs d n owner) k ranges) ≡ []
-      → flat_map (λ faults. faults) (map_enumerated (reserved_fault gs e n other) k ranges) ≡ []
+  each-reserved : (k : ℕ) (ranges : List ReservedRange) → flat_map (λ faults. faults) (map_enumerated (reserved_fault fs d.file d.path n owner) k ranges) ≡ []
+      → flat_map (λ faults. faults) (map_enumerated (reserved_fault gs e.file e.path n other) k ranges) ≡ []
   each-reserved k [] none = refl
   each-reserved k (range ∷ ranges) none =
-      let parts = both-empty (reserved_fault fs d n owner k range) (flat_map (λ faults. faults) (map_enumerated (reserved_fault fs d n owner) (suc k) ranges)) none in
-      let here : reserved_fault gs e n other k range ≡ [] = no-fault (reserves n range) _ _ parts.0 in
+      let parts = both-empty (reserved_fault fs d.file d.path n owner k range) (flat_map (λ faults. faults) (map_enumerated (reserved_fault fs d.file d.path n owner) (suc k) ranges)) none in
+      let here : reserved_fault gs e.file e.path n other k range ≡ [] = no-fault (reserves n range) _ _ parts.0 in
       λ i. here i ++ each-reserved (suc k) ranges parts.1 i
 
-  outside-again : (ranges : List ExtensionRange) → outside_faults fs d n owner ranges ≡ [] → outside_faults gs e n other ranges ≡ []
+  outside-again : (ranges : List ExtensionRange) → outside_faults fs d.file d.path n owner ranges ≡ [] → outside_faults gs e.file e.path n other ranges ≡ []
   outside-again ranges none = no-fault (not (list_any (extends n) ranges)) _ _ none
 
-  within-again : (ranges : List ExtensionRange) → extension_range_faults fs d n owner ranges ≡ [] → extension_range_faults gs e n other ranges ≡ []
+  within-again : (ranges : List ExtensionRange) → extension_range_faults fs d.file d.path n owner ranges ≡ [] → extension_range_faults gs e.file e.path n other ranges ≡ []
   within-again ranges none = none-listed (find (λ x. extends n x.1) (enumerate_from 0 ranges)) _ _ none
 
   by-kind : (extended : Bool) (ranges : List ExtensionRange)
-      → (if extended then outside_faults fs d n owner ranges else extension_range_faults fs d n owner ranges) ≡ []
-      → (if extended then outside_faults gs e n other ranges else extension_range_faults gs e n other ranges) ≡ []
+      → (if extended then outside_faults fs d.file d.path n owner ranges else extension_range_faults fs d.file d.path n owner ranges) ≡ []
+      → (if extended then outside_faults gs e.file e.path n other ranges else extension_range_faults gs e.file e.path n other ranges) ≡ []
   by-kind true ranges none = outside-again ranges none
   by-kind false ranges none = within-again ranges none
 
   by-ranges : (extended : Bool) (reserved : List ReservedRange) (ranges : List ExtensionRange)
-      → invalid_faults fs d n ++ reserved_faults fs d n owner reserved
-      ++ (if extended then outside_faults fs d n owner ranges else extension_range_faults fs d n owner ranges) ≡ []
-      → invalid_faults gs e n ++ reserved_faults gs e n other reserved
-      ++ (if extended then outside_faults gs e n other ranges else extension_range_faults gs e n other ranges) ≡ []
+      → invalid_faults fs d.file d.path n ++ reserved_faults fs d.file d.path n owner reserved
+      ++ (if extended then outside_faults fs d.file d.path n owner ranges else extension_range_faults fs d.file d.path n owner ranges) ≡ []
+      → invalid_faults gs e.file e.path n ++ reserved_faults gs e.file e.path n other reserved
+      ++ (if extended then outside_faults gs e.file e.path n other ranges else extension_range_faults gs e.file e.path n other ranges) ≡ []
   by-ranges extended reserved ranges none =
-      let last = if extended then outside_faults fs d n owner ranges else extension_range_faults fs d n owner ranges in
-      let first = both-empty (invalid_faults fs d n ++ reserved_faults fs d n owner reserved) last none in
-      let rest = both-empty (invalid_faults fs d n) (reserved_faults fs d n owner reserved) first.0 in
+      let last = if extended then outside_faults fs d.file d.path n owner ranges else extension_range_faults fs d.file d.path n owner ranges in
+      let first = both-empty (invalid_faults fs d.file d.path n ++ reserved_faults fs d.file d.path n owner reserved) last none in
+      let rest = both-empty (invalid_faults fs d.file d.path n) (reserved_faults fs d.file d.path n owner reserved) first.0 in
       λ i. invalid-again rest.0 i ++ each-reserved 0 reserved rest.1 i ++ by-kind extended ranges first.1 i
 
-  pub by-extendee-again : (m k : DescriptorProto) → SameRanges m k → by_extendee fs d n owner m ≡ [] → by_extendee gs e n other k ≡ []
+  pub by-extendee-again : (m k : DescriptorProto) → SameRanges m k → by_extendee fs d.file d.path n owner m ≡ [] → by_extendee gs e.file e.path n other k ≡ []
   by-extendee-again m k same none =
-      (λ i. invalid_faults gs e n ++ reserved_faults gs e n other (same.reserved i) ++ outside_faults gs e n other (same.extensions i))
+      (λ i. invalid_faults gs e.file e.path n ++ reserved_faults gs e.file e.path n other (same.reserved i) ++ outside_faults gs e.file e.path n other (same.extensions i))
       ∙ by-ranges true (out-DescriptorProto m).reserved_range (out-DescriptorProto m).extension_range none
 
 pub field-numbered : (fs gs : List FileDescriptorProto) (owner other d e : Shown) (m k : DescriptorProto) (f g : FieldDescriptorProto)
     → SameRanges m k → g.number ≡ f.number → g.extendee ≡ f.extendee
     → field_number_faults fs owner m d f ≡ [] → field_number_faults gs other k e g ≡ []
 field-numbered fs gs owner other d e m k f g same number extendee none =
-    (λ i. let n = number_of (number i) in invalid_faults gs e n ++ reserved_faults gs e n other (same.reserved i)
-    ++ (if is_some (extendee i) then outside_faults gs e n other (same.extensions i) else extension_range_faults gs e n other (same.extensions i)))
-    ∙ by-ranges fs gs owner other d e (number_of f.number) (is_some f.extendee) (out-DescriptorProto m).reserved_range (out-DescriptorProto m).extension_range none
+    (λ i. let n = number_of (number i) in invalid_faults gs e.file e.path n ++ reserved_faults gs e.file e.path n (inside other) (same.reserved i)
+    ++ (if is_some (extendee i) then outside_faults gs e.file e.path n (inside other) (same.extensions i) else extension_range_faults gs e.file e.path n (inside other) (same.extensions i)))
+    ∙ by-ranges fs gs (inside owner) (inside other) d e (number_of f.number) (is_some f.extendee) (out-DescriptorProto m).reserved_range (out-DescriptorProto m).extension_range none
 
 pub extension-numbered : (fs gs : List FileDescriptorProto) (owner other d e : Shown) (m k : DescriptorProto) (f g : FieldDescriptorProto)
     → SameRanges m k → g.number ≡ f.number
     → extension_number_faults fs owner m d f ≡ [] → extension_number_faults gs other k e g ≡ []
 extension-numbered fs gs owner other d e m k f g same number none =
-    (λ i. by_extendee gs e (number_of (number i)) other k) ∙ by-extendee-again fs gs owner other d e (number_of f.number) m k same none
+    (λ i. by_extendee gs e.file e.path (number_of (number i)) (inside other) k) ∙ by-extendee-again fs gs (inside owner) (inside other) d e (number_of f.number) m k same none
 
 -- the number of an extension, by the record of the message that it extends, if it has one
 module _ (s t : Setting) (d : Shown) (x y : FieldDescriptorProto) (number : y.number ≡ x.number) where

@@ -5,7 +5,7 @@ use Rattle.proto_types.specs.Readers.{number_of}
 use Rattle.record_walk.proofs.Listings.{on-ok}
 use Rattle.field_rules.specs.Tells.{named_files}
 use Rattle.field_rules.proofs.Tells.{tells-as}
-use Rattle.field_rules.specs.At.{any_at}
+use Rattle.field_rules.specs.Places.{inside_of}
 use Rattle.field_rules.specs.Numbers.{outside_faults, extension_range_faults}
 use Rattle.std.specs.Prelude.{ℕ, ℤ, List, Option}
 use Rattle.proto_types.specs.declared.message.ExtensionRange.{ExtensionRange}
@@ -35,27 +35,27 @@ check_not_in_ranges-requires-clause-holder c =
 pub returns-then-is_some : goal.returns-then-is_some
 returns-then-is_some c =
     let files = named_files c.args.findings.now in
-    let d = any_at c.args.place in
-    let owner = any_at c.args.owner.place in
+    let d = c.args.place in
+    let owner = inside_of c.args.owner.place in
     let ranges = (out-DescriptorProto c.args.owner.message.now).extension_range in
     let n = number_of c.args.field.now.number in
     let same : to_z w32 (of_z w32 c.number-number.result) ≡ n = grind (arith, to_z-of_z, c.number-number.ensures) in
     let here : is_some c.args.field.now.extendee ≡ true = search rules in
     on-ok c.check_in_some_range.result (λ told.
-    tells-as (ap (λ m. outside_faults files d m owner ranges) same
-    ∙ ap (λ b. if b then outside_faults files d n owner ranges else extension_range_faults files d n owner ranges) (sym here)) told)
+    tells-as (ap (λ m. outside_faults files d.file d.path.now m owner ranges) same
+    ∙ ap (λ b. if b then outside_faults files d.file d.path.now n owner ranges else extension_range_faults files d.file d.path.now n owner ranges) (sym here)) told)
     c.check_in_some_range.ensures
 
 pub returns-else-is_some : goal.returns-else-is_some
 returns-else-is_some c =
     let files = named_files c.args.findings.now in
-    let d = any_at c.args.place in
-    let owner = any_at c.args.owner.place in
+    let d = c.args.place in
+    let owner = inside_of c.args.owner.place in
     let ranges = (out-DescriptorProto c.args.owner.message.now).extension_range in
     let n = number_of c.args.field.now.number in
     let same : to_z w32 (of_z w32 c.number-number.result) ≡ n = grind (arith, to_z-of_z, c.number-number.ensures) in
     let absent : is_some c.args.field.now.extendee ≡ false = search rules in
     on-ok c.check_not_in_ranges.result (λ told.
-    tells-as (ap (λ m. extension_range_faults files d m owner ranges) same
-    ∙ ap (λ b. if b then outside_faults files d n owner ranges else extension_range_faults files d n owner ranges) (sym absent)) told)
+    tells-as (ap (λ m. extension_range_faults files d.file d.path.now m owner ranges) same
+    ∙ ap (λ b. if b then outside_faults files d.file d.path.now n owner ranges else extension_range_faults files d.file d.path.now n owner ranges) (sym absent)) told)
     c.check_not_in_ranges.ensures

@@ -7,7 +7,7 @@ use Rattle.proto_types.specs.declared.message.ExtensionRange.{ExtensionRange}
 use Rattle.pool_faults.specs.declared.fault.DescriptorErrorKind.{DescriptorErrorKind}
 use Rattle.field_rules.specs.Tells.{named_files}
 use Rattle.field_rules.proofs.Tells.{tells-as, tells-from, tells-none}
-use Rattle.field_rules.specs.At.{any_at}
+use Rattle.field_rules.specs.Places.{inside_of}
 use Rattle.field_rules.specs.Numbers.{extension_range_fault}
 use Rattle.field_rules.specs.Ranges.{extends}
 use Rattle.field_rules.proofs.First.{first-from, none-from}
@@ -26,7 +26,7 @@ returns-in_ok-push c =
     let range = c.index-as_slice-position.result in
     let ranges = (out-DescriptorProto c.args.owner.message.now).extension_range in
     let fits : to_z w32 (of_z w32 n) ≡ n = to_z-of_z w32 n c.ranges.number in
-    let told : ℤ → ℕ × ExtensionRange → DescriptorErrorKind = λ m. extension_range_fault files (any_at c.args.place) m (any_at c.args.owner.place) in
+    let told : ℤ → ℕ × ExtensionRange → DescriptorErrorKind = λ m. extension_range_fault files c.args.place.file c.args.place.path.now m (inside_of c.args.owner.place) in
     let found = first-from (extends n) 0 ranges i (sym c.requires.holder ∙ c.in-Some.is) in
     let whole : i - 0 ≡ i = omega arith in
     tells-from c.in_ok-fault.ensures.stays (tells-as (ap (λ fault. fault ∷ []) (c.in_ok-fault.ensures.fault ∙ ap (λ m. told m (i, range)) fits)
@@ -40,7 +40,7 @@ returns-in_default c =
     let n = c.args.number in
     let files = named_files c.args.findings.now in
     let ranges = (out-DescriptorProto c.args.owner.message.now).extension_range in
-    let told = extension_range_fault files (any_at c.args.place) n (any_at c.args.owner.place) in
+    let told = extension_range_fault files c.args.place.file c.args.place.path.now n (inside_of c.args.owner.place) in
     let none = none-of c.args.holder c.in_default.not-Some in
     tells-as (ap (λ e. listed (option_map told e)) (sym (none-from (extends n) 0 ranges (sym c.requires.holder ∙ none))))
     (tells-none c.args.findings.now)

@@ -5,7 +5,7 @@ use Rattle.proto_types.specs.Readers.{number_of}
 use Rattle.record_walk.proofs.Listings.{on-ok}
 use Rattle.field_rules.specs.Tells.{Tells, named_files}
 use Rattle.field_rules.proofs.Tells.{same-files, tells-as, tells-three, tells-two}
-use Rattle.field_rules.specs.At.{any_at}
+use Rattle.field_rules.specs.Places.{inside_of}
 use Rattle.field_rules.specs.Numbers.{invalid_faults, reserved_faults, outside_faults, extension_range_faults}
 use Rattle.field_rules.proofs.numbers.check_field_number.Goals as goal
 
@@ -13,18 +13,18 @@ use Rattle.field_rules.proofs.numbers.check_field_number.Goals as goal
 pub returns : goal.returns
 returns c =
     let a = c.args.findings.now in
-    let d = any_at c.args.place in
-    let owner = any_at c.args.owner.place in
+    let d = c.args.place in
+    let owner = inside_of c.args.owner.place in
     let f = c.args.field.now in
     let m = out-DescriptorProto c.args.owner.message.now in
     let n = number_of f.number in
     let same : to_z w32 (of_z w32 c.number-number.result) ≡ n = grind (arith, to_z-of_z, c.number-number.ensures) in
-    let first : Tells a c.check_valid.new.findings (invalid_faults (named_files a) d n) =
-    tells-as (ap (invalid_faults (named_files a) d) same) c.in_ok-check_valid.ensures in
-    let second : Tells c.check_valid.new.findings c.check_reserved_by.new.findings (reserved_faults (named_files a) d n owner m.reserved_range) =
-    tells-as (λ j. reserved_faults (same-files first j) d (same j) owner m.reserved_range) c.in_ok-check_reserved_by.ensures in
+    let first : Tells a c.check_valid.new.findings (invalid_faults (named_files a) d.file d.path.now n) =
+    tells-as (ap (invalid_faults (named_files a) d.file d.path.now) same) c.in_ok-check_valid.ensures in
+    let second : Tells c.check_valid.new.findings c.check_reserved_by.new.findings (reserved_faults (named_files a) d.file d.path.now n owner m.reserved_range) =
+    tells-as (λ j. reserved_faults (same-files first j) d.file d.path.now (same j) owner m.reserved_range) c.in_ok-check_reserved_by.ensures in
     let files = same-files (tells-two first second) in
     on-ok c.check_extension_ranges.result (λ third.
     tells-three first second
-    (tells-as (ap (λ fs. if is_some f.extendee then outside_faults fs d n owner m.extension_range else extension_range_faults fs d n owner m.extension_range) files) third))
+    (tells-as (ap (λ fs. if is_some f.extendee then outside_faults fs d.file d.path.now n owner m.extension_range else extension_range_faults fs d.file d.path.now n owner m.extension_range) files) third))
     c.check_extension_ranges.ensures

@@ -9,7 +9,7 @@ use Rattle.field_rules.specs.Tells.{named_files}
 use Rattle.field_rules.proofs.Tells.{tells-as, tells-next}
 use Rattle.number_ranges.specs.Holds.{holds, first_from}
 use Rattle.number_ranges.proofs.Firsts.{first-below, first-map}
-use Rattle.field_rules.specs.At.{any_at}
+use Rattle.field_rules.specs.Places.{inside_of}
 use Rattle.field_rules.specs.Bounds.{reserved_bounds}
 use Rattle.field_rules.specs.Numbers.{reserved_fault, reserved_faults}
 use Rattle.field_rules.specs.Ranges.{reserves}
@@ -31,23 +31,23 @@ same-first n ranges bounds from found is first =
 pub loop-position-smaller : goal.loop-position-smaller
 loop-position-smaller c =
     let m : ℤ = to_z w32 (of_z w32 c.args.number) in
-    let d = any_at c.args.place in
-    let owner = any_at c.args.owner.place in
+    let d = c.args.place in
+    let owner = inside_of c.args.owner.place in
     let files = named_files c.args.findings.now in
     let ranges = (out-DescriptorProto c.args.owner.message.now).reserved_range in
     let i = c.in-Some.position in
     let from = c.loop-position.from in
     let first = same-first m ranges c.args.ranges.now from (Some i) c.requires.ranges c.in-Some.ensures.first in
     let below : i < length ranges = first-below (reserves m) ranges from i first in
-    let behind : from ≤ i = (up-to (reserves m) (reserved_fault files d m owner) (λ k r passes. quiet (reserves m r) _ passes) 0 ranges from i first).0 in
+    let behind : from ≤ i = (up-to (reserves m) (reserved_fault files d.file d.path.now m owner) (λ k r passes. quiet (reserves m r) _ passes) 0 ranges from i first).0 in
     omega (arith, below, behind)
 
 -- up to the next range that holds the number nothing is told, and then that one
 pub loop-position-preserved : goal.loop-position-preserved
 loop-position-preserved c =
     let m : ℤ = to_z w32 (of_z w32 c.args.number) in
-    let d = any_at c.args.place in
-    let owner = any_at c.args.owner.place in
+    let d = c.args.place in
+    let owner = inside_of c.args.owner.place in
     let files = named_files c.args.findings.now in
     let ranges = (out-DescriptorProto c.args.owner.message.now).reserved_range in
     let i = c.in-Some.position in
@@ -56,11 +56,11 @@ loop-position-preserved c =
     let range : ReservedRange = get_or c.as_slice-list.result.now i no_range in
     let first = same-first m ranges c.args.ranges.now from (Some i) c.requires.ranges c.in-Some.ensures.first in
     let below : i < length ranges = first-below (reserves m) ranges from i first in
-    let passed = up-to (reserves m) (reserved_fault files d m owner) (λ k r passes. quiet (reserves m r) _ passes) 0 ranges from i first in
+    let passed = up-to (reserves m) (reserved_fault files d.file d.path.now m owner) (λ k r passes. quiet (reserves m r) _ passes) 0 ranges from i first in
     let is = ap (λ rs. get_or rs i no_range) c.as_slice-list.ensures ∙ get_or_default ranges i no_range range below in
     record {
       within = omega (arith, below);
-      told = tells-next (λ fs. reserved_fault fs d m owner) ranges i range below is
+      told = tells-next (λ fs. reserved_fault fs d.file d.path.now m owner) ranges i range below is
           (tells-as (sym passed.1) c.loop-position.invariant.told) refl c.in_ok-check_reserved_range.ensures;
     }
 
@@ -69,12 +69,12 @@ pub returns : goal.returns
 returns c =
     let n = c.args.number in
     let m : ℤ = to_z w32 (of_z w32 n) in
-    let d = any_at c.args.place in
-    let owner = any_at c.args.owner.place in
+    let d = c.args.place in
+    let owner = inside_of c.args.owner.place in
     let files = named_files c.args.findings.now in
     let ranges = (out-DescriptorProto c.args.owner.message.now).reserved_range in
     let from = c.loop-position.from in
     let none = same-first m ranges c.args.ranges.now from c.first_from.result c.requires.ranges c.first_from.ensures.first ∙ none-of c.first_from.result c.in_default.not-Some in
-    tells-as (sym (to-end (reserves m) (reserved_fault files d m owner) (λ k r passes. quiet (reserves m r) _ passes) 0 ranges from none)
-    ∙ ap (λ z. reserved_faults files d z owner ranges) (to_z-of_z w32 n c.ranges.number))
+    tells-as (sym (to-end (reserves m) (reserved_fault files d.file d.path.now m owner) (λ k r passes. quiet (reserves m r) _ passes) 0 ranges from none)
+    ∙ ap (λ z. reserved_faults files d.file d.path.now z owner ranges) (to_z-of_z w32 n c.ranges.number))
     c.loop-position.invariant.told

@@ -1,7 +1,7 @@
 use Rattle.std.proofs.Common.{◌≤◌, ◌-◌, length, take}
 use Rattle.proto_types.specs.declared.message.DescriptorProto.{out-DescriptorProto}
 use Rattle.field_rules.specs.Tells.{Tells, named_files}
-use Rattle.field_rules.specs.At.{any_at}
+use Rattle.field_rules.specs.Places.{inside_of}
 use Rattle.field_rules.specs.Numbers.{reserved_faults}
 use Rattle.field_rules.proofs.reserved.check_reserved_by.Given as goal
 
@@ -11,7 +11,7 @@ invariant-loop-position l =
     let ranges = (out-DescriptorProto l.owner.message.now).reserved_range in
     record {
       within : l.from ≤ length ranges;
-      told : Tells l.initial.findings l.findings (reserved_faults (named_files l.initial.findings) (any_at l.place) l.number (any_at l.owner.place) (take l.from ranges));
+      told : Tells l.initial.findings l.findings (reserved_faults (named_files l.initial.findings) l.place.file l.place.path.now l.number (inside_of l.owner.place) (take l.from ranges));
     }
 
 -- those that are left

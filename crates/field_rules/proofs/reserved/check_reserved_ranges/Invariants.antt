@@ -1,7 +1,7 @@
 use Rattle.std.proofs.Common.{take}
 use Rattle.proto_types.specs.declared.message.DescriptorProto.{out-DescriptorProto}
 use Rattle.field_rules.specs.Tells.{Tells, named_files}
-use Rattle.field_rules.specs.At.{any_at}
+use Rattle.field_rules.specs.Places.{inside_of}
 use Rattle.field_rules.specs.Numbers.{reserved_faults}
 use Rattle.field_rules.proofs.reserved.check_reserved_ranges.Given as goal
 
@@ -9,4 +9,4 @@ use Rattle.field_rules.proofs.reserved.check_reserved_ranges.Given as goal
 abbrev pub invariant-loop-position : goal.invariant-loop-position
 invariant-loop-position l =
     Tells l.initial.findings l.findings
-    (reserved_faults (named_files l.initial.findings) (any_at l.place) l.number (any_at l.owner.place) (take l.position (out-DescriptorProto l.owner.message.now).reserved_range))
+    (reserved_faults (named_files l.initial.findings) l.place.file l.place.path.now l.number (inside_of l.owner.place) (take l.position (out-DescriptorProto l.owner.message.now).reserved_range))

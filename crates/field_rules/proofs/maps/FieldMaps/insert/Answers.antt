@@ -11,9 +11,8 @@ use Rattle.proto_types.specs.declared.message.DescriptorProto.{out-DescriptorPro
 use Rattle.record_walk.proofs.Listings.{on-ok}
 use Rattle.field_rules.specs.Tells.{Tells, named_files}
 use Rattle.field_rules.proofs.Tells.{same-files, tells-as, tells-two}
-use Rattle.field_rules.specs.Duplicates.{duplicate_faults, number_duplicate}
+use Rattle.field_rules.specs.Duplicates.{duplicate_faults, number_duplicate, same_number, same_json_name}
 use Rattle.field_rules.specs.DuplicateNumbers.{item_number}
-use Rattle.field_rules.specs.Same.{same_number, same_json_name}
 use Rattle.field_rules.proofs.Duplicates.{number-told, json_name-told, next-maps, short-numbers, short-json_names}
 use Rattle.field_rules.proofs.maps.FieldMaps.insert.Goals as goal
 
