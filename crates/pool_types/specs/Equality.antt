@@ -19,7 +19,7 @@ use Rattle.pool_types.specs.contracts.default_value.DefaultValuePartialEq.TheImp
 use Rattle.std.specs.Prelude.{ℕ, nat_eq}
 use Rattle.std.specs.BTreeSet.{BTreeSet}
 use Rattle.std.specs.Cmp.Lexicographic.{pointwise}
-use Rattle.proto_types.specs.Equality.{file-exact}
+use Rattle.proto_types.specs.Equality.{file-exact as record-exact}
 use Rattle.pool_types.specs.contracts.contents.definition.DefinitionKindPartialEq.TheImpl as definition_kind
 use Rattle.pool_types.specs.contracts.contents.definition.IdentityPartialEq.TheImpl as identity
 use Rattle.pool_types.specs.contracts.contents.definition.DefinitionPartialEq.TheImpl as definition
@@ -117,7 +117,7 @@ indexes-exact = by-parts (λ s. s.keys) (λ a b e. search rules) (items-exact un
 pub file_inner-exact : Exact file_inner.ghosts.eq
 file_inner-exact = by-parts (λ f. (f.syntax, (f.raw, (f.dependencies, f.transitive_dependencies))))
     (λ a b e. search rules)
-    (syntax-exact and file-exact and items-exact unsigned_Decides and indexes-exact)
+    (syntax-exact and record-exact and items-exact unsigned_Decides and indexes-exact)
 
 pub oneof_inner-exact : Exact oneof_inner.ghosts.eq
 oneof_inner-exact = by-parts (λ o. (o.id, o.fields)) (λ a b e. search rules)
