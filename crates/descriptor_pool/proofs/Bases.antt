@@ -6,13 +6,12 @@ use Rattle.pool_types.specs.declared.contents.file.FileDescriptorInner.{FileDesc
 use Rattle.proto_types.specs.declared.file.FileDescriptorProto.{FileDescriptorProto}
 use Rattle.record_walk.specs.Counts.{counts_in}
 use Rattle.pool_contents.specs.declared.growing.GrowingPool.{GrowingPool}
-use Rattle.pool_contents.specs.Extended.{cut}
 use Rattle.pool_contents.specs.Growing.{rolled_back, records_from}
 
 base-is : (p : GrowingPool) → counts_in (rolled_back p) ≡ p.base
 base-is p = λ i. record {
   files = length-take-le p.base.files p.inner.files.items p.files_within i;
-  messages = (length-map (take p.base.messages p.inner.messages.items) (cut p.base.extensions) ∙ length-take-le p.base.messages p.inner.messages.items p.messages_within) i;
+  messages = length-take-le p.base.messages p.inner.messages.items p.messages_within i;
   enums = length-take-le p.base.enums p.inner.enums.items p.enums_within i;
   services = length-take-le p.base.services p.inner.services.items p.services_within i;
   extensions = length-take-le p.base.extensions p.inner.extensions.items p.extensions_within i;

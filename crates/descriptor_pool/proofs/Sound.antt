@@ -31,13 +31,13 @@ use Rattle.reference_pass.specs.Short.{ShortFiles}
 use Rattle.name_pass.specs.Entered.{entries, file_entries}
 use Rattle.record_lists.specs.References.{Reference, references_in}
 use Rattle.descriptor_pool.specs.Invariant.{IsPool}
-use Rattle.pool_contents.specs.Inner.{ListsLieIn, NamesLieIn}
+use Rattle.pool_contents.specs.Inner.{NamesLieIn}
 use Rattle.descriptor_pool.specs.Pool.{Batch, Made, empty, linked_to, Fits, new_files, faults_of_references, link}
 use Rattle.descriptor_pool.specs.Linking.{declared_with, linked_with, setting_with, with_items, with_names}
 use Rattle.descriptor_pool.specs.References.{AllResolved}
 use Rattle.descriptor_pool.proofs.Declared.{known_names, known_file_names, declared-behind, declared-linked, names-linked, file-names-linked, counts-linked}
 use Rattle.descriptor_pool.proofs.Files.{names-before, file-names-before}
-use Rattle.descriptor_pool.proofs.Listed.{counts-extended, lists-append, lists-extended}
+use Rattle.descriptor_pool.proofs.Listed.{counts-extended}
 use Rattle.descriptor_pool.proofs.Resolved.{Names, AllNamed, named-append, linked-resolved}
 
 some-first : (a b : Option Definition) → IsSome a → IsSome (option_or a b)
@@ -64,19 +64,17 @@ pub record Known (p : Contents) : Type 0 where
   pub file_names_are : p.file_names ≡ names (known_file_names p)
   pub counts_are : counts_in p ≡ counted no_counts (declarations no_counts (files_of p))
 
--- besides no list of the files is too long, each reference names its definition, and what messages list are extensions
+-- besides no list of the files is too long, and each reference names its definition
 pub record Sound (p : Contents) : Type 0 where
   pub known : Known p
   pub short : list_all (λ d. lists_fit d.proto) (declarations no_counts (files_of p)) ≡ true
   pub resolved : AllResolved p
-  pub lists_lie : ListsLieIn p
 
 nothing-sound : Sound no_contents
 nothing-sound = record {
   known = record { names_are = refl; file_names_are = refl; counts_are = refl };
   short = refl;
   resolved = tt;
-  lists_lie = All-nil (λ m. All (λ extension. extension < 0) m.extensions);
 }
 
 -- so they are behind new files
@@ -93,19 +91,6 @@ link-known q new known =
       counts_are = counts-extended (length q.extensions) (with_items named s ds) ∙ counts-linked named new known.counts_are s;
     }
 
--- new messages list nothing by themselves, and of the new extensions those that extend them
-link-lists : (q : Contents) (batch : Batch) → ListsLieIn q → ListsLieIn (link q batch)
-link-lists q batch lists =
-    let new = new_files q batch in
-    let ds = declared_with q new in
-    let items = with_items (with_names q ds) (setting_with q new) ds in
-    let first = length q.extensions in
-    let end = length items.extensions in
-    let more : first ≤ end = omega (arith, length-append q.extensions (map (λ e. extension_item (setting_with q new) e.0 e.1) (of_kind as_extension ds))) in
-    lists-extended end first (drop first items.extensions) items.messages (omega (arith, more, length-drop first items.extensions))
-    (lists-append first end q.messages _ more lists (All-map (λ m. All (λ extension. extension < end) m.extensions)
-    (λ e. message_item (setting_with q new) e.0 e.1) (of_kind as_message ds) (λ _ _ _. All-nil (λ extension. extension < end))))
-
 pub link-sound : (q : Contents) (batch : Batch) → Sound q → faults_of_references q batch ≡ [] → Fits q batch → Sound (link q batch)
 link-sound q batch sound none fits =
     let new = new_files q batch in
@@ -121,7 +106,6 @@ link-sound q batch sound none fits =
           (all-fit-changed (linking s) ds ∙ (room-fits (counts_in q) new fits).short);
       resolved = subst (AllNamed s.names) (sym (declared-linked named new sound.known.counts_are s))
           (named-append s.names (declarations no_counts (files_of q)) (map (changed (linking s)) ds) earlier (linked-resolved s ds none));
-      lists_lie = link-lists q batch sound.lists_lie;
     }
 
 pub made-sound : (p : Contents) → Made p → Sound p
@@ -137,10 +121,6 @@ names_lie p pool =
       subst (λ n. AllBefore n p.names) many (subst (AllBefore (0 + length (files_of p))) (sym sound.known.names_are) (names-before no_counts (files_of p))),
       subst (λ n. FileNamesBefore n p.file_names) many (subst (FileNamesBefore (0 + length (files_of p))) (sym sound.known.file_names_are) (file-names-before no_counts (files_of p))),
     )
-
--- and what its messages list are its extensions
-pub lists_lie : (p : Contents) → IsPool p → ListsLieIn p
-lists_lie p pool = (made-sound p pool.made).lists_lie
 
 -- no list of the files of a pool is too long, nor of files behind them that fit
 pub short-behind : (p : Contents) → IsPool p → (new : List FileDescriptorProto) → IsOk (counts_with (counts_in p) new) → ShortFiles (files_of p ++ new)

@@ -16,7 +16,7 @@ ghost use Rattle.pool_contents.specs.Growing.{before_items, first_extension, rol
 ghost use Rattle.name_tables.specs.NameTables.{file_names_before, without_files_from};
 ghost use Rattle.name_pass.specs.Steps.{name_step, state_at};
 ghost use Rattle.descriptor_pool.specs.Items.{HasImports, HasItems, LinksNew, with_new_items};
-ghost use Rattle.pool_contents.specs.Inner.{contents_in, ListsLieIn, NamesLieIn};
+ghost use Rattle.pool_contents.specs.Inner.{contents_in, NamesLieIn};
 ghost use Rattle.descriptor_pool.specs.Tells.{TellsAll, TellsFaults};
 ghost use Rattle.reference_pass.specs.Against.{setting_against};
 ghost use Rattle.reference_pass.specs.Linking.{ItemsAre, lists_in};
@@ -45,7 +45,6 @@ pub(crate) fn link(
     requires base { base ≡ counts_in (contents_in pool.old) }
     requires counts { IsOk (counts_with base new.items) }
     requires before { NamesLieIn (contents_in pool.old) }
-    requires lists { ListsLieIn (contents_in pool.old) }
     requires names { AllNamesBegin (contents_in pool.old) }
     requires short { ShortFiles (files_of (contents_in pool.old) ++ new.items) }
     ensures ok { OnOk result (contents_in pool.new
@@ -58,7 +57,7 @@ pub(crate) fn link(
     let mut growing = GrowingPool::new(base, before);
     let linked = link_new(alloc, &mut growing, new);
     if linked.is_err() {
-        growing.rollback(alloc);
+        growing.rollback();
     }
     let GrowingPool { inner, .. } = growing;
     *pool = inner;

@@ -1,16 +1,19 @@
 -- Extensions that are put behind the lists of the messages that they extend, one after another, and are taken out again.
-use Rattle.std.proofs.Common.{◌≡◌, ◌≤◌, ◌<◌, ◌+◌, ◌-◌, ◌==◌, ℕ, suc, Bool, true, false, cond, nat_lt, List, [], ◌∷◌, ◌++◌, length, map, take, drop, set, get_or, if◌then◌else◌, refl, ap, sym, ◌∙◌, append_assoc, append-nil, arith}
-use Rattle.std.specs.List.{All, AllByRecursion, between, enumerate_from, filter}
+use Rattle.std.proofs.Common.{◌≡◌, ◌≤◌, ◌<◌, ◌+◌, ◌-◌, ◌==◌, ℕ, suc, Bool, true, false, cond, Option, None, Some, MatchOption, List, [], ◌∷◌, ◌++◌, length, map, take, drop, set, get_or, if◌then◌else◌, refl, ap, sym, ◌∙◌, append_assoc, append-nil, arith}
+use Rattle.std.specs.List.{between, enumerate_from, filter}
 use Rattle.std.proofs.lemmas.Bool.Decides.{nat_tests}
-use Rattle.std.proofs.lemmas.List.{length-drop, map-append, take_all}
+use Rattle.std.proofs.lemmas.List.{get_or-set_same, get_or_default, length-drop, map-append, same_from_push, set-get_or, set-set, take_all}
 use Rattle.std.proofs.lemmas.List.Edits.{between_more, between_none, length-between}
-use Rattle.std.proofs.lemmas.List.Elements.{filter-append, recursion_from_All}
+use Rattle.std.proofs.lemmas.List.Elements.{filter-append}
 use Rattle.plain_data.specs.Each.{map_enumerated}
 use Rattle.pool_types.specs.declared.contents.extension.ExtensionDescriptorInner.{ExtensionDescriptorInner}
 use Rattle.pool_types.specs.declared.contents.message.MessageDescriptorInner.{MessageDescriptorInner}
-use Rattle.pool_contents.specs.Extended.{cut, extended_by, extending}
-use Rattle.pool_contents.specs.Growing.{with_extension}
-use Rattle.pool_contents.proofs.Each.{changed-elsewhere, changed-here, each-all, each-map, each-same, each-still, each-twice, one, set-each, take-each}
+use Rattle.pool_contents.specs.Extended.{extended_between, extended_by, extending}
+use Rattle.pool_contents.proofs.Each.{changed-elsewhere, changed-here, each-same, each-still, each-twice, length-each, one, set-each}
+
+-- a message with one more extension behind the others
+abbrev pub with_extension : ℕ → MessageDescriptorInner → MessageDescriptorInner
+with_extension extension m = record m { extensions = m.extensions ++ extension ∷ [] }
 
 -- one more extension behind others
 enumerated-push : {X : Type 0} (first : ℕ) (xs : List X) (x : X) → enumerate_from first (xs ++ x ∷ []) ≡ enumerate_from first xs ++ (first + length xs, x) ∷ []
@@ -61,10 +64,6 @@ pub message-missing : (ms : List MessageDescriptorInner) (message extension : �
 message-missing ms message extension past =
     sym (each-still (one (with_extension extension) message) 0 ms (λ n m from to. changed-elsewhere (with_extension extension) message n m (λ e. omega (arith, past, to, e))))
 
--- messages with the extensions between two indexes behind their lists
-abbrev pub extended_between : ℕ → ℕ → List ExtensionDescriptorInner → List MessageDescriptorInner → List MessageDescriptorInner
-extended_between first end xs ms = map_enumerated (extended_by first (between first end xs)) 0 ms
-
 -- no extensions leave messages as they are
 pub extended-by-none : (first : ℕ) (ms : List MessageDescriptorInner) → map_enumerated (extended_by first []) 0 ms ≡ ms
 extended-by-none first ms = each-still (extended_by first []) 0 ms (λ n m from to i. record m { extensions = append-nil m.extensions i })
@@ -92,42 +91,82 @@ module _ (first : ℕ) (xs : List ExtensionDescriptorInner) (ms : List MessageDe
       (λ n m _ _. ap (λ index. one (with_extension index) x.extendee n (extended_by first earlier n m)) (sym last) ∙ sym (extended-push first earlier x n m))
       ∙ ap (λ es. map_enumerated (extended_by first es) 0 ms) (sym more)
 
--- a roll-back takes an extension that came out again
-cut-extension : (end extension : ℕ) (m : MessageDescriptorInner) → end ≤ extension → cut end (with_extension extension m) ≡ cut end m
-cut-extension end extension m came =
-    let before : ℕ → Bool = λ x. nat_lt x end in
-    let later : nat_lt extension end ≡ false = grind (arith, nat_tests) in
-    λ i. record m {
-      extensions = (filter-append before m.extensions (extension ∷ []) ∙ ap (λ b. filter before m.extensions ++ cond b (extension ∷ []) []) later
-          ∙ append-nil (filter before m.extensions)) i;
-    }
+-- the message that an extension extends has it behind its list
+pub extended-one : (k : ℕ) (x : ExtensionDescriptorInner) (xs : List ExtensionDescriptorInner) (ms : List MessageDescriptorInner) → k < length xs → x ≡ get_or xs k x
+    → map_enumerated (one (with_extension k) x.extendee) 0 ms ≡ extended_between k (k + 1) xs ms
+extended-one k x xs ms below is =
+    ap (map_enumerated (one (with_extension k) x.extendee) 0) (sym (extended-none k xs ms))
+    ∙ extended-next k xs ms k x (omega arith) below is
 
-pub cut-messages : (end extension message many : ℕ) (ms : List MessageDescriptorInner) → end ≤ extension
-    → map (cut end) (take many (map_enumerated (one (with_extension extension) message) 0 ms)) ≡ map (cut end) (take many ms)
-cut-messages end extension message many ms came =
-    let change : ℕ → MessageDescriptorInner → MessageDescriptorInner = one (with_extension extension) message in
-    ap (map (cut end)) (take-each change many 0 ms)
-    ∙ each-map (cut end) change 0 (take many ms)
-    ∙ each-same (λ n m. cut end (change n m)) (λ _ m. cut end m) 0 (take many ms) (λ n m _ _. same n m)
-    ∙ each-all (cut end) 0 (take many ms)
+-- and those that extend what came before it
+pub extended-more : (first k : ℕ) (xs : List ExtensionDescriptorInner) (ms : List MessageDescriptorInner) → first ≤ k → k < length xs
+    → extended_between k (k + 1) xs (extended_between first k xs ms) ≡ extended_between first (k + 1) xs ms
+extended-more first k [] ms from below = absurd (omega (arith, below))
+extended-more first k (y ∷ ys) ms from below =
+    let x = get_or (y ∷ ys) k y in
+    let is : x ≡ get_or (y ∷ ys) k x = get_or_default (y ∷ ys) k y x below in
+    sym (extended-one k x (y ∷ ys) (extended_between first k (y ∷ ys) ms) below is)
+    ∙ extended-next first (y ∷ ys) ms k x from below is
+
+-- the message with one more extension
+held-is : (ms : List MessageDescriptorInner) (message extension : ℕ) (was : MessageDescriptorInner) → message < length ms
+    → was ≡ get_or (map_enumerated (one (with_extension extension) message) 0 ms) message was → was ≡ with_extension extension (get_or ms message was)
+held-is ms message extension was below read =
+    let first : 0 + message ≡ message = omega arith in
+    let own = get_or ms message was in
+    let made : map_enumerated (one (with_extension extension) message) 0 ms ≡ set ms message (with_extension extension own) =
+    sym (set-each (with_extension extension) 0 message ms was below ∙ ap (λ n. map_enumerated (one (with_extension extension) n) 0 ms) first) in
+    read ∙ ap (λ xs. get_or xs message was) made ∙ get_or-set_same ms message (with_extension extension own) was below
+
+-- the last extension of the message is taken away again
+pub message-popped : (ms : List MessageDescriptorInner) (message extension last : ℕ) (was : MessageDescriptorInner) (es : List ℕ) → message < length ms
+    → was ≡ get_or (map_enumerated (one (with_extension extension) message) 0 ms) message was → was.extensions ≡ es ++ last ∷ []
+    → set (map_enumerated (one (with_extension extension) message) 0 ms) message (record was { extensions = es }) ≡ ms
+message-popped ms message extension last was es below read popped =
+    let first : 0 + message ≡ message = omega arith in
+    let own = get_or ms message was in
+    let made : map_enumerated (one (with_extension extension) message) 0 ms ≡ set ms message (with_extension extension own) =
+    sym (set-each (with_extension extension) 0 message ms was below ∙ ap (λ n. map_enumerated (one (with_extension extension) n) 0 ms) first) in
+    let is : was ≡ with_extension extension own = held-is ms message extension was below read in
+    let front : es ≡ own.extensions = (same_from_push es own.extensions last extension (sym popped ∙ ap (λ (m : MessageDescriptorInner). m.extensions) is)).0 in
+    let back : record was { extensions = es } ≡ own = λ i. record (is i) { extensions = front i } in
+    (λ i. set (made i) message (back i)) ∙ set-set ms message (with_extension extension own) own ∙ set-get_or ms message was
+
+some-last : (xs : List ℕ) (x : ℕ) → xs ++ x ∷ [] ≡ [] → ⊥
+some-last [] x none = absurd (cc)
+some-last (y ∷ ys) x none = absurd (cc)
+
+-- what is popped off the list of the message that an extension extends
+pub retracted-here : (held ms : List MessageDescriptorInner) (xs : List ExtensionDescriptorInner) (k : ℕ) (x : ExtensionDescriptorInner) (was : MessageDescriptorInner) (popped : Option ℕ) (es : List ℕ)
+    → x.extendee < length held → was ≡ get_or held x.extendee was → k < length xs → x ≡ get_or xs k x
+    → MatchOption popped ((was.extensions ≡ []) × (es ≡ [])) (λ last. was.extensions ≡ es ++ last ∷ [])
+    → held ≡ extended_between k (k + 1) xs ms → set held x.extendee (record was { extensions = es }) ≡ ms
+retracted-here held ms xs k x was popped es below read there is pop made =
+    let change = one (with_extension k) x.extendee in
+    let one_more : held ≡ map_enumerated change 0 ms = made ∙ sym (extended-one k x xs ms there is) in
+    let many : length held ≡ length ms = ap length one_more ∙ length-each change 0 ms in
+    let below' : x.extendee < length ms = omega (arith, below, many) in
+    let read' : was ≡ get_or (map_enumerated change 0 ms) x.extendee was = read ∙ ap (λ ys. get_or ys x.extendee was) one_more in
+    ap (λ ys. set ys x.extendee (record was { extensions = es })) one_more ∙ from popped below' read' pop
   where
-    same : (n : ℕ) (m : MessageDescriptorInner) → cut end (one (with_extension extension) message n m) ≡ cut end m
-    same n m =
-        elim (n == message) as (λ b. cut end (if b then with_extension extension m else m) ≡ cut end m)
-        [ true ↦ cut-extension end extension m came | false ↦ refl ]
+    from : (o : Option ℕ) → x.extendee < length ms → was ≡ get_or (map_enumerated (one (with_extension k) x.extendee) 0 ms) x.extendee was
+        → MatchOption o ((was.extensions ≡ []) × (es ≡ [])) (λ last. was.extensions ≡ es ++ last ∷ [])
+        → set (map_enumerated (one (with_extension k) x.extendee) 0 ms) x.extendee (record was { extensions = es }) ≡ ms
+    from (Some last) inside at popped = message-popped ms x.extendee k last was es inside at popped
+    from None inside at none = absurd (some-last (get_or ms x.extendee was).extensions k
+        (sym (ap (λ (m : MessageDescriptorInner). m.extensions) (held-is ms x.extendee k was inside at)) ∙ none.0))
 
--- and leaves the others
-all-before : (end : ℕ) (xs : List ℕ) → AllByRecursion (λ x. x < end) xs → filter (λ x. nat_lt x end) xs ≡ xs
-all-before end [] all = refl
-all-before end (x ∷ xs) all =
-    let here : nat_lt x end ≡ true = let below = all.0 in grind (arith, nat_tests) in
-    ap (λ b. cond b (x ∷ filter (λ y. nat_lt y end) xs) (filter (λ y. nat_lt y end) xs)) here ∙ ap (λ ys. x ∷ ys) (all-before end xs all.1)
+-- there is no such message
+pub retracted-nowhere : (held ms : List MessageDescriptorInner) (xs : List ExtensionDescriptorInner) (k : ℕ) (x : ExtensionDescriptorInner)
+    → length held ≤ x.extendee → k < length xs → x ≡ get_or xs k x → held ≡ extended_between k (k + 1) xs ms → held ≡ ms
+retracted-nowhere held ms xs k x past there is made =
+    let change = one (with_extension k) x.extendee in
+    let one_more : held ≡ map_enumerated change 0 ms = made ∙ sym (extended-one k x xs ms there is) in
+    let many : length held ≡ length ms = ap length one_more ∙ length-each change 0 ms in
+    one_more ∙ sym (message-missing ms x.extendee k (omega (arith, past, many)))
 
-cut-none : (end : ℕ) (ms : List MessageDescriptorInner) → AllByRecursion (λ m. All (λ x. x < end) m.extensions) ms → map (cut end) ms ≡ ms
-cut-none end [] all = refl
-cut-none end (m ∷ ms) all =
-    let own = all-before end m.extensions (recursion_from_All (λ x. x < end) m.extensions all.0) in
-    λ i. record m { extensions = own i } ∷ cut-none end ms all.1 i
-
-pub cut-still : (end : ℕ) (ms : List MessageDescriptorInner) → All (λ m. All (λ x. x < end) m.extensions) ms → map (cut end) ms ≡ ms
-cut-still end ms all = cut-none end ms (recursion_from_All (λ m. All (λ x. x < end) m.extensions) ms all)
+-- no extensions lie between an index and an earlier one
+pub extended-past : (first end : ℕ) (xs : List ExtensionDescriptorInner) (ms : List MessageDescriptorInner) → end ≤ first → extended_between first end xs ms ≡ ms
+extended-past first end xs ms past =
+    let none : end - first ≡ 0 = omega (arith, past) in
+    ap (λ n. map_enumerated (extended_by first (take n (drop first xs))) 0 ms) none ∙ extended-by-none first ms

@@ -1,6 +1,6 @@
 -- Extensions in the lists of the messages that they extend.
-use Rattle.std.specs.Prelude.{ℕ, ◌==◌, nat_lt, List, ◌++◌, map, drop}
-use Rattle.std.specs.List.{enumerate_from, filter}
+use Rattle.std.specs.Prelude.{ℕ, ◌==◌, List, ◌++◌, map, drop}
+use Rattle.std.specs.List.{between, enumerate_from, filter}
 use Rattle.pool_types.specs.Contents.{Contents}
 use Rattle.pool_types.specs.declared.contents.extension.ExtensionDescriptorInner.{ExtensionDescriptorInner}
 use Rattle.pool_types.specs.declared.contents.message.MessageDescriptorInner.{MessageDescriptorInner}
@@ -25,6 +25,7 @@ with_extended first p =
       messages = map_enumerated (extended_by first (drop first p.extensions)) 0 p.messages;
     }
 
--- a message that lists only those of its extensions that are before an index
-abbrev pub cut : ℕ → MessageDescriptorInner → MessageDescriptorInner
-cut end m = record m { extensions = filter (λ extension. nat_lt extension end) m.extensions }
+-- messages whose lists have the extensions from one index up to another besides
+abbrev pub extended_between : ℕ → ℕ → List ExtensionDescriptorInner → List MessageDescriptorInner
+    → List MessageDescriptorInner
+extended_between first end xs ms = map_enumerated (extended_by first (between first end xs)) 0 ms

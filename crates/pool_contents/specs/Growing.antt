@@ -1,24 +1,21 @@
 -- A pool while a batch is linked into it.
-use Rattle.std.specs.Prelude.{ℕ, ◌==◌, nat_le, List, [], ◌∷◌, ◌++◌, length, map, take, drop, if◌then◌else◌}
+use Rattle.std.specs.Prelude.{ℕ, ◌==◌, nat_le, List, length, map, take, drop, if◌then◌else◌}
 use Rattle.std.specs.FinMap as finite
 use Rattle.std.specs.List.{filter_map}
 use Rattle.pool_types.specs.Contents.{Contents, files_of}
 use Rattle.pool_types.specs.declared.contents.file.FileDescriptorInner.{FileDescriptorInner}
-use Rattle.pool_types.specs.declared.contents.message.MessageDescriptorInner.{MessageDescriptorInner}
 use Rattle.proto_types.specs.declared.file.FileDescriptorProto.{FileDescriptorProto}
 use Rattle.name_resolution.specs.Visibility.{seen_from}
 use Rattle.plain_data.specs.Each.{map_enumerated}
 use Rattle.name_tables.specs.NameTables.{without_files_from, file_names_before}
 use Rattle.pool_contents.specs.declared.growing.GrowingPool.{GrowingPool}
-use Rattle.pool_contents.specs.Extended.{cut}
 use Rattle.pool_contents.specs.Inner.{contents_in}
 
--- what a roll-back leaves: all that was there before, and no extension that came in the lists of
--- messages
+-- what a roll-back leaves: as much as there was before
 abbrev pub rolled_back : GrowingPool → Contents
 rolled_back p = record {
   files = take p.base.files p.inner.files.items;
-  messages = map (cut p.base.extensions) (take p.base.messages p.inner.messages.items);
+  messages = take p.base.messages p.inner.messages.items;
   enums = take p.base.enums p.inner.enums.items;
   services = take p.base.services p.inner.services.items;
   extensions = take p.base.extensions p.inner.extensions.items;
@@ -41,16 +38,6 @@ new_records p = records_from p.base.files p.inner.files.items
 -- the index of the first extension that came
 abbrev pub first_extension : GrowingPool → ℕ
 first_extension p = length (rolled_back p).extensions
-
--- a message with one more extension behind the others
-abbrev pub with_extension : ℕ → MessageDescriptorInner → MessageDescriptorInner
-with_extension extension m = record m { extensions = m.extensions ++ extension ∷ [] }
-
--- all messages, where the one with an index has one more extension
-abbrev pub message_extended : GrowingPool → ℕ → ℕ → List MessageDescriptorInner
-message_extended p message extension =
-    map_enumerated (λ n m. if n == message then with_extension extension m
-    else m) 0 p.inner.messages.items
 
 -- the files that the file with an index sees, of all that there are
 abbrev pub seen_in : GrowingPool → ℕ → List ℕ

@@ -1,6 +1,5 @@
 -- What a pool holds, as its contents, and what is true of that.
-use Rattle.std.specs.Prelude.{◌<◌, length}
-use Rattle.std.specs.List.{All}
+use Rattle.std.specs.Prelude.{length}
 use Rattle.pool_types.specs.Contents.{Contents}
 use Rattle.name_tables.specs.NameTables.{AllBefore, FileNamesBefore}
 use Rattle.pool_contents.specs.declared.inner.DescriptorPoolInner.{DescriptorPoolInner}
@@ -19,7 +18,3 @@ contents_in p = record {
 -- what names mean lies in the pool's files
 abbrev pub NamesLieIn : Contents → Type 0
 NamesLieIn p = AllBefore (length p.files) p.names × FileNamesBefore (length p.files) p.file_names
-
--- what messages list are indexes of the pool's extensions
-abbrev pub ListsLieIn : Contents → Type 0
-ListsLieIn p = All (λ m. All (λ extension. extension < length p.extensions) m.extensions) p.messages

@@ -1,6 +1,4 @@
-ghost use Rattle.std.specs.Prelude.{◌≡◌, ◌≤◌, ◌<◌, ◌^◌, ◌++◌, ◌∷◌, OnOk, length, map, nat_lt};
-ghost use Rattle.std.specs.List.{filter};
-ghost use Rattle.pool_contents.specs.Extended.{cut};
+ghost use Rattle.std.specs.Prelude.{◌≡◌, ◌≤◌, ◌<◌, ◌+◌, ◌^◌, ◌++◌, List, OnOk, OnErr, length, map};
 ghost use Rattle.pool_contents.specs.Unlinked.{unlinked};
 
 use crate::DescriptorPoolInner;
@@ -8,12 +6,11 @@ use name_pass::syntax_of;
 use name_resolution::{imported_files, visible_from};
 use name_tables::NameTable;
 use plain_data::Items;
-use pool_types::{FileDescriptorInner, MessageDescriptorInner};
+use pool_types::FileDescriptorInner;
 use proto_types::FileDescriptorProto;
 use record_walk::Counts;
 use std::alloc::{AllocError, Global};
 use std::collections::BTreeSet;
-use std::mem;
 
 /// What a pool holds while a batch is linked into it, and how much it had before.
 #[derive(Drop)]
@@ -29,17 +26,17 @@ pub struct GrowingPool {
 
 impl GrowingPool {
     ghost use Rattle.record_walk.specs.Counts.{counts_in};
-    ghost use Rattle.pool_contents.specs.Extended.{with_extended};
-    ghost use Rattle.pool_contents.specs.Inner.{contents_in, ListsLieIn, NamesLieIn};
+    ghost use Rattle.pool_types.specs.declared.contents.message.MessageDescriptorInner.{MessageDescriptorInner};
+    ghost use Rattle.pool_contents.specs.Inner.{contents_in, NamesLieIn};
     ghost use Rattle.name_tables.specs.NameTables.{FileNamesBefore};
-    ghost use Rattle.pool_contents.specs.Growing.{file_seeing, files_seeing, first_extension, first_new, rolled_back, message_extended};
+    ghost use Rattle.pool_contents.specs.Growing.{file_seeing, files_seeing, first_extension, first_new, rolled_back};
+    ghost use Rattle.pool_contents.specs.Extended.{extended_between, with_extended};
 
     /// A pool before anything of a batch came, and how much it has. Its names mean something in its
-    /// files, and the lists of its messages hold extensions of its own.
+    /// files.
     pub fn new(base: Counts, inner: DescriptorPoolInner) -> GrowingPool
         requires counts { base ≡ counts_in (contents_in inner) }
         requires before { NamesLieIn (contents_in inner) }
-        requires lists { ListsLieIn (contents_in inner) }
         ensures base { result.base ≡ base }
         ensures inner { result.inner ≡ inner }
         ensures kept { rolled_back result ≡ contents_in inner }
@@ -110,38 +107,76 @@ impl GrowingPool {
     /// Puts the index of each extension that came behind the list of the message that it extends.
     ///
     /// # Errors
-    /// `AllocError` where memory was refused.
+    /// `AllocError` where memory was refused; the lists are then as they were.
     pub fn extend_messages(&mut self) -> Result<(), AllocError>
         requires few { length self.old.inner.extensions.items < 2 ^ 32 }
         ensures ok { OnOk result (contents_in self.new.inner
             ≡ with_extended (first_extension self.old) (contents_in self.old.inner)) }
-        ensures kept { rolled_back self.new ≡ rolled_back self.old }
+        ensures kept { OnErr result (rolled_back self.new ≡ rolled_back self.old) }
     {
         for index in self.base.extensions..self.inner.extensions.len() as u32 {
-            let extendee = self.inner.extensions[index as usize].extendee;
-            self.extend_message(extendee, index)?;
+            let extended = self.extend_message(index);
+            if extended.is_err() {
+                self.retract_extensions(index);
+                return extended;
+            }
         }
         Ok(())
     }
 
-    /// Puts an extension that came behind the list of a message, if there is one with the index.
-    fn extend_message(&mut self, message: u32, extension: u32) -> Result<(), AllocError>
-        requires came { first_extension self.old ≤ extension }
+    /// Puts an extension behind the list of the message that it extends, if there is one with the
+    /// index.
+    fn extend_message(&mut self, extension: u32) -> Result<(), AllocError>
+        requires here { extension < length self.old.inner.extensions.items }
         ensures ok { OnOk result (contents_in self.new.inner
-            ≡ record (contents_in self.old.inner)
-            { messages = message_extended self.old message extension }) }
-        ensures kept { rolled_back self.new ≡ rolled_back self.old }
+            ≡ record (contents_in self.old.inner) { messages = extended_between extension
+            (extension + 1) self.old.inner.extensions.items self.old.inner.messages.items }) }
+        ensures err { OnErr result (contents_in self.new.inner ≡ contents_in self.old.inner) }
+        ensures base { self.new.base ≡ self.old.base }
     {
-        let index = message as usize;
-        if index < self.inner.messages.len() {
-            self.inner.messages[index].extensions.push(extension)?;
+        let message = self.inner.extensions[extension as usize].extendee as usize;
+        if message < self.inner.messages.len() {
+            self.inner.messages[message].extensions.push(extension)?;
         }
         Ok(())
     }
 
-    /// Takes away all that came, which takes no memory. A name goes with its file, and an extension
-    /// goes out of the list of its message.
-    pub fn rollback(&mut self, alloc: Global)
+    /// Takes the extensions that came, up to an index, out of the lists of the messages that they
+    /// extend, the last one first.
+    fn retract_extensions(&mut self, end: u32)
+        requires { end ≤ length self.old.inner.extensions.items }
+        ensures back { (ms : List MessageDescriptorInner) → self.old.inner.messages.items
+            ≡ extended_between self.old.base.extensions end self.old.inner.extensions.items ms
+            → self.new.inner.messages.items ≡ ms }
+        ensures others { contents_in self.new.inner ≡ record (contents_in self.old.inner)
+            { messages = self.new.inner.messages.items } }
+        ensures base { self.new.base ≡ self.old.base }
+    {
+        let mut end = end;
+        while self.base.extensions < end {
+            end -= 1;
+            self.retract_extension(end);
+        }
+    }
+
+    /// Takes the last of its extensions away from the message that an extension extends.
+    fn retract_extension(&mut self, extension: u32)
+        requires here { extension < length self.old.inner.extensions.items }
+        ensures back { (ms : List MessageDescriptorInner) → self.old.inner.messages.items
+            ≡ extended_between extension (extension + 1) self.old.inner.extensions.items ms
+            → self.new.inner.messages.items ≡ ms }
+        ensures others { contents_in self.new.inner ≡ record (contents_in self.old.inner)
+            { messages = self.new.inner.messages.items } }
+        ensures base { self.new.base ≡ self.old.base }
+    {
+        let message = self.inner.extensions[extension as usize].extendee as usize;
+        if message < self.inner.messages.len() {
+            self.inner.messages[message].extensions.pop();
+        }
+    }
+
+    /// Takes away all that came, which takes no memory. A name goes with its file.
+    pub fn rollback(&mut self)
         ensures { contents_in self.new.inner ≡ rolled_back self.old }
     {
         self.inner.files.truncate(self.base.files as usize);
@@ -151,7 +186,6 @@ impl GrowingPool {
         self.inner
             .extensions
             .truncate(self.base.extensions as usize);
-        cut_messages(alloc, &mut self.inner.messages, self.base.extensions);
         self.inner.names.remove_from(self.base.files);
         self.inner.file_names.remove_from(self.base.files);
     }
@@ -167,22 +201,4 @@ fn unlinked(alloc: Global, file: FileDescriptorProto) -> FileDescriptorInner
         dependencies: Items::new(alloc),
         transitive_dependencies: BTreeSet::new(alloc),
     }
-}
-
-/// Takes the extensions from an index on out of the lists of messages.
-fn cut_messages(alloc: Global, messages: &mut Vec<MessageDescriptorInner>, end: u32)
-    ensures { messages.new.items ≡ map (cut end) messages.old.items }
-{
-    for index in 0..messages.len() {
-        cut_extensions(alloc, &mut messages[index].extensions, end);
-    }
-}
-
-/// Keeps the extensions before an index, and takes no memory.
-fn cut_extensions(alloc: Global, extensions: &mut Items<u32>, end: u32)
-    ensures { extensions.new ≡ filter (λ extension. nat_lt extension end) extensions.old }
-{
-    let mut kept = mem::replace(extensions, Items::new(alloc)).into_vec();
-    kept.retain(|extension| *extension < end);
-    *extensions = Items::from_vec(kept);
 }

@@ -1,12 +1,11 @@
-use Rattle.std.proofs.Common.{◌≡◌, ◌≤◌, ◌<◌, length, ap, sym, refl, ◌∙◌, arith, get_or}
+use Rattle.std.proofs.Common.{◌≡◌, ◌≤◌, ◌<◌, length, take, ap, sym, refl, ◌∙◌, arith}
 use Rattle.std.proofs.lemmas.List.{length-take-le}
 use Rattle.pool_types.specs.Contents.{Contents}
-use Rattle.plain_data.specs.Each.{map_enumerated}
-use Rattle.pool_contents.specs.Growing.{first_extension, with_extension}
+use Rattle.pool_contents.specs.Extended.{extended_between}
+use Rattle.pool_contents.specs.Growing.{first_extension}
 use Rattle.pool_contents.specs.Inner.{contents_in}
 use Rattle.pool_contents.specs.declared.growing.GrowingPool.{GrowingPool}
-use Rattle.pool_contents.proofs.Each.{one}
-use Rattle.pool_contents.proofs.Extending.{extended_between, extended-all, extended-next, extended-none}
+use Rattle.pool_contents.proofs.Extending.{extended-all, extended-more, extended-none}
 use Rattle.pool_contents.proofs.growing.GrowingPool.extend_messages.Goals as goal
 
 first-is : (p : GrowingPool) → first_extension p ≡ p.base.extensions
@@ -20,38 +19,28 @@ loop-index-init c =
     let none = ap (λ end. extended_between (first_extension p) end xs ms) (sym (first-is p)) ∙ extended-none (first_extension p) xs ms in
     record {
       is = λ i. record (contents_in p.inner) { messages = sym none i };
-      kept = refl;
+      base = refl;
     }
 
 -- there are as many extensions as there were
-pub index-requires : goal.index-requires
-index-requires c =
+pub extend_message-requires : goal.extend_message-requires
+extend_message-requires c =
     let many = ap (λ (x : Contents). length x.extensions) c.loop-index.invariant.is in
     omega (arith, many, c.loop-index-test.true, c.len-index-end.ensures)
 
-pub extend_message-requires : goal.extend_message-requires
-extend_message-requires c =
-    let p = c.args.self.now in
-    let same = ap (λ (x : Contents). length x.extensions) c.loop-index.invariant.kept in
-    omega (arith, same, first-is p, c.loop-index.auto.index)
-
--- one more is
+-- one more is in the list of its message
 pub loop-index-preserved : goal.loop-index-preserved
 loop-index-preserved c =
     let p = c.args.self.now in
-    let q = c.loop-index.self in
     let k = c.loop-index.index in
-    let x = c.index.result.now in
     let xs = p.inner.extensions.items in
-    let ms = p.inner.messages.items in
     let is = c.loop-index.invariant.is in
     let from : first_extension p ≤ k = omega (arith, first-is p, c.loop-index.auto.index) in
     let below : k < length xs = omega (arith, c.loop-index-test.true, c.len-index-end.ensures) in
-    let read : x ≡ get_or xs k x = c.index.ensures ∙ ap (λ (y : Contents). get_or y.extensions k x) is in
-    let next = ap (λ (y : Contents). map_enumerated (one (with_extension k) x.extendee) 0 y.messages) is ∙ extended-next (first_extension p) xs ms k x from below read in
+    let next = ap (λ (y : Contents). extended_between k (k + 1) y.extensions y.messages) is ∙ extended-more (first_extension p) k xs p.inner.messages.items from below in
     record {
       is = c.in_ok-extend_message.ensures.ok ∙ (λ i. record (is i) { messages = next i });
-      kept = c.extend_message.ensures.kept ∙ c.loop-index.invariant.kept;
+      base = c.extend_message.ensures.base ∙ c.loop-index.invariant.base;
     }
 
 pub returns-clause-ok : goal.returns-clause-ok

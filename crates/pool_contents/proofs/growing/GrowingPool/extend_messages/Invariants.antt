@@ -1,7 +1,7 @@
 use Rattle.std.proofs.Common.{◌≡◌}
-use Rattle.pool_contents.specs.Growing.{first_extension, rolled_back}
+use Rattle.pool_contents.specs.Extended.{extended_between}
+use Rattle.pool_contents.specs.Growing.{first_extension}
 use Rattle.pool_contents.specs.Inner.{contents_in}
-use Rattle.pool_contents.proofs.Extending.{extended_between}
 use Rattle.pool_contents.proofs.growing.GrowingPool.extend_messages.Given as goal
 
 -- the extensions so far are in the lists of the messages that they extend
@@ -11,5 +11,5 @@ invariant-loop-index l =
     record {
       is : contents_in l.self.inner
           ≡ record (contents_in old.inner) { messages = extended_between (first_extension old) l.index old.inner.extensions.items old.inner.messages.items };
-      kept : rolled_back l.self ≡ rolled_back old;
+      base : l.self.base ≡ old.base;
     }

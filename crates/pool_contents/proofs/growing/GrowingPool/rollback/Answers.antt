@@ -1,15 +1,13 @@
 use Rattle.std.proofs.lemmas.Grind.{common_steps}
-use Rattle.std.proofs.Common.{map, ap, ◌∙◌, arith}
-use Rattle.pool_contents.specs.Extended.{cut}
+use Rattle.std.proofs.Common.{arith}
 use Rattle.pool_contents.proofs.growing.GrowingPool.rollback.Goals as goal
 
--- of each list what was there, and of the lists of messages the extensions that were
+-- of each list what was there
 pub returns : goal.returns
 returns c =
-    let base = c.args.self.now.base in
     λ i. record {
       files = c.truncate.ensures.items i;
-      messages = (c.cut_messages.ensures ∙ ap (map (cut base.extensions)) c.truncate-2.ensures.items) i;
+      messages = c.truncate-2.ensures.items i;
       enums = c.truncate-3.ensures.items i;
       services = c.truncate-4.ensures.items i;
       extensions = c.truncate-5.ensures.items i;

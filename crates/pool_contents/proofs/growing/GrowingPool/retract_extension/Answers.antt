@@ -1,0 +1,19 @@
+use Rattle.std.proofs.Common.{◌<◌, length, arith}
+use Rattle.pool_contents.proofs.Extending.{retracted-here, retracted-nowhere}
+use Rattle.pool_contents.proofs.growing.GrowingPool.retract_extension.Goals as goal
+
+-- the message lacks its last extension
+pub returns-then-message-len-clause-back : goal.returns-then-message-len-clause-back
+returns-then-message-len-clause-back c =
+    let old = c.args.self.now in
+    let held = old.inner.messages.items in
+    let x = c.index.result.now in
+    λ ms made. retracted-here held ms old.inner.extensions.items c.args.extension x c.index_mut.result.now c.pop.result c.pop.new.self
+    (omega (arith, c.if-message-len.true, c.len.ensures)) c.index_mut.ensures.value c.requires c.index.ensures c.pop.ensures made
+
+-- there is no such message
+pub returns-else-message-len-clause-back : goal.returns-else-message-len-clause-back
+returns-else-message-len-clause-back c =
+    let old = c.args.self.now in
+    λ ms made. retracted-nowhere old.inner.messages.items ms old.inner.extensions.items c.args.extension c.index.result.now
+    (omega (arith, c.if-message-len.false, c.len.ensures)) c.requires c.index.ensures made
