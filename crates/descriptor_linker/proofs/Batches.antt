@@ -22,10 +22,10 @@ abbrev behind : Session → Contents × List ℕ → Session
 behind s after = record (write s after.1) { pool = after.0; building = record s.building { files = [] } }
 
 told-behind : (s : Session) (batch : Batch) (emptied : Building) (new : Contents) (text told : List ℕ)
-    → batch ≡ s.building.files → emptied ≡ record s.building { files = [] } → linking s.pool batch (counts_after s.pool batch) ≡ (new, text) → told ≡ s.told ++ text
-    → record s { pool = new; building = emptied; told = told } ≡ link_step s
+    → batch ≡ s.building.files → emptied ≡ record s.building { files = [] } → linking s.pool batch (counts_after s.pool batch) ≡ (new, text) → told ≡ s.text ++ text
+    → record s { pool = new; building = emptied; text = told } ≡ link_step s
 told-behind s batch emptied new text told same none is more =
-    (λ i. record s { pool = new; building = none i; told = more i })
+    (λ i. record s { pool = new; building = none i; text = more i })
     ∙ ap (behind s) (sym is ∙ ap (λ b. linking s.pool b (counts_after s.pool b)) same)
 
 pub no-faults : (first second : Faults) → first ≡ [] → second ≡ [] → first_of_both first second ≡ []
@@ -41,8 +41,8 @@ refusing p batch (f ∷ fs) some = refl
 
 -- the batch was linked
 told-linked : (s : Session) (batch : Batch) (emptied : Building) (new : Contents) (told : List ℕ)
-    → batch ≡ s.building.files → emptied ≡ record s.building { files = [] } → IsLinked s.pool batch new → told ≡ s.told ++ counts_line (counts_in new)
-    → record s { pool = new; building = emptied; told = told } ≡ link_step s
+    → batch ≡ s.building.files → emptied ≡ record s.building { files = [] } → IsLinked s.pool batch new → told ≡ s.text ++ counts_line (counts_in new)
+    → record s { pool = new; building = emptied; text = told } ≡ link_step s
 told-linked s batch emptied new told same none linked more =
     told-behind s batch emptied new (counts_line (counts_in new)) told same none
     (where-it-fits s.pool batch (counts_after s.pool batch) linked.fits
@@ -50,14 +50,14 @@ told-linked s batch emptied new told same none linked more =
     ∙ ap (λ q. (q, counts_line (counts_in q))) (sym linked.is)) more
 
 pub on-linked : {U E : Type 0} (r : Result U E) (s : Session) (batch : Batch) (emptied : Building) (new : Contents) (told : List ℕ)
-    → batch ≡ s.building.files → emptied ≡ record s.building { files = [] } → IsLinked s.pool batch new → OnOk r (told ≡ s.told ++ counts_line (counts_in new))
-    → OnOk r (record s { pool = new; building = emptied; told = told } ≡ link_step s)
+    → batch ≡ s.building.files → emptied ≡ record s.building { files = [] } → IsLinked s.pool batch new → OnOk r (told ≡ s.text ++ counts_line (counts_in new))
+    → OnOk r (record s { pool = new; building = emptied; text = told } ≡ link_step s)
 on-linked r s batch emptied new told same none linked more = on-ok r (told-linked s batch emptied new told same none linked) more
 
 -- the batch was refused
 told-refused : (s : Session) (batch : Batch) (emptied : Building) (new : Contents) (error : DescriptorError) (fs : Faults) (told : List ℕ)
-    → batch ≡ s.building.files → emptied ≡ record s.building { files = [] } → IsRefused s.pool batch error new → fs ≡ error.errors → told ≡ s.told ++ refused_lines fs
-    → record s { pool = new; building = emptied; told = told } ≡ link_step s
+    → batch ≡ s.building.files → emptied ≡ record s.building { files = [] } → IsRefused s.pool batch error new → fs ≡ error.errors → told ≡ s.text ++ refused_lines fs
+    → record s { pool = new; building = emptied; text = told } ≡ link_step s
 told-refused s batch emptied new error fs told same none refused shown more =
     let all = shown ∙ refused.all in
     told-behind s batch emptied new (refused_lines fs) told same none
@@ -68,7 +68,7 @@ told-refused s batch emptied new error fs told same none refused shown more =
 
 pub on-refused : {U E : Type 0} (r : Result U E) (s : Session) (batch : Batch) (emptied : Building) (new : Contents) (why : BuildError) (error : DescriptorError) (fs : Faults) (told : List ℕ)
     → batch ≡ s.building.files → emptied ≡ record s.building { files = [] } → why ≡ Descriptor error → Outcome {U = U} s.pool batch (Err why) new → fs ≡ error.errors
-    → OnOk r (told ≡ s.told ++ refused_lines fs) → OnOk r (record s { pool = new; building = emptied; told = told } ≡ link_step s)
+    → OnOk r (told ≡ s.text ++ refused_lines fs) → OnOk r (record s { pool = new; building = emptied; text = told } ≡ link_step s)
 on-refused {U} r s batch emptied new why error fs told same none is outcome shown more =
     let refused : IsRefused s.pool batch error new = subst (λ e. Outcome {U = U} s.pool batch (Err e) new) is outcome in
     on-ok r (told-refused s batch emptied new error fs told same none refused shown) more

@@ -32,7 +32,7 @@ pub fn report_of(alloc: Global, bytes: &[u8]) -> Result<Report, AllocError>
 {
     let mut session = Session::new(alloc);
     let ended = obey(&mut session, &mut ScriptReader::new(alloc, bytes));
-    let mut text = session.told;
+    let mut text = session.text;
     let has_fault = match ended {
         Ok(()) => false,
         Err(ScriptError::Fault(line, fault)) => {

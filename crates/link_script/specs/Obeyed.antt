@@ -15,13 +15,13 @@ use Rattle.link_script.specs.Records.{files_in}
 -- refused
 abbrev pub IsObeyed : {S U : Type 0} → (S → Statement → S) → Script → S → Result U ScriptError → S
     → Type 0
-IsObeyed step said old (Ok _) new = (fold step old said.statements ≡ new) × (said.fault ≡ None)
-IsObeyed step said old (Err (Fault line fault)) new = (fold step old said.statements ≡ new)
-    × (said.fault ≡ Some (line, fault))
-IsObeyed step said old (Err OutOfMemory) new = Unit {0}
+IsObeyed step script old (Ok _) new = (fold step old script.statements ≡ new) × (script.fault ≡ None)
+IsObeyed step script old (Err (Fault line fault)) new = (fold step old script.statements ≡ new)
+    × (script.fault ≡ Some (line, fault))
+IsObeyed step script old (Err OutOfMemory) new = Unit {0}
 
 -- the files that a script declares, or its fault, unless memory was refused
 abbrev pub DeclaresFiles : Script → Result (List FileDescriptorProto) ScriptError → Type 0
-DeclaresFiles said (Ok files) = (files ≡ files_in said) × (said.fault ≡ None)
-DeclaresFiles said (Err (Fault line fault)) = said.fault ≡ Some (line, fault)
-DeclaresFiles said (Err OutOfMemory) = Unit {0}
+DeclaresFiles script (Ok files) = (files ≡ files_in script) × (script.fault ≡ None)
+DeclaresFiles script (Err (Fault line fault)) = script.fault ≡ Some (line, fault)
+DeclaresFiles script (Err OutOfMemory) = Unit {0}

@@ -69,14 +69,19 @@ impl Open {
     ///
     /// # Errors
     /// `AllocError` where memory was refused.
-    pub fn state(&mut self, alloc: Global, extends: bool, said: Statement) -> Result<(), AllocError>
-        ensures { OnOk result (self.new ≡ applied extends said self.old) }
+    pub fn state(
+        &mut self,
+        alloc: Global,
+        extends: bool,
+        statement: Statement,
+    ) -> Result<(), AllocError>
+        ensures { OnOk result (self.new ≡ applied extends statement self.old) }
     {
         match self {
-            Open::File(file) => state_in_file(alloc, file, said),
-            Open::Message(message) => state_in_message(alloc, message, extends, said),
-            Open::Enum(opened) => state_in_enum(alloc, opened, said),
-            Open::Service(service) => state_in_service(service, said),
+            Open::File(file) => state_in_file(alloc, file, statement),
+            Open::Message(message) => state_in_message(alloc, message, extends, statement),
+            Open::Enum(opened) => state_in_enum(alloc, opened, statement),
+            Open::Service(service) => state_in_service(service, statement),
         }
     }
 
@@ -128,11 +133,11 @@ impl Open {
 fn state_in_file(
     alloc: Global,
     file: &mut FileDescriptorProto,
-    said: Statement,
+    statement: Statement,
 ) -> Result<(), AllocError>
-    ensures { OnOk result (file.new ≡ in_file said file.old) }
+    ensures { OnOk result (file.new ≡ in_file statement file.old) }
 {
-    match said {
+    match statement {
         Statement::Package(name) => file.package = name,
         Statement::Syntax(name) => file.syntax = name,
         Statement::Import(name) => file.dependency.push(name)?,
@@ -162,12 +167,12 @@ fn state_in_message(
     alloc: Global,
     message: &mut DescriptorProto,
     extends: bool,
-    said: Statement,
+    statement: Statement,
 ) -> Result<(), AllocError>
     ensures { OnOk result (message.new
-        ≡ roll-DescriptorProto (in_message extends said (out-DescriptorProto message.old))) }
+        ≡ roll-DescriptorProto (in_message extends statement (out-DescriptorProto message.old))) }
 {
-    match said {
+    match statement {
         Statement::Field(field) => message.field.push(field)?,
         Statement::Extend(field) => message.extension.push(field)?,
         Statement::Oneof(name) => {
@@ -244,11 +249,11 @@ fn options_of<T>(alloc: Global, value: T) -> Options<T>
 fn state_in_enum(
     alloc: Global,
     opened: &mut EnumDescriptorProto,
-    said: Statement,
+    statement: Statement,
 ) -> Result<(), AllocError>
-    ensures { OnOk result (opened.new ≡ in_enum said opened.old) }
+    ensures { OnOk result (opened.new ≡ in_enum statement opened.old) }
 {
-    match said {
+    match statement {
         Statement::Value(value) => opened.value.push(value),
         Statement::Reserved(start, end) => {
             opened.reserved_range.push(EnumReservedRange { start, end })
@@ -262,10 +267,13 @@ fn state_in_enum(
     }
 }
 
-fn state_in_service(service: &mut ServiceDescriptorProto, said: Statement) -> Result<(), AllocError>
-    ensures { OnOk result (service.new ≡ in_service said service.old) }
+fn state_in_service(
+    service: &mut ServiceDescriptorProto,
+    statement: Statement,
+) -> Result<(), AllocError>
+    ensures { OnOk result (service.new ≡ in_service statement service.old) }
 {
-    match said {
+    match statement {
         Statement::Method(method) => service.method.push(method),
         _ => Ok(()),
     }

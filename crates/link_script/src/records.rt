@@ -66,10 +66,10 @@ impl RecordBuilder {
     ///
     /// # Errors
     /// `AllocError` where memory was refused.
-    pub fn state(&mut self, said: Statement) -> Result<(), AllocError>
-        ensures { OnOk result (building_in self.new ≡ built (building_in self.old) said) }
+    pub fn state(&mut self, statement: Statement) -> Result<(), AllocError>
+        ensures { OnOk result (building_in self.new ≡ built (building_in self.old) statement) }
     {
-        match said {
+        match statement {
             Statement::File(name) => self.open(Open::file(self.alloc, name)),
             Statement::Message(name) => self.open(Open::message(self.alloc, name)),
             Statement::Enum(name) => self.open(Open::enumeration(self.alloc, name)),
@@ -80,7 +80,7 @@ impl RecordBuilder {
             | Statement::Walk
             | Statement::Refs(_)
             | Statement::Relink => Ok(()),
-            said => self.amend(said),
+            statement => self.amend(statement),
         }
     }
 
@@ -101,13 +101,13 @@ impl RecordBuilder {
     }
 
     /// Does what a statement says of the innermost open record.
-    fn amend(&mut self, said: Statement) -> Result<(), AllocError>
-        ensures { OnOk result (building_in self.new ≡ stating (building_in self.old) said) }
+    fn amend(&mut self, statement: Statement) -> Result<(), AllocError>
+        ensures { OnOk result (building_in self.new ≡ stating (building_in self.old) statement) }
     {
         let extends = self.extends;
-        self.extends = extends_after(extends, &said);
+        self.extends = extends_after(extends, &statement);
         if let Some(innermost) = self.open_records.last_mut() {
-            innermost.state(self.alloc, extends, said)?;
+            innermost.state(self.alloc, extends, statement)?;
         }
         Ok(())
     }
@@ -130,10 +130,10 @@ impl RecordBuilder {
 }
 
 /// Whether the last of fields and extensions is an extension, behind a statement.
-fn extends_after(before: bool, said: &Statement) -> bool
-    ensures { result ≡ extends_after before said.now }
+fn extends_after(before: bool, statement: &Statement) -> bool
+    ensures { result ≡ extends_after before statement.now }
 {
-    match said {
+    match statement {
         Statement::Extend(_) => true,
         Statement::Field(_) => false,
         _ => before,

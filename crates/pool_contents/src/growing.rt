@@ -129,8 +129,10 @@ impl GrowingPool {
     fn extend_message(&mut self, extension: u32) -> Result<(), AllocError>
         requires here { extension < length self.old.inner.extensions.items }
         ensures ok { OnOk result (contents_in self.new.inner
-            ≡ record (contents_in self.old.inner) { messages = extended_between extension
-            (extension + 1) self.old.inner.extensions.items self.old.inner.messages.items }) }
+            ≡ record (contents_in self.old.inner) {
+              messages = extended_between extension
+                  (extension + 1) self.old.inner.extensions.items self.old.inner.messages.items;
+            }) }
         ensures err { OnErr result (contents_in self.new.inner ≡ contents_in self.old.inner) }
         ensures base { self.new.base ≡ self.old.base }
     {

@@ -15,32 +15,32 @@ use std::io;
 
 fn main(rt: HostRuntime) -> io::Result<()> {
     let alloc = rt.alloc();
-    let mut told = String::new(alloc);
+    let mut report = String::new(alloc);
     let mut pool = DescriptorPool::new(alloc);
-    link(alloc, &mut told, &mut pool, shop::file(alloc, "Statuss")?)?;
-    link(alloc, &mut told, &mut pool, shop::file(alloc, "Status")?)?;
+    link(alloc, &mut report, &mut pool, shop::file(alloc, "Statuss")?)?;
+    link(alloc, &mut report, &mut pool, shop::file(alloc, "Status")?)?;
     if let Some(message) = message_named(&pool, "shop.Order") {
-        tell_message(&mut told, &pool, message)?;
+        write_message(&mut report, &pool, message)?;
     }
-    print!(rt; "{told}")
+    print!(rt; "{report}")
 }
 
 /// Links one file, and tells what has come of it.
 fn link(
     alloc: Global,
-    told: &mut String,
+    report: &mut String,
     pool: &mut DescriptorPool,
     file: FileDescriptorProto,
 ) -> Result<(), AllocError> {
     let mut batch = Vec::new(alloc);
     batch.push(file)?;
     match pool.build_files(batch) {
-        Ok(()) => writeln!(told, "linked"),
-        Err(BuildError::TooMany(kind)) => writeln!(told, "too many: {kind:?}"),
+        Ok(()) => writeln!(report, "linked"),
+        Err(BuildError::TooMany(kind)) => writeln!(report, "too many: {kind:?}"),
         Err(BuildError::Descriptor(error)) => {
             for fault in error.errors() {
                 let line = Labelled(fault);
-                writeln!(told, "{line}")?;
+                writeln!(report, "{line}")?;
             }
             Ok(())
         }
@@ -57,19 +57,19 @@ fn message_named<'a>(pool: &'a DescriptorPool, name: &str) -> Option<&'a Message
 }
 
 /// Tells a message and its fields, each with its number and its kind.
-fn tell_message(
-    told: &mut String,
+fn write_message(
+    report: &mut String,
     pool: &DescriptorPool,
     message: &MessageDescriptorInner,
 ) -> Result<(), AllocError> {
     let name = message.id.full_name();
-    writeln!(told, "message {name}")?;
+    writeln!(report, "message {name}")?;
     for field in message.fields.as_slice() {
         let (name, number) = (field.id.name(), field.number);
         let (cardinality, kind) = (field.cardinality, field.kind);
         match type_name(pool, kind) {
-            Some(of) => writeln!(told, "  {name} = {number}: {cardinality:?} {kind:?} {of}")?,
-            None => writeln!(told, "  {name} = {number}: {cardinality:?} {kind:?}")?,
+            Some(of) => writeln!(report, "  {name} = {number}: {cardinality:?} {kind:?} {of}")?,
+            None => writeln!(report, "  {name} = {number}: {cardinality:?} {kind:?}")?,
         }
     }
     Ok(())

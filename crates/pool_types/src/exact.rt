@@ -1,6 +1,12 @@
 ghost use Rattle.pool_types.specs.Equality.{file-exact, message-exact, enum-exact, service-exact, extension-exact, field-exact, oneof-exact, value-exact, method-exact, syntax-exact, cardinality-exact, kind_index-exact, kind-exact, default-exact, definition_kind-exact, identity-exact, definition-exact, field_inner-exact, file_inner-exact, message_inner-exact, oneof_inner-exact, enum_inner-exact, value_inner-exact, extension_inner-exact, service_inner-exact, method_inner-exact};
 
-use crate::{Cardinality, DefaultValue, Definition, DefinitionKind, EnumDescriptor, EnumDescriptorInner, EnumValueDescriptor, EnumValueDescriptorInner, ExtensionDescriptor, ExtensionDescriptorInner, FieldDescriptor, FieldDescriptorInner, FileDescriptor, FileDescriptorInner, Identity, Kind, KindIndex, MessageDescriptor, MessageDescriptorInner, MethodDescriptor, MethodDescriptorInner, OneofDescriptor, OneofDescriptorInner, ServiceDescriptor, ServiceDescriptorInner, Syntax};
+use crate::{
+    Cardinality, DefaultValue, Definition, DefinitionKind, EnumDescriptor, EnumDescriptorInner,
+    EnumValueDescriptor, EnumValueDescriptorInner, ExtensionDescriptor, ExtensionDescriptorInner,
+    FieldDescriptor, FieldDescriptorInner, FileDescriptor, FileDescriptorInner, Identity, Kind,
+    KindIndex, MessageDescriptor, MessageDescriptorInner, MethodDescriptor, MethodDescriptorInner,
+    OneofDescriptor, OneofDescriptorInner, ServiceDescriptor, ServiceDescriptorInner, Syntax,
+};
 use plain_data::ExactEq;
 
 impl ExactEq for FileDescriptor {

@@ -68,8 +68,8 @@ fn count_word(kind: CountKind) -> &'static str
 ///
 /// # Errors
 /// `AllocError` where memory was refused.
-pub fn write_counts(told: &mut String, counts: Counts) -> Result<(), AllocError>
-    ensures { OnOk result (string_bytes told.new ≡ string_bytes told.old
+pub fn write_counts(report: &mut String, counts: Counts) -> Result<(), AllocError>
+    ensures { OnOk result (string_bytes report.new ≡ string_bytes report.old
         ++ spec.counts_line counts) }
 {
     let Counts {
@@ -80,7 +80,7 @@ pub fn write_counts(told: &mut String, counts: Counts) -> Result<(), AllocError>
         extensions,
     } = counts;
     writeln!(
-        told,
+        report,
         "ok {files} {messages} {enums} {services} {extensions}"
     )
 }
@@ -89,27 +89,27 @@ pub fn write_counts(told: &mut String, counts: Counts) -> Result<(), AllocError>
 ///
 /// # Errors
 /// `AllocError` where memory was refused.
-pub fn write_too_many(told: &mut String, kind: CountKind) -> Result<(), AllocError>
-    ensures { OnOk result (string_bytes told.new ≡ string_bytes told.old
+pub fn write_too_many(report: &mut String, kind: CountKind) -> Result<(), AllocError>
+    ensures { OnOk result (string_bytes report.new ≡ string_bytes report.old
         ++ spec.too_many_line kind) }
 {
     let word = count_word(kind);
-    writeln!(told, "too many {word}")
+    writeln!(report, "too many {word}")
 }
 
 /// Tells how many faults there are, and each on a line of its own.
 ///
 /// # Errors
 /// `AllocError` where memory was refused.
-pub fn write_refused(told: &mut String, faults: &[DescriptorErrorKind]) -> Result<(), AllocError>
-    ensures { OnOk result (string_bytes told.new ≡ string_bytes told.old
+pub fn write_refused(report: &mut String, faults: &[DescriptorErrorKind]) -> Result<(), AllocError>
+    ensures { OnOk result (string_bytes report.new ≡ string_bytes report.old
         ++ spec.refused_lines faults.now) }
 {
     let count = faults.len();
-    writeln!(told, "refused {count}")?;
+    writeln!(report, "refused {count}")?;
     for fault in faults {
         let fault = Labelled(fault);
-        writeln!(told, "{fault}")?;
+        writeln!(report, "{fault}")?;
     }
     Ok(())
 }
@@ -119,27 +119,27 @@ pub fn write_refused(told: &mut String, faults: &[DescriptorErrorKind]) -> Resul
 /// # Errors
 /// `AllocError` where memory was refused.
 pub fn write_definition(
-    told: &mut String,
+    report: &mut String,
     definition: &Definition,
     file: &str,
 ) -> Result<(), AllocError>
-    ensures { OnOk result (string_bytes told.new ≡ string_bytes told.old
+    ensures { OnOk result (string_bytes report.new ≡ string_bytes report.old
         ++ spec.definition_line file.now definition.now) }
 {
     let kind = KindWords(definition.kind);
     let file = alone(file);
     let path = definition.path.as_slice();
-    writeln!(told, "{kind} {file} {path:?}")
+    writeln!(report, "{kind} {file} {path:?}")
 }
 
 /// Tells that nothing has a name.
 ///
 /// # Errors
 /// `AllocError` where memory was refused.
-pub fn write_none(told: &mut String) -> Result<(), AllocError>
-    ensures { OnOk result (string_bytes told.new ≡ string_bytes told.old ++ spec.none_line) }
+pub fn write_none(report: &mut String) -> Result<(), AllocError>
+    ensures { OnOk result (string_bytes report.new ≡ string_bytes report.old ++ spec.none_line) }
 {
-    writeln!(told, "none")
+    writeln!(report, "none")
 }
 
 /// The word for a kind of declaration.
@@ -160,26 +160,26 @@ fn declared_word(kind: DeclarationKind) -> &'static str
 }
 
 /// Tells a declaration: its kind, its own index, its full name and its path.
-fn write_declaration(told: &mut String, declaration: &Declaration) -> Result<(), AllocError>
-    ensures { OnOk result (string_bytes told.new ≡ string_bytes told.old
+fn write_declaration(report: &mut String, declaration: &Declaration) -> Result<(), AllocError>
+    ensures { OnOk result (string_bytes report.new ≡ string_bytes report.old
         ++ spec.declaration_line declaration.now) }
 {
     let kind = declared_word(declaration.kind);
     let index = declaration.index;
     let name = alone(declaration.full_name.as_str());
     let path = declaration.path.as_slice();
-    writeln!(told, "{kind} {index} {name} {path:?}")
+    writeln!(report, "{kind} {index} {name} {path:?}")
 }
 
 /// Tells how many declarations there are, and each on a line of its own.
-fn write_declarations(told: &mut String, list: &[Declaration]) -> Result<(), AllocError>
-    ensures { OnOk result (string_bytes told.new ≡ string_bytes told.old
+fn write_declarations(report: &mut String, list: &[Declaration]) -> Result<(), AllocError>
+    ensures { OnOk result (string_bytes report.new ≡ string_bytes report.old
         ++ spec.declaration_lines list.now) }
 {
     let count = list.len();
-    writeln!(told, "walk {count}")?;
+    writeln!(report, "walk {count}")?;
     for declaration in list {
-        write_declaration(told, declaration)?;
+        write_declaration(report, declaration)?;
     }
     Ok(())
 }
@@ -191,11 +191,11 @@ fn write_declarations(told: &mut String, list: &[Declaration]) -> Result<(), All
 /// `AllocError` where memory was refused.
 pub fn write_walk(
     alloc: Global,
-    told: &mut String,
+    report: &mut String,
     files: &[FileDescriptorInner],
 ) -> Result<(), AllocError>
     requires { IsOk (counts_with no_counts (map (λ f. f.raw) files.now)) }
-    ensures { OnOk result (string_bytes told.new ≡ string_bytes told.old
+    ensures { OnOk result (string_bytes report.new ≡ string_bytes report.old
         ++ spec.walk_answer (map (λ f. f.raw) files.now)) }
 {
     let base = Counts {
@@ -207,7 +207,7 @@ pub fn write_walk(
     };
     let mut lister = Lister::new(alloc);
     walk(alloc, base, files, &mut lister)?;
-    write_declarations(told, lister.declarations())
+    write_declarations(report, lister.declarations())
 }
 
 /// The first file with a name.
@@ -219,25 +219,25 @@ fn file_named<'a>(files: &'a [FileDescriptorInner], name: &str) -> Option<&'a Fi
 }
 
 /// Tells a reference: the declaration that refers, the part of its record, and the text there.
-fn write_reference(told: &mut String, reference: &Reference) -> Result<(), AllocError>
-    ensures { OnOk result (string_bytes told.new ≡ string_bytes told.old
+fn write_reference(report: &mut String, reference: &Reference) -> Result<(), AllocError>
+    ensures { OnOk result (string_bytes report.new ≡ string_bytes report.old
         ++ spec.reference_line (reference_of reference.now)) }
 {
     let name = alone(reference.full_name.as_str());
     let part = reference.part;
     let text = reference.text;
-    writeln!(told, "{name} {part} {text}")
+    writeln!(report, "{name} {part} {text}")
 }
 
 /// Tells how many references there are, and each on a line of its own.
-fn write_references(told: &mut String, list: &[Reference]) -> Result<(), AllocError>
-    ensures { OnOk result (string_bytes told.new ≡ string_bytes told.old
+fn write_references(report: &mut String, list: &[Reference]) -> Result<(), AllocError>
+    ensures { OnOk result (string_bytes report.new ≡ string_bytes report.old
         ++ spec.reference_lines (map reference_of list.now)) }
 {
     let count = list.len();
-    writeln!(told, "refs {count}")?;
+    writeln!(report, "refs {count}")?;
     for reference in list {
-        write_reference(told, reference)?;
+        write_reference(report, reference)?;
     }
     Ok(())
 }
@@ -249,27 +249,27 @@ fn write_references(told: &mut String, list: &[Reference]) -> Result<(), AllocEr
 /// `AllocError` where memory was refused.
 pub fn write_refs(
     alloc: Global,
-    told: &mut String,
+    report: &mut String,
     files: &[FileDescriptorInner],
     name: &str,
 ) -> Result<(), AllocError>
     requires { IsOk (counts_with no_counts (map (λ f. f.raw) files.now)) }
-    ensures { OnOk result (string_bytes told.new ≡ string_bytes told.old
+    ensures { OnOk result (string_bytes report.new ≡ string_bytes report.old
         ++ spec.refs_answer (map (λ f. f.raw) files.now) name.now) }
 {
     let Some(file) = file_named(files, name) else {
-        return write_none(told);
+        return write_none(report);
     };
-    write_references(told, &references(alloc, &file.raw)?)
+    write_references(report, &references(alloc, &file.raw)?)
 }
 
 /// Tells the fault of a script, and its line.
 ///
 /// # Errors
 /// `AllocError` where memory was refused.
-pub fn write_fault(told: &mut String, line: u64, fault: ScriptFault) -> Result<(), AllocError>
-    ensures { OnOk result (string_bytes told.new ≡ string_bytes told.old
+pub fn write_fault(report: &mut String, line: u64, fault: ScriptFault) -> Result<(), AllocError>
+    ensures { OnOk result (string_bytes report.new ≡ string_bytes report.old
         ++ spec.fault_line (line, fault)) }
 {
-    writeln!(told, "line {line}: {fault}")
+    writeln!(report, "line {line}: {fault}")
 }

@@ -8,5 +8,5 @@ abbrev pub session_in : Code → Session
 session_in h = record {
   building = building_in h.builder;
   pool = h.pool;
-  told = string_bytes h.told;
+  text = string_bytes h.text;
 }

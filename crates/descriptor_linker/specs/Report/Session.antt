@@ -17,26 +17,26 @@ use Rattle.link_script.specs.Records.{Building, built, nothing_built}
 use Rattle.script_answers.specs.Answers.{counts_line, refused_lines, too_many_line, walk_answer, refs_answer, fault_line}
 use Rattle.descriptor_linker.specs.Report.Answers.{find_answer, relink_answer}
 
--- what is built, the pool, and what is told
+-- what is built, the pool, and the report so far
 pub record Session : Type 0 where
   pub building : Building
   pub pool : Contents
-  pub told : List ℕ
+  pub text : List ℕ
 
 -- before the first statement
 abbrev pub new_session : Session
-new_session = record { building = nothing_built; pool = no_contents; told = [] }
+new_session = record { building = nothing_built; pool = no_contents; text = [] }
 
--- one more text is told
+-- one more text stands behind the report
 abbrev pub write : Session → List ℕ → Session
-write s text = record s { told = s.told ++ text }
+write s more = record s { text = s.text ++ more }
 
--- the pool and what is told of a batch that fits, by its faults
+-- the pool and what is reported of a batch that fits, by its faults
 abbrev pub accepted_or : Contents → Batch → Faults → Contents × List ℕ
 accepted_or p batch [] = (link p batch, counts_line (counts_in (link p batch)))
 accepted_or p batch (f ∷ fs) = (p, refused_lines (f ∷ fs))
 
--- the pool and what is told where a batch is linked, by the counts after it
+-- the pool and what is reported where a batch is linked, by the counts after it
 abbrev pub linking : Contents → Batch → Result Counts CountKind → Contents × List ℕ
 linking p batch (Err kind) = (p, too_many_line kind)
 linking p batch (Ok _) = accepted_or p batch (faults p batch)
@@ -54,8 +54,9 @@ step s (say.Find name) = write s (find_answer s.pool name)
 step s say.Walk = write s (walk_answer (files_of s.pool))
 step s (say.Refs name) = write s (refs_answer (files_of s.pool) name)
 step s say.Relink = write s (relink_answer s.pool)
-step s said = record s { building = built s.building said }
+step s statement = record s { building = built s.building statement }
 
 -- what a script's statements write, and its fault
 abbrev pub report : Script → List ℕ
-report said = (fold step new_session said.statements).told ++ option_map_or fault_line said.fault []
+report script =
+    (fold step new_session script.statements).text ++ option_map_or fault_line script.fault []

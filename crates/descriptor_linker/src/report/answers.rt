@@ -24,40 +24,40 @@ fn file_name(pool: &DescriptorPool, file: u32) -> &str
 
 /// Tells what a name means in a pool: its kind, its file and its path.
 pub(super) fn write_found(
-    told: &mut String,
+    report: &mut String,
     pool: &DescriptorPool,
     name: &str,
 ) -> Result<(), AllocError>
-    ensures { OnOk result (string_bytes told.new ≡ string_bytes told.old
+    ensures { OnOk result (string_bytes report.new ≡ string_bytes report.old
         ++ find_answer pool.now name.now) }
 {
     let Some(definition) = pool.get_by_name(name) else {
-        return write_none(told);
+        return write_none(report);
     };
-    write_definition(told, definition, file_name(pool, definition.file))
+    write_definition(report, definition, file_name(pool, definition.file))
 }
 
 /// Tells what the files of a pool declare.
 pub(super) fn write_walk(
     alloc: Global,
-    told: &mut String,
+    report: &mut String,
     pool: &DescriptorPool,
 ) -> Result<(), AllocError>
-    ensures { OnOk result (string_bytes told.new ≡ string_bytes told.old
+    ensures { OnOk result (string_bytes report.new ≡ string_bytes report.old
         ++ walk_answer (files_of pool.now)) }
 {
-    script_answers::write_walk(alloc, told, pool.files())
+    script_answers::write_walk(alloc, report, pool.files())
 }
 
 /// Tells to what a pool's file with a name refers.
 pub(super) fn write_refs(
     alloc: Global,
-    told: &mut String,
+    report: &mut String,
     pool: &DescriptorPool,
     name: &str,
 ) -> Result<(), AllocError>
-    ensures { OnOk result (string_bytes told.new ≡ string_bytes told.old
+    ensures { OnOk result (string_bytes report.new ≡ string_bytes report.old
         ++ refs_answer (files_of pool.now) name.now) }
 {
-    script_answers::write_refs(alloc, told, pool.files(), name)
+    script_answers::write_refs(alloc, report, pool.files(), name)
 }

@@ -22,15 +22,15 @@ fn relinks(alloc: Global, pool: &DescriptorPool) -> Result<bool, AllocError>
 /// Tells whether the linked files of a pool, linked at once from empty, give an equal pool.
 pub(super) fn write_relink(
     alloc: Global,
-    told: &mut String,
+    report: &mut String,
     pool: &DescriptorPool,
 ) -> Result<(), AllocError>
-    ensures { OnOk result (string_bytes told.new ≡ string_bytes told.old
+    ensures { OnOk result (string_bytes report.new ≡ string_bytes report.old
         ++ spec.relink_answer pool.now) }
 {
     if relinks(alloc, pool)? {
-        writeln!(told, "same")
+        writeln!(report, "same")
     } else {
-        writeln!(told, "different")
+        writeln!(report, "different")
     }
 }

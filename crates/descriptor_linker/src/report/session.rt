@@ -18,7 +18,7 @@ pub(super) struct Session {
     /// The files to be linked next, and the records whose blocks are open.
     builder: RecordBuilder,
     pool: DescriptorPool,
-    pub(super) told: String,
+    pub(super) text: String,
 }
 
 impl Session {
@@ -32,7 +32,7 @@ impl Session {
             alloc,
             builder: RecordBuilder::new(alloc),
             pool: DescriptorPool::new(alloc),
-            told: String::new(alloc),
+            text: String::new(alloc),
         }
     }
 
@@ -42,13 +42,13 @@ impl Session {
     {
         match statement {
             Statement::Link => self.link(),
-            Statement::Find(name) => write_found(&mut self.told, &self.pool, name.as_str()),
-            Statement::Walk => write_walk(self.alloc, &mut self.told, &self.pool),
+            Statement::Find(name) => write_found(&mut self.text, &self.pool, name.as_str()),
+            Statement::Walk => write_walk(self.alloc, &mut self.text, &self.pool),
             Statement::Refs(name) => {
-                write_refs(self.alloc, &mut self.told, &self.pool, name.as_str())
+                write_refs(self.alloc, &mut self.text, &self.pool, name.as_str())
             }
-            Statement::Relink => write_relink(self.alloc, &mut self.told, &self.pool),
-            said => self.builder.state(said),
+            Statement::Relink => write_relink(self.alloc, &mut self.text, &self.pool),
+            statement => self.builder.state(statement),
         }
     }
 
@@ -57,9 +57,9 @@ impl Session {
         ensures { OnOk result (session_in self.new ≡ step (session_in self.old) say.Link) }
     {
         match self.pool.build_files(self.builder.take_files()) {
-            Ok(()) => write_counts(&mut self.told, self.pool.counts()),
-            Err(BuildError::TooMany(kind)) => write_too_many(&mut self.told, kind),
-            Err(BuildError::Descriptor(error)) => write_refused(&mut self.told, error.errors()),
+            Ok(()) => write_counts(&mut self.text, self.pool.counts()),
+            Err(BuildError::TooMany(kind)) => write_too_many(&mut self.text, kind),
+            Err(BuildError::Descriptor(error)) => write_refused(&mut self.text, error.errors()),
             Err(BuildError::OutOfMemory) => Err(AllocError),
         }
     }

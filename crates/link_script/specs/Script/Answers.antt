@@ -34,8 +34,8 @@ standing_in h = record { blocks = reverse h.blocks.items; more = h.more }
 
 -- the line's fault, unless memory was refused; a fact holds behind either
 abbrev pub IsFaultOf : Line → Type 0 → LineError → Type 0
-IsFaultOf said kept (Fault fault) = (said ≡ Err fault) × kept
-IsFaultOf said kept OutOfMemory = kept
+IsFaultOf read kept (Fault fault) = (read ≡ Err fault) × kept
+IsFaultOf read kept OutOfMemory = kept
 
 -- the words that are left to be read
 abbrev pub words_left : Words → List (List ℕ)
@@ -47,7 +47,7 @@ text_said here line = of_words here line (words line)
 
 -- what a line says, by its keyword and the words behind it, where it has them
 abbrev pub IsBegun : List ℕ → Line → Result (Option (Keyword × Words)) ScriptFault → Type 0
-IsBegun line said (Err fault) = said ≡ Err fault
-IsBegun line said (Ok None) = said ≡ Ok None
-IsBegun line said (Ok (Some b)) =
-    said ≡ and_then (said_in line b.0 (words_left b.1)) (λ s. Ok (Some (b.0, s)))
+IsBegun line read (Err fault) = read ≡ Err fault
+IsBegun line read (Ok None) = read ≡ Ok None
+IsBegun line read (Ok (Some b)) =
+    read ≡ and_then (said_in line b.0 (words_left b.1)) (λ s. Ok (Some (b.0, s)))

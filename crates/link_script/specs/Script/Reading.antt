@@ -37,7 +37,7 @@ abbrev pub line_said : Standing → List ℕ → Line
 line_said here line = if not (is_utf8 line) then Err BadText else of_words here line (words line)
 
 abbrev pub after_statement : Statement → Script → Script
-after_statement s said = record said { statements = s ∷ said.statements }
+after_statement s script = record script { statements = s ∷ script.statements }
 
 abbrev pub faulty : ℕ → ScriptFault → Script
 faulty line fault = record { statements = []; fault = Some (line, fault) }

@@ -64,11 +64,11 @@ impl<'a> ScriptReader<'a> {
     {
         while let Some((line, rest)) = first_line(self.left) {
             match read_line(self.alloc, &mut self.here, line) {
-                Ok(said) => {
+                Ok(read) => {
                     self.left = rest;
                     self.number += 1;
-                    if said.is_some() {
-                        return Ok(said);
+                    if read.is_some() {
+                        return Ok(read);
                     }
                 }
                 Err(error) => return Err(error.in_line(self.number)),
@@ -111,17 +111,17 @@ fn keyword_in<'a>(
 
 /// Reads a line of text: the statement that it says, if it says one.
 fn read_text(alloc: Global, here: &mut Standing, line: &str) -> Result<Option<Statement>, LineError>
-    ensures ok { IfOk result (λ said. after_line (text_said (standing_in here.old) line.now)
-        (standing_in here.old) ≡ Ok (said, standing_in here.new)) }
+    ensures ok { IfOk result (λ read. after_line (text_said (standing_in here.old) line.now)
+        (standing_in here.old) ≡ Ok (read, standing_in here.new)) }
     ensures err { IfErr result (IsFaultOf (text_said (standing_in here.old) line.now)
         (standing_in here.new ≡ standing_in here.old)) }
 {
     let Some((keyword, words)) = keyword_in(here, line)? else {
         return Ok(None);
     };
-    let said = statement(alloc, line, keyword, words)?;
+    let read = statement(alloc, line, keyword, words)?;
     here.follow(keyword)?;
-    Ok(Some(said))
+    Ok(Some(read))
 }
 
 /// Reads a line: the statement that it says, if it says one.
@@ -130,8 +130,8 @@ fn read_line(
     here: &mut Standing,
     line: &[u8],
 ) -> Result<Option<Statement>, LineError>
-    ensures ok { IfOk result (λ said. after_line (line_said (standing_in here.old) line.now)
-        (standing_in here.old) ≡ Ok (said, standing_in here.new)) }
+    ensures ok { IfOk result (λ read. after_line (line_said (standing_in here.old) line.now)
+        (standing_in here.old) ≡ Ok (read, standing_in here.new)) }
     ensures err { IfErr result (IsFaultOf (line_said (standing_in here.old) line.now)
         (standing_in here.new ≡ standing_in here.old)) }
 {

@@ -109,8 +109,8 @@ fn check(
     row: &(&str, &str, &str, &str),
 ) -> Result<(), AllocError> {
     let (script, wanted, name, found) = *row;
-    let told = answer(alloc, pool, script)?;
-    assert!(rt; told.as_str() == wanted, "{told}");
+    let report = answer(alloc, pool, script)?;
+    assert!(rt; report.as_str() == wanted, "{report}");
     check_found(rt, alloc, pool, name, found)
 }
 
@@ -121,8 +121,8 @@ fn check_found(
     name: &str,
     wanted: &str,
 ) -> Result<(), AllocError> {
-    let told = found_words(alloc, pool, name)?;
-    assert!(rt; told.as_str() == wanted, "{name} {told}");
+    let report = found_words(alloc, pool, name)?;
+    assert!(rt; report.as_str() == wanted, "{name} {report}");
     Ok(())
 }
 

@@ -78,40 +78,40 @@ const REFUSED: &[(&str, &str)] = &[
 ];
 
 /// What an error tells.
-fn told_error(alloc: Global, error: &DescriptorError) -> Result<String, AllocError> {
-    let mut told = String::new(alloc);
-    tell_error(&mut told, error)?;
-    Ok(told)
+fn error_report(alloc: Global, error: &DescriptorError) -> Result<String, AllocError> {
+    let mut report = String::new(alloc);
+    write_error(&mut report, error)?;
+    Ok(report)
 }
 
-fn tell_error(told: &mut String, error: &DescriptorError) -> Result<(), AllocError> {
-    writeln!(told, "{error}\n{error:?}")?;
+fn write_error(report: &mut String, error: &DescriptorError) -> Result<(), AllocError> {
+    writeln!(report, "{error}\n{error:?}")?;
     match (error.file(), error.path()) {
-        (Some(file), Some(path)) => writeln!(told, "{file} {path:?}")?,
-        _ => writeln!(told, "none")?,
+        (Some(file), Some(path)) => writeln!(report, "{file} {path:?}")?,
+        _ => writeln!(report, "none")?,
     }
     for fault in error.errors() {
-        tell_fault(told, fault)?;
+        write_fault(report, fault)?;
     }
     Ok(())
 }
 
-fn tell_fault(told: &mut String, fault: &DescriptorErrorKind) -> Result<(), AllocError> {
+fn write_fault(report: &mut String, fault: &DescriptorErrorKind) -> Result<(), AllocError> {
     let labelled = Labelled(fault);
-    writeln!(told, "- {fault}\n- {fault:?}\n- {labelled}")?;
+    writeln!(report, "- {fault}\n- {fault:?}\n- {labelled}")?;
     match fault.label() {
         Some(label) => {
             let (file, path) = (label.file(), label.path());
-            writeln!(told, "- {file} {path:?}")
+            writeln!(report, "- {file} {path:?}")
         }
-        None => writeln!(told, "- none"),
+        None => writeln!(report, "- none"),
     }
 }
 
 /// What the error of a refused batch tells.
-fn told_refusal(alloc: Global, script: &str) -> Result<String, AllocError> {
+fn refusal_report(alloc: Global, script: &str) -> Result<String, AllocError> {
     match built(alloc, files_of(alloc, script)?) {
-        Err(BuildError::Descriptor(error)) => told_error(alloc, &error),
+        Err(BuildError::Descriptor(error)) => error_report(alloc, &error),
         Err(BuildError::OutOfMemory) => Err(AllocError),
         _ => String::from_str(alloc, "no faults"),
     }
@@ -120,8 +120,8 @@ fn told_refusal(alloc: Global, script: &str) -> Result<String, AllocError> {
 #[test]
 fn errors_tell_their_faults(rt: HostRuntime) -> Result<(), Fail> {
     for (script, wanted) in REFUSED {
-        let told = told_refusal(rt.alloc(), script)?;
-        assert!(rt; told.as_str() == *wanted, "{told}");
+        let report = refusal_report(rt.alloc(), script)?;
+        assert!(rt; report.as_str() == *wanted, "{report}");
     }
     Ok(())
 }
@@ -145,9 +145,9 @@ fn build_errors(alloc: Global) -> Result<String, AllocError> {
 
 #[test]
 fn errors_of_a_batch_are_printed(rt: HostRuntime) -> Result<(), Fail> {
-    let told = build_errors(rt.alloc())?;
+    let report = build_errors(rt.alloc())?;
     let wanted = "Descriptor(a different file named 'a.proto' has already been added)\n\
         TooMany(Files)\nOutOfMemory\n";
-    assert!(rt; told.as_str() == wanted, "{told}");
+    assert!(rt; report.as_str() == wanted, "{report}");
     Ok(())
 }

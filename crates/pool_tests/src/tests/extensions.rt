@@ -1,7 +1,7 @@
 //! The items of extensions, and the lists of those that extend a message.
 
 use super::batches::pool_of;
-use super::values::tell_value;
+use super::values::write_value;
 use descriptor_pool::DescriptorPool;
 use pool_types::{
     Cardinality, ExtensionDescriptor, ExtensionDescriptorInner, KindIndex, MessageDescriptor,
@@ -127,7 +127,7 @@ const ITEMS: &[(&[&str], u32, KindIndex, Cardinality, &str)] = &[
     ),
 ];
 
-fn told_extension(
+fn extension_report(
     alloc: Global,
     extension: &ExtensionDescriptorInner,
 ) -> Result<String, AllocError> {
@@ -139,14 +139,14 @@ fn told_extension(
         extension.json_name.as_str(),
     );
     let (extendee, is_packed) = (extension.extendee, extension.is_packed);
-    let mut told = format!(in alloc;
+    let mut report = format!(in alloc;
         "{full_name} {name} {file} {path:?} {parent:?} {number} {json_name} {extendee} {is_packed}"
     )?;
     if let Some(default) = &extension.default {
-        told.push_str(" ")?;
-        tell_value(&mut told, default)?;
+        report.push_str(" ")?;
+        write_value(&mut report, default)?;
     }
-    Ok(told)
+    Ok(report)
 }
 
 #[test]
@@ -156,10 +156,10 @@ fn extensions_have_items(rt: HostRuntime) -> Result<(), Fail> {
         let Some(extension) = pool.extension(ExtensionDescriptor::new(*index)) else {
             panic!(rt; "{wanted}");
         };
-        let told = told_extension(rt.alloc(), extension)?;
-        assert!(rt; told.as_str() == *wanted, "{told}");
-        assert!(rt; extension.kind == *kind, "{told}");
-        assert!(rt; extension.cardinality == *cardinality, "{told}");
+        let report = extension_report(rt.alloc(), extension)?;
+        assert!(rt; report.as_str() == *wanted, "{report}");
+        assert!(rt; extension.kind == *kind, "{report}");
+        assert!(rt; extension.cardinality == *cardinality, "{report}");
     }
     Ok(())
 }
@@ -211,22 +211,22 @@ const LISTS: &[(&[&str], &str)] = &[
 ];
 
 /// The full name of each message of a pool, with the indexes of its extensions.
-fn told_lists(alloc: Global, pool: &DescriptorPool) -> Result<String, AllocError> {
-    let mut told = String::new(alloc);
+fn lists_report(alloc: Global, pool: &DescriptorPool) -> Result<String, AllocError> {
+    let mut report = String::new(alloc);
     for index in 0..pool.counts().messages {
         if let Some(message) = pool.message(MessageDescriptor::new(index)) {
             let (name, list) = (message.id.full_name(), message.extensions.as_slice());
-            writeln!(&mut told, "{name} {list:?}")?;
+            writeln!(&mut report, "{name} {list:?}")?;
         }
     }
-    Ok(told)
+    Ok(report)
 }
 
 #[test]
 fn messages_list_their_extensions(rt: HostRuntime) -> Result<(), Fail> {
     for (batches, wanted) in LISTS {
-        let told = told_lists(rt.alloc(), &pool_of(rt.alloc(), batches)?)?;
-        assert!(rt; told.as_str() == *wanted, "{told}");
+        let report = lists_report(rt.alloc(), &pool_of(rt.alloc(), batches)?)?;
+        assert!(rt; report.as_str() == *wanted, "{report}");
     }
     let pool = pool_of(rt.alloc(), &[EARLIER, REFUSED])?;
     assert!(rt; pool == pool_of(rt.alloc(), &[EARLIER])?);

@@ -80,66 +80,66 @@ const LINKED: &[(&str, &str, &[(KindIndex, Cardinality)])] = &[
 ];
 
 /// What a pool has, up to the second message and the second file.
-fn told_pool(alloc: Global, pool: &DescriptorPool) -> Result<String, AllocError> {
-    let mut told = String::new(alloc);
+fn pool_report(alloc: Global, pool: &DescriptorPool) -> Result<String, AllocError> {
+    let mut report = String::new(alloc);
     for index in 0..2 {
         match pool.message(MessageDescriptor::new(index)) {
-            Some(message) => tell_message(&mut told, message)?,
-            None => writeln!(&mut told, "none")?,
+            Some(message) => write_message(&mut report, message)?,
+            None => writeln!(&mut report, "none")?,
         }
     }
     for index in 0..2 {
         match pool.file(FileDescriptor::new(index)) {
-            Some(file) => tell_file(&mut told, file)?,
-            None => writeln!(&mut told, "none")?,
+            Some(file) => write_file(&mut report, file)?,
+            None => writeln!(&mut report, "none")?,
         }
     }
-    Ok(told)
+    Ok(report)
 }
 
-fn tell_message(told: &mut String, message: &MessageDescriptorInner) -> Result<(), AllocError> {
+fn write_message(report: &mut String, message: &MessageDescriptorInner) -> Result<(), AllocError> {
     let (full_name, name, path) = (message.id.full_name(), message.id.name(), message.id.path());
     let parent = message.parent;
-    writeln!(told, "message {full_name} {name} {path:?} {parent:?}")?;
+    writeln!(report, "message {full_name} {name} {path:?} {parent:?}")?;
     for field in message.fields.as_slice() {
-        tell_field(told, field)?;
+        write_field(report, field)?;
     }
     Ok(())
 }
 
-fn tell_field(told: &mut String, field: &FieldDescriptorInner) -> Result<(), AllocError> {
+fn write_field(report: &mut String, field: &FieldDescriptorInner) -> Result<(), AllocError> {
     let (full_name, name, path) = (field.id.full_name(), field.id.name(), field.id.path());
     let (file, number) = (field.id.file().index(), field.number);
-    writeln!(told, "field {full_name} {name} {path:?} {file} {number}")
+    writeln!(report, "field {full_name} {name} {path:?} {file} {number}")
 }
 
-fn tell_file(told: &mut String, file: &FileDescriptorInner) -> Result<(), AllocError> {
+fn write_file(report: &mut String, file: &FileDescriptorInner) -> Result<(), AllocError> {
     let name = file.raw.name();
-    writeln!(told, "file {name}")?;
+    writeln!(report, "file {name}")?;
     for message in file.raw.message_type.as_slice() {
-        tell_records(told, message.field.as_slice())?;
-        tell_records(told, message.extension.as_slice())?;
+        write_records(report, message.field.as_slice())?;
+        write_records(report, message.extension.as_slice())?;
     }
-    tell_records(told, file.raw.extension.as_slice())
+    write_records(report, file.raw.extension.as_slice())
 }
 
 /// Tells the records of fields or extensions.
-fn tell_records(told: &mut String, fields: &[FieldDescriptorProto]) -> Result<(), AllocError> {
+fn write_records(report: &mut String, fields: &[FieldDescriptorProto]) -> Result<(), AllocError> {
     for field in fields {
-        tell_record(told, field)?;
+        write_record(report, field)?;
     }
     Ok(())
 }
 
 /// Tells the record of a field or an extension: its type, and what it extends, where it does.
-fn tell_record(told: &mut String, field: &FieldDescriptorProto) -> Result<(), AllocError> {
+fn write_record(report: &mut String, field: &FieldDescriptorProto) -> Result<(), AllocError> {
     let (name, type_name, type_) = (field.name(), field.type_name(), field.type_);
-    write!(told, "record {name} '{type_name}' {type_:?}")?;
+    write!(report, "record {name} '{type_name}' {type_:?}")?;
     if !field.extendee().is_empty() {
         let extendee = field.extendee();
-        write!(told, " '{extendee}'")?;
+        write!(report, " '{extendee}'")?;
     }
-    writeln!(told)
+    writeln!(report)
 }
 
 /// A pool with one batch.
@@ -170,8 +170,8 @@ fn check(
     pool: &DescriptorPool,
     wanted: &str,
 ) -> Result<(), AllocError> {
-    let told = told_pool(alloc, pool)?;
-    assert!(rt; told.as_str() == wanted, "{told}");
+    let report = pool_report(alloc, pool)?;
+    assert!(rt; report.as_str() == wanted, "{report}");
     Ok(())
 }
 
@@ -208,23 +208,23 @@ const SEEN: &[(&str, &str, &str)] = &[
     ),
 ];
 
-fn tell_seen(told: &mut String, file: &FileDescriptorInner) -> Result<(), AllocError> {
+fn write_seen(report: &mut String, file: &FileDescriptorInner) -> Result<(), AllocError> {
     let imports = file.dependencies.as_slice();
-    write!(told, "{imports:?}")?;
+    write!(report, "{imports:?}")?;
     for seen in &file.transitive_dependencies {
-        write!(told, " {seen}")?;
+        write!(report, " {seen}")?;
     }
-    writeln!(told)
+    writeln!(report)
 }
 
-fn told_seen(alloc: Global, pool: &DescriptorPool) -> Result<String, AllocError> {
-    let mut told = String::new(alloc);
+fn seen_report(alloc: Global, pool: &DescriptorPool) -> Result<String, AllocError> {
+    let mut report = String::new(alloc);
     for index in 0..pool.counts().files {
         if let Some(file) = pool.file(FileDescriptor::new(index)) {
-            tell_seen(&mut told, file)?;
+            write_seen(&mut report, file)?;
         }
     }
-    Ok(told)
+    Ok(report)
 }
 
 #[test]
@@ -232,8 +232,8 @@ fn files_see_what_is_imported(rt: HostRuntime) -> Result<(), Fail> {
     for (first, second, wanted) in SEEN {
         let mut pool = pool_of(rt.alloc(), first)?;
         pool.build_files(files_of(rt.alloc(), second)?)?;
-        let told = told_seen(rt.alloc(), &pool)?;
-        assert!(rt; told.as_str() == *wanted, "{told}");
+        let report = seen_report(rt.alloc(), &pool)?;
+        assert!(rt; report.as_str() == *wanted, "{report}");
     }
     Ok(())
 }
@@ -252,7 +252,7 @@ fn nested(alloc: Global) -> Result<String, AllocError> {
 
 /// How many messages there are, and of the inmost its parent, the lengths of its path and of its
 /// full name, and its name.
-fn told_inmost(alloc: Global, pool: &DescriptorPool) -> Result<String, AllocError> {
+fn inmost_report(alloc: Global, pool: &DescriptorPool) -> Result<String, AllocError> {
     let count = pool.counts().messages;
     let Some(inmost) = pool.message(MessageDescriptor::new(63)) else {
         return String::from_str(alloc, "none");
@@ -263,8 +263,8 @@ fn told_inmost(alloc: Global, pool: &DescriptorPool) -> Result<String, AllocErro
 }
 
 fn check_inmost(rt: &impl Abort, alloc: Global, pool: &DescriptorPool) -> Result<(), AllocError> {
-    let told = told_inmost(alloc, pool)?;
-    assert!(rt; told.as_str() == "64 Some(62) 128 127 M", "{told}");
+    let report = inmost_report(alloc, pool)?;
+    assert!(rt; report.as_str() == "64 Some(62) 128 127 M", "{report}");
     Ok(())
 }
 

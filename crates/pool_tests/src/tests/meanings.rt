@@ -68,8 +68,8 @@ fn check_label(
 ) -> Result<(), AllocError> {
     let label = label?;
     let (file, path) = (label.file(), label.path());
-    let told = format!(in alloc; "'{file}' {path:?}")?;
-    assert!(rt; told.as_str() == wanted, "{told}");
+    let report = format!(in alloc; "'{file}' {path:?}")?;
+    assert!(rt; report.as_str() == wanted, "{report}");
     Ok(())
 }
 
@@ -210,8 +210,8 @@ fn check_reference(
         fault_words(alloc, &resolved, name, linked)?,
     );
     assert!(rt; resolved.is_found() == (fault.as_str() == "none"), "{name}");
-    let told = format!(in alloc; "{meaning}: {fault}")?;
-    assert!(rt; told.as_str() == wanted, "{told}");
+    let report = format!(in alloc; "{meaning}: {fault}")?;
+    assert!(rt; report.as_str() == wanted, "{report}");
     Ok(())
 }
 
@@ -226,11 +226,11 @@ fn references_mean_what_their_scope_says(rt: HostRuntime) -> Result<(), Fail> {
 
 /// The scopes in which a name of a scope is looked for, each behind a stroke.
 fn parents(alloc: Global, scope: &str) -> Result<String, AllocError> {
-    let mut told = String::new(alloc);
+    let mut report = String::new(alloc);
     for parent in CandidateParents::new(scope) {
-        write!(&mut told, "|{parent}")?;
+        write!(&mut report, "|{parent}")?;
     }
-    Ok(told)
+    Ok(report)
 }
 
 #[test]

@@ -3,7 +3,7 @@
 
 use super::files_of;
 use super::items::pool_of;
-use super::values::tell_value;
+use super::values::write_value;
 use descriptor_pool::{BuildError, DescriptorPool};
 use pool_types::{
     EnumDescriptor, EnumDescriptorInner, FieldDescriptorInner, MessageDescriptor,
@@ -102,33 +102,33 @@ const SERVICES: &[(&str, &str)] = &[(
     "S\nm 0 1\nn 2 0\nnone\n",
 )];
 
-fn told_messages(alloc: Global, pool: &DescriptorPool) -> Result<String, AllocError> {
-    let mut told = String::new(alloc);
+fn messages_report(alloc: Global, pool: &DescriptorPool) -> Result<String, AllocError> {
+    let mut report = String::new(alloc);
     for index in 0..2 {
         match pool.message(MessageDescriptor::new(index)) {
-            Some(message) => tell_message(&mut told, message)?,
-            None => writeln!(&mut told, "none")?,
+            Some(message) => write_message(&mut report, message)?,
+            None => writeln!(&mut report, "none")?,
         }
     }
-    Ok(told)
+    Ok(report)
 }
 
-fn tell_message(told: &mut String, message: &MessageDescriptorInner) -> Result<(), AllocError> {
+fn write_message(report: &mut String, message: &MessageDescriptorInner) -> Result<(), AllocError> {
     let (name, numbers) = (message.id.name(), message.field_numbers.len());
     let (names, json_names) = (message.field_names.len(), message.field_json_names.len());
-    writeln!(told, "{name} {numbers} {names} {json_names}")?;
+    writeln!(report, "{name} {numbers} {names} {json_names}")?;
     for field in message.fields.as_slice() {
-        tell_field(told, message, field)?;
+        write_field(report, message, field)?;
     }
     for oneof in message.oneofs.as_slice() {
         let (name, fields) = (oneof.id.name(), oneof.fields.as_slice());
-        writeln!(told, "oneof {name} {fields:?}")?;
+        writeln!(report, "oneof {name} {fields:?}")?;
     }
     Ok(())
 }
 
-fn tell_field(
-    told: &mut String,
+fn write_field(
+    report: &mut String,
     message: &MessageDescriptorInner,
     field: &FieldDescriptorInner,
 ) -> Result<(), AllocError> {
@@ -137,63 +137,66 @@ fn tell_field(
         message.field_numbers.get(number),
         message.field_names.get(name),
     );
-    write!(told, "{name} {number} {oneof:?} {by_number:?} {by_name:?}")?;
+    write!(
+        report,
+        "{name} {number} {oneof:?} {by_number:?} {by_name:?}"
+    )?;
     match &field.json_name {
         Some(json_name) => {
             let json_name = json_name.as_str();
             let by_json_name = message.field_json_names.get(json_name);
-            write!(told, " '{json_name}' {by_json_name:?}")?;
+            write!(report, " '{json_name}' {by_json_name:?}")?;
         }
-        None => write!(told, " none")?,
+        None => write!(report, " none")?,
     }
     if let Some(default) = &field.default {
-        write!(told, " ")?;
-        tell_value(told, default)?;
+        write!(report, " ")?;
+        write_value(report, default)?;
     }
-    writeln!(told)
+    writeln!(report)
 }
 
-fn told_enums(alloc: Global, pool: &DescriptorPool) -> Result<String, AllocError> {
-    let mut told = String::new(alloc);
+fn enums_report(alloc: Global, pool: &DescriptorPool) -> Result<String, AllocError> {
+    let mut report = String::new(alloc);
     for index in 0..2 {
         match pool.enum_(EnumDescriptor::new(index)) {
-            Some(enumeration) => tell_enum(&mut told, enumeration)?,
-            None => writeln!(&mut told, "none")?,
+            Some(enumeration) => write_enum(&mut report, enumeration)?,
+            None => writeln!(&mut report, "none")?,
         }
     }
-    Ok(told)
+    Ok(report)
 }
 
-fn tell_enum(told: &mut String, enumeration: &EnumDescriptorInner) -> Result<(), AllocError> {
+fn write_enum(report: &mut String, enumeration: &EnumDescriptorInner) -> Result<(), AllocError> {
     let (name, allow_alias) = (enumeration.id.name(), enumeration.allow_alias);
     let names = enumeration.value_names.len();
     let numbers = enumeration.value_numbers.as_slice();
-    writeln!(told, "{name} {allow_alias} {names} {numbers:?}")?;
+    writeln!(report, "{name} {allow_alias} {names} {numbers:?}")?;
     for value in enumeration.values.as_slice() {
         let (name, number) = (value.id.name(), value.number);
         let by_name = enumeration.value_names.get(name);
-        writeln!(told, "{name} {number} {by_name:?}")?;
+        writeln!(report, "{name} {number} {by_name:?}")?;
     }
     Ok(())
 }
 
-fn told_services(alloc: Global, pool: &DescriptorPool) -> Result<String, AllocError> {
-    let mut told = String::new(alloc);
+fn services_report(alloc: Global, pool: &DescriptorPool) -> Result<String, AllocError> {
+    let mut report = String::new(alloc);
     for index in 0..2 {
         match pool.service(ServiceDescriptor::new(index)) {
-            Some(service) => tell_service(&mut told, service)?,
-            None => writeln!(&mut told, "none")?,
+            Some(service) => write_service(&mut report, service)?,
+            None => writeln!(&mut report, "none")?,
         }
     }
-    Ok(told)
+    Ok(report)
 }
 
-fn tell_service(told: &mut String, service: &ServiceDescriptorInner) -> Result<(), AllocError> {
+fn write_service(report: &mut String, service: &ServiceDescriptorInner) -> Result<(), AllocError> {
     let name = service.id.name();
-    writeln!(told, "{name}")?;
+    writeln!(report, "{name}")?;
     for method in service.methods.as_slice() {
         let (name, input, output) = (method.id.name(), method.input, method.output);
-        writeln!(told, "{name} {input} {output}")?;
+        writeln!(report, "{name} {input} {output}")?;
     }
     Ok(())
 }
@@ -201,16 +204,16 @@ fn tell_service(told: &mut String, service: &ServiceDescriptorInner) -> Result<(
 #[test]
 fn items_have_maps_and_oneofs_and_indexes(rt: HostRuntime) -> Result<(), Fail> {
     for (script, wanted) in MESSAGES {
-        let told = told_messages(rt.alloc(), &pool_of(rt.alloc(), script)?)?;
-        assert!(rt; told.as_str() == *wanted, "{script}{told}");
+        let report = messages_report(rt.alloc(), &pool_of(rt.alloc(), script)?)?;
+        assert!(rt; report.as_str() == *wanted, "{script}{report}");
     }
     for (script, wanted) in ENUMS {
-        let told = told_enums(rt.alloc(), &pool_of(rt.alloc(), script)?)?;
-        assert!(rt; told.as_str() == *wanted, "{script}{told}");
+        let report = enums_report(rt.alloc(), &pool_of(rt.alloc(), script)?)?;
+        assert!(rt; report.as_str() == *wanted, "{script}{report}");
     }
     for (script, wanted) in SERVICES {
-        let told = told_services(rt.alloc(), &pool_of(rt.alloc(), script)?)?;
-        assert!(rt; told.as_str() == *wanted, "{script}{told}");
+        let report = services_report(rt.alloc(), &pool_of(rt.alloc(), script)?)?;
+        assert!(rt; report.as_str() == *wanted, "{script}{report}");
     }
     Ok(())
 }
@@ -389,10 +392,10 @@ fn encoding(pool: &DescriptorPool) -> Option<(bool, bool)> {
 #[test]
 fn fields_are_packed_and_set_by_syntax_and_kind(rt: HostRuntime) -> Result<(), Fail> {
     for (parts, is_optional, is_packed, supports_presence) in ENCODED {
-        let told = encoding(&pool_with(rt.alloc(), parts, *is_optional)?);
+        let report = encoding(&pool_with(rt.alloc(), parts, *is_optional)?);
         assert!(rt;
-            told == Some((*is_packed, *supports_presence)),
-            "{parts}{told:?}"
+            report == Some((*is_packed, *supports_presence)),
+            "{parts}{report:?}"
         );
     }
     Ok(())

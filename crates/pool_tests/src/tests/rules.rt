@@ -302,35 +302,35 @@ pub(super) fn built(alloc: Global, files: Vec<FileDescriptorProto>) -> Result<()
 }
 
 /// A line for each fault of a batch.
-fn told_faults(alloc: Global, files: Vec<FileDescriptorProto>) -> Result<String, AllocError> {
+fn faults_report(alloc: Global, files: Vec<FileDescriptorProto>) -> Result<String, AllocError> {
     match built(alloc, files) {
         Ok(()) => Ok(String::new(alloc)),
-        Err(BuildError::Descriptor(error)) => told_error(alloc, &error),
+        Err(BuildError::Descriptor(error)) => error_report(alloc, &error),
         Err(BuildError::TooMany(_)) => String::from_str(alloc, "too many"),
         Err(BuildError::OutOfMemory) => Err(AllocError),
     }
 }
 
-fn told_error(alloc: Global, error: &DescriptorError) -> Result<String, AllocError> {
-    let mut told = String::new(alloc);
+fn error_report(alloc: Global, error: &DescriptorError) -> Result<String, AllocError> {
+    let mut report = String::new(alloc);
     for fault in error.errors() {
-        tell_fault(&mut told, fault)?;
+        write_fault(&mut report, fault)?;
     }
-    Ok(told)
+    Ok(report)
 }
 
-fn tell_fault(told: &mut String, fault: &DescriptorErrorKind) -> Result<(), AllocError> {
+fn write_fault(report: &mut String, fault: &DescriptorErrorKind) -> Result<(), AllocError> {
     let labelled = Labelled(fault);
-    write!(told, "{labelled}")?;
+    write!(report, "{labelled}")?;
     if let Some(label) = fault.label() {
         let path = label.path();
-        write!(told, " {path:?}")?;
+        write!(report, " {path:?}")?;
     }
     if let Some(label) = cited(fault) {
         let (file, path) = (label.file(), label.path());
-        write!(told, " {file} {path:?}")?;
+        write!(report, " {file} {path:?}")?;
     }
-    writeln!(told)
+    writeln!(report)
 }
 
 /// The label of what a fault cites: an earlier declaration, a range, or what a name means.
@@ -353,8 +353,8 @@ fn check_faults(
     rows: &[(&str, &str, &str)],
 ) -> Result<(), AllocError> {
     for (name, script, wanted) in rows {
-        let told = told_faults(alloc, files_of(alloc, script)?)?;
-        assert!(rt; told.as_str() == *wanted, "{name}\n{told}");
+        let report = faults_report(alloc, files_of(alloc, script)?)?;
+        assert!(rt; report.as_str() == *wanted, "{name}\n{report}");
     }
     Ok(())
 }
@@ -365,8 +365,8 @@ fn faults_cite_what_they_conflict_with(rt: HostRuntime) -> Result<(), Fail> {
     check_faults(&rt, rt.alloc(), EXTENSION_FAULTS)?;
     check_faults(&rt, rt.alloc(), DEFAULT_FAULTS)?;
     for (name, script, extendee, wanted) in EXTENDING {
-        let told = told_faults(rt.alloc(), files_extending(rt.alloc(), script, extendee)?)?;
-        assert!(rt; told.as_str() == *wanted, "{name}\n{told}");
+        let report = faults_report(rt.alloc(), files_extending(rt.alloc(), script, extendee)?)?;
+        assert!(rt; report.as_str() == *wanted, "{name}\n{report}");
     }
     Ok(())
 }

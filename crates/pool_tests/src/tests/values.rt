@@ -198,25 +198,25 @@ const VALUES: &[(KindIndex, &str, &str)] = &[
 ];
 
 /// Tells a default value: its type, and what it is.
-pub(super) fn tell_value(told: &mut String, value: &DefaultValue) -> Result<(), AllocError> {
+pub(super) fn write_value(report: &mut String, value: &DefaultValue) -> Result<(), AllocError> {
     match value {
-        DefaultValue::I32(number) => write!(told, "i32 {number}"),
-        DefaultValue::I64(number) => write!(told, "i64 {number}"),
-        DefaultValue::U32(number) => write!(told, "u32 {number}"),
-        DefaultValue::U64(number) => write!(told, "u64 {number}"),
-        DefaultValue::Bool(truth) => write!(told, "bool {truth}"),
+        DefaultValue::I32(number) => write!(report, "i32 {number}"),
+        DefaultValue::I64(number) => write!(report, "i64 {number}"),
+        DefaultValue::U32(number) => write!(report, "u32 {number}"),
+        DefaultValue::U64(number) => write!(report, "u64 {number}"),
+        DefaultValue::Bool(truth) => write!(report, "bool {truth}"),
         DefaultValue::String(text) => {
             let text = text.as_str();
-            write!(told, "string {text}")
+            write!(report, "string {text}")
         }
         DefaultValue::Bytes(bytes) => {
             let bytes = bytes.as_slice();
-            write!(told, "bytes {bytes:?}")
+            write!(report, "bytes {bytes:?}")
         }
-        DefaultValue::EnumNumber(number) => write!(told, "enum {number}"),
+        DefaultValue::EnumNumber(number) => write!(report, "enum {number}"),
         DefaultValue::FloatText(text) => {
             let text = text.as_str();
-            write!(told, "float {text}")
+            write!(report, "float {text}")
         }
     }
 }
@@ -232,7 +232,7 @@ fn escape_words(alloc: Global, fault: EscapeFault) -> Result<String, AllocError>
     }
 }
 
-fn told_value(alloc: Global, kind: KindIndex, text: &str) -> Result<String, AllocError> {
+fn value_report(alloc: Global, kind: KindIndex, text: &str) -> Result<String, AllocError> {
     match kind {
         KindIndex::Message(_) | KindIndex::Enum(_) | KindIndex::Group(_) => {
             return String::from_str(alloc, "not simple");
@@ -241,9 +241,9 @@ fn told_value(alloc: Global, kind: KindIndex, text: &str) -> Result<String, Allo
     }
     match parse_simple_value(alloc, kind, text) {
         Ok(value) => {
-            let mut told = String::new(alloc);
-            tell_value(&mut told, &value)?;
-            Ok(told)
+            let mut report = String::new(alloc);
+            write_value(&mut report, &value)?;
+            Ok(report)
         }
         Err(ValueFault::Number) => String::from_str(alloc, "no number"),
         Err(ValueFault::Bool) => String::from_str(alloc, "no truth value"),
@@ -255,8 +255,8 @@ fn told_value(alloc: Global, kind: KindIndex, text: &str) -> Result<String, Allo
 #[test]
 fn default_values_are_read(rt: HostRuntime) -> Result<(), Fail> {
     for (kind, text, wanted) in VALUES {
-        let told = told_value(rt.alloc(), *kind, text)?;
-        assert!(rt; told.as_str() == *wanted, "{text} {told}");
+        let report = value_report(rt.alloc(), *kind, text)?;
+        assert!(rt; report.as_str() == *wanted, "{text} {report}");
     }
     match unescape_c_escape_string(rt.alloc(), "\\377\\'") {
         Ok(bytes) => assert!(rt; bytes.as_slice() == [255, 39].as_slice()),

@@ -197,14 +197,14 @@ fn other_extension(alloc: Global, other: usize) -> Result<ExtensionDescriptorInn
 }
 
 /// What an identity tells of itself.
-fn told_identity(alloc: Global, id: &Identity) -> Result<String, AllocError> {
+fn identity_report(alloc: Global, id: &Identity) -> Result<String, AllocError> {
     let (full_name, name, path, file) = (id.full_name(), id.name(), id.path(), id.file().index());
     format!(in alloc; "{full_name} {name} {path:?} {file}")
 }
 
 fn check_identity(rt: &impl Abort, alloc: Global, id: &Identity) -> Result<(), AllocError> {
-    let told = told_identity(alloc, id)?;
-    assert!(rt; told.as_str() == "p.M M [4, 0] 0", "{told}");
+    let report = identity_report(alloc, id)?;
+    assert!(rt; report.as_str() == "p.M M [4, 0] 0", "{report}");
     assert!(rt; id.file() == FileDescriptor::new(0));
     let copy = id.clone(alloc)?;
     assert!(rt; same(id, &copy));

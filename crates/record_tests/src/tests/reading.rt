@@ -64,23 +64,23 @@ const BARE_READINGS: &str = "\
 
 /// What the readers of files and of their records answer, a line for each record.
 fn readings(alloc: Global, files: &[FileDescriptorProto]) -> Result<String, AllocError> {
-    let mut told = String::new(alloc);
+    let mut report = String::new(alloc);
     for file in files {
-        tell_file(&mut told, file)?;
+        write_file(&mut report, file)?;
     }
-    Ok(told)
+    Ok(report)
 }
 
-fn tell_file(told: &mut String, file: &FileDescriptorProto) -> Result<(), AllocError> {
+fn write_file(report: &mut String, file: &FileDescriptorProto) -> Result<(), AllocError> {
     let (name, package, syntax) = (file.name(), file.package(), words(&file.syntax));
-    writeln!(told, "file '{name}' '{package}' {syntax}")?;
-    tell_imports(told, file)?;
-    tell_source(told, &file.source_code_info)?;
+    writeln!(report, "file '{name}' '{package}' {syntax}")?;
+    write_imports(report, file)?;
+    write_source(report, &file.source_code_info)?;
     for message in file.message_type.as_slice() {
-        tell_message(told, message)?;
+        write_message(report, message)?;
     }
-    tell_services(told, file.service.as_slice())?;
-    tell_fields(told, "extension", file.extension.as_slice())
+    write_services(report, file.service.as_slice())?;
+    write_fields(report, "extension", file.extension.as_slice())
 }
 
 /// A text that may be missing, as it is printed.
@@ -91,148 +91,154 @@ fn words(text: &Option<Text>) -> &str {
     }
 }
 
-fn tell_imports(told: &mut String, file: &FileDescriptorProto) -> Result<(), AllocError> {
+fn write_imports(report: &mut String, file: &FileDescriptorProto) -> Result<(), AllocError> {
     for name in file.dependency.as_slice() {
         let name = name.as_str();
-        writeln!(told, "import '{name}'")?;
+        writeln!(report, "import '{name}'")?;
     }
     let (public, weak) = (
         file.public_dependency.as_slice(),
         file.weak_dependency.as_slice(),
     );
-    writeln!(told, "public {public:?} weak {weak:?}")
+    writeln!(report, "public {public:?} weak {weak:?}")
 }
 
-fn tell_source(told: &mut String, given: &Option<SourceCodeInfo>) -> Result<(), AllocError> {
+fn write_source(report: &mut String, given: &Option<SourceCodeInfo>) -> Result<(), AllocError> {
     let Some(source) = given else {
         return Ok(());
     };
     for location in source.location.as_slice() {
         let (path, span) = (location.path.as_slice(), location.span.as_slice());
-        writeln!(told, "at {path:?} {span:?}")?;
+        writeln!(report, "at {path:?} {span:?}")?;
     }
     Ok(())
 }
 
-fn tell_message(told: &mut String, message: &DescriptorProto) -> Result<(), AllocError> {
+fn write_message(report: &mut String, message: &DescriptorProto) -> Result<(), AllocError> {
     let name = message.name();
-    writeln!(told, "message '{name}'")?;
-    tell_fields(told, "field", message.field.as_slice())?;
-    tell_fields(told, "extension", message.extension.as_slice())?;
-    tell_oneofs(told, message.oneof_decl.as_slice())?;
-    tell_nested(told, message.nested_type.as_slice())?;
-    tell_reserved(told, message.reserved_range.as_slice())?;
-    tell_extensions(told, message.extension_range.as_slice())?;
+    writeln!(report, "message '{name}'")?;
+    write_fields(report, "field", message.field.as_slice())?;
+    write_fields(report, "extension", message.extension.as_slice())?;
+    write_oneofs(report, message.oneof_decl.as_slice())?;
+    write_nested(report, message.nested_type.as_slice())?;
+    write_reserved(report, message.reserved_range.as_slice())?;
+    write_extensions(report, message.extension_range.as_slice())?;
     for enumeration in message.enum_type.as_slice() {
-        tell_enum(told, enumeration)?;
+        write_enum(report, enumeration)?;
     }
     Ok(())
 }
 
-fn tell_fields(
-    told: &mut String,
+fn write_fields(
+    report: &mut String,
     word: &str,
     fields: &[FieldDescriptorProto],
 ) -> Result<(), AllocError> {
     for field in fields {
-        write!(told, "{word} ")?;
-        tell_field(told, field)?;
-        tell_more(told, field)?;
+        write!(report, "{word} ")?;
+        write_field(report, field)?;
+        write_more(report, field)?;
     }
     Ok(())
 }
 
-fn tell_field(told: &mut String, field: &FieldDescriptorProto) -> Result<(), AllocError> {
+fn write_field(report: &mut String, field: &FieldDescriptorProto) -> Result<(), AllocError> {
     let (name, number) = (field.name(), field.number());
     let (label, type_) = (field.label(), field.field_type());
-    write!(told, "'{name}' {number} ")?;
-    write!(told, "{label:?} {type_:?} ")?;
+    write!(report, "'{name}' {number} ")?;
+    write!(report, "{label:?} {type_:?} ")?;
     let (type_name, extendee, json_name) = (field.type_name(), field.extendee(), field.json_name());
     let optional = field.proto3_optional();
-    write!(told, "'{type_name}' '{extendee}' ")?;
-    writeln!(told, "'{json_name}' {optional}")
+    write!(report, "'{type_name}' '{extendee}' ")?;
+    writeln!(report, "'{json_name}' {optional}")
 }
 
-fn tell_more(told: &mut String, field: &FieldDescriptorProto) -> Result<(), AllocError> {
+fn write_more(report: &mut String, field: &FieldDescriptorProto) -> Result<(), AllocError> {
     let (default, oneof_index) = (words(&field.default_value), field.oneof_index);
     let packed = match &field.options {
         Some(options) => options.value.packed,
         None => None,
     };
     writeln!(
-        told,
+        report,
         "default {default} oneof {oneof_index:?} packed {packed:?}"
     )
 }
 
-fn tell_oneofs(told: &mut String, oneofs: &[OneofDescriptorProto]) -> Result<(), AllocError> {
+fn write_oneofs(report: &mut String, oneofs: &[OneofDescriptorProto]) -> Result<(), AllocError> {
     for oneof in oneofs {
         let name = oneof.name();
-        writeln!(told, "oneof '{name}'")?;
+        writeln!(report, "oneof '{name}'")?;
     }
     Ok(())
 }
 
-fn tell_nested(told: &mut String, messages: &[DescriptorProto]) -> Result<(), AllocError> {
+fn write_nested(report: &mut String, messages: &[DescriptorProto]) -> Result<(), AllocError> {
     for message in messages {
         let name = message.name();
-        writeln!(told, "message '{name}'")?;
+        writeln!(report, "message '{name}'")?;
     }
     Ok(())
 }
 
-fn tell_reserved(told: &mut String, ranges: &[ReservedRange]) -> Result<(), AllocError> {
+fn write_reserved(report: &mut String, ranges: &[ReservedRange]) -> Result<(), AllocError> {
     for range in ranges {
         let (start, end) = (range.start(), range.end());
-        writeln!(told, "reserved {start} {end}")?;
+        writeln!(report, "reserved {start} {end}")?;
     }
     Ok(())
 }
 
-fn tell_extensions(told: &mut String, ranges: &[ExtensionRange]) -> Result<(), AllocError> {
+fn write_extensions(report: &mut String, ranges: &[ExtensionRange]) -> Result<(), AllocError> {
     for range in ranges {
         let (start, end) = (range.start(), range.end());
-        writeln!(told, "extensions {start} {end}")?;
+        writeln!(report, "extensions {start} {end}")?;
     }
     Ok(())
 }
 
-fn tell_enum(told: &mut String, enumeration: &EnumDescriptorProto) -> Result<(), AllocError> {
+fn write_enum(report: &mut String, enumeration: &EnumDescriptorProto) -> Result<(), AllocError> {
     let name = enumeration.name();
     let alias = match &enumeration.options {
         Some(options) => Some(options.value.allow_alias()),
         None => None,
     };
-    writeln!(told, "enum '{name}' {alias:?}")?;
-    tell_values(told, enumeration.value.as_slice())?;
+    writeln!(report, "enum '{name}' {alias:?}")?;
+    write_values(report, enumeration.value.as_slice())?;
     for range in enumeration.reserved_range.as_slice() {
         let (start, end) = (range.start(), range.end());
-        writeln!(told, "reserved {start} {end}")?;
+        writeln!(report, "reserved {start} {end}")?;
     }
     Ok(())
 }
 
-fn tell_values(told: &mut String, values: &[EnumValueDescriptorProto]) -> Result<(), AllocError> {
+fn write_values(
+    report: &mut String,
+    values: &[EnumValueDescriptorProto],
+) -> Result<(), AllocError> {
     for value in values {
         let (name, number) = (value.name(), value.number());
-        writeln!(told, "value '{name}' {number}")?;
+        writeln!(report, "value '{name}' {number}")?;
     }
     Ok(())
 }
 
-fn tell_services(told: &mut String, services: &[ServiceDescriptorProto]) -> Result<(), AllocError> {
+fn write_services(
+    report: &mut String,
+    services: &[ServiceDescriptorProto],
+) -> Result<(), AllocError> {
     for service in services {
         let name = service.name();
-        writeln!(told, "service '{name}'")?;
-        tell_methods(told, service.method.as_slice())?;
+        writeln!(report, "service '{name}'")?;
+        write_methods(report, service.method.as_slice())?;
     }
     Ok(())
 }
 
-fn tell_methods(told: &mut String, methods: &[MethodDescriptorProto]) -> Result<(), AllocError> {
+fn write_methods(report: &mut String, methods: &[MethodDescriptorProto]) -> Result<(), AllocError> {
     for method in methods {
         let (name, input, output) = (method.name(), method.input_type(), method.output_type());
-        writeln!(told, "method '{name}' '{input}' '{output}'")?;
+        writeln!(report, "method '{name}' '{input}' '{output}'")?;
     }
     Ok(())
 }
@@ -244,8 +250,8 @@ fn check(
     files: &[FileDescriptorProto],
     wanted: &str,
 ) -> Result<(), AllocError> {
-    let told = readings(alloc, files)?;
-    assert!(rt; told.as_str() == wanted, "{told}");
+    let report = readings(alloc, files)?;
+    assert!(rt; report.as_str() == wanted, "{report}");
     Ok(())
 }
 
@@ -264,18 +270,18 @@ fn completed_field(alloc: Global) -> Result<FieldDescriptorProto, AllocError> {
     Ok(field)
 }
 
-fn told_field(alloc: Global, field: &FieldDescriptorProto) -> Result<String, AllocError> {
-    let mut told = String::new(alloc);
-    tell_field(&mut told, field)?;
-    Ok(told)
+fn field_report(alloc: Global, field: &FieldDescriptorProto) -> Result<String, AllocError> {
+    let mut report = String::new(alloc);
+    write_field(&mut report, field)?;
+    Ok(report)
 }
 
 #[test]
 fn a_field_reads_as_it_is_by_hand(rt: HostRuntime) -> Result<(), Fail> {
-    let told = told_field(rt.alloc(), &completed_field(rt.alloc())?)?;
+    let report = field_report(rt.alloc(), &completed_field(rt.alloc())?)?;
     assert!(rt;
-        told.as_str() == "'' 0 Optional Double '' '.N' '' true\n",
-        "{told}"
+        report.as_str() == "'' 0 Optional Double '' '.N' '' true\n",
+        "{report}"
     );
     Ok(())
 }
@@ -332,8 +338,8 @@ fn label_and_type(
 #[test]
 fn numbers_read_as_labels_and_types(rt: HostRuntime) -> Result<(), Fail> {
     for (label, type_, wanted) in NUMBERS {
-        let told = label_and_type(rt.alloc(), *label, *type_)?;
-        assert!(rt; told.as_str() == *wanted, "{told}");
+        let report = label_and_type(rt.alloc(), *label, *type_)?;
+        assert!(rt; report.as_str() == *wanted, "{report}");
     }
     Ok(())
 }

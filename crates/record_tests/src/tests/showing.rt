@@ -89,8 +89,8 @@ fn check(
 ) -> Result<(), AllocError> {
     let files = files_of(alloc, script)?;
     let lister = listed(rt, alloc, base, &files)?;
-    let told = lines(alloc, lister.declarations())?;
-    assert!(rt; told.as_str() == wanted, "{told}");
+    let report = lines(alloc, lister.declarations())?;
+    assert!(rt; report.as_str() == wanted, "{report}");
     Ok(())
 }
 
@@ -104,8 +104,8 @@ fn check_list(
     let files = files_of(alloc, script)?;
     assert!(rt; base.with_files(&files).is_ok());
     let list = list_declarations(alloc, base, &files)?;
-    let told = lines(alloc, &list)?;
-    assert!(rt; told.as_str() == wanted, "{told}");
+    let report = lines(alloc, &list)?;
+    assert!(rt; report.as_str() == wanted, "{report}");
     Ok(())
 }
 
@@ -132,7 +132,7 @@ fn nested(alloc: Global) -> Result<String, AllocError> {
 
 /// How many declarations there are, and of the last its parent, its index and the lengths of its
 /// path and of its full name.
-fn told_last(alloc: Global, list: &[Declaration]) -> Result<String, AllocError> {
+fn last_report(alloc: Global, list: &[Declaration]) -> Result<String, AllocError> {
     let count = list.len();
     let Some(last) = list.last() else {
         return String::from_str(alloc, "none");
@@ -146,7 +146,7 @@ fn told_last(alloc: Global, list: &[Declaration]) -> Result<String, AllocError> 
 fn nested_messages_are_all_listed(rt: HostRuntime) -> Result<(), Fail> {
     let files = files_of(rt.alloc(), nested(rt.alloc())?.as_str())?;
     let lister = listed(&rt, rt.alloc(), NONE, &files)?;
-    let told = told_last(rt.alloc(), lister.declarations())?;
-    assert!(rt; told.as_str() == "65 Some(62) 63 128 127", "{told}");
+    let report = last_report(rt.alloc(), lister.declarations())?;
+    assert!(rt; report.as_str() == "65 Some(62) 63 128 127", "{report}");
     Ok(())
 }

@@ -73,99 +73,99 @@ const DEFAULTS: &[(&str, &str)] = &[
 /// A line for each statement of a script, and one for its fault.
 fn statements(alloc: Global, script: &str) -> Result<String, AllocError> {
     let script = read_script(alloc, script.as_bytes())?;
-    let mut told = String::new(alloc);
+    let mut report = String::new(alloc);
     for statement in script.statements.as_slice() {
-        tell(&mut told, statement)?;
+        tell(&mut report, statement)?;
     }
     if let Some((line, fault)) = script.fault {
-        writeln!(&mut told, "line {line}: {fault}")?;
+        writeln!(&mut report, "line {line}: {fault}")?;
     }
-    Ok(told)
+    Ok(report)
 }
 
-fn tell(told: &mut String, statement: &Statement) -> Result<(), AllocError> {
+fn tell(report: &mut String, statement: &Statement) -> Result<(), AllocError> {
     match statement {
-        Statement::File(name) => tell_given(told, "file", name),
-        Statement::Package(name) => tell_given(told, "package", name),
-        Statement::Syntax(name) => tell_given(told, "syntax", name),
-        Statement::Import(name) => tell_text(told, "import", name),
-        Statement::Public(position) => writeln!(told, "public {position}"),
-        Statement::Weak(position) => writeln!(told, "weak {position}"),
-        Statement::At(location) => tell_location(told, location),
-        Statement::Service(name) => tell_given(told, "service", name),
-        Statement::Message(name) => tell_given(told, "message", name),
-        Statement::Enum(name) => tell_given(told, "enum", name),
-        Statement::Extend(field) => tell_field(told, "extend", field),
-        Statement::Field(field) => tell_field(told, "field", field),
-        Statement::Oneof(name) => tell_given(told, "oneof", name),
-        Statement::Reserved(start, end) => writeln!(told, "reserved {start:?} {end:?}"),
-        Statement::Extensions(start, end) => writeln!(told, "extensions {start:?} {end:?}"),
-        Statement::Value(value) => tell_value(told, value),
-        Statement::Alias => writeln!(told, "alias"),
-        Statement::Method(method) => tell_method(told, method),
-        Statement::Json(name) => tell_given(told, "json", name),
-        Statement::Packed(packed) => writeln!(told, "packed {packed}"),
-        Statement::Default(text) => tell_text(told, "default", text),
-        Statement::End => writeln!(told, "end"),
-        Statement::Link => writeln!(told, "link"),
-        Statement::Find(name) => tell_text(told, "find", name),
-        Statement::Walk => writeln!(told, "walk"),
-        Statement::Refs(name) => tell_text(told, "refs", name),
-        Statement::Relink => writeln!(told, "relink"),
+        Statement::File(name) => write_given(report, "file", name),
+        Statement::Package(name) => write_given(report, "package", name),
+        Statement::Syntax(name) => write_given(report, "syntax", name),
+        Statement::Import(name) => write_text(report, "import", name),
+        Statement::Public(position) => writeln!(report, "public {position}"),
+        Statement::Weak(position) => writeln!(report, "weak {position}"),
+        Statement::At(location) => write_location(report, location),
+        Statement::Service(name) => write_given(report, "service", name),
+        Statement::Message(name) => write_given(report, "message", name),
+        Statement::Enum(name) => write_given(report, "enum", name),
+        Statement::Extend(field) => write_field(report, "extend", field),
+        Statement::Field(field) => write_field(report, "field", field),
+        Statement::Oneof(name) => write_given(report, "oneof", name),
+        Statement::Reserved(start, end) => writeln!(report, "reserved {start:?} {end:?}"),
+        Statement::Extensions(start, end) => writeln!(report, "extensions {start:?} {end:?}"),
+        Statement::Value(value) => write_value(report, value),
+        Statement::Alias => writeln!(report, "alias"),
+        Statement::Method(method) => write_method(report, method),
+        Statement::Json(name) => write_given(report, "json", name),
+        Statement::Packed(packed) => writeln!(report, "packed {packed}"),
+        Statement::Default(text) => write_text(report, "default", text),
+        Statement::End => writeln!(report, "end"),
+        Statement::Link => writeln!(report, "link"),
+        Statement::Find(name) => write_text(report, "find", name),
+        Statement::Walk => writeln!(report, "walk"),
+        Statement::Refs(name) => write_text(report, "refs", name),
+        Statement::Relink => writeln!(report, "relink"),
     }
 }
 
-fn tell_text(told: &mut String, word: &str, text: &Text) -> Result<(), AllocError> {
+fn write_text(report: &mut String, word: &str, text: &Text) -> Result<(), AllocError> {
     let text = text.as_str();
-    writeln!(told, "{word} '{text}'")
+    writeln!(report, "{word} '{text}'")
 }
 
-fn tell_given(told: &mut String, word: &str, text: &Option<Text>) -> Result<(), AllocError> {
+fn write_given(report: &mut String, word: &str, text: &Option<Text>) -> Result<(), AllocError> {
     match text {
-        Some(text) => tell_text(told, word, text),
-        None => writeln!(told, "{word} none"),
+        Some(text) => write_text(report, word, text),
+        None => writeln!(report, "{word} none"),
     }
 }
 
 /// A text that may be missing, in quotes or not.
-fn tell_part(told: &mut String, text: &Option<Text>) -> Result<(), AllocError> {
+fn write_part(report: &mut String, text: &Option<Text>) -> Result<(), AllocError> {
     match text {
         Some(text) => {
             let text = text.as_str();
-            write!(told, " '{text}'")
+            write!(report, " '{text}'")
         }
-        None => write!(told, " none"),
+        None => write!(report, " none"),
     }
 }
 
-fn tell_location(told: &mut String, location: &Location) -> Result<(), AllocError> {
+fn write_location(report: &mut String, location: &Location) -> Result<(), AllocError> {
     let (path, span) = (location.path.as_slice(), location.span.as_slice());
-    writeln!(told, "at {path:?} {span:?}")
+    writeln!(report, "at {path:?} {span:?}")
 }
 
-fn tell_field(
-    told: &mut String,
+fn write_field(
+    report: &mut String,
     word: &str,
     field: &FieldDescriptorProto,
 ) -> Result<(), AllocError> {
     let (number, label, type_) = (field.number, field.label, field.type_);
     let oneof_index = field.oneof_index;
-    write!(told, "{word}")?;
-    tell_part(told, &field.name)?;
-    write!(told, " {number:?} {label:?} {type_:?}")?;
-    tell_part(told, &field.type_name)?;
-    tell_part(told, &field.extendee)?;
-    writeln!(told, " {oneof_index:?}")
+    write!(report, "{word}")?;
+    write_part(report, &field.name)?;
+    write!(report, " {number:?} {label:?} {type_:?}")?;
+    write_part(report, &field.type_name)?;
+    write_part(report, &field.extendee)?;
+    writeln!(report, " {oneof_index:?}")
 }
 
-fn tell_value(told: &mut String, value: &EnumValueDescriptorProto) -> Result<(), AllocError> {
+fn write_value(report: &mut String, value: &EnumValueDescriptorProto) -> Result<(), AllocError> {
     let (name, number) = (value.name(), value.number);
-    writeln!(told, "value '{name}' {number:?}")
+    writeln!(report, "value '{name}' {number:?}")
 }
 
-fn tell_method(told: &mut String, method: &MethodDescriptorProto) -> Result<(), AllocError> {
+fn write_method(report: &mut String, method: &MethodDescriptorProto) -> Result<(), AllocError> {
     let (name, input, output) = (method.name(), method.input_type(), method.output_type());
-    writeln!(told, "method '{name}' '{input}' '{output}'")
+    writeln!(report, "method '{name}' '{input}' '{output}'")
 }
 
 /// The statements of a script whose one extension has the default of a line.
@@ -184,15 +184,15 @@ fn default_wanted(alloc: Global, text: &str) -> Result<String, AllocError> {
 #[test]
 fn scripts_say_their_statements(rt: HostRuntime) -> Result<(), Fail> {
     for (name, script, wanted) in SAID {
-        let told = statements(rt.alloc(), script)?;
-        assert!(rt; told.as_str() == *wanted, "{name}\n{told}");
+        let report = statements(rt.alloc(), script)?;
+        assert!(rt; report.as_str() == *wanted, "{name}\n{report}");
     }
     Ok(())
 }
 
 fn check_default(rt: &impl Abort, alloc: Global, line: &str, text: &str) -> Result<(), AllocError> {
-    let (told, wanted) = (default_told(alloc, line)?, default_wanted(alloc, text)?);
-    assert!(rt; told == wanted, "{told}");
+    let (report, wanted) = (default_told(alloc, line)?, default_wanted(alloc, text)?);
+    assert!(rt; report == wanted, "{report}");
     Ok(())
 }
 

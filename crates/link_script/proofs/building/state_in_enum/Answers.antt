@@ -15,4 +15,4 @@ other Alias e no_value no_range no_alias = absurd (no_alias refl)
 other _ e no_value no_range no_alias = refl
 
 pub returns : goal.returns
-returns c = other c.args.said c.args.opened.now c.in_default.not-Value c.in_default.not-Reserved c.in_default.not-Alias
+returns c = other c.args.statement c.args.opened.now c.in_default.not-Value c.in_default.not-Reserved c.in_default.not-Alias

@@ -12,4 +12,4 @@ other (Method m) s no_method = absurd (no_method m refl)
 other _ s no_method = refl
 
 pub returns : goal.returns
-returns c = other c.args.said c.args.service.now c.in_default.not-Method
+returns c = other c.args.statement c.args.service.now c.in_default.not-Method

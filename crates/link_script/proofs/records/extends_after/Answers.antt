@@ -13,4 +13,4 @@ other before (Field field) no_extension no_field = absurd (no_field field refl)
 other before _ no_extension no_field = refl
 
 pub returns-in_default : goal.returns-in_default
-returns-in_default c = other c.args.before c.args.said.now c.in_default.not-Extend c.in_default.not-Field
+returns-in_default c = other c.args.before c.args.statement.now c.in_default.not-Extend c.in_default.not-Field

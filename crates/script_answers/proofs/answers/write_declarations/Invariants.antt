@@ -6,4 +6,4 @@ use Rattle.script_answers.proofs.answers.write_declarations.Given as goal
 -- the declarations so far are told
 abbrev pub invariant-loop-declaration : goal.invariant-loop-declaration
 invariant-loop-declaration l =
-    string_bytes l.told ≡ string_bytes l.initial.told ++ flat_map declaration_line (take l.declaration-index l.list)
+    string_bytes l.report ≡ string_bytes l.initial.report ++ flat_map declaration_line (take l.declaration-index l.list)

@@ -7,4 +7,4 @@ use Rattle.script_answers.proofs.answers.write_references.Given as goal
 -- the references so far are told
 abbrev pub invariant-loop-reference : goal.invariant-loop-reference
 invariant-loop-reference l =
-    string_bytes l.told ≡ string_bytes l.initial.told ++ flat_map reference_line (map reference_of (take l.reference-index l.list))
+    string_bytes l.report ≡ string_bytes l.initial.report ++ flat_map reference_line (map reference_of (take l.reference-index l.list))

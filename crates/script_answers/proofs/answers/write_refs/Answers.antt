@@ -14,11 +14,11 @@ references-requires c =
 
 pub returns-in_default : goal.returns-in_default
 returns-in_default c =
-    subst (λ answer. OnOk c.write_none.result (string_bytes c.write_none.new.told ≡ string_bytes c.args.told.now ++ answer))
+    subst (λ answer. OnOk c.write_none.result (string_bytes c.write_none.new.report ≡ string_bytes c.args.report.now ++ answer))
     (refs-named c.args.files.now c.args.name.now None c.in_default.ensures) c.write_none.ensures
 
 pub returns : goal.returns
 returns c =
     let lines = ap (λ list. reference_lines (map reference_of list)) c.deref.ensures.value ∙ ap reference_lines c.in_ok-references.ensures
     ∙ refs-named c.args.files.now c.args.name.now (Some c.in-Some.file.now) c.in-Some.ensures in
-    subst (λ answer. OnOk c.write_references.result (string_bytes c.write_references.new.told ≡ string_bytes c.args.told.now ++ answer)) lines c.write_references.ensures
+    subst (λ answer. OnOk c.write_references.result (string_bytes c.write_references.new.report ≡ string_bytes c.args.report.now ++ answer)) lines c.write_references.ensures

@@ -6,4 +6,4 @@ use Rattle.script_answers.proofs.answers.write_refused.Given as goal
 
 abbrev pub invariant-loop-fault : goal.invariant-loop-fault
 invariant-loop-fault l =
-    string_bytes l.told ≡ string_bytes l.initial.told ++ flat_map (λ f. line (labelled_text f ∷ [])) (take l.fault-index l.faults)
+    string_bytes l.report ≡ string_bytes l.initial.report ++ flat_map (λ f. line (labelled_text f ∷ [])) (take l.fault-index l.faults)

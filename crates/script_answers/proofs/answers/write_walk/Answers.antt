@@ -12,4 +12,4 @@ returns c =
     let files = map (λ f. f.raw) c.args.files.now in
     let listed = c.declarations.ensures ∙ sym (append-nil c.walk.new.visitor) ∙ ap (λ (p : Progress). p.listed) (c.in_ok-walk.ensures.ok.after_is [])
     ∙ (λ j. c.new-lister.ensures j ++ map declaration_of (append-nil (declarations no_counts files) j)) in
-    subst (λ list. OnOk c.write_declarations.result (string_bytes c.write_declarations.new.told ≡ string_bytes c.args.told.now ++ declaration_lines list)) listed c.write_declarations.ensures
+    subst (λ list. OnOk c.write_declarations.result (string_bytes c.write_declarations.new.report ≡ string_bytes c.args.report.now ++ declaration_lines list)) listed c.write_declarations.ensures

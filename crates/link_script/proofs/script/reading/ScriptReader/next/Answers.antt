@@ -6,17 +6,17 @@ use Rattle.link_script.proofs.script.reading.ScriptReader.next.Goals as goal
 pub returns-then-is_some : goal.returns-then-is_some
 returns-then-is_some c =
     let before = c.loop-line.self-inside in
-    let left = said_from-line before.number (standing_in before.here) (standing_in c.read_line.new.here) before.left.now c.in-Some.line.now c.in-Some.rest.now c.in-Ok.said
+    let left = said_from-line before.number (standing_in before.here) (standing_in c.read_line.new.here) before.left.now c.in-Some.line.now c.in-Some.rest.now c.in-Ok.read
     c.in-Some.ensures.lines c.in-Ok.ensures.ok in
-    next-said _ _ c.in-Ok.said (sym c.is_some.ensures ∙ c.if-is_some.true) (sym c.loop-line.invariant.same ∙ left)
+    next-said _ _ c.in-Ok.read (sym c.is_some.ensures ∙ c.if-is_some.true) (sym c.loop-line.invariant.same ∙ left)
 
 pub loop-line-preserved : goal.loop-line-preserved
 loop-line-preserved c =
     let before = c.loop-line.self-inside in
-    let left = said_from-line before.number (standing_in before.here) (standing_in c.read_line.new.here) before.left.now c.in-Some.line.now c.in-Some.rest.now c.in-Ok.said
+    let left = said_from-line before.number (standing_in before.here) (standing_in c.read_line.new.here) before.left.now c.in-Some.line.now c.in-Some.rest.now c.in-Ok.read
     c.in-Some.ensures.lines c.in-Ok.ensures.ok in
     let shorter : length c.in-Some.rest.now < length before.left.now = c.in-Some.ensures.shorter in
     record {
       counted = omega (arith, shorter, c.loop-line.invariant.counted);
-      same = none-said _ _ c.in-Ok.said (sym c.is_some.ensures ∙ c.if-is_some.false) (sym c.loop-line.invariant.same ∙ left);
+      same = none-said _ _ c.in-Ok.read (sym c.is_some.ensures ∙ c.if-is_some.false) (sym c.loop-line.invariant.same ∙ left);
     }
