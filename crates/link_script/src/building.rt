@@ -13,6 +13,7 @@ use proto_types::{
     Options, ReservedRange, ServiceDescriptorProto, SourceCodeInfo,
 };
 use std::alloc::{AllocError, Global};
+use std::mem;
 
 /// A record whose block is open.
 #[derive(Drop)]
@@ -82,6 +83,18 @@ impl Open {
             Open::Message(message) => state_in_message(alloc, message, extends, statement),
             Open::Enum(opened) => state_in_enum(alloc, opened, statement),
             Open::Service(service) => state_in_service(service, statement),
+        }
+    }
+
+    /// Gives back the room of its lists in which nothing stands.
+    pub fn shrink(&mut self, alloc: Global)
+        ensures { self.new ≡ self.old }
+    {
+        match self {
+            Open::File(file) => shrink_file(alloc, file),
+            Open::Message(message) => shrink_message(alloc, message),
+            Open::Enum(closed) => shrink(alloc, &mut closed.value),
+            Open::Service(service) => shrink(alloc, &mut service.method),
         }
     }
 
@@ -277,4 +290,35 @@ fn state_in_service(
         Statement::Method(method) => service.method.push(method),
         _ => Ok(()),
     }
+}
+
+/// Gives back the room of a file's lists in which nothing stands.
+fn shrink_file(alloc: Global, file: &mut FileDescriptorProto)
+    ensures { file.new ≡ file.old }
+{
+    shrink(alloc, &mut file.dependency);
+    shrink(alloc, &mut file.message_type);
+    shrink(alloc, &mut file.enum_type);
+    shrink(alloc, &mut file.service);
+    shrink(alloc, &mut file.extension);
+}
+
+/// Gives back the room of a message's lists in which nothing stands.
+fn shrink_message(alloc: Global, message: &mut DescriptorProto)
+    ensures { message.new ≡ message.old }
+{
+    shrink(alloc, &mut message.field);
+    shrink(alloc, &mut message.nested_type);
+    shrink(alloc, &mut message.enum_type);
+    shrink(alloc, &mut message.extension);
+    shrink(alloc, &mut message.oneof_decl);
+}
+
+/// Gives back the room of a list in which nothing stands.
+fn shrink<T: Drop>(alloc: Global, items: &mut Items<T>)
+    ensures { items.new ≡ items.old }
+{
+    let mut list = mem::replace(items, Items::new(alloc)).into_vec();
+    list.shrink_to_fit();
+    *items = Items::from_vec(list);
 }
