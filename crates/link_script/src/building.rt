@@ -86,16 +86,17 @@ impl Open {
         }
     }
 
-    /// Gives back the room of its lists in which nothing stands.
-    pub fn shrink(&mut self, alloc: Global)
-        ensures { self.new ≡ self.old }
+    /// The same record, which gives back the room of its lists in which nothing stands.
+    pub fn shrunk(mut self, alloc: Global) -> Open
+        ensures { result ≡ self }
     {
-        match self {
+        match &mut self {
             Open::File(file) => shrink_file(alloc, file),
             Open::Message(message) => shrink_message(alloc, message),
             Open::Enum(closed) => shrink(alloc, &mut closed.value),
             Open::Service(service) => shrink(alloc, &mut service.method),
         }
+        self
     }
 
     /// Takes in a record whose block has closed: it stands behind the others of its list.

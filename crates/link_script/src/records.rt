@@ -117,10 +117,10 @@ impl RecordBuilder {
     fn close(&mut self) -> Result<(), AllocError>
         ensures { OnOk result (building_in self.new ≡ built (building_in self.old) say.End) }
     {
-        let Some(mut inner) = self.open_records.pop() else {
+        let Some(closed) = self.open_records.pop() else {
             return Ok(());
         };
-        inner.shrink(self.alloc);
+        let inner = closed.shrunk(self.alloc);
         if let Some(outer) = self.open_records.last_mut() {
             outer.close_in(inner)?;
         } else if let Open::File(file) = inner {

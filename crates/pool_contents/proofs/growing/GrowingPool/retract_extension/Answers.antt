@@ -1,4 +1,4 @@
-use Rattle.std.proofs.Common.{◌<◌, length, arith}
+use Rattle.std.proofs.Common.{arith}
 use Rattle.pool_contents.proofs.Extending.{retracted-here, retracted-nowhere}
 use Rattle.pool_contents.proofs.growing.GrowingPool.retract_extension.Goals as goal
 
@@ -9,11 +9,11 @@ returns-then-message-len-clause-back c =
     let held = old.inner.messages.items in
     let x = c.index.result.now in
     λ ms made. retracted-here held ms old.inner.extensions.items c.args.extension x c.index_mut.result.now c.pop.result c.pop.new.self
-    (omega (arith, c.if-message-len.true, c.len.ensures)) c.index_mut.ensures.value c.requires c.index.ensures c.pop.ensures made
+    (omega (arith, c.if-message-len.true, c.len.ensures)) c.index_mut.ensures.value c.requires.here c.index.ensures c.pop.ensures made
 
 -- there is no such message
 pub returns-else-message-len-clause-back : goal.returns-else-message-len-clause-back
 returns-else-message-len-clause-back c =
     let old = c.args.self.now in
     λ ms made. retracted-nowhere old.inner.messages.items ms old.inner.extensions.items c.args.extension c.index.result.now
-    (omega (arith, c.if-message-len.false, c.len.ensures)) c.requires c.index.ensures made
+    (omega (arith, c.if-message-len.false, c.len.ensures)) c.requires.here c.index.ensures made

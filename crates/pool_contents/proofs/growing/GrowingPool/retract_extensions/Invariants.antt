@@ -5,8 +5,8 @@ use Rattle.pool_contents.specs.Inner.{contents_in}
 use Rattle.pool_contents.proofs.growing.GrowingPool.retract_extensions.Given as goal
 
 -- the extensions up to an index are still in the lists of the messages that they extend
-abbrev pub invariant-loop-end : goal.invariant-loop-end
-invariant-loop-end l =
+abbrev pub invariant-loop-self : goal.invariant-loop-self
+invariant-loop-self l =
     let old = l.initial.self in
     let xs = old.inner.extensions.items in
     record {
@@ -18,5 +18,5 @@ invariant-loop-end l =
     }
 
 -- those that are left
-abbrev pub decreases-loop-end : goal.decreases-loop-end
-decreases-loop-end l = l.end
+abbrev pub decreases-loop-self : goal.decreases-loop-self
+decreases-loop-self l = l.end
