@@ -1,33 +1,37 @@
 -- One more name comes to the first pass.
 use Rattle.std.proofs.Common.{◌≡◌, ℕ, List, [], ◌∷◌, ◌++◌, Option, Some, None, is_some, true, false, Result, OnOk, refl, rules, ap, sym, ◌∙◌, append-nil}
 use Rattle.std.specs.FinMap as finite
+use Rattle.std.specs.Option.{option_or}
 use Rattle.pool_types.specs.Contents.{ByText}
 use Rattle.proto_types.specs.declared.file.FileDescriptorProto.{FileDescriptorProto}
 use Rattle.pool_types.specs.declared.contents.definition.Definition.{Definition}
 use Rattle.name_tables.specs.Entries.{Entry}
 use Rattle.name_tables.proofs.Entries.{with-absent, with-present}
 use Rattle.std.proofs.lemmas.Result.{on_ok_weaker}
-use Rattle.plain_data.specs.Lists.{only_if}
 use Rattle.pool_faults.specs.declared.fault.DescriptorErrorKind.TheVariants.{DuplicateFileName}
 use Rattle.pool_faults.specs.declared.fault.DescriptorErrorKind.{DescriptorErrorKind}
-use Rattle.name_pass.specs.FirstPass.{holder_faults}
+use Rattle.name_pass.specs.FirstPass.{file_name_faults, holder_faults}
 use Rattle.name_pass.specs.Steps.{NameState, entered, file_named}
 
 module _ (files : List FileDescriptorProto) (state : NameState) (e : Entry) where
+  -- the faults behind an entry, by what its name meant
+  abbrev faults-by : Option Definition → List DescriptorErrorKind
+  faults-by found = state.faults ++ (holder_faults files (option_or found None) e ++ [])
+
   -- which no name before it is
   pub new-name : {U E : Type 0} (r : Result U E) (names : ByText Definition) → finite.get state.names e.0 ≡ None
-      → OnOk r (names ≡ finite.insert state.names e.0 e.1) → OnOk r (record state { names = names } ≡ entered files state e)
+      → OnOk r (names ≡ finite.insert state.names e.0 e.1) → OnOk r (record state { names = names } ≡ entered files state (e ∷ []))
   new-name r names absent inserted = on_ok_weaker r (λ is i. record state {
     names = (is ∙ sym (with-absent state.names e.0 e.1 absent)) i;
-    faults = (sym (append-nil state.faults) ∙ ap (λ found. state.faults ++ holder_faults files found e) (sym absent)) i;
+    faults = (sym (append-nil state.faults) ∙ ap faults-by (sym absent)) i;
   }) inserted
 
   -- which has a holder
   pub held-name : (holder : Definition) (faults : List DescriptorErrorKind) → finite.get state.names e.0 ≡ Some holder
-      → faults ≡ state.faults ++ holder_faults files (Some holder) e → record state { faults = faults } ≡ entered files state e
+      → faults ≡ state.faults ++ holder_faults files (Some holder) e → record state { faults = faults } ≡ entered files state (e ∷ [])
   held-name holder faults present told = λ i. record state {
     names = sym (with-present state.names e.0 e.1 holder present) i;
-    faults = (told ∙ ap (λ found. state.faults ++ holder_faults files found e) (sym present)) i;
+    faults = (told ∙ ap (λ more. state.faults ++ more) (sym (append-nil (holder_faults files (Some holder) e))) ∙ ap faults-by (sym present)) i;
   }
 
 -- whether a look-up found something
@@ -40,6 +44,9 @@ found-some None is = absurd (search rules)
 found-some (Some x) is = (x, refl)
 
 module _ (state : NameState) (name : List ℕ) (index : ℕ) where
+  abbrev file-faults-by : Option ℕ → List DescriptorErrorKind
+  file-faults-by found = state.faults ++ file_name_faults (option_or found None) name
+
   -- the name of one more file, which no file has
   pub new-file-name : {U E : Type 0} (r : Result U E) (file_names : ByText ℕ) → is_some (finite.get state.file_names name) ≡ false
       → OnOk r (file_names ≡ finite.insert state.file_names name index) → OnOk r (record state { file_names = file_names } ≡ file_named state name index)
@@ -47,7 +54,7 @@ module _ (state : NameState) (name : List ℕ) (index : ℕ) where
       let absent = found-none (finite.get state.file_names name) none in
       on_ok_weaker r (λ is i. record state {
         file_names = (is ∙ sym (with-absent state.file_names name index absent)) i;
-        faults = (sym (append-nil state.faults) ∙ ap (λ found. state.faults ++ only_if (is_some found) (DuplicateFileName name)) (sym absent)) i;
+        faults = (sym (append-nil state.faults) ∙ ap file-faults-by (sym absent)) i;
       }) inserted
 
   -- which a file has
@@ -57,5 +64,5 @@ module _ (state : NameState) (name : List ℕ) (index : ℕ) where
       let present = found-some (finite.get state.file_names name) some in
       λ i. record state {
         file_names = sym (with-present state.file_names name index present.0 present.1) i;
-        faults = (told ∙ ap (λ found. state.faults ++ only_if (is_some found) (DuplicateFileName name)) (sym present.1)) i;
+        faults = (told ∙ ap file-faults-by (sym present.1)) i;
       }

@@ -2,6 +2,7 @@ pub mod Keys
 pub mod Holders
 pub mod CamelCase
 pub mod Fronts
+pub mod Behind
 pub mod Packages
 pub mod Entering
 pub mod Showing

@@ -1,21 +1,47 @@
 -- One more declaration is shown to the first pass.
-use Rattle.std.proofs.Common.{◌≡◌, List, [], ◌∷◌, ◌++◌, length, map, ap, subst, sym, ◌∙◌}
+use Rattle.std.proofs.Common.{◌≡◌, ℕ, ℤ, List, [], ◌∷◌, ◌++◌, length, map, refl, ap, subst, sym, ◌∙◌, append_assoc, append-nil}
 use Rattle.std.specs.List.{fold}
 use Rattle.pool_faults.specs.declared.fault.DescriptorErrorKind.{DescriptorErrorKind}
 use Rattle.field_rules.specs.declared.findings.Faults.{Faults}
 use Rattle.pool_types.specs.Contents.{Contents}
 use Rattle.record_walk.specs.Progress.{HasSeen}
-use Rattle.record_walk.specs.Shown.{Shown}
+use Rattle.proto_types.specs.Readers.{text_of}
+use Rattle.proto_types.specs.declared.file.FileDescriptorProto.{FileDescriptorProto}
+use Rattle.name_tables.specs.Entries.{names_with}
+use Rattle.name_tables.proofs.Entries.{with-nothing}
+use Rattle.record_walk.specs.Shown.{Shown, file_shown}
 use Rattle.name_pass.specs.declared.names.NameVisitor.{NameVisitor}
 use Rattle.name_pass.specs.State.{first_new, kept_of, records_of, state_of, Stays}
-use Rattle.name_pass.specs.Steps.{CanBeEntered, NameState, entered, faulted, file_step, name_progress, name_step, own_step}
-use Rattle.name_pass.specs.Entered.{entries_of}
+use Rattle.name_pass.specs.Entered.{entries_of, own_entry}
+use Rattle.name_pass.specs.FirstPass.{clashes, file_name_faults, holder}
+use Rattle.name_pass.specs.Steps.{CanBeEntered, NameState, entered, file_named, name_progress, name_step}
+use Rattle.name_pass.specs.Syntaxes.{syntax_faults}
 use borrow.Rule.Reborrow.{re_v}
+
+-- what stays in two steps
+pub stays-on : {old now new : NameVisitor} → Stays old now → Stays now new → Stays old new
+stays-on first second = record {
+  files = second.files ∙ first.files;
+  kept = second.kept ∙ first.kept;
+  borrows = second.borrows ∙ first.borrows;
+}
+
+-- what stays where faults come
+pub stays-told : (v : NameVisitor) (faults : Faults) → faults.labels ≡ v.faults.now.labels → Stays v (record v { faults = re_v faults v.faults })
+stays-told v faults same = record {
+  files = same;
+  kept = λ i. kept_of (record v { faults = re_v (record faults { labels = same i }) v.faults });
+  borrows = refl;
+}
+
+-- a visitor that has been shown one more declaration
+abbrev pub HasBeenShown : NameVisitor → NameVisitor → Shown → Type 0
+HasBeenShown old new d = HasSeen (λ ds. name_progress (fold (name_step (records_of old)) (state_of old) ds)) (CanBeEntered (first_new old))
+    (λ ds. name_progress (fold (name_step (records_of new)) (state_of new) ds)) (CanBeEntered (first_new new)) (d ∷ [])
 
 -- it holds then what the declaration makes of what it held
 pub shown : (old new : NameVisitor) (d : Shown) → Stays old new → CanBeEntered (first_new old) (d ∷ []) → state_of new ≡ name_step (records_of old) (state_of old) d
-    → HasSeen (λ ds. name_progress (fold (name_step (records_of old)) (state_of old) ds)) (CanBeEntered (first_new old))
-    (λ ds. name_progress (fold (name_step (records_of new)) (state_of new) ds)) (CanBeEntered (first_new new)) (d ∷ [])
+    → HasBeenShown old new d
 shown old new d stays can is =
     let same = ap (λ (c : Contents). length c.files) stays.kept in
     record {
@@ -26,26 +52,51 @@ shown old new d stays can is =
       );
     }
 
--- behind its name come the faults of a declaration by itself
-pub shown-own : (old here : NameVisitor) (d : Shown) → Stays old here → CanBeEntered (first_new old) (d ∷ []) → (faults : Faults) (own : List DescriptorErrorKind)
-    → state_of here ≡ fold (entered (records_of old)) (file_step (records_of old) (state_of old) d) (entries_of d)
-    → faults.found.items ≡ here.faults.now.found.items ++ own → faults.labels ≡ here.faults.now.labels
-    → ((state : NameState) → own_step (records_of old) state d ≡ faulted state own)
-    → let new : NameVisitor = record here { faults = re_v faults here.faults } in
-    HasSeen (λ ds. name_progress (fold (name_step (records_of old)) (state_of old) ds)) (CanBeEntered (first_new old))
-    (λ ds. name_progress (fold (name_step (records_of new)) (state_of new) ds)) (CanBeEntered (first_new new)) (d ∷ [])
-shown-own old here d stays can faults own named told same is-own =
-    shown old (record here { faults = re_v faults here.faults }) d (record {
-      files = same ∙ stays.files;
-      kept = (λ i. kept_of (record here { faults = re_v (record faults { labels = same i }) here.faults })) ∙ stays.kept;
-      borrows = stays.borrows;
-    }) can
-    ((λ i. record (state_of here) { faults = told i }) ∙ ap (λ (s : NameState). faulted s own) named ∙ sym (is-own (fold (entered (records_of old)) (file_step (records_of old) (state_of old) d) (entries_of d))))
-
--- what stays in two steps
-pub stays-on : {old now new : NameVisitor} → Stays old now → Stays now new → Stays old new
-stays-on first second = record {
-  files = second.files ∙ first.files;
-  kept = second.kept ∙ first.kept;
-  borrows = second.borrows ∙ first.borrows;
+-- what breaks by itself a declaration other than a file, whose one entry is its own
+abbrev BreaksOwn : List FileDescriptorProto → Shown → List DescriptorErrorKind → Type 0
+BreaksOwn files d own = (state : NameState) → name_step files state d ≡ record {
+  names = names_with state.names (own_entry d ∷ []);
+  file_names = names_with state.file_names [];
+  faults = state.faults ++ (clashes files state.names [] (own_entry d ∷ []) ++ own);
 }
+
+-- behind its name come the faults of a declaration by itself
+step-own : (files : List FileDescriptorProto) (state : NameState) (d : Shown) (own : List DescriptorErrorKind) → BreaksOwn files d own
+    → let named = entered files state (own_entry d ∷ []) in record named { faults = named.faults ++ own } ≡ name_step files state d
+step-own files state d own is-own =
+    (λ i. record {
+      names = names_with state.names (own_entry d ∷ []);
+      file_names = sym (with-nothing state.file_names) i;
+      faults = append_assoc state.faults (clashes files state.names [] (own_entry d ∷ [])) own i;
+    })
+    ∙ sym (is-own state)
+
+module _ (old here : NameVisitor) (d : Shown) (stays : Stays old here) (can : CanBeEntered (first_new old) (d ∷ [])) where
+  -- its name is entered, and it breaks nothing by itself
+  pub shown-named : BreaksOwn (records_of old) d [] → state_of here ≡ entered (records_of old) (state_of old) (own_entry d ∷ []) → HasBeenShown old here d
+  shown-named none named =
+      let after = entered (records_of old) (state_of old) (own_entry d ∷ []) in
+      shown old here d stays can (named ∙ (λ i. record after { faults = sym (append-nil after.faults) i }) ∙ step-own (records_of old) (state_of old) d [] none)
+
+  -- behind its name come the faults of a declaration by itself
+  pub shown-own : (faults : Faults) (own : List DescriptorErrorKind) → BreaksOwn (records_of old) d own
+      → state_of here ≡ entered (records_of old) (state_of old) (own_entry d ∷ [])
+      → faults.found.items ≡ here.faults.now.found.items ++ own → faults.labels ≡ here.faults.now.labels
+      → HasBeenShown old (record here { faults = re_v faults here.faults }) d
+  shown-own faults own is-own named told same =
+      shown old (record here { faults = re_v faults here.faults }) d (stays-on stays (stays-told here faults same)) can
+      ((λ i. record (state_of here) { faults = told i }) ∙ (λ i. record (named i) { faults = (named i).faults ++ own }) ∙ step-own (records_of old) (state_of old) d own is-own)
+
+-- of a file come the fault of its syntax, its name, and its packages
+pub step-file : (files : List FileDescriptorProto) (state : NameState) (path : List ℤ) (index : ℕ) (f : FileDescriptorProto)
+    → entered files (file_named (record state { faults = state.faults ++ syntax_faults files index f }) (text_of f.name) index) (entries_of (file_shown path index f))
+    ≡ name_step files state (file_shown path index f)
+step-file files state path index f = λ i. record {
+  names = names_with state.names (entries_of (file_shown path index f));
+  file_names = names_with state.file_names ((text_of f.name, index) ∷ []);
+  faults = sorted state.faults (syntax_faults files index f) (file_name_faults (holder state.file_names [] (text_of f.name)) (text_of f.name))
+      (clashes files state.names [] (entries_of (file_shown path index f))) i;
+}
+  where
+    sorted : (before syntax name packages : List DescriptorErrorKind) → ((before ++ syntax) ++ name) ++ packages ≡ before ++ (((syntax ++ name) ++ packages) ++ [])
+    sorted before syntax name packages = simp (append_assoc, append-nil)

@@ -1,22 +1,17 @@
--- What the first pass makes of one more declaration.
+-- What the first pass makes of one more declaration: what its definition says of that one alone,
+-- behind what is known by then.
 use Rattle.std.specs.Prelude.{◌≡◌, ◌≤◌, ℕ, true, List, [], ◌∷◌, ◌++◌}
-use Rattle.std.specs.FinMap as finite
-use Rattle.std.specs.List.{AllByRecursion, fold}
+use Rattle.std.specs.List.{AllByRecursion}
 use Rattle.pool_faults.specs.declared.fault.DescriptorErrorKind.{DescriptorErrorKind}
-use Rattle.pool_types.specs.Contents.{ByText, no_contents}
+use Rattle.pool_types.specs.Contents.{ByText, Contents, no_contents}
 use Rattle.pool_types.specs.declared.contents.definition.Definition.{Definition}
 use Rattle.proto_types.specs.declared.file.FileDescriptorProto.{FileDescriptorProto}
 use Rattle.record_walk.specs.Progress.{Progress}
-use Rattle.record_walk.specs.Protos.{of_file, of_message, of_enum}
-use Rattle.proto_types.specs.Readers.{text_of}
 use Rattle.record_walk.specs.Shown.{Shown}
 use Rattle.name_tables.specs.Entries.{Entry, names_with}
 use Rattle.record_walk.specs.Counts.{lists_fit}
-use Rattle.name_pass.specs.Syntaxes.{syntax_faults}
-use Rattle.name_pass.specs.CamelCase.{message_own_faults}
-use Rattle.name_pass.specs.Enumeration.{enum_faults}
-use Rattle.name_pass.specs.Entered.{entries_of}
-use Rattle.name_pass.specs.FirstPass.{holder_faults, file_name_faults}
+use Rattle.name_pass.specs.Entered.{entries_of, file_entries_of}
+use Rattle.name_pass.specs.FirstPass.{clashes, file_name_faults, first_faults, holder}
 
 -- what names and names of files mean by now, and the faults so far
 pub record NameState : Type 0 where
@@ -31,41 +26,31 @@ state_at names file_names faults = record {
   faults = faults;
 }
 
--- after one more entry; files are those that labels name
-abbrev pub entered : List FileDescriptorProto → NameState → Entry → NameState
-entered files state e = record state {
-  names = names_with state.names (e ∷ []);
-  faults = state.faults ++ holder_faults files (finite.get state.names e.0) e;
-}
+-- the names that are known by now, as a pool would have them
+abbrev pub known : NameState → Contents
+known state = record no_contents { names = state.names; file_names = state.file_names }
 
--- after further faults
-abbrev pub faulted : NameState → List DescriptorErrorKind → NameState
-faulted state faults = record state { faults = state.faults ++ faults }
+-- after entries: their names, and the clashes of these; files are those that labels name
+abbrev pub entered : List FileDescriptorProto → NameState → List Entry → NameState
+entered files state es = record state {
+  names = names_with state.names es;
+  faults = state.faults ++ clashes files state.names [] es;
+}
 
 -- after the name of one more file
 abbrev pub file_named : NameState → List ℕ → ℕ → NameState
 file_named state name index = record state {
   file_names = names_with state.file_names ((name, index) ∷ []);
-  faults = state.faults ++ file_name_faults (finite.get state.file_names name) name;
+  faults = state.faults ++ file_name_faults (holder state.file_names [] name) name;
 }
 
--- after one more declaration: a file by itself, its entries, and a message or an enum by itself
-abbrev pub file_step : List FileDescriptorProto → NameState → Shown → NameState
-file_step files state d = elim d.proto [
-  | of_file f ↦ file_named (faulted state (syntax_faults files d.file f)) (text_of f.name) d.file
-  | _ ↦ state
-]
-
-abbrev pub own_step : List FileDescriptorProto → NameState → Shown → NameState
-own_step files state d = elim d.proto [
-  | of_message m ↦ faulted state (message_own_faults files d.file d.path m)
-  | of_enum e ↦ faulted state (enum_faults files d.file d.path e)
-  | _ ↦ state
-]
-
+-- after one more declaration: its entries, and what it breaks behind what is known
 abbrev pub name_step : List FileDescriptorProto → NameState → Shown → NameState
-name_step files state d =
-    own_step files (fold (entered files) (file_step files state d) (entries_of d)) d
+name_step files state d = record {
+  names = names_with state.names (entries_of d);
+  file_names = names_with state.file_names (file_entries_of d);
+  faults = state.faults ++ first_faults files (known state) [] d;
+}
 
 -- declarations of files from an index on, whose lists are short enough
 abbrev pub CanBeEntered : ℕ → List Shown → Type 0
@@ -78,8 +63,4 @@ front-entered first [] es all = tt
 front-entered first (d ∷ ds) es all = (all.0, front-entered first ds es all.1)
 
 abbrev pub name_progress : NameState → Progress
-name_progress state = record {
-  contents = record no_contents { names = state.names; file_names = state.file_names };
-  faults = state.faults;
-  listed = [];
-}
+name_progress state = record { contents = known state; faults = state.faults; listed = [] }

@@ -1,5 +1,4 @@
 ghost use Rattle.std.specs.Prelude.{◌≡◌, ◌≤◌, ◌∷◌, ◌++◌, [], IfOk, OnOk, Some, map};
-ghost use Rattle.std.specs.List.{fold};
 ghost use Rattle.proto_types.specs.declared.tag.message.TheConstants.{NAME};
 ghost use Rattle.name_resolution.specs.Kinds.{is_package};
 ghost use Rattle.name_pass.specs.Entered.{packages, package_entry};
@@ -46,7 +45,8 @@ impl NameVisitor<'_, '_> {
     ) -> Result<(), AllocError>
         requires { first_new self.old ≤ file }
         ensures ok { OnOk result (state_of self.new ≡ entered (records_of self.old)
-            (state_of self.old) (name.now, record { file = file; path = path; kind = kind })) }
+            (state_of self.old)
+            ((name.now, record { file = file; path = path; kind = kind }) ∷ [])) }
         ensures stays { Stays self.old self.new }
     {
         let definition = Definition { file, path, kind };
@@ -59,7 +59,7 @@ impl NameVisitor<'_, '_> {
     /// Enters a package and those around it, from the outermost in.
     fn enter_packages(&mut self, file: u32, name: &str) -> Result<(), AllocError>
         requires { first_new self.old ≤ file }
-        ensures ok { OnOk result (state_of self.new ≡ fold (entered (records_of self.old))
+        ensures ok { OnOk result (state_of self.new ≡ entered (records_of self.old)
             (state_of self.old) (map (package_entry file) (packages name.now))) }
         ensures stays { Stays self.old self.new }
     {
@@ -78,7 +78,7 @@ impl NameVisitor<'_, '_> {
     fn enter_package(&mut self, file: u32, name: &str) -> Result<(), AllocError>
         requires { first_new self.old ≤ file }
         ensures ok { OnOk result (state_of self.new ≡ entered (records_of self.old)
-            (state_of self.old) (package_entry file name.now)) }
+            (state_of self.old) (package_entry file name.now ∷ [])) }
         ensures stays { Stays self.old self.new }
     {
         let path = Items::from_slice(self.alloc, &[tag::file::PACKAGE])?;
@@ -113,7 +113,8 @@ impl NameVisitor<'_, '_> {
         requires { first_new self.old ≤ file }
         ensures ok { OnOk result (state_of self.new
             ≡ entered (records_of self.old) (state_of self.old)
-            (full_name.now, record { file = file; path = path.now ++ NAME ∷ []; kind = kind })) }
+            ((full_name.now, record { file = file; path = path.now ++ NAME ∷ []; kind = kind })
+            ∷ [])) }
         ensures stays { Stays self.old self.new }
     {
         let mut name_path = Vec::with_capacity(self.alloc, path.len() + 1)?;

@@ -1,11 +1,11 @@
 use Rattle.std.proofs.Common.{refl, ap, sym, ◌∙◌}
 use Rattle.std.specs.Option.{option_copied}
 use Rattle.std.proofs.lemmas.Result.{on_ok_weaker}
-use borrow.Rule.Reborrow.{re_v}
 use Rattle.pool_types.specs.declared.contents.definition.Definition.{Definition}
 use Rattle.name_pass.specs.State.{first_new, kept_of, records_of, state_of}
 use Rattle.name_pass.proofs.Entering.{new-name, held-name}
 use Rattle.name_pass.proofs.Kept.{stays-before}
+use Rattle.name_pass.proofs.Showing.{stays-told}
 use Rattle.name_pass.proofs.names.NameVisitor.enter.Goals as goal
 
 -- the name is a new one
@@ -34,10 +34,4 @@ returns-clause-ok c =
     on_ok_weaker c.check_clash.result (λ told. held-name files state (c.args.name.now, d) holder c.check_clash.new.faults.found.items present told) c.check_clash.ensures.told
 
 pub returns-clause-stays : goal.returns-clause-stays
-returns-clause-stays c =
-    let v = c.args.self.now in
-    record {
-      files = c.check_clash.ensures.labels;
-      kept = λ i. kept_of (record v { faults = re_v (record c.check_clash.new.faults { labels = c.check_clash.ensures.labels i }) v.faults });
-      borrows = refl;
-    }
+returns-clause-stays c = stays-told c.args.self.now c.check_clash.new.faults c.check_clash.ensures.labels

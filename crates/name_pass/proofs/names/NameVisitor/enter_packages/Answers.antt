@@ -1,32 +1,41 @@
-use Rattle.std.proofs.Common.{◌≡◌, true, false, get_or, length, [], take, map, arith, rules, ap, ◌∙◌}
+use Rattle.std.proofs.Common.{◌≡◌, true, false, get_or, length, [], ◌∷◌, take, map, arith, rules, refl, ap, ◌∙◌}
 use Rattle.std.proofs.lemmas.Bool.Decides.{nat_tests}
 use Rattle.proto_types.specs.Names.{fronts, is_dot}
 use Rattle.name_pass.specs.State.{records_of, state_of}
 use Rattle.std.proofs.lemmas.List.{take_all}
 use Rattle.std.proofs.lemmas.Result.{on_ok_weaker}
-use Rattle.std.specs.List.{fold}
 use Rattle.name_pass.specs.Entered.{package_entry}
 use Rattle.name_pass.specs.Steps.{entered}
+use Rattle.name_pass.proofs.Behind.{entered-none}
 use Rattle.name_pass.proofs.Packages.{packages_more, packages_whole}
 use Rattle.name_pass.proofs.Showing.{stays-on}
 use Rattle.name_pass.proofs.names.NameVisitor.enter_packages.Goals as goal
 use Rattle.name_pass.proofs.names.NameVisitor.enter_packages.Goals.{then-byte-eq46+in_ok-enter_package, else-byte-eq46}
 
+pub loop-end-init : goal.loop-end-init
+loop-end-init c = record {
+  state = entered-none (records_of c.args.self.now) (state_of c.args.self.now);
+  stays = record { files = refl; kept = refl; borrows = refl };
+}
+
 pub loop-end-preserved : goal.loop-end-preserved
 loop-end-preserved c =
     let more = packages_more (records_of c.args.self.now) (state_of c.args.self.now) c.args.file c.as_bytes-bytes.result.now c.loop-end.end c.loop-end-test.true in
+    let so-far = c.loop-end.invariant in
     elim c.if-byte-eq46.branch [
       | then-byte-eq46+in_ok-enter_package w ↦
           let dot : is_dot (get_or c.as_bytes-bytes.result.now c.loop-end.end 0) ≡ true = grind (arith, nat_tests) in
+          let front : w.range.result.now ≡ take c.loop-end.end c.as_bytes-bytes.result.now = grind (arith, rules, w.range.ensures.value, c.as_bytes-bytes.ensures.value) in
           record {
-            state = rw (more, dot, ← c.loop-end.invariant.state, w.self-is) (grind (arith, rules, w.in_ok-enter_package.ensures.ok));
-            stays = rw (w.self-is) (stays-on c.loop-end.invariant.stays w.in_ok-enter_package.ensures.stays);
+            state = rw (more, dot, w.self-is) (w.in_ok-enter_package.ensures.ok
+                ∙ (λ i. entered (map (λ f. f.raw) (so-far.stays.files i)) (so-far.state i) (package_entry c.args.file (front i) ∷ [])));
+            stays = rw (w.self-is) (stays-on so-far.stays w.in_ok-enter_package.ensures.stays);
           }
       | else-byte-eq46 w ↦
           let other : is_dot (get_or c.as_bytes-bytes.result.now c.loop-end.end 0) ≡ false = grind (arith, nat_tests) in
           record {
-            state = rw (more, other, w.self-is) c.loop-end.invariant.state;
-            stays = rw (w.self-is) c.loop-end.invariant.stays;
+            state = rw (more, other, w.self-is) so-far.state;
+            stays = rw (w.self-is) so-far.stays;
           }
     ]
 
@@ -38,7 +47,7 @@ returns-clause-ok c =
     let name = c.args.name.now in
     let whole : take L.end c.as_bytes-bytes.result.now ≡ name = take_all L.end c.as_bytes-bytes.result.now c.loop-end-test.false ∙ c.as_bytes-bytes.ensures.value in
     let some : (name ≡ []) → ⊥ = λ none. absurd (grind (arith, nat_tests, ap length none, c.is_empty.ensures, c.if-is_empty.ensures)) in
-    let so-far = L.invariant.state ∙ ap (λ bs. fold (entered (records_of v)) (state_of v) (map (package_entry c.args.file) (fronts bs))) whole in
+    let so-far = L.invariant.state ∙ ap (λ bs. entered (records_of v) (state_of v) (map (package_entry c.args.file) (fronts bs))) whole in
     on_ok_weaker c.enter_package-2.result (λ is. is
-    ∙ (λ i. entered (map (λ f. f.raw) (L.invariant.stays.files i)) (so-far i) (package_entry c.args.file name))
+    ∙ (λ i. entered (map (λ f. f.raw) (L.invariant.stays.files i)) (so-far i) (package_entry c.args.file name ∷ []))
     ∙ packages_whole (records_of v) (state_of v) c.args.file name some) c.enter_package-2.ensures.ok

@@ -1,5 +1,4 @@
 use Rattle.std.proofs.Common.{◌≡◌, map, take}
-use Rattle.std.specs.List.{fold}
 use Rattle.proto_types.specs.Names.{fronts}
 use Rattle.name_pass.specs.Entered.{package_entry}
 use Rattle.name_pass.specs.State.{records_of, state_of, Stays}
@@ -9,6 +8,6 @@ use Rattle.name_pass.proofs.names.NameVisitor.enter_packages.Given as goal
 -- the packages that end at a dot so far are entered
 abbrev pub invariant-loop-end : goal.invariant-loop-end
 invariant-loop-end l = record {
-  state : state_of l.self ≡ fold (entered (records_of l.initial.self)) (state_of l.initial.self) (map (package_entry l.file) (fronts (take l.end l.bytes)));
+  state : state_of l.self ≡ entered (records_of l.initial.self) (state_of l.initial.self) (map (package_entry l.file) (fronts (take l.end l.bytes)));
   stays : Stays l.initial.self l.self;
 }

@@ -15,6 +15,5 @@ returns-clause-ok c =
     let here = c.enter_own.new.self in
     let stays = c.enter_own.ensures.stays in
     let more = ap (λ (fs : List FileDescriptorInner). here.faults.now.found.items ++ enum_faults (map (λ f. f.raw) fs) c.args.file c.args.path.now c.args.enumeration.now) stays.files in
-    on_ok_weaker c.check_enum_values.result (λ told. shown-own c.args.self.now here d stays c.requires c.check_enum_values.new.faults
-    (enum_faults (records_of c.args.self.now) c.args.file c.args.path.now c.args.enumeration.now)
-    c.in_ok-enter_own.ensures.ok (told ∙ more) c.check_enum_values.ensures.labels (λ state. refl)) c.check_enum_values.ensures.told
+    on_ok_weaker c.check_enum_values.result (λ told. shown-own c.args.self.now here d stays c.requires c.check_enum_values.new.faults (enum_faults (records_of c.args.self.now) c.args.file c.args.path.now c.args.enumeration.now)
+    (λ state. refl) c.in_ok-enter_own.ensures.ok (told ∙ more) c.check_enum_values.ensures.labels) c.check_enum_values.ensures.told

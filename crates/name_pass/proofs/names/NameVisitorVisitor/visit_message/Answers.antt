@@ -15,6 +15,5 @@ returns-clause-ok c =
     let here = c.enter_own.new.self in
     let stays = c.enter_own.ensures.stays in
     let more = ap (λ (fs : List FileDescriptorInner). here.faults.now.found.items ++ message_own_faults (map (λ f. f.raw) fs) c.args.file c.args.path.now c.args.message.now) stays.files in
-    on_ok_weaker c.check_camel_case_names.result (λ told. shown-own c.args.self.now here d stays c.requires c.check_camel_case_names.new.faults
-    (message_own_faults (records_of c.args.self.now) c.args.file c.args.path.now c.args.message.now)
-    c.in_ok-enter_own.ensures.ok (told ∙ more) c.check_camel_case_names.ensures.labels (λ state. refl)) c.check_camel_case_names.ensures.told
+    on_ok_weaker c.check_camel_case_names.result (λ told. shown-own c.args.self.now here d stays c.requires c.check_camel_case_names.new.faults (message_own_faults (records_of c.args.self.now) c.args.file c.args.path.now c.args.message.now)
+    (λ state. refl) c.in_ok-enter_own.ensures.ok (told ∙ more) c.check_camel_case_names.ensures.labels) c.check_camel_case_names.ensures.told
