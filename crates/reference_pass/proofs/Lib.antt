@@ -4,4 +4,5 @@ pub mod Readings
 pub mod Found
 pub mod Owners
 pub mod ByItems
+pub mod Steps
 pub mod Seen

@@ -1,9 +1,8 @@
 -- What declarations break, told of each by itself, is what their owners break.
 use Rattle.std.proofs.Common.{◌≡◌, ℕ, ℤ, suc, Option, Some, List, [], ◌∷◌, ◌++◌, refl, ap, sym, ◌∙◌, append-nil, append_assoc}
 use Rattle.std.proofs.lemmas.Grind.{flat_map-append}
-use Rattle.std.proofs.lemmas.List.Elements.{filter_map-append}
 use Rattle.std.specs.List.{flat_map}
-use Rattle.std.specs.Option.{option_map, unwrap_or}
+use Rattle.std.specs.Option.{unwrap_or}
 use Rattle.proto_types.specs.Empty.{no_enum}
 use Rattle.proto_types.specs.EmptyFile.{no_message}
 use Rattle.proto_types.specs.declared.tag.file.TheConstants as file
@@ -11,9 +10,7 @@ use Rattle.proto_types.specs.declared.tag.message.TheConstants as message
 use Rattle.proto_types.specs.declared.tag.enum_.TheConstants as enumeration
 use Rattle.proto_types.specs.declared.tag.service.TheConstants as service
 use Rattle.proto_types.specs.declared.records.enumeration.EnumDescriptorProto.{EnumDescriptorProto}
-use Rattle.proto_types.specs.declared.records.enumeration.EnumValueDescriptorProto.{EnumValueDescriptorProto}
 use Rattle.proto_types.specs.declared.records.field.FieldDescriptorProto.{FieldDescriptorProto}
-use Rattle.proto_types.specs.declared.records.service.MethodDescriptorProto.{MethodDescriptorProto}
 use Rattle.proto_types.specs.declared.records.service.ServiceDescriptorProto.{ServiceDescriptorProto}
 use Rattle.plain_data.specs.Lists.{after_each}
 use Rattle.proto_types.specs.Computed.{literals}
@@ -23,15 +20,18 @@ use Rattle.proto_types.specs.declared.message.OneofDescriptorProto.{OneofDescrip
 use Rattle.record_walk.specs.declared.counts.Counts.{Counts}
 use Rattle.record_walk.specs.Counts.{counted, counting}
 use Rattle.record_walk.specs.Declarations.{in_file, enum_walk, enums_walk, service_walk, services_walk, message_front, message_end, message_walk, nested_walk, messages_walk, file_walk, declarations}
-use Rattle.record_walk.specs.Protos.{Proto, of_message, of_field, of_oneof, of_service, of_method, of_enum, of_value, of_extension, as_message, as_enum}
+use Rattle.record_walk.specs.Protos.{Proto, of_message, of_field, of_oneof, of_service, of_method, of_enum, of_value, of_extension, as_message, as_enum, as_service}
 use Rattle.record_walk.specs.Shown.{Shown, Surrounding, shown, file_shown, row, parts, inside, beside, of_kind}
 use Rattle.field_rules.specs.EnumValues.{value_faults, values_faults}
 use Rattle.reference_pass.specs.SecondPass.{Faults, Owner, last, field_faults, faults_of_fields, method_faults, faults_of_methods, second_faults, second_pass, owner_faults}
 use Rattle.plain_data.specs.Each.{map_enumerated}
+use Rattle.field_rules.specs.Places.{field_at}
+use Rattle.reference_pass.specs.Messages.{method_at}
 use Rattle.reference_pass.specs.Setting.{Setting}
+use Rattle.reference_pass.proofs.Steps.{kind-append}
 
 -- of two lists, each element with those before it
-after-append : {X Y : Type 0} (f : List X → X → List Y) (before xs ys : List X)
+pub after-append : {X Y : Type 0} (f : List X → X → List Y) (before xs ys : List X)
     → after_each f before (xs ++ ys) ≡ after_each f before xs ++ after_each f (before ++ xs) ys
 after-append f before [] ys = ap (λ zs. after_each f zs ys) (sym (append-nil before))
 after-append f before (x ∷ xs) ys =
@@ -45,14 +45,11 @@ last-push (y ∷ z ∷ xs) x = last-push (z ∷ xs) x
 
 -- the last declaration of a kind, behind one of that kind, and behind one of another
 module _ {X : Type 0} (pick : Proto → Option X) where
-  kind-append : (before ds : List Shown) → of_kind pick (before ++ ds) ≡ of_kind pick before ++ of_kind pick ds
-  kind-append before ds = filter_map-append (λ d. option_map (λ x. (d, x)) (pick d.proto)) before ds
-
   last-known : (before : List Shown) (d : Shown) (x : X) → of_kind pick (d ∷ []) ≡ (d, x) ∷ [] → last (of_kind pick (before ++ d ∷ [])) ≡ Some (d, x)
-  last-known before d x is = ap last (kind-append before (d ∷ []) ∙ ap (λ ds. of_kind pick before ++ ds) is) ∙ last-push (of_kind pick before) (d, x)
+  last-known before d x is = ap last (kind-append pick before (d ∷ []) ∙ ap (λ ds. of_kind pick before ++ ds) is) ∙ last-push (of_kind pick before) (d, x)
 
   last-stays : {owner : Shown × X} (before ds : List Shown) → of_kind pick ds ≡ [] → last (of_kind pick before) ≡ Some owner → last (of_kind pick (before ++ ds)) ≡ Some owner
-  last-stays before ds none is = ap last (kind-append before ds ∙ ap (λ es. of_kind pick before ++ es) none ∙ append-nil (of_kind pick before)) ∙ is
+  last-stays before ds none is = ap last (kind-append pick before ds ∙ ap (λ es. of_kind pick before ++ es) none ∙ append-nil (of_kind pick before)) ∙ is
 
 module _ (s : Setting) where
   abbrev told : List Shown → List Shown → Faults
@@ -83,22 +80,26 @@ module _ (s : Setting) where
   silent of none here tag i n [] = refl
   silent of none here tag i n (x ∷ xs) = λ j. none (shown here tag i n (of x)) x j ++ silent of none here tag (suc i) (suc n) xs j
 
-  -- the values of an enum
-  values-told : (here : Surrounding) (tag : ℤ) (owner : Shown × EnumDescriptorProto) (i : ℕ) (vs : List EnumValueDescriptorProto) (before : List Shown)
-      → last (of_kind as_enum before) ≡ Some owner
-      → told before (row of_value here tag i i vs) ≡ flat_map (λ faults. faults) (map_enumerated (value_faults s.files owner.0 owner.1) i vs)
-  values-told here tag owner i [] before known = refl
-  values-told here tag owner i (v ∷ vs) before known =
-      let d = shown here tag i i (of_value v) in
-      λ j. (let o = unwrap_or (known j) (d, no_enum) in value_faults s.files o.0 o.1 i v)
-      ++ values-told here tag owner (suc i) vs (before ++ d ∷ []) (last-stays as_enum before (d ∷ []) refl known) j
+  -- the parts of an owner, which is the last of its kind before them
+  row-told : {X Y : Type 0} (of : X → Proto) (pick : Proto → Option Y) (own : Option (Shown × Y) → ℕ → X → Faults) (here : Surrounding) (tag : ℤ)
+      → ((i : ℕ) (x : X) (before : List Shown) → let d = shown here tag i i (of x) in
+      (second_faults s before d ≡ own (last (of_kind pick before)) i x) × (of_kind pick (d ∷ []) ≡ []))
+      → (owner : Shown × Y) (i : ℕ) (xs : List X) (before : List Shown) → last (of_kind pick before) ≡ Some owner
+      → told before (row of here tag i i xs) ≡ flat_map (λ faults. faults) (map_enumerated (own (Some owner)) i xs)
+  row-told of pick own here tag each owner i [] before known = refl
+  row-told of pick own here tag each owner i (x ∷ xs) before known =
+      let d = shown here tag i i (of x) in
+      let one = each i x before in
+      let first = one.0 ∙ ap (λ found. own found i x) known in
+      λ j. first j ++ row-told of pick own here tag each owner (suc i) xs (before ++ d ∷ []) (last-stays pick before (d ∷ []) one.1 known) j
 
   enum-same : (here : Surrounding) (tag : ℤ) (i n : ℕ) (e : EnumDescriptorProto) → Same (enum_walk here tag i n e)
   enum-same here tag i n e = λ before.
       let d = shown here tag i n (of_enum e) in
       let within = beside here.scope d in
       let own = values_faults s.files d e in
-      values-told within enumeration.VALUE (d, e) 0 e.value (before ++ d ∷ []) (last-known as_enum before d e refl)
+      row-told of_value as_enum (λ found n v. let owner = unwrap_or found (shown within enumeration.VALUE n n (of_value v), no_enum) in value_faults s.files owner.0 owner.1 n v)
+      within enumeration.VALUE (λ _ _ _. (refl, refl)) (d, e) 0 e.value (before ++ d ∷ []) (last-known as_enum before d e refl)
       ∙ sym (ap (λ fs. own ++ fs) (silent of_value (λ _ _. refl) within enumeration.VALUE 0 0 e.value) ∙ append-nil own)
 
   enums-same : (here : Surrounding) (tag : ℤ) (i n : ℕ) (es : List EnumDescriptorProto) → Same (enums_walk here tag i n es)
@@ -106,19 +107,12 @@ module _ (s : Setting) where
   enums-same here tag i n (e ∷ es) =
       same-append (enum_walk here tag i n e) (enums_walk here tag (suc i) (suc n) es) (enum-same here tag i n e) (enums-same here tag (suc i) (suc n) es)
 
-  -- the methods of a service
-  methods-told : (here : Surrounding) (tag : ℤ) (i : ℕ) (ms : List MethodDescriptorProto) (before : List Shown)
-      → told before (row of_method here tag i i ms) ≡ flat_map (λ faults. faults) (map_enumerated (λ n m. method_faults s (shown here tag n n (of_method m)) m) i ms)
-  methods-told here tag i [] before = refl
-  methods-told here tag i (m ∷ ms) before =
-      let d = shown here tag i i (of_method m) in
-      ap (λ rest. method_faults s d m ++ rest) (methods-told here tag (suc i) ms (before ++ d ∷ []))
-
   service-same : (here : Surrounding) (i n : ℕ) (v : ServiceDescriptorProto) → Same (service_walk here i n v)
   service-same here i n v = λ before.
       let d = shown here file.SERVICE i n (of_service v) in
       let own = faults_of_methods s (inside d) v.method in
-      methods-told (inside d) service.METHOD 0 v.method (before ++ d ∷ [])
+      row-told of_method as_service (λ _ n m. method_faults s (method_at (inside d) n m) m) (inside d) service.METHOD (λ _ _ _. (refl, refl))
+      (d, v) 0 v.method (before ++ d ∷ []) (last-known as_service before d v refl)
       ∙ sym (ap (λ fs. own ++ fs) (silent of_method (λ _ _. refl) (inside d) service.METHOD 0 0 v.method) ∙ append-nil own)
 
   services-same : (here : Surrounding) (i n : ℕ) (ss : List ServiceDescriptorProto) → Same (services_walk here i n ss)
@@ -135,21 +129,7 @@ module _ (s : Setting) where
       same-append (enums_walk here message.ENUM_TYPE 0 after.enums enums) (row of_extension here message.EXTENSION 0 after.extensions extensions)
       (enums-same here message.ENUM_TYPE 0 after.enums enums) (extensions-same here message.EXTENSION 0 after.extensions extensions)
 
-  -- the fields of a message
-  fields-told : (here : Surrounding) (tag : ℤ) (owner : Owner) (i : ℕ) (fs : List FieldDescriptorProto) (before : List Shown)
-      → last (of_kind as_message before) ≡ Some owner
-      → told before (row of_field here tag i i fs) ≡ flat_map (λ faults. faults) (map_enumerated (λ n f. field_faults s owner (shown here tag n n (of_field f)) f) i fs)
-  fields-told here tag owner i [] before known = refl
-  fields-told here tag owner i (f ∷ fs) before known =
-      let d = shown here tag i i (of_field f) in
-      λ j. field_faults s (unwrap_or (known j) (d, no_message)) d f
-      ++ fields-told here tag owner (suc i) fs (before ++ d ∷ []) (last-stays as_message before (d ∷ []) refl known) j
-
-  -- its oneofs, which break nothing, and are no messages
-  oneofs-told : (here : Surrounding) (tag : ℤ) (i n : ℕ) (os : List OneofDescriptorProto) (before : List Shown) → told before (row of_oneof here tag i n os) ≡ []
-  oneofs-told here tag i n [] before = refl
-  oneofs-told here tag i n (o ∷ os) before = oneofs-told here tag (suc i) (suc n) os (before ++ shown here tag i n (of_oneof o) ∷ [])
-
+  -- the oneofs of a message are no messages
   oneofs-pass : (here : Surrounding) (tag : ℤ) (i n : ℕ) (os : List OneofDescriptorProto) → of_kind as_message (row of_oneof here tag i n os) ≡ []
   oneofs-pass here tag i n [] = refl
   oneofs-pass here tag i n (o ∷ os) = oneofs-pass here tag (suc i) (suc n) os
@@ -158,13 +138,14 @@ module _ (s : Setting) where
   front-told : (here : Surrounding) (owner : Owner) (oneofs : List OneofDescriptorProto) (fields : List FieldDescriptorProto) (before : List Shown)
       → last (of_kind as_message before) ≡ Some owner
       → told before (message_front here oneofs fields)
-      ≡ flat_map (λ faults. faults) (map_enumerated (λ n f. field_faults s owner (shown here message.FIELD n n (of_field f)) f) 0 fields)
+      ≡ flat_map (λ faults. faults) (map_enumerated (λ n f. field_faults s owner (field_at here n f) f) 0 fields)
   front-told here owner oneofs fields before known =
       let first = parts of_oneof here message.ONEOF_DECL oneofs in
       let own = parts of_field here message.FIELD fields in
-      let still = last-stays as_message before first (oneofs-pass here message.ONEOF_DECL 0 0 oneofs) known in
-      after-append (second_faults s) before first own
-      ∙ (λ i. oneofs-told here message.ONEOF_DECL 0 0 oneofs before i ++ fields-told here message.FIELD owner 0 fields (before ++ first) still i)
+      let none = row-same of_oneof (λ _ _ _. refl) here message.ONEOF_DECL 0 0 oneofs before ∙ silent of_oneof (λ _ _. refl) here message.ONEOF_DECL 0 0 oneofs in
+      let told_own = row-told of_field as_message (λ found n f. let d = field_at here n f in field_faults s (unwrap_or found (d, no_message)) d f)
+      here message.FIELD (λ _ _ _. (refl, refl)) owner 0 fields (before ++ first) (last-stays as_message before first (oneofs-pass here message.ONEOF_DECL 0 0 oneofs) known) in
+      after-append (second_faults s) before first own ∙ (λ i. none i ++ told_own i)
 
   front-silent : (here : Surrounding) (oneofs : List OneofDescriptorProto) (fields : List FieldDescriptorProto) → owners (message_front here oneofs fields) ≡ []
   front-silent here oneofs fields =

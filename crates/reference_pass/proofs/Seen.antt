@@ -1,16 +1,35 @@
 -- One more declaration is shown to the second pass.
-use Rattle.std.proofs.Common.{◌≡◌, List, [], ◌∷◌, map}
+use Rattle.std.proofs.Common.{◌≡◌, List, [], ◌∷◌, ◌++◌, map, refl, ap, sym, ◌∙◌, append-nil}
 use Rattle.std.specs.List.{fold}
 use Rattle.pool_types.specs.declared.contents.file.FileDescriptorInner.{FileDescriptorInner}
+use Rattle.field_rules.specs.declared.findings.Faults.{Faults as PassFaults}
 use Rattle.record_walk.specs.FullNames.{CanBeRead}
-use Rattle.record_walk.specs.Progress.{HasSeen}
+use Rattle.record_walk.specs.Progress.{HasSeen, Progress}
 use Rattle.record_walk.specs.Shown.{Shown}
+use Rattle.reference_pass.specs.SecondPass.{owner_faults}
 use Rattle.reference_pass.specs.Setting.{Setting}
+use Rattle.reference_pass.specs.declared.items.NewItems.{NewItems}
 use Rattle.reference_pass.specs.declared.resolve.ResolveVisitor.{ResolveVisitor}
-use Rattle.reference_pass.specs.Steps.{ReferenceState, reference_progress, reference_step}
+use Rattle.reference_pass.specs.State.{setting_of, state_of}
+use Rattle.reference_pass.specs.Steps.{ReferenceState, reference_progress, reference_step, with_declarations}
+use Rattle.reference_pass.proofs.Steps.{with-none}
+
+-- what further declarations make of a state
+abbrev after : Setting → ReferenceState → List Shown → Progress
+after s a ds = reference_progress (fold (reference_step s) a ds)
+
+-- what is held with these items and faults
+abbrev pub held : NewItems → PassFaults → ReferenceState
+held items faults = record {
+  messages = items.messages.items;
+  enums = items.enums.items;
+  services = items.services.items;
+  extensions = items.extensions.items;
+  faults = faults.found.items;
+}
 
 -- what declarations are read against, where labels name these files
-abbrev pub setting_over : ResolveVisitor → List FileDescriptorInner → Setting
+abbrev setting_over : ResolveVisitor → List FileDescriptorInner → Setting
 setting_over v files = record {
   files = map (λ f. f.raw) files;
   names = v.names.now;
@@ -19,9 +38,31 @@ setting_over v files = record {
 }
 
 -- what is held then is what the declaration makes of what was held
-pub seen : (s t : Setting) (a b : ReferenceState) (d : Shown) → t ≡ s → CanBeRead (d ∷ []) → b ≡ reference_step s a d
-    → HasSeen (λ ds. reference_progress (fold (reference_step s) a ds)) CanBeRead (λ ds. reference_progress (fold (reference_step t) b ds)) CanBeRead (d ∷ [])
-seen s t a b d same can is = record {
-  after_is = λ rest i. reference_progress (fold (reference_step (same i)) (is i) rest);
+shown : (s t : Setting) (a b : ReferenceState) (d : Shown) → t ≡ s → CanBeRead (d ∷ []) → b ≡ reference_step s a d
+    → HasSeen (after s a) CanBeRead (after t b) CanBeRead (d ∷ [])
+shown s t a b d same can is = record {
+  after_is = λ rest i. after (same i) (is i) rest;
   ready_is = λ rest. (λ (all : CanBeRead rest). (can.0, all), λ (all : CanBeRead (d ∷ rest)). all.1);
 }
+
+-- what it breaks is told behind what was told
+pub seen : (v : ResolveVisitor) (items : NewItems) (faults : PassFaults) (d : Shown) → faults.labels ≡ v.faults.labels → CanBeRead (d ∷ [])
+    → held items faults ≡ record (reference_step (setting_of v) (state_of v) d) { faults = v.faults.found.items ++ owner_faults (setting_of v) d }
+    → HasSeen (after (setting_of v) (state_of v)) CanBeRead (after (setting_over v faults.labels) (held items faults)) CanBeRead (d ∷ [])
+seen v items faults d same can is =
+    let s = setting_of v in
+    let step = reference_step s (state_of v) d in
+    let told = sym (append-nil (owner_faults s d)) in
+    shown s (setting_over v faults.labels) (state_of v) (held items faults) d (ap (setting_over v) same) can
+    (is ∙ (λ i. record step { faults = v.faults.found.items ++ told i }))
+
+-- it makes no item of a kind
+pub none : {X : Type 0} {xs ys : List X} → ys ≡ xs → ys ≡ xs ++ []
+none {X} {xs} is = is ∙ sym (append-nil xs)
+
+-- it makes nothing
+pub passed : (v : ResolveVisitor) (d : Shown) → reference_step (setting_of v) (state_of v) d ≡ with_declarations (setting_of v) (state_of v) []
+    → CanBeRead (d ∷ []) → HasSeen (after (setting_of v) (state_of v)) CanBeRead (after (setting_of v) (state_of v)) CanBeRead (d ∷ [])
+passed v d nothing can =
+    let s = setting_of v in
+    shown s s (state_of v) (state_of v) d refl can (sym (nothing ∙ with-none s (state_of v)))

@@ -1,9 +1,10 @@
 -- The records that a pool holds of files, messages, services and extensions.
-use Rattle.std.specs.Prelude.{ℕ, List, [], ◌∷◌, ◌++◌, unwrap_or}
+use Rattle.std.specs.Prelude.{ℕ, List, [], ◌∷◌, ◌++◌, map, unwrap_or}
 use Rattle.std.specs.FinMap as finite
 use Rattle.std.specs.List.{filter_map}
 use Rattle.proto_types.specs.declared.tag.message.TheConstants as message
 use Rattle.pool_types.specs.declared.contents.definition.Identity.{Identity}
+use Rattle.pool_types.specs.declared.contents.enumeration.EnumDescriptorInner.{EnumDescriptorInner}
 use Rattle.pool_types.specs.declared.contents.extension.ExtensionDescriptorInner.{ExtensionDescriptorInner}
 use Rattle.pool_types.specs.declared.contents.field.FieldDescriptorInner.{FieldDescriptorInner}
 use Rattle.pool_types.specs.declared.contents.file.FileDescriptorInner.{FileDescriptorInner}
@@ -23,8 +24,8 @@ use Rattle.proto_types.specs.declared.message.DescriptorProto.{DescriptorProto, 
 use Rattle.proto_types.specs.declared.message.OneofDescriptorProto.{OneofDescriptorProto}
 use Rattle.proto_types.specs.Readers.{number_of, label_of}
 use Rattle.reference_pass.specs.Defaults.{field_default}
-use Rattle.record_walk.specs.Protos.{of_oneof}
-use Rattle.record_walk.specs.Shown.{Shown, Surrounding, inside}
+use Rattle.record_walk.specs.Protos.{Proto, of_oneof, as_file, as_message, as_enum, as_service, as_extension}
+use Rattle.record_walk.specs.Shown.{Shown, Surrounding, inside, of_kind}
 use Rattle.name_resolution.specs.Kinds.{cardinality_of}
 use Rattle.name_pass.specs.Syntaxes.{syntax_of, syntax_at, is_proto3}
 use Rattle.field_rules.specs.Encoding.{is_packed, supports_presence}
@@ -32,6 +33,7 @@ use Rattle.field_rules.specs.Maps.{by_number, by_name, by_json_name}
 use Rattle.field_rules.specs.DuplicateNumbers.{item_number}
 use Rattle.field_rules.specs.Oneofs.{members, oneof_of}
 use Rattle.plain_data.specs.Each.{map_enumerated}
+use Rattle.field_rules.specs.EnumItems.{enum_item}
 use Rattle.field_rules.specs.Identities.{identity}
 use Rattle.reference_pass.specs.FieldTypes.{field_kind}
 use Rattle.reference_pass.specs.Linked.{linked}
@@ -146,3 +148,23 @@ extension_item s d x =
       cardinality = cardinality_of (label_of x.label);
       default = field_default s d x;
     }
+
+-- what is made of each declaration of one kind, in order
+abbrev pub made_of : {X Y : Type 0} → (Proto → Option X) → (Shown → X → Y) → List Shown → List Y
+made_of pick make ds = map (λ e. make e.0 e.1) (of_kind pick ds)
+
+-- the items of declarations, by their kinds
+abbrev pub file_items : Setting → List Shown → List FileDescriptorInner
+file_items s ds = made_of as_file (λ d f. file_item s d.index f) ds
+
+abbrev pub message_items : Setting → List Shown → List MessageDescriptorInner
+message_items s ds = made_of as_message (message_item s) ds
+
+abbrev pub enum_items : List Shown → List EnumDescriptorInner
+enum_items ds = made_of as_enum enum_item ds
+
+abbrev pub service_items : Setting → List Shown → List ServiceDescriptorInner
+service_items s ds = made_of as_service (service_item s) ds
+
+abbrev pub extension_items : Setting → List Shown → List ExtensionDescriptorInner
+extension_items s ds = made_of as_extension (extension_item s) ds

@@ -99,6 +99,7 @@ impl Visitor for ResolveVisitor<'_> {
         self.items.push_message(item)
     }
 
+    #[tactic(auto, using(crate::proofs::Seen::passed))]
     fn visit_field(
         &mut self,
         _path: &[i32],
@@ -111,6 +112,7 @@ impl Visitor for ResolveVisitor<'_> {
         Ok(())
     }
 
+    #[tactic(auto, using(crate::proofs::Seen::passed))]
     fn visit_oneof(
         &mut self,
         _path: &[i32],
@@ -143,6 +145,7 @@ impl Visitor for ResolveVisitor<'_> {
         self.items.push_service(item)
     }
 
+    #[tactic(auto, using(crate::proofs::Seen::passed))]
     fn visit_method(
         &mut self,
         _path: &[i32],
@@ -175,6 +178,7 @@ impl Visitor for ResolveVisitor<'_> {
         self.items.push_enum(item)
     }
 
+    #[tactic(auto, using(crate::proofs::Seen::passed))]
     fn visit_enum_value(
         &mut self,
         _path: &[i32],

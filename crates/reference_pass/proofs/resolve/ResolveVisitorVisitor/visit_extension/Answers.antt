@@ -4,9 +4,7 @@ use Rattle.std.proofs.lemmas.Result.{on_ok_weaker}
 use Rattle.record_walk.specs.Protos.{of_extension}
 use Rattle.reference_pass.specs.SecondPass.{extension_faults}
 use Rattle.reference_pass.specs.Items.{extension_item}
-use Rattle.reference_pass.specs.State.{setting_of, state_of}
-use Rattle.reference_pass.specs.Steps.{ReferenceState}
-use Rattle.reference_pass.proofs.Seen.{seen, setting_over}
+use Rattle.reference_pass.proofs.Seen.{none, seen}
 use Rattle.reference_pass.proofs.resolve.ResolveVisitorVisitor.visit_extension.Goals as goal
 
 -- its item is made, and what it breaks is told
@@ -15,23 +13,14 @@ returns-clause-ok c =
     let v = c.args.self.now in
     let x = c.args.extension.now in
     let d : Shown = shown_as c.args.path.now c.args.full_name.now c.args.file c.args.parent c.args.index (of_extension x) in
-    let faults = c.read_extension.new.faults in
-    let items = c.push_extension.new.self in
-    let same = ap (setting_over v) c.read_extension.ensures.labels in
     let setting = c.setting-setting.ensures.setting in
     let item = c.in_ok-item.ensures.item ∙ ap (λ s. extension_item s d x) setting in
     let told = c.in_ok-item.ensures.faults ∙ ap (λ s. v.faults.found.items ++ extension_faults s d x) setting in
-    let after : ReferenceState = record {
-      messages = items.messages.items;
-      enums = items.enums.items;
-      services = items.services.items;
-      extensions = items.extensions.items;
-      faults = faults.found.items;
-    } in
-    on_ok_weaker c.push_extension.result (λ pushed. seen (setting_of v) (setting_over v faults.labels) (state_of v) after d same c.requires (λ i. record {
-      messages = (c.push_extension.ensures.messages i).items;
-      enums = (c.push_extension.ensures.enums i).items;
-      services = (c.push_extension.ensures.services i).items;
+    on_ok_weaker c.push_extension.result (λ pushed. seen v c.push_extension.new.self c.read_extension.new.faults d c.read_extension.ensures.labels c.requires
+    (λ i. record {
+      messages = none (λ j. (c.push_extension.ensures.messages j).items) i;
+      enums = none (λ j. (c.push_extension.ensures.enums j).items) i;
+      services = none (λ j. (c.push_extension.ensures.services j).items) i;
       extensions = (pushed ∙ ap (λ y. v.items.extensions.items ++ y ∷ []) item) i;
       faults = told i;
     })) c.push_extension.ensures.ok

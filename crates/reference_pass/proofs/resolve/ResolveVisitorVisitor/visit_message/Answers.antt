@@ -4,9 +4,7 @@ use Rattle.std.proofs.lemmas.Result.{on_ok_weaker}
 use Rattle.record_walk.specs.Protos.{of_message}
 use Rattle.reference_pass.specs.SecondPass.{message_faults}
 use Rattle.reference_pass.specs.Items.{message_item}
-use Rattle.reference_pass.specs.State.{setting_of, state_of}
-use Rattle.reference_pass.specs.Steps.{ReferenceState}
-use Rattle.reference_pass.proofs.Seen.{seen, setting_over}
+use Rattle.reference_pass.proofs.Seen.{none, seen}
 use Rattle.reference_pass.proofs.resolve.ResolveVisitorVisitor.visit_message.Goals as goal
 
 -- its item is made, and what it breaks is told
@@ -15,23 +13,14 @@ returns-clause-ok c =
     let v = c.args.self.now in
     let m = c.args.message.now in
     let d : Shown = shown_as c.args.path.now c.args.full_name.now c.args.file c.args.parent c.args.index (of_message m) in
-    let faults = c.read_message.new.faults in
-    let items = c.push_message.new.self in
-    let same = ap (setting_over v) c.read_message.ensures.labels in
     let setting = c.setting-setting.ensures.setting in
     let item = c.in_ok-item.ensures.item ∙ ap (λ s. message_item s d m) setting in
     let told = c.in_ok-item.ensures.faults ∙ ap (λ s. v.faults.found.items ++ message_faults s d m) setting in
-    let after : ReferenceState = record {
-      messages = items.messages.items;
-      enums = items.enums.items;
-      services = items.services.items;
-      extensions = items.extensions.items;
-      faults = faults.found.items;
-    } in
-    on_ok_weaker c.push_message.result (λ pushed. seen (setting_of v) (setting_over v faults.labels) (state_of v) after d same c.requires (λ i. record {
+    on_ok_weaker c.push_message.result (λ pushed. seen v c.push_message.new.self c.read_message.new.faults d c.read_message.ensures.labels c.requires
+    (λ i. record {
       messages = (pushed ∙ ap (λ x. v.items.messages.items ++ x ∷ []) item) i;
-      enums = (c.push_message.ensures.enums i).items;
-      services = (c.push_message.ensures.services i).items;
-      extensions = (c.push_message.ensures.extensions i).items;
+      enums = none (λ j. (c.push_message.ensures.enums j).items) i;
+      services = none (λ j. (c.push_message.ensures.services j).items) i;
+      extensions = none (λ j. (c.push_message.ensures.extensions j).items) i;
       faults = told i;
     })) c.push_message.ensures.ok

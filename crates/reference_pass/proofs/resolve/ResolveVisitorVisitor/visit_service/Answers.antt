@@ -5,9 +5,7 @@ use Rattle.record_walk.specs.Protos.{of_service}
 use Rattle.std.specs.declared.option.Option.TheVariants.{None}
 use Rattle.reference_pass.specs.SecondPass.{service_faults}
 use Rattle.reference_pass.specs.Items.{service_item}
-use Rattle.reference_pass.specs.State.{setting_of, state_of}
-use Rattle.reference_pass.specs.Steps.{ReferenceState}
-use Rattle.reference_pass.proofs.Seen.{seen, setting_over}
+use Rattle.reference_pass.proofs.Seen.{none, seen}
 use Rattle.reference_pass.proofs.resolve.ResolveVisitorVisitor.visit_service.Goals as goal
 
 -- its item is made, and what it breaks is told
@@ -16,23 +14,14 @@ returns-clause-ok c =
     let v = c.args.self.now in
     let x = c.args.service.now in
     let d : Shown = shown_as c.args.path.now c.args.full_name.now c.args.file None c.args.index (of_service x) in
-    let faults = c.read_service.new.faults in
-    let items = c.push_service.new.self in
-    let same = ap (setting_over v) c.read_service.ensures.labels in
     let setting = c.setting-setting.ensures.setting in
     let item = c.in_ok-item.ensures.item ∙ ap (λ s. service_item s d x) setting in
     let told = c.in_ok-item.ensures.faults ∙ ap (λ s. v.faults.found.items ++ service_faults s d x) setting in
-    let after : ReferenceState = record {
-      messages = items.messages.items;
-      enums = items.enums.items;
-      services = items.services.items;
-      extensions = items.extensions.items;
-      faults = faults.found.items;
-    } in
-    on_ok_weaker c.push_service.result (λ pushed. seen (setting_of v) (setting_over v faults.labels) (state_of v) after d same c.requires (λ i. record {
-      messages = (c.push_service.ensures.messages i).items;
-      enums = (c.push_service.ensures.enums i).items;
+    on_ok_weaker c.push_service.result (λ pushed. seen v c.push_service.new.self c.read_service.new.faults d c.read_service.ensures.labels c.requires
+    (λ i. record {
+      messages = none (λ j. (c.push_service.ensures.messages j).items) i;
+      enums = none (λ j. (c.push_service.ensures.enums j).items) i;
       services = (pushed ∙ ap (λ y. v.items.services.items ++ y ∷ []) item) i;
-      extensions = (c.push_service.ensures.extensions i).items;
+      extensions = none (λ j. (c.push_service.ensures.extensions j).items) i;
       faults = told i;
     })) c.push_service.ensures.ok
