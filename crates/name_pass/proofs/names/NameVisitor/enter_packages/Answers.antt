@@ -25,10 +25,8 @@ loop-end-preserved c =
     elim c.if-byte-eq46.branch [
       | then-byte-eq46+in_ok-enter_package w ↦
           let dot : is_dot (get_or c.as_bytes-bytes.result.now c.loop-end.end 0) ≡ true = grind (arith, nat_tests) in
-          let front : w.range.result.now ≡ take c.loop-end.end c.as_bytes-bytes.result.now = grind (arith, rules, w.range.ensures.value, c.as_bytes-bytes.ensures.value) in
           record {
-            state = rw (more, dot, w.self-is) (w.in_ok-enter_package.ensures.ok
-                ∙ (λ i. entered (map (λ f. f.raw) (so-far.stays.files i)) (so-far.state i) (package_entry c.args.file (front i) ∷ [])));
+            state = rw (more, dot, w.self-is) (grind (arith, rules, w.in_ok-enter_package.ensures.ok, so-far.state, so-far.stays.files));
             stays = rw (w.self-is) (stays-on so-far.stays w.in_ok-enter_package.ensures.stays);
           }
       | else-byte-eq46 w ↦
