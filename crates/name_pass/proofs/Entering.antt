@@ -14,55 +14,32 @@ use Rattle.name_pass.specs.FirstPass.{file_name_faults, holder_faults}
 use Rattle.name_pass.specs.Steps.{NameState, entered, file_named}
 
 module _ (files : List FileDescriptorProto) (state : NameState) (e : Entry) where
-  -- the faults behind an entry, by what its name meant
-  abbrev faults-by : Option Definition → List DescriptorErrorKind
-  faults-by found = state.faults ++ (holder_faults files (option_or found None) e ++ [])
-
   -- which no name before it is
   pub new-name : {U E : Type 0} (r : Result U E) (names : ByText Definition) → finite.get state.names e.0 ≡ None
       → OnOk r (names ≡ finite.insert state.names e.0 e.1) → OnOk r (record state { names = names } ≡ entered files state (e ∷ []))
-  new-name r names absent inserted = on_ok_weaker r (λ is i. record state {
-    names = (is ∙ sym (with-absent state.names e.0 e.1 absent)) i;
-    faults = (sym (append-nil state.faults) ∙ ap faults-by (sym absent)) i;
-  }) inserted
+  new-name r names absent inserted = on_ok_weaker r (λ is. simp (with-absent state.names e.0 e.1 absent, absent, append-nil) (λ i. record state { names = is i })) inserted
 
   -- which has a holder
   pub held-name : (holder : Definition) (faults : List DescriptorErrorKind) → finite.get state.names e.0 ≡ Some holder
       → faults ≡ state.faults ++ holder_faults files (Some holder) e → record state { faults = faults } ≡ entered files state (e ∷ [])
-  held-name holder faults present told = λ i. record state {
-    names = sym (with-present state.names e.0 e.1 holder present) i;
-    faults = (told ∙ ap (λ more. state.faults ++ more) (sym (append-nil (holder_faults files (Some holder) e))) ∙ ap faults-by (sym present)) i;
-  }
+  held-name holder faults present told = simp (told, with-present state.names e.0 e.1 holder present, present, append-nil)
+
+module _ (state : NameState) (name : List ℕ) (index : ℕ) where
+  -- the name of one more file, which no file has
+  pub new-file-name : {U E : Type 0} (r : Result U E) (file_names : ByText ℕ) → finite.get state.file_names name ≡ None
+      → OnOk r (file_names ≡ finite.insert state.file_names name index) → OnOk r (record state { file_names = file_names } ≡ file_named state name index)
+  new-file-name r file_names absent inserted = on_ok_weaker r (λ is. simp (with-absent state.file_names name index absent, absent, append-nil) (λ i. record state { file_names = is i })) inserted
+
+  -- which a file has
+  pub held-file-name : (held : ℕ) (faults : List DescriptorErrorKind) → finite.get state.file_names name ≡ Some held → faults ≡ state.faults ++ DuplicateFileName name ∷ []
+      → record state { faults = faults } ≡ file_named state name index
+  held-file-name held faults present told = simp (told, with-present state.file_names name index held present, present)
 
 -- whether a look-up found something
 pub found-none : {X : Type 0} (found : Option X) → is_some found ≡ false → found ≡ None
 found-none None is = refl
 found-none (Some x) is = absurd (search rules)
 
-found-some : {X : Type 0} (found : Option X) → is_some found ≡ true → (x : X) × (found ≡ Some x)
+pub found-some : {X : Type 0} (found : Option X) → is_some found ≡ true → (x : X) × (found ≡ Some x)
 found-some None is = absurd (search rules)
 found-some (Some x) is = (x, refl)
-
-module _ (state : NameState) (name : List ℕ) (index : ℕ) where
-  abbrev file-faults-by : Option ℕ → List DescriptorErrorKind
-  file-faults-by found = state.faults ++ file_name_faults (option_or found None) name
-
-  -- the name of one more file, which no file has
-  pub new-file-name : {U E : Type 0} (r : Result U E) (file_names : ByText ℕ) → is_some (finite.get state.file_names name) ≡ false
-      → OnOk r (file_names ≡ finite.insert state.file_names name index) → OnOk r (record state { file_names = file_names } ≡ file_named state name index)
-  new-file-name r file_names none inserted =
-      let absent = found-none (finite.get state.file_names name) none in
-      on_ok_weaker r (λ is i. record state {
-        file_names = (is ∙ sym (with-absent state.file_names name index absent)) i;
-        faults = (sym (append-nil state.faults) ∙ ap file-faults-by (sym absent)) i;
-      }) inserted
-
-  -- which a file has
-  pub held-file-name : (faults : List DescriptorErrorKind) → is_some (finite.get state.file_names name) ≡ true → faults ≡ state.faults ++ DuplicateFileName name ∷ []
-      → record state { faults = faults } ≡ file_named state name index
-  held-file-name faults some told =
-      let present = found-some (finite.get state.file_names name) some in
-      λ i. record state {
-        file_names = sym (with-present state.file_names name index present.0 present.1) i;
-        faults = (told ∙ ap file-faults-by (sym present.1)) i;
-      }

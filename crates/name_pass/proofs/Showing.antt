@@ -1,5 +1,6 @@
 -- One more declaration is shown to the first pass.
-use Rattle.std.proofs.Common.{◌≡◌, ℕ, ℤ, List, [], ◌∷◌, ◌++◌, length, map, refl, ap, subst, sym, ◌∙◌, append_assoc, append-nil}
+use Rattle.std.proofs.Common.{◌≡◌, ℕ, ℤ, Result, OnOk, List, [], ◌∷◌, ◌++◌, length, map, refl, ap, subst, sym, ◌∙◌, append_assoc, append-nil}
+use Rattle.std.proofs.lemmas.Result.{on_ok_weaker}
 use Rattle.std.specs.List.{fold}
 use Rattle.pool_faults.specs.declared.fault.DescriptorErrorKind.{DescriptorErrorKind}
 use Rattle.field_rules.specs.declared.findings.Faults.{Faults}
@@ -13,7 +14,7 @@ use Rattle.record_walk.specs.Shown.{Shown, file_shown}
 use Rattle.name_pass.specs.declared.names.NameVisitor.{NameVisitor}
 use Rattle.name_pass.specs.State.{first_new, kept_of, records_of, state_of, Stays}
 use Rattle.name_pass.specs.Entered.{entries_of, own_entry}
-use Rattle.name_pass.specs.FirstPass.{clashes, file_name_faults, holder}
+use Rattle.name_pass.specs.FirstPass.{clashes}
 use Rattle.name_pass.specs.Steps.{CanBeEntered, NameState, entered, file_named, name_progress, name_step}
 use Rattle.name_pass.specs.Syntaxes.{syntax_faults}
 use borrow.Rule.Reborrow.{re_v}
@@ -52,51 +53,32 @@ shown old new d stays can is =
       );
     }
 
--- what breaks by itself a declaration other than a file, whose one entry is its own
-abbrev BreaksOwn : List FileDescriptorProto → Shown → List DescriptorErrorKind → Type 0
-BreaksOwn files d own = (state : NameState) → name_step files state d ≡ record {
+-- what a declaration other than a file breaks by itself, behind its name
+abbrev BreaksOwn : NameVisitor → Shown → List DescriptorErrorKind → Type 0
+BreaksOwn v d own = let state = state_of v in name_step (records_of v) state d ≡ record {
   names = names_with state.names (own_entry d ∷ []);
   file_names = names_with state.file_names [];
-  faults = state.faults ++ (clashes files state.names [] (own_entry d ∷ []) ++ own);
+  faults = state.faults ++ (clashes (records_of v) state.names [] (own_entry d ∷ []) ++ own);
 }
 
--- behind its name come the faults of a declaration by itself
-step-own : (files : List FileDescriptorProto) (state : NameState) (d : Shown) (own : List DescriptorErrorKind) → BreaksOwn files d own
-    → let named = entered files state (own_entry d ∷ []) in record named { faults = named.faults ++ own } ≡ name_step files state d
-step-own files state d own is-own =
-    (λ i. record {
-      names = names_with state.names (own_entry d ∷ []);
-      file_names = sym (with-nothing state.file_names) i;
-      faults = append_assoc state.faults (clashes files state.names [] (own_entry d ∷ [])) own i;
-    })
-    ∙ sym (is-own state)
-
 module _ (old here : NameVisitor) (d : Shown) (stays : Stays old here) (can : CanBeEntered (first_new old) (d ∷ [])) where
-  -- its name is entered, and it breaks nothing by itself
-  pub shown-named : BreaksOwn (records_of old) d [] → state_of here ≡ entered (records_of old) (state_of old) (own_entry d ∷ []) → HasBeenShown old here d
-  shown-named none named =
-      let after = entered (records_of old) (state_of old) (own_entry d ∷ []) in
-      shown old here d stays can (named ∙ (λ i. record after { faults = sym (append-nil after.faults) i }) ∙ step-own (records_of old) (state_of old) d [] none)
-
-  -- behind its name come the faults of a declaration by itself
-  pub shown-own : (faults : Faults) (own : List DescriptorErrorKind) → BreaksOwn (records_of old) d own
-      → state_of here ≡ entered (records_of old) (state_of old) (own_entry d ∷ [])
-      → faults.found.items ≡ here.faults.now.found.items ++ own → faults.labels ≡ here.faults.now.labels
-      → HasBeenShown old (record here { faults = re_v faults here.faults }) d
+  -- its name is entered, and then comes what it breaks by itself
+  pub shown-own : (faults : Faults) (own : List DescriptorErrorKind) → BreaksOwn old d own → state_of here ≡ entered (records_of old) (state_of old) (own_entry d ∷ [])
+      → faults.found.items ≡ here.faults.now.found.items ++ own → faults.labels ≡ here.faults.now.labels → HasBeenShown old (record here { faults = re_v faults here.faults }) d
   shown-own faults own is-own named told same =
-      shown old (record here { faults = re_v faults here.faults }) d (stays-on stays (stays-told here faults same)) can
-      ((λ i. record (state_of here) { faults = told i }) ∙ (λ i. record (named i) { faults = (named i).faults ++ own }) ∙ step-own (records_of old) (state_of old) d own is-own)
+      let state = state_of old in
+      shown old (record here { faults = re_v faults here.faults }) d (stays-on stays (stays-told here faults same)) can ((λ i. record {
+        names = (named i).names;
+        file_names = (ap (λ (s : NameState). s.file_names) named ∙ sym (with-nothing state.file_names)) i;
+        faults = (told ∙ (λ j. (named j).faults ++ own) ∙ append_assoc state.faults (clashes (records_of old) state.names [] (own_entry d ∷ [])) own) i;
+      }) ∙ sym is-own)
+
+  -- its name is entered, and it breaks nothing by itself
+  pub shown-named : {U E : Type 0} (r : Result U E) → BreaksOwn old d [] → OnOk r (state_of here ≡ entered (records_of old) (state_of old) (own_entry d ∷ [])) → OnOk r (HasBeenShown old here d)
+  shown-named r is-own ok = on_ok_weaker r (λ named. shown-own here.faults.now [] is-own named (sym (append-nil here.faults.now.found.items)) refl) ok
 
 -- of a file come the fault of its syntax, its name, and its packages
 pub step-file : (files : List FileDescriptorProto) (state : NameState) (path : List ℤ) (index : ℕ) (f : FileDescriptorProto)
     → entered files (file_named (record state { faults = state.faults ++ syntax_faults files index f }) (text_of f.name) index) (entries_of (file_shown path index f))
     ≡ name_step files state (file_shown path index f)
-step-file files state path index f = λ i. record {
-  names = names_with state.names (entries_of (file_shown path index f));
-  file_names = names_with state.file_names ((text_of f.name, index) ∷ []);
-  faults = sorted state.faults (syntax_faults files index f) (file_name_faults (holder state.file_names [] (text_of f.name)) (text_of f.name))
-      (clashes files state.names [] (entries_of (file_shown path index f))) i;
-}
-  where
-    sorted : (before syntax name packages : List DescriptorErrorKind) → ((before ++ syntax) ++ name) ++ packages ≡ before ++ (((syntax ++ name) ++ packages) ++ [])
-    sorted before syntax name packages = simp (append_assoc, append-nil)
+step-file files state path index f = simp (append_assoc, append-nil)

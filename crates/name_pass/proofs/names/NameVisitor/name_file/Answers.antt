@@ -2,7 +2,7 @@ use Rattle.std.proofs.Common.{is_some, ◌++◌, ◌∷◌, [], refl, ap, sym, �
 use Rattle.pool_faults.specs.declared.fault.DescriptorErrorKind.TheVariants.{DuplicateFileName}
 use Rattle.name_pass.specs.State.{first_new, kept_of, state_of}
 use Rattle.std.specs.FinMap as finite
-use Rattle.name_pass.proofs.Entering.{found-none, new-file-name, held-file-name}
+use Rattle.name_pass.proofs.Entering.{found-none, found-some, new-file-name, held-file-name}
 use Rattle.name_pass.proofs.Kept.{stays-before}
 use Rattle.name_pass.proofs.names.NameVisitor.name_file.Goals as goal
 
@@ -10,7 +10,7 @@ use Rattle.name_pass.proofs.names.NameVisitor.name_file.Goals as goal
 pub returns-then-is_none-clause-ok : goal.returns-then-is_none-clause-ok
 returns-then-is_none-clause-ok c =
     new-file-name (state_of c.args.self.now) c.args.name.now c.args.file c.insert.result c.insert.new.self
-    (ap is_some (sym c.get.ensures) ∙ c.if-is_none.ensures) c.insert.ensures.ok
+    (found-none (finite.get c.args.self.now.file_names.now c.args.name.now) (ap is_some (sym c.get.ensures) ∙ c.if-is_none.ensures)) c.insert.ensures.ok
 
 pub returns-then-is_none-clause-stays : goal.returns-then-is_none-clause-stays
 returns-then-is_none-clause-stays c =
@@ -23,5 +23,6 @@ returns-then-is_none-clause-stays c =
 pub returns-clause-ok : goal.returns-clause-ok
 returns-clause-ok c =
     let state = state_of c.args.self.now in
-    held-file-name state c.args.name.now c.args.file c.push.new.self.items (ap is_some (sym c.get.ensures) ∙ c.if-is_none.ensures)
+    let held = found-some (finite.get state.file_names c.args.name.now) (ap is_some (sym c.get.ensures) ∙ c.if-is_none.ensures) in
+    held-file-name state c.args.name.now c.args.file held.0 c.push.new.self.items held.1
     (c.in_ok-push.ensures.items ∙ ap (λ name. state.faults ++ DuplicateFileName name ∷ []) c.in_ok-name.ensures)

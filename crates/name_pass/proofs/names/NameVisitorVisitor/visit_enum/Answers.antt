@@ -1,19 +1,15 @@
 use Rattle.std.proofs.Common.{List, ◌++◌, map, refl, ap, ◌∙◌}
 use Rattle.std.proofs.lemmas.Result.{on_ok_weaker}
 use Rattle.pool_types.specs.declared.contents.file.FileDescriptorInner.{FileDescriptorInner}
-use Rattle.record_walk.specs.Protos.{of_enum}
-use Rattle.record_walk.specs.Shown.{Shown, shown_as}
 use Rattle.name_pass.specs.Enumeration.{enum_faults}
-use Rattle.name_pass.specs.State.{records_of}
 use Rattle.name_pass.proofs.Showing.{shown-own}
 use Rattle.name_pass.proofs.names.NameVisitorVisitor.visit_enum.Goals as goal
 
 -- its name is entered, and what it breaks by itself is told
 pub returns-clause-ok : goal.returns-clause-ok
 returns-clause-ok c =
-    let d : Shown = shown_as c.args.path.now c.args.full_name.now c.args.file c.args._parent c.args.index (of_enum c.args.enumeration.now) in
     let here = c.enter_own.new.self in
     let stays = c.enter_own.ensures.stays in
     let more = ap (λ (fs : List FileDescriptorInner). here.faults.now.found.items ++ enum_faults (map (λ f. f.raw) fs) c.args.file c.args.path.now c.args.enumeration.now) stays.files in
-    on_ok_weaker c.check_enum_values.result (λ told. shown-own c.args.self.now here d stays c.requires c.check_enum_values.new.faults (enum_faults (records_of c.args.self.now) c.args.file c.args.path.now c.args.enumeration.now)
-    (λ state. refl) c.in_ok-enter_own.ensures.ok (told ∙ more) c.check_enum_values.ensures.labels) c.check_enum_values.ensures.told
+    on_ok_weaker c.check_enum_values.result (λ told. shown-own c.args.self.now here _ stays c.requires c.check_enum_values.new.faults _
+    refl c.in_ok-enter_own.ensures.ok (told ∙ more) c.check_enum_values.ensures.labels) c.check_enum_values.ensures.told
