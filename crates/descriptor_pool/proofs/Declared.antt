@@ -2,9 +2,8 @@
 use Rattle.std.proofs.Common.{◌≡◌, ℕ, ℤ, suc, ◌+◌, Option, List, [], ◌∷◌, ◌++◌, length, length-append, map, refl, ap, sym, ◌∙◌, arith}
 use Rattle.std.proofs.lemmas.Grind.{flat_map-append}
 use Rattle.std.proofs.lemmas.List.{length-map, map-append}
-use Rattle.std.proofs.lemmas.List.Elements.{filter_map-append, All-head, All-tail}
+use Rattle.std.proofs.lemmas.List.Elements.{All-head, All-tail}
 use Rattle.std.specs.List.{All}
-use Rattle.std.specs.Option.{option_map}
 use Rattle.pool_types.specs.Contents.{Contents, files_of}
 use Rattle.name_tables.specs.Entries.{Entry}
 use Rattle.name_resolution.specs.declared.filter.ResolveNameFilter.TheVariants.{FieldType}
@@ -25,9 +24,10 @@ use Rattle.record_walk.proofs.Paths.{one-file}
 use Rattle.record_walk.proofs.Walks.{IsInside, within-all}
 use Rattle.plain_data.specs.Each.{map_enumerated}
 use Rattle.field_rules.specs.EnumItems.{enum_item}
-use Rattle.reference_pass.specs.Items.{file_item, message_item, service_item, extension_item}
+use Rattle.reference_pass.specs.Items.{file_item, message_item, service_item, extension_item, made_of, file_items}
 use Rattle.reference_pass.specs.Linked.{linking, linked_field, typed}
 use Rattle.reference_pass.specs.Setting.{Setting, resolve}
+use Rattle.reference_pass.proofs.Steps.{kind-append}
 use Rattle.name_pass.specs.Entered.{entries_of, entries, file_entries_of, file_entries}
 use Rattle.pool_contents.proofs.Each.{each-map}
 use Rattle.descriptor_pool.specs.Linking.{with_items}
@@ -106,7 +106,7 @@ none-inside (d ∷ ds) all =
 
 -- what is made of files, each by its index
 pub items-of-files : {Y : Type 0} (make : ℕ → FileDescriptorProto → Y) (base : Counts) (fs : List FileDescriptorProto)
-    → map (λ e. make e.0.index e.1) (of_kind as_file (declarations base fs)) ≡ map_enumerated make base.files fs
+    → made_of as_file (λ d f. make d.index f) (declarations base fs) ≡ map_enumerated make base.files fs
 items-of-files make base [] = refl
 items-of-files make base (f ∷ fs) =
     let inside = within_file base.files base f in
@@ -115,7 +115,7 @@ items-of-files make base (f ∷ fs) =
     let none = none-inside inside (within-all (λ d. IsInside d.proto) (λ _. Unit {0}) (λ here tag position index proto is _. is)
     (λ here tag position index proto _. tt) (λ here tag position index proto _. tt) base f tt) in
     ap (λ xs. map (λ e. make e.0.index e.1) ((file_shown [] base.files f, f) ∷ xs))
-    (filter_map-append (λ d. option_map (λ x. (d, x)) (as_file d.proto)) inside rest ∙ ap (λ xs. xs ++ of_kind as_file rest) none)
+    (kind-append as_file inside rest ∙ ap (λ xs. xs ++ of_kind as_file rest) none)
     ∙ ap (λ ys. make base.files f ∷ ys) (items-of-files make next fs ∙ ap (λ n. map_enumerated make n fs) (one-file base f))
 
 pub each-changed : (c : Changes) (index : ℕ) (fs : List FileDescriptorProto) → map_enumerated (changed_file c) index fs ≡ changed_files c index fs
@@ -124,7 +124,7 @@ each-changed c index (f ∷ fs) = ap (λ gs. changed_file c index f ∷ gs) (eac
 
 -- the items of files are the linked files
 pub raw-items : (s : Setting) (base : Counts) (fs : List FileDescriptorProto)
-    → map (λ f. f.raw) (map (λ e. file_item s e.0.index e.1) (of_kind as_file (declarations base fs))) ≡ changed_files (linking s) base.files fs
+    → map (λ f. f.raw) (file_items s (declarations base fs)) ≡ changed_files (linking s) base.files fs
 raw-items s base fs =
     ap (map (λ f. f.raw)) (items-of-files (file_item s) base fs) ∙ each-map (λ f. f.raw) (file_item s) base.files fs ∙ each-changed (linking s) base.files fs
 
@@ -154,18 +154,19 @@ pub counted-many : (c : Counts) (ds : List Shown) → counted c ds ≡ many c ds
 counted-many c [] = counts_are _ _ (omega arith) (omega arith) (omega arith) (omega arith) (omega arith)
 counted-many c (d ∷ ds) = counted-many (counting c d.proto) ds ∙ many-one c d.file d.parent d.index d.path d.full_name d.proto ds
 
-longer : {X Y : Type 0} (xs : List Y) (f : X → Y) (ys : List X) → length (xs ++ map f ys) ≡ length xs + length ys
-longer xs f ys = length-append xs (map f ys) ∙ ap (λ n. length xs + n) (length-map ys f)
+longer : {X Y : Type 0} (had : List Y) (pick : Proto → Option X) (make : Shown → X → Y) (ds : List Shown)
+    → length (had ++ made_of pick make ds) ≡ length had + length (of_kind pick ds)
+longer had pick make ds = length-append had (made_of pick make ds) ∙ ap (λ n. length had + n) (length-map (of_kind pick ds) (λ e. make e.0 e.1))
 
 -- the counts of contents with the items of declarations
 pub counts-with : (p : Contents) (s : Setting) (ds : List Shown) → counts_in (with_items p s ds) ≡ counted (counts_in p) ds
 counts-with p s ds =
     counts_are _ _
-    (longer p.files (λ e. file_item s e.0.index e.1) (of_kind as_file ds))
-    (longer p.messages (λ e. message_item s e.0 e.1) (of_kind as_message ds))
-    (longer p.enums (λ e. enum_item e.0 e.1) (of_kind as_enum ds))
-    (longer p.services (λ e. service_item s e.0 e.1) (of_kind as_service ds))
-    (longer p.extensions (λ e. extension_item s e.0 e.1) (of_kind as_extension ds))
+    (longer p.files as_file (λ d f. file_item s d.index f) ds)
+    (longer p.messages as_message (message_item s) ds)
+    (longer p.enums as_enum enum_item ds)
+    (longer p.services as_service (service_item s) ds)
+    (longer p.extensions as_extension (extension_item s) ds)
     ∙ sym (counted-many (counts_in p) ds)
 
 -- contents whose counts are those of what their files declare, and new files

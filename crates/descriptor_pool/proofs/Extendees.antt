@@ -16,7 +16,7 @@ use Rattle.proto_types.specs.Readers.{text_of}
 use Rattle.pool_types.specs.Contents.{Contents, no_contents}
 use Rattle.pool_types.specs.declared.contents.extension.ExtensionDescriptorInner.{ExtensionDescriptorInner}
 use Rattle.pool_types.specs.declared.contents.message.MessageDescriptorInner.{MessageDescriptorInner}
-use Rattle.record_walk.specs.Protos.{Proto, as_extension, as_message, of_file, of_message, of_field, of_oneof, of_service, of_method, of_enum, of_value, of_extension}
+use Rattle.record_walk.specs.Protos.{Proto, as_message, of_file, of_message, of_field, of_oneof, of_service, of_method, of_enum, of_value, of_extension}
 use Rattle.record_walk.specs.Shown.{Shown, of_kind}
 use Rattle.name_resolution.specs.declared.filter.ResolveNameFilter.TheVariants.{Message}
 use Rattle.name_resolution.specs.References.{reference_fault}
@@ -27,7 +27,7 @@ use Rattle.reference_pass.specs.SecondPass.{second_faults}
 use Rattle.reference_pass.specs.Defaults.{field_default_faults}
 use Rattle.reference_pass.specs.Extensions.{extendee_faults, number_faults}
 use Rattle.reference_pass.specs.FieldTypes.{type_faults}
-use Rattle.reference_pass.specs.Items.{extension_item, message_item}
+use Rattle.reference_pass.specs.Items.{extension_item, message_item, extension_items, message_items}
 use Rattle.reference_pass.specs.Messages.{message_found, resolve_message, index_or_max}
 use Rattle.reference_pass.specs.Setting.{Setting, seen_by}
 use Rattle.pool_contents.specs.Extended.{extended_by, extending}
@@ -60,13 +60,10 @@ module _ (s : Setting) (end : ℕ) (lie : (name : List ℕ) → IfSome (finite.g
       found-below s end (d.path ++ field.EXTENDEE ∷ []) d.file (text_of x.extendee) (resolve_message s d x.extendee) lie
       (resolution-named s.names sees Message d.full_name (text_of x.extendee)) (resolution-wanted s.names sees Message d.full_name (text_of x.extendee)) none
 
-  abbrev items : List Shown → List ExtensionDescriptorInner
-  items ds = map (λ e. extension_item s e.0 e.1) (of_kind as_extension ds)
-
   -- one declaration without a fault, before others
   one-below : (before : List Shown) (file : ℕ) (parent : Option ℕ) (index : ℕ) (path : List ℤ) (full_name : List ℕ) (p : Proto) (ds : List Shown)
       → let d : Shown = record { file = file; parent = parent; index = index; path = path; full_name = full_name; proto = p } in
-      second_faults s before d ≡ [] → AllByRecursion (λ x. x.extendee < end) (items ds) → AllByRecursion (λ x. x.extendee < end) (items (d ∷ ds))
+      second_faults s before d ≡ [] → AllByRecursion (λ x. x.extendee < end) (extension_items s ds) → AllByRecursion (λ x. x.extendee < end) (extension_items s (d ∷ ds))
   one-below before file parent index path full_name (of_file f) ds none rest = rest
   one-below before file parent index path full_name (of_message m) ds none rest = rest
   one-below before file parent index path full_name (of_field f) ds none rest = rest
@@ -84,7 +81,7 @@ module _ (s : Setting) (end : ℕ) (lie : (name : List ℕ) → IfSome (finite.g
       let first = no_items (extendee ++ numbers) types parts.0 in
       (extendee-below d x (no_items extendee numbers first.0).0, rest)
 
-  all-below : (before ds : List Shown) → after_each (second_faults s) before ds ≡ [] → AllByRecursion (λ x. x.extendee < end) (items ds)
+  all-below : (before ds : List Shown) → after_each (second_faults s) before ds ≡ [] → AllByRecursion (λ x. x.extendee < end) (extension_items s ds)
   all-below before [] none = tt
   all-below before (d ∷ ds) none =
       let both = no_items (second_faults s before d) (after_each (second_faults s) (before ++ d ∷ []) ds) none in
@@ -177,10 +174,10 @@ link-whole q new known was none =
     let s = setting_with q new in
     let ds = declared_with q new in
     let old = q.extensions in
-    let came = map (λ e. extension_item s e.0 e.1) (of_kind as_extension ds) in
+    let came = extension_items s ds in
     let ms = q.messages in
     let make = λ (e : Shown × _). message_item s e.0 e.1 in
-    let later = map make (of_kind as_message ds) in
+    let later = message_items s ds in
     let end = length (linked_with q new).messages in
     let many : end ≡ length (ms ++ later) = length-each (extended_by (length old) (drop (length old) (old ++ came))) 0 (ms ++ later) in
     let more : length ms ≤ end = let sum = length-append ms later in omega (arith, many, sum) in

@@ -1,7 +1,6 @@
 -- The items of a pool have the names that mean them, and each new declaration has its item.
 use Rattle.std.proofs.Common.{◌≡◌, ◌≤◌, ◌+◌, ℕ, ℤ, zero, suc, true, false, cond, IsOk, Option, None, Some, List, [], ◌∷◌, ◌++◌, length, length-append, map, refl, ap, subst, sym, ◌∙◌, append_assoc}
-use Rattle.std.proofs.lemmas.List.{length-map, map-append}
-use Rattle.std.proofs.lemmas.List.Elements.{filter_map-append}
+use Rattle.std.proofs.lemmas.List.{length-map}
 use Rattle.std.proofs.lemmas.Slice.Eq.{bytes_eq-Decides}
 use Rattle.std.specs.Cmp.Lexicographic.{slice_cmp}
 use Rattle.std.specs.FinMap as finite
@@ -32,8 +31,9 @@ use Rattle.record_walk.specs.Shown.{Shown, of_kind}
 use Rattle.record_walk.proofs.Indexes.{indexes-count-on}
 use Rattle.record_walk.proofs.Room.{room-fits}
 use Rattle.field_rules.specs.EnumItems.{enum_item}
-use Rattle.reference_pass.specs.Items.{extension_item, message_item, service_item}
+use Rattle.reference_pass.specs.Items.{extension_item, message_item, service_item, made_of, message_items, enum_items, service_items, extension_items}
 use Rattle.reference_pass.specs.Setting.{Setting}
+use Rattle.reference_pass.proofs.Steps.{made-append}
 use Rattle.name_pass.specs.Entered.{definition_kind, entries, entries_of, package_entry, packages}
 use Rattle.pool_contents.specs.Extended.{extended_by, with_extended}
 use Rattle.reference_pass.specs.Linking.{HasItem, IsNamedBy, ItemLists, ItemsAre, lists_in, message_name}
@@ -65,25 +65,18 @@ length-each make from [] = refl
 length-each make from (x ∷ xs) = ap suc (length-each make (suc from) xs)
 
 -- the item of a declaration, behind those of a pool
-module _ {Y Z : Type 0} (pick : Proto → Option Y) (make : Shown × Y → Z) (old : List Z) (front : List Shown) (d : Shown) (rest : List Shown) (y : Y) (picked : pick d.proto ≡ Some y) where
-  abbrev pair : Shown → Option (Shown × Y)
-  pair e = option_map (λ x. (e, x)) (pick e.proto)
-
-  parted : of_kind pick (front ++ d ∷ rest) ≡ of_kind pick front ++ (d, y) ∷ of_kind pick rest
-  parted =
-      filter_map-append pair front (d ∷ rest)
-      ∙ ap (λ (got : Option Y). of_kind pick front ++ cons_option (option_map (λ x. (d, x)) got) (of_kind pick rest)) picked
-
-  item-is : slice_get (old ++ map make (of_kind pick (front ++ d ∷ rest))) (length old + length (of_kind pick front)) ≡ Some (make (d, y))
+module _ {Y Z : Type 0} (pick : Proto → Option Y) (make : Shown → Y → Z) (old : List Z) (front : List Shown) (d : Shown) (rest : List Shown) (y : Y) (picked : pick d.proto ≡ Some y) where
+  item-is : slice_get (old ++ made_of pick make (front ++ d ∷ rest)) (length old + length (of_kind pick front)) ≡ Some (make d y)
   item-is =
-      let before = map make (of_kind pick front) in
-      let after = map make (of_kind pick rest) in
-      let whole : old ++ map make (of_kind pick (front ++ d ∷ rest)) ≡ (old ++ before) ++ make (d, y) ∷ after =
-      ap (λ es. old ++ map make es) parted ∙ ap (λ zs. old ++ zs) (map-append make (of_kind pick front) ((d, y) ∷ of_kind pick rest))
-      ∙ sym (append_assoc old before (make (d, y) ∷ after)) in
+      let before = made_of pick make front in
+      let after = made_of pick make rest in
+      let whole : old ++ made_of pick make (front ++ d ∷ rest) ≡ (old ++ before) ++ make d y ∷ after =
+      ap (λ zs. old ++ zs) (made-append pick make front (d ∷ rest)
+      ∙ ap (λ (got : Option Y). before ++ map (λ e. make e.0 e.1) (cons_option (option_map (λ x. (d, x)) got) (of_kind pick rest))) picked)
+      ∙ sym (append_assoc old before (make d y ∷ after)) in
       let many : length old + length (of_kind pick front) ≡ length (old ++ before) =
-      ap (λ n. length old + n) (sym (length-map (of_kind pick front) make)) ∙ sym (length-append old before) in
-      (λ j. slice_get (whole j) (many j)) ∙ get-behind (old ++ before) (make (d, y)) after
+      ap (λ n. length old + n) (sym (length-map (of_kind pick front) (λ e. make e.0 e.1))) ∙ sym (length-append old before) in
+      (λ j. slice_get (whole j) (many j)) ∙ get-behind (old ++ before) (make d y) after
 
 module _ (p : Contents) (s : Setting) (new : List FileDescriptorProto) where
   abbrev base : Counts
@@ -104,31 +97,27 @@ module _ (p : Contents) (s : Setting) (new : List FileDescriptorProto) where
       ds ≡ front ++ d ∷ rest → HasIndex (counted base front) d proto → HasOwn d
   own-item front rest file parent index path full_name (of_message m) parted has =
       let d : Shown = record { file = file; parent = parent; index = index; path = path; full_name = full_name; proto = of_message m } in
-      let make = λ (e : Shown × _). message_item s e.0 e.1 in
       let here : slice_get it.messages index ≡ Some (message_item s d m) =
-      (λ j. slice_get (p.messages ++ map make (of_kind as_message (parted j))) ((has ∙ ap (λ (c : Counts). c.messages) (counted-many base front)) j))
-      ∙ item-is as_message make p.messages front d rest m refl in
+      (λ j. slice_get (p.messages ++ message_items s (parted j)) ((has ∙ ap (λ (c : Counts). c.messages) (counted-many base front)) j))
+      ∙ item-is as_message (message_item s) p.messages front d rest m refl in
       (ap (option_map (λ (item : MessageDescriptorInner). item.fields)) here, ap (option_map (λ (item : MessageDescriptorInner). item.id.full_name)) here)
   own-item front rest file parent index path full_name (of_enum e) parted has =
       let d : Shown = record { file = file; parent = parent; index = index; path = path; full_name = full_name; proto = of_enum e } in
-      let make = λ (e : Shown × _). enum_item e.0 e.1 in
       let here : slice_get it.enums index ≡ Some (enum_item d e) =
-      (λ j. slice_get (p.enums ++ map make (of_kind as_enum (parted j))) ((has ∙ ap (λ (c : Counts). c.enums) (counted-many base front)) j))
-      ∙ item-is as_enum make p.enums front d rest e refl in
+      (λ j. slice_get (p.enums ++ enum_items (parted j)) ((has ∙ ap (λ (c : Counts). c.enums) (counted-many base front)) j))
+      ∙ item-is as_enum enum_item p.enums front d rest e refl in
       (tt, ap (option_map (λ (item : EnumDescriptorInner). item.id.full_name)) here)
   own-item front rest file parent index path full_name (of_service v) parted has =
       let d : Shown = record { file = file; parent = parent; index = index; path = path; full_name = full_name; proto = of_service v } in
-      let make = λ (e : Shown × _). service_item s e.0 e.1 in
       let here : slice_get it.services index ≡ Some (service_item s d v) =
-      (λ j. slice_get (p.services ++ map make (of_kind as_service (parted j))) ((has ∙ ap (λ (c : Counts). c.services) (counted-many base front)) j))
-      ∙ item-is as_service make p.services front d rest v refl in
+      (λ j. slice_get (p.services ++ service_items s (parted j)) ((has ∙ ap (λ (c : Counts). c.services) (counted-many base front)) j))
+      ∙ item-is as_service (service_item s) p.services front d rest v refl in
       (ap (option_map (λ (item : ServiceDescriptorInner). item.methods)) here, tt)
   own-item front rest file parent index path full_name (of_extension x) parted has =
       let d : Shown = record { file = file; parent = parent; index = index; path = path; full_name = full_name; proto = of_extension x } in
-      let make = λ (e : Shown × _). extension_item s e.0 e.1 in
       let here : slice_get it.extensions index ≡ Some (extension_item s d x) =
-      (λ j. slice_get (p.extensions ++ map make (of_kind as_extension (parted j))) ((has ∙ ap (λ (c : Counts). c.extensions) (counted-many base front)) j))
-      ∙ item-is as_extension make p.extensions front d rest x refl in
+      (λ j. slice_get (p.extensions ++ extension_items s (parted j)) ((has ∙ ap (λ (c : Counts). c.extensions) (counted-many base front)) j))
+      ∙ item-is as_extension (extension_item s) p.extensions front d rest x refl in
       (here, tt)
   own-item front rest file parent index path full_name (of_file f) parted has = (tt, tt)
   own-item front rest file parent index path full_name (of_field f) parted has = (tt, tt)

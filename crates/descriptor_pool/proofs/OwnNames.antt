@@ -166,17 +166,17 @@ module _ (q : Contents) (new : List FileDescriptorProto) where
       item-stays fields (λ held. AllZip (FieldNames q.names) held fs) (λ held. AllZip (FieldNames p.names) held fs) (λ held. fields-stay q.names more held fs)
       (slice_get q.messages index) (slice_get p.messages index)
       (λ held got. get-each fields (extended_by (length q.extensions) (drop (length q.extensions) items.extensions)) (λ n item. refl) 0 items.messages index
-      ∙ get-before fields q.messages (map (λ e. message_item s e.0 e.1) (of_kind as_message ds)) index held got) named
+      ∙ get-before fields q.messages (message_items s ds) index held got) named
   one-stays file parent index path full_name (of_service v) named =
       let methods = λ (item : ServiceDescriptorInner). item.methods in
       item-stays methods (λ held. AllZip (MethodNames q.names) held v.method) (λ held. AllZip (MethodNames p.names) held v.method) (λ held. methods-stay q.names more held v.method)
       (slice_get q.services index) (slice_get p.services index)
-      (λ held got. get-before methods q.services (map (λ e. service_item s e.0 e.1) (of_kind as_service ds)) index held got) named
+      (λ held got. get-before methods q.services (service_items s ds) index held got) named
   one-stays file parent index path full_name (of_extension x) named =
       let own = λ (item : ExtensionDescriptorInner). item in
       item-stays own (λ item. ExtensionNames q.names item x) (λ item. ExtensionNames p.names item x) (λ item. extension-stays q.names more item x)
       (slice_get q.extensions index) (slice_get p.extensions index)
-      (λ held got. get-before own q.extensions (map (λ e. extension_item s e.0 e.1) (of_kind as_extension ds)) index held got) named
+      (λ held got. get-before own q.extensions (extension_items s ds) index held got) named
   one-stays file parent index path full_name (of_file f) named = tt
   one-stays file parent index path full_name (of_field f) named = tt
   one-stays file parent index path full_name (of_oneof o) named = tt

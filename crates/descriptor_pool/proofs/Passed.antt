@@ -18,9 +18,11 @@ use Rattle.name_pass.specs.State.{borrows_of, first_new, kept_of, records_of, st
 use Rattle.name_pass.specs.Steps.{NameState, name_progress, name_step, state_at}
 use Rattle.reference_pass.specs.Setting.{Setting}
 use Rattle.reference_pass.specs.SecondPass.{second_pass, Faults}
+use Rattle.reference_pass.specs.declared.items.NewItems.{NewItems}
 use Rattle.reference_pass.specs.declared.resolve.ResolveVisitor.{ResolveVisitor}
 use Rattle.reference_pass.specs.State.{state_of as state_of_references}
 use Rattle.reference_pass.specs.Steps.{ReferenceState, reference_progress, reference_step}
+use Rattle.reference_pass.proofs.Seen.{held}
 use Rattle.descriptor_pool.specs.Items.{HasItems}
 use Rattle.descriptor_pool.proofs.ItemsFold.{faults-seen, fold-seen}
 use Rattle.descriptor_pool.specs.declared.error.BuildError.{BuildError}
@@ -80,6 +82,10 @@ module _ (new : NameVisitor) {m n k : ℕ} (same : borrows_of new ≡ m ∷ n �
 -- a second pass that has found nothing yet
 abbrev pub no_items : ReferenceState
 no_items = record { messages = []; enums = []; services = []; extensions = []; faults = [] }
+
+pub nothing-held : (items : NewItems) (faults : PassFaults) → items.messages.items ≡ [] → items.enums.items ≡ [] → items.services.items ≡ [] → items.extensions.items ≡ []
+    → faults.found.items ≡ [] → held items faults ≡ no_items
+nothing-held items faults ms es ss xs found = λ i. record { messages = ms i; enums = es i; services = ss i; extensions = xs i; faults = found i }
 
 -- the items and the faults that a visitor of the second pass has once it was shown all that files declare, and began with none
 pub references-end : (s : Setting) (v : ResolveVisitor) (old : ReferenceState) (base : Counts) (fs : List FileDescriptorProto)

@@ -1,5 +1,5 @@
 -- The items that the second pass makes of declarations, and files that are linked by them.
-use Rattle.std.specs.Prelude.{◌≡◌, List, ◌++◌, map, take, drop}
+use Rattle.std.specs.Prelude.{◌≡◌, List, ◌++◌, take, drop}
 use Rattle.std.specs.FinMap as finite
 use Rattle.std.specs.List.{filter_map}
 use Rattle.pool_types.specs.Contents.{Contents}
@@ -11,20 +11,17 @@ use Rattle.pool_contents.specs.Inner.{contents_in}
 use Rattle.pool_contents.specs.declared.growing.GrowingPool.{GrowingPool}
 use Rattle.pool_contents.specs.Growing.{new_records}
 use Rattle.reference_pass.specs.Linking.{ItemsAre, linked_item, lists_in}
-use Rattle.record_walk.specs.Protos.{as_message, as_enum, as_service, as_extension}
-use Rattle.record_walk.specs.Shown.{Shown, of_kind}
-use Rattle.field_rules.specs.EnumItems.{enum_item}
-use Rattle.reference_pass.specs.Items.{message_item, service_item, extension_item}
+use Rattle.record_walk.specs.Shown.{Shown}
+use Rattle.reference_pass.specs.Items.{message_items, enum_items, service_items, extension_items}
 use Rattle.reference_pass.specs.Setting.{Setting}
 use Rattle.reference_pass.specs.declared.items.NewItems.{NewItems}
 
 -- these are the items of declarations
 pub record HasItems (items : NewItems) (s : Setting) (ds : List Shown) : Type 0 where
-  pub messages : items.messages.items ≡ map (λ e. message_item s e.0 e.1) (of_kind as_message ds)
-  pub enums : items.enums.items ≡ map (λ e. enum_item e.0 e.1) (of_kind as_enum ds)
-  pub services : items.services.items ≡ map (λ e. service_item s e.0 e.1) (of_kind as_service ds)
-  pub extensions : items.extensions.items
-      ≡ map (λ e. extension_item s e.0 e.1) (of_kind as_extension ds)
+  pub messages : items.messages.items ≡ message_items s ds
+  pub enums : items.enums.items ≡ enum_items ds
+  pub services : items.services.items ≡ service_items s ds
+  pub extensions : items.extensions.items ≡ extension_items s ds
 
 -- a pool with new items behind its own
 abbrev pub with_new_items : Contents → NewItems → Contents

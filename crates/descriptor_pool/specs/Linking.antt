@@ -9,12 +9,10 @@ use Rattle.name_tables.specs.Entries.{names_with}
 use Rattle.name_resolution.specs.Visibility.{seen_from}
 use Rattle.record_walk.specs.Counts.{counts_in}
 use Rattle.record_walk.specs.Declarations.{declarations}
-use Rattle.record_walk.specs.Protos.{as_file, as_message, as_enum, as_service, as_extension}
-use Rattle.record_walk.specs.Shown.{Shown, of_kind}
+use Rattle.record_walk.specs.Shown.{Shown}
 use Rattle.reference_pass.specs.SecondPass.{Faults, second_pass}
 use Rattle.plain_data.specs.Each.{map_enumerated}
-use Rattle.field_rules.specs.EnumItems.{enum_item}
-use Rattle.reference_pass.specs.Items.{file_item, message_item, service_item, extension_item}
+use Rattle.reference_pass.specs.Items.{file_items, message_items, enum_items, service_items, extension_items}
 use Rattle.reference_pass.specs.Setting.{Setting}
 use Rattle.name_pass.specs.Entered.{entries, file_entries}
 use Rattle.pool_contents.specs.Extended.{with_extended}
@@ -70,11 +68,11 @@ batch_faults p new = first_of_both (name_faults p new) (reference_faults p new)
 -- the pool with the items of declarations added
 abbrev pub with_items : Contents → Setting → List Shown → Contents
 with_items p s ds = record p {
-  files = p.files ++ map (λ e. file_item s e.0.index e.1) (of_kind as_file ds);
-  messages = p.messages ++ map (λ e. message_item s e.0 e.1) (of_kind as_message ds);
-  enums = p.enums ++ map (λ e. enum_item e.0 e.1) (of_kind as_enum ds);
-  services = p.services ++ map (λ e. service_item s e.0 e.1) (of_kind as_service ds);
-  extensions = p.extensions ++ map (λ e. extension_item s e.0 e.1) (of_kind as_extension ds);
+  files = p.files ++ file_items s ds;
+  messages = p.messages ++ message_items s ds;
+  enums = p.enums ++ enum_items ds;
+  services = p.services ++ service_items s ds;
+  extensions = p.extensions ++ extension_items s ds;
 }
 
 -- the pool with the new files: their names, their items, and their extensions in the lists of

@@ -13,7 +13,7 @@ use Rattle.record_walk.proofs.Paths.{one-file}
 use Rattle.field_rules.specs.EnumItems.{enum_item}
 use Rattle.plain_data.specs.Each.{map_enumerated}
 use Rattle.reference_pass.specs.SecondPass.{owner_faults}
-use Rattle.reference_pass.specs.Items.{extension_item, file_item, message_item, service_item}
+use Rattle.reference_pass.specs.Items.{extension_item, file_item, message_item, service_item, made_of}
 use Rattle.reference_pass.specs.Setting.{Setting}
 use Rattle.pool_laws.specs.SettingLaws.{NamesStay}
 use Rattle.pool_laws.proofs.Carries.{Carries}
@@ -47,7 +47,7 @@ module _ {s t : Setting} {c : Changes} {many : ℕ} (carries : Carries s t c man
       (d : Shown) → Fine s many d → option_map (now (changed c d)) (pick (changed c d).proto) ≡ option_map (item d) (pick d.proto)
 
   pub kind-again : {X Y : Type 0} (pick : Proto → Option X) (item now : Shown → X → Y) → SameItem pick item now → (ds : List Shown) → AllByRecursion (Fine s many) ds
-      → map (λ e. now e.0 e.1) (of_kind pick (map (changed c) ds)) ≡ map (λ e. item e.0 e.1) (of_kind pick ds)
+      → made_of pick now (map (changed c) ds) ≡ made_of pick item ds
   kind-again pick item now same [] fine = refl
   kind-again pick item now same (d ∷ ds) fine =
       let e = changed c d in

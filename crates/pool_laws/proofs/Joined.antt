@@ -1,21 +1,20 @@
 -- New files that are linked in two parts make the pool that they make at once.
-use Rattle.std.proofs.Common.{◌≡◌, ◌<◌, ◌+◌, Option, List, [], ◌++◌, length, map, drop, append_assoc, ap, subst, sym, ◌∙◌, arith}
-use Rattle.std.proofs.lemmas.List.{map-append}
-use Rattle.std.proofs.lemmas.List.Elements.{filter_map-append, recursion_from_All}
+use Rattle.std.proofs.Common.{◌≡◌, ◌<◌, ◌+◌, Option, List, [], ◌++◌, length, drop, append_assoc, ap, subst, sym, ◌∙◌, arith}
+use Rattle.std.proofs.lemmas.List.Elements.{recursion_from_All}
 use Rattle.std.specs.FinMap as finite
 use Rattle.std.specs.List.{AllByRecursion}
-use Rattle.std.specs.Option.{option_map}
 use Rattle.proto_types.specs.declared.file.FileDescriptorProto.{FileDescriptorProto}
 use Rattle.pool_types.specs.Contents.{Contents, files_of}
 use Rattle.pool_types.specs.declared.contents.extension.ExtensionDescriptorInner.{ExtensionDescriptorInner}
 use Rattle.pool_types.specs.declared.contents.message.MessageDescriptorInner.{MessageDescriptorInner}
 use Rattle.record_walk.specs.Counts.{counted, counts_in, no_counts}
-use Rattle.record_walk.specs.Protos.{Proto, as_enum, as_extension, as_file, as_message, as_service}
-use Rattle.record_walk.specs.Shown.{Shown, of_kind}
+use Rattle.record_walk.specs.Protos.{Proto, as_enum, as_extension, as_message, as_service}
+use Rattle.record_walk.specs.Shown.{Shown}
 use Rattle.field_rules.specs.EnumItems.{enum_item}
 use Rattle.plain_data.specs.Each.{map_enumerated}
-use Rattle.reference_pass.specs.Items.{extension_item, file_item, message_item, service_item}
+use Rattle.reference_pass.specs.Items.{extension_item, file_item, message_item, service_item, made_of, file_items, message_items, enum_items, service_items, extension_items}
 use Rattle.reference_pass.specs.Setting.{Setting}
+use Rattle.reference_pass.proofs.Steps.{made-append}
 use Rattle.pool_laws.specs.SettingLaws.{unchanged}
 use Rattle.pool_laws.proofs.AsGiven.{given-carried}
 use Rattle.pool_laws.proofs.Carries.{Carries}
@@ -73,21 +72,17 @@ module _ (p : Contents) (entered : Known p) (again : Relinked p) (front back : L
 
   -- the items of one kind
   kind-joined : {X Y : Type 0} (pick : Proto → Option X) (was alone now : Shown → X → Y) → SameItem front-carried pick was alone → SameItem rest-carried pick was now
-      → map (λ e. was e.0 e.1) (of_kind pick joint) ≡ map (λ e. alone e.0 e.1) (of_kind pick first) ++ map (λ e. now e.0 e.1) (of_kind pick after)
-  kind-joined {X} {Y} pick was alone now same_front same_rest =
+      → made_of pick was joint ≡ made_of pick alone first ++ made_of pick now after
+  kind-joined pick was alone now same_front same_rest =
       let unbroken = unbroken-both p entered again front back closed none in
-      let make : (Shown → X → Y) → Shown × X → Y = λ item e. item e.0 e.1 in
       let one = sym (kind-again front-carried pick was alone same_front first (all-fine s (length p.files + length front) first (lie p entered again front back closed) unbroken.0))
-      ∙ ap (λ ds. map (make alone) (of_kind pick ds)) (declarations-unchanged first) in
+      ∙ ap (made_of pick alone) (declarations-unchanged first) in
       let two = sym (kind-again rest-carried pick was now same_rest second (all-fine s (many p entered again front back closed) second (lie-second p entered again front back closed) unbroken.1))
-      ∙ ap (λ ds. map (make now) (of_kind pick ds)) (declarations-unchanged second ∙ sym (declared-second p entered again front back closed)) in
-      ap (λ ds. map (make was) (of_kind pick ds)) (declared-both p entered again front back closed)
-      ∙ ap (map (make was)) (filter_map-append (λ d. option_map (λ x. (d, x)) (pick d.proto)) first second)
-      ∙ map-append (make was) (of_kind pick first) (of_kind pick second) ∙ (λ i. one i ++ two i)
+      ∙ ap (made_of pick now) (declarations-unchanged second ∙ sym (declared-second p entered again front back closed)) in
+      ap (made_of pick was) (declared-both p entered again front back closed) ∙ made-append pick was first second ∙ (λ i. one i ++ two i)
 
   -- those of files
-  files-joined : map (λ e. file_item s e.0.index e.1) (of_kind as_file joint)
-      ≡ map (λ e. file_item u e.0.index e.1) (of_kind as_file first) ++ map (λ e. file_item t e.0.index e.1) (of_kind as_file after)
+  files-joined : file_items s joint ≡ file_items u first ++ file_items t after
   files-joined =
       let base = counted (counts_in p) first in
       let unbroken = unbroken-both p entered again front back closed none in
@@ -101,21 +96,21 @@ module _ (p : Contents) (entered : Known p) (again : Relinked p) (front back : L
       ∙ (λ i. sym (items-of-files (file_item u) (counts_in p) front) i ++ sym (items-of-files (file_item t) (counts_in pool) back) i)
 
   abbrev messages_first : List MessageDescriptorInner
-  messages_first = map (λ e. message_item u e.0 e.1) (of_kind as_message first)
+  messages_first = message_items u first
 
   abbrev messages_after : List MessageDescriptorInner
-  messages_after = map (λ e. message_item t e.0 e.1) (of_kind as_message after)
+  messages_after = message_items t after
 
   abbrev extensions_first : List ExtensionDescriptorInner
-  extensions_first = map (λ e. extension_item u e.0 e.1) (of_kind as_extension first)
+  extensions_first = extension_items u first
 
   abbrev extensions_after : List ExtensionDescriptorInner
-  extensions_after = map (λ e. extension_item t e.0 e.1) (of_kind as_extension after)
+  extensions_after = extension_items t after
 
-  extensions-joined : map (λ e. extension_item s e.0 e.1) (of_kind as_extension joint) ≡ extensions_first ++ extensions_after
+  extensions-joined : extension_items s joint ≡ extensions_first ++ extensions_after
   extensions-joined = kind-joined as_extension (extension_item s) (extension_item u) (extension_item t) (same-extension front-carried) (same-extension rest-carried)
 
-  messages-joined : map (λ e. message_item s e.0 e.1) (of_kind as_message joint) ≡ messages_first ++ messages_after
+  messages-joined : message_items s joint ≡ messages_first ++ messages_after
   messages-joined = kind-joined as_message (message_item s) (message_item u) (message_item t) (same-message front-carried) (same-message rest-carried)
 
   -- the extensions of the first part extend messages before those of the second
@@ -131,7 +126,7 @@ module _ (p : Contents) (entered : Known p) (again : Relinked p) (front back : L
   lists-joined lists =
       let old = p.extensions in
       let before = p.messages ++ messages_first in
-      let all = map (λ e. extension_item s e.0 e.1) (of_kind as_extension joint) in
+      let all = extension_items s joint in
       let filled : List ExtensionDescriptorInner → List MessageDescriptorInner → List MessageDescriptorInner = λ xs ms. map_enumerated (extended_by (length old) xs) 0 ms in
       (λ i. map_enumerated (extended_by (length pool.extensions) (drop-front pool.extensions extensions_after i)) 0 (filled (drop-front old extensions_first i) before ++ messages_after))
       ∙ in-two-steps old extensions_first extensions_after before messages_after (extend-before lists)
@@ -140,12 +135,11 @@ module _ (p : Contents) (entered : Known p) (again : Relinked p) (front back : L
   -- the pool
   pub linked-joined : Whole p → linked_with pool back ≡ linked_with p (front ++ back)
   linked-joined lists =
-      let files = append_assoc p.files (map (λ e. file_item u e.0.index e.1) (of_kind as_file first)) (map (λ e. file_item t e.0.index e.1) (of_kind as_file after))
-      ∙ ap (λ xs. p.files ++ xs) (sym files-joined) in
+      let files = append_assoc p.files (file_items u first) (file_items t after) ∙ ap (λ xs. p.files ++ xs) (sym files-joined) in
       let messages = lists-joined lists in
-      let enums = append_assoc p.enums (map (λ e. enum_item e.0 e.1) (of_kind as_enum first)) (map (λ e. enum_item e.0 e.1) (of_kind as_enum after))
+      let enums = append_assoc p.enums (enum_items first) (enum_items after)
       ∙ ap (λ xs. p.enums ++ xs) (sym (kind-joined as_enum enum_item enum_item enum_item (same-enum front-carried) (same-enum rest-carried))) in
-      let services = append_assoc p.services (map (λ e. service_item u e.0 e.1) (of_kind as_service first)) (map (λ e. service_item t e.0 e.1) (of_kind as_service after))
+      let services = append_assoc p.services (service_items u first) (service_items t after)
       ∙ ap (λ xs. p.services ++ xs) (sym (kind-joined as_service (service_item s) (service_item u) (service_item t) (same-service front-carried) (same-service rest-carried))) in
       let extensions = append_assoc p.extensions extensions_first extensions_after ∙ ap (λ xs. p.extensions ++ xs) (sym extensions-joined) in
       λ i. record {

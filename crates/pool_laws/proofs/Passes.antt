@@ -1,5 +1,5 @@
 -- The two passes over declarations that broke nothing, and are carried to another setting: they find nothing.
-use Rattle.std.proofs.Common.{◌≡◌, ◌<◌, ℕ, List, [], ◌∷◌, ◌++◌, length, map, append-nil, append_assoc, refl, ap, sym, ◌∙◌}
+use Rattle.std.proofs.Common.{◌≡◌, ◌<◌, ℕ, List, [], ◌∷◌, ◌++◌, length, map, refl, ap, sym, ◌∙◌}
 use Rattle.std.specs.List.{AllByRecursion, flat_map}
 use Rattle.std.specs.Option.{option_or}
 use Rattle.proto_types.specs.declared.file.FileDescriptorProto.{FileDescriptorProto}
@@ -12,6 +12,7 @@ use Rattle.name_pass.specs.Syntaxes.{syntax_at}
 use Rattle.reference_pass.specs.SecondPass.{owner_faults}
 use Rattle.reference_pass.specs.Linked.{linking}
 use Rattle.reference_pass.specs.Setting.{Setting}
+use Rattle.reference_pass.proofs.Owners.{after-append}
 use Rattle.pool_laws.specs.SettingLaws.{ImportsMean, Rereads}
 use Rattle.pool_laws.proofs.AsLinked.{linked-carried}
 use Rattle.pool_laws.proofs.Carries.{Carries}
@@ -31,20 +32,12 @@ all-of each (x ∷ xs) = (each x, all-of each xs)
 -- nothing for two lists, one behind the other: nothing for each
 pub after-parts : {X Y : Type 0} (f : List X → X → List Y) (before xs ys : List X) → after_each f before (xs ++ ys) ≡ []
     → (after_each f before xs ≡ []) × (after_each f (before ++ xs) ys ≡ [])
-after-parts f before [] ys none = (refl, ap (λ zs. after_each f zs ys) (append-nil before) ∙ none)
-after-parts f before (x ∷ xs) ys none =
-    let first = both-empty (f before x) (after_each f (before ++ x ∷ []) (xs ++ ys)) none in
-    let rest = after-parts f (before ++ x ∷ []) xs ys first.1 in
-    (λ i. first.0 i ++ rest.0 i, ap (λ zs. after_each f zs ys) (sym (append_assoc before (x ∷ []) xs)) ∙ rest.1)
+after-parts f before xs ys none = both-empty (after_each f before xs) (after_each f (before ++ xs) ys) (sym (after-append f before xs ys) ∙ none)
 
 -- and the other way
 pub after-both : {X Y : Type 0} (f : List X → X → List Y) (before xs ys : List X) → after_each f before xs ≡ [] → after_each f (before ++ xs) ys ≡ []
     → after_each f before (xs ++ ys) ≡ []
-after-both f before [] ys first second = ap (λ zs. after_each f zs ys) (sym (append-nil before)) ∙ second
-after-both f before (x ∷ xs) ys first second =
-    let parts = both-empty (f before x) (after_each f (before ++ x ∷ []) xs) first in
-    let rest = after-both f (before ++ x ∷ []) xs ys parts.1 (ap (λ zs. after_each f zs ys) (append_assoc before (x ∷ []) xs) ∙ second) in
-    λ i. parts.0 i ++ rest i
+after-both f before xs ys first second = after-append f before xs ys ∙ (λ i. first i ++ second i)
 
 -- the second pass
 module _ {s t : Setting} {c : Changes} {many : ℕ} (carries : Carries s t c many) where

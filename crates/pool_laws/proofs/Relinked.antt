@@ -2,12 +2,11 @@
 use Rattle.std.proofs.Common.{◌≡◌, ◌≤◌, ◌<◌, ◌+◌, ℕ, not, cond, is_some, IsOk, Option, None, Some, List, [], ◌∷◌, ◌++◌, length, map, drop, refl, ap, subst, sym, ◌∙◌, arith}
 use Rattle.std.proofs.lemmas.Grind.{flat_map-append}
 use Rattle.std.proofs.lemmas.List.{length-append, length-map, map-append}
-use Rattle.std.proofs.lemmas.List.Elements.{filter_map-append}
 use Rattle.std.specs.Cmp.Lexicographic.{slice_cmp}
 use Rattle.std.specs.FinMap as finite
 use Rattle.std.specs.FinMap.{get-empty}
 use Rattle.std.specs.List.{AllByRecursion, flat_map}
-use Rattle.std.specs.Option.{option_map, option_or}
+use Rattle.std.specs.Option.{option_or}
 use Rattle.std.specs.Ordering.{nat_cmp}
 use Rattle.proto_types.specs.declared.file.FileDescriptorProto.{FileDescriptorProto}
 use Rattle.proto_types.specs.declared.message.DescriptorProto.{DescriptorProto}
@@ -28,10 +27,11 @@ use Rattle.name_pass.specs.Syntaxes.{syntax_at}
 use Rattle.field_rules.specs.EnumItems.{enum_item}
 use Rattle.plain_data.specs.Each.{map_enumerated}
 use Rattle.reference_pass.specs.SecondPass.{owner_faults, second_pass}
-use Rattle.reference_pass.specs.Items.{extension_item, file_item, message_item, service_item}
+use Rattle.reference_pass.specs.Items.{extension_item, file_item, message_item, service_item, made_of, message_items, enum_items, service_items, extension_items}
 use Rattle.reference_pass.specs.Linked.{linking}
 use Rattle.reference_pass.specs.Setting.{Setting}
 use Rattle.reference_pass.proofs.Owners.{owners-tell}
+use Rattle.reference_pass.proofs.Steps.{made-append}
 use Rattle.pool_laws.specs.SettingLaws.{Rereads}
 use Rattle.pool_laws.proofs.AsLinked.{linked-carried}
 use Rattle.pool_laws.proofs.Carries.{Carries}
@@ -65,10 +65,10 @@ pub record Relinked (p : Contents) : Type 0 where
   pub first : first_pass (files_of p) no_contents (declared p) ≡ []
   pub second : flat_map (owner_faults (reread p)) (declared p) ≡ []
   pub files : p.files ≡ map_enumerated (file_item (reread p)) 0 (files_of p)
-  pub messages : map bare p.messages ≡ map (λ e. message_item (reread p) e.0 e.1) (of_kind as_message (declared p))
-  pub enums : p.enums ≡ map (λ e. enum_item e.0 e.1) (of_kind as_enum (declared p))
-  pub services : p.services ≡ map (λ e. service_item (reread p) e.0 e.1) (of_kind as_service (declared p))
-  pub extensions : p.extensions ≡ map (λ e. extension_item (reread p) e.0 e.1) (of_kind as_extension (declared p))
+  pub messages : map bare p.messages ≡ message_items (reread p) (declared p)
+  pub enums : p.enums ≡ enum_items (declared p)
+  pub services : p.services ≡ service_items (reread p) (declared p)
+  pub extensions : p.extensions ≡ extension_items (reread p) (declared p)
 
 nothing-relinked : Relinked no_contents
 nothing-relinked = record { first = refl; second = refl; files = refl; messages = refl; enums = refl; services = refl; extensions = refl }
@@ -189,21 +189,18 @@ module _ (q : Contents) (new : List FileDescriptorProto) (before : Known q) (was
 
   -- the items of another kind
   kind-made : {X Y : Type 0} (pick : Proto → Option X) (old_item item now : Shown → X → Y) → SameItem carried-old pick old_item now → SameItem carried-new pick item now
-      → (had : List Y) → had ≡ map (λ e. old_item e.0 e.1) (of_kind pick (declared q))
-      → had ++ map (λ e. item e.0 e.1) (of_kind pick ds) ≡ map (λ e. now e.0 e.1) (of_kind pick (declared p))
-  kind-made {X} {Y} pick old_item item now same_old same had is =
-      let make : Shown × X → Y = λ e. now e.0 e.1 in
+      → (had : List Y) → had ≡ made_of pick old_item (declared q) → had ++ made_of pick item ds ≡ made_of pick now (declared p)
+  kind-made pick old_item item now same_old same had is =
       let old = is ∙ sym (kind-again carried-old pick old_item now same_old (declared q) (all-fine alone (length (files_of q)) (declared q) lie-old was.second))
-      ∙ ap (λ es. map make (of_kind pick es)) declared-still in
+      ∙ ap (made_of pick now) declared-still in
       let made = sym (kind-again carried-new pick item now same ds (all-fine s (length (files_of q ++ new)) ds lie-new unbroken)) in
       (λ i. old i ++ made i)
-      ∙ sym (map-append make (of_kind pick (declared q)) (of_kind pick linked_ds))
-      ∙ ap (map make) (sym (filter_map-append (λ d. option_map (λ x. (d, x)) (pick d.proto)) (declared q) linked_ds) ∙ ap (of_kind pick) (sym declared-are))
+      ∙ sym (made-append pick now (declared q) linked_ds) ∙ ap (made_of pick now) (sym declared-are)
 
-  messages-made : map bare p.messages ≡ map (λ e. message_item t e.0 e.1) (of_kind as_message (declared p))
+  messages-made : map bare p.messages ≡ message_items t (declared p)
   messages-made =
-      let came = map (λ e. message_item s e.0 e.1) (of_kind as_message ds) in
-      let more = extended_by (length q.extensions) (drop (length q.extensions) (q.extensions ++ map (λ e. extension_item s e.0 e.1) (of_kind as_extension ds))) in
+      let came = message_items s ds in
+      let more = extended_by (length q.extensions) (drop (length q.extensions) (q.extensions ++ extension_items s ds)) in
       each-map bare more 0 (q.messages ++ came) ∙ each-all bare 0 (q.messages ++ came) ∙ map-append bare q.messages came
       ∙ ap (λ ms. map bare q.messages ++ ms) (bare-made s (of_kind as_message ds))
       ∙ kind-made as_message (message_item alone) (message_item s) (message_item t) (same-message carried-old) (same-message carried-new) (map bare q.messages) was.messages
@@ -244,7 +241,7 @@ linked-again p known lists again =
     ap (λ against. with_extended 0 (with_items (with_names no_contents ds) against ds)) setting
     ∙ (λ i. record {
       files = (items-of-files (file_item t) no_counts (files_of p) ∙ sym again.files) i;
-      messages = ((λ j. map_enumerated (extended_by 0 (sym again.extensions j)) 0 (map (λ e. message_item t e.0 e.1) (of_kind as_message ds))) ∙ messages) i;
+      messages = ((λ j. map_enumerated (extended_by 0 (sym again.extensions j)) 0 (message_items t ds)) ∙ messages) i;
       enums = sym again.enums i;
       services = sym again.services i;
       extensions = sym again.extensions i;

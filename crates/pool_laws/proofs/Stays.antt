@@ -1,13 +1,11 @@
 -- What a pool has stays where a batch is linked into it; and a dot before a name says nothing.
-use Rattle.std.proofs.Common.{◌≡◌, ℕ, ◌+◌, zero, suc, if◌then◌else◌, Some, List, [], ◌∷◌, ◌++◌, length, drop, map, slice_get, refl, ap, sym, ◌∙◌, arith}
+use Rattle.std.proofs.Common.{◌≡◌, ℕ, ◌+◌, zero, suc, if◌then◌else◌, Some, List, [], ◌∷◌, ◌++◌, length, drop, slice_get, refl, ap, sym, ◌∙◌, arith}
 use Rattle.std.specs.FinMap as finite
 use Rattle.std.specs.Option.{option_map}
 use Rattle.pool_types.specs.Contents.{Contents}
-use Rattle.record_walk.specs.Protos.{as_extension, as_message}
-use Rattle.record_walk.specs.Shown.{of_kind}
 use Rattle.name_resolution.proofs.Fronts.{no_dot}
 use Rattle.plain_data.specs.Each.{map_enumerated}
-use Rattle.reference_pass.specs.Items.{extension_item, message_item}
+use Rattle.reference_pass.specs.Items.{extension_items, message_items}
 use Rattle.pool_contents.specs.Extended.{extended_by, extending}
 use Rattle.name_pass.specs.Entered.{entries, file_entries}
 use Rattle.descriptor_pool.specs.Linking.{declared_with, setting_with}
@@ -27,8 +25,8 @@ earlier-stays p batch =
     let new = new_files p batch in
     let ds = declared_with p new in
     let s = setting_with p new in
-    let came = map (λ e. message_item s e.0 e.1) (of_kind as_message ds) in
-    let xs = drop (length p.extensions) (p.extensions ++ map (λ e. extension_item s e.0 e.1) (of_kind as_extension ds)) in
+    let came = message_items s ds in
+    let xs = drop (length p.extensions) (p.extensions ++ extension_items s ds) in
     record {
       files = (_, refl);
       messages = λ n m is. (extending (0 + n) (length p.extensions) xs, changed-entry (extended_by (length p.extensions) xs) 0 p.messages came n m is);

@@ -9,12 +9,12 @@ use Rattle.reference_pass.specs.Setting.{Setting}
 use Rattle.pool_contents.specs.declared.inner.DescriptorPoolInner.{DescriptorPoolInner}
 use Rattle.reference_pass.specs.SecondPass.{second_pass}
 use Rattle.reference_pass.specs.Against.{setting_against}
-use Rattle.reference_pass.specs.Steps.{ReferenceState}
+use Rattle.reference_pass.proofs.Seen.{held}
 use Rattle.pool_contents.specs.Growing.{new_records}
 use Rattle.descriptor_pool.specs.Items.{HasItems}
 use Rattle.descriptor_pool.specs.Tells.{TellsFaults}
 use Rattle.descriptor_pool.proofs.Bases.{rest-records}
-use Rattle.descriptor_pool.proofs.Passed.{no_items, references-end, tells-err}
+use Rattle.descriptor_pool.proofs.Passed.{no_items, nothing-held, references-end, tells-err}
 use Rattle.descriptor_pool.proofs.build.read_items.Goals as goal
 
 -- the files that are shown
@@ -38,21 +38,9 @@ returns-clause-items c =
     let v = c.walk.new.visitor in
     let fs = shown p.base c.deref-2.result.now in
     let rest = rest-records p.base.files c.deref-2.result.now p.inner.files.items c.deref-2.ensures.value in
-    let began : ReferenceState = record {
-      messages = c.new.result.messages.items;
-      enums = c.new.result.enums.items;
-      services = c.new.result.services.items;
-      extensions = c.new.result.extensions.items;
-      faults = c.new-2.result.found.items;
-    } in
+    let began = held c.new.result c.new-2.result in
     let is = ap (λ files. setting_at files p.inner) (c.new-2.ensures.labels ∙ c.deref.ensures.value) in
-    let none : began ≡ no_items = λ i. record {
-      messages = c.new.ensures.messages i;
-      enums = c.new.ensures.enums i;
-      services = c.new.ensures.services i;
-      extensions = c.new.ensures.extensions i;
-      faults = c.new-2.ensures.found i;
-    } in
+    let none : began ≡ no_items = nothing-held c.new.result c.new-2.result c.new.ensures.messages c.new.ensures.enums c.new.ensures.services c.new.ensures.extensions c.new-2.ensures.found in
     let has = (references-end (setting_at c.new-2.result.labels p.inner) v began p.base fs none (c.in_ok-walk.ensures.ok.after_is [])).0 in
     subst (λ (gs : List FileDescriptorProto). HasItems v.items (setting_against p.inner) (declarations p.base gs)) rest
     (subst (λ (s : Setting). HasItems v.items s (declarations p.base fs)) is has)
@@ -64,21 +52,9 @@ returns-clause-faults c =
     let v = c.walk.new.visitor in
     let fs = shown p.base c.deref-2.result.now in
     let rest = rest-records p.base.files c.deref-2.result.now p.inner.files.items c.deref-2.ensures.value in
-    let began : ReferenceState = record {
-      messages = c.new.result.messages.items;
-      enums = c.new.result.enums.items;
-      services = c.new.result.services.items;
-      extensions = c.new.result.extensions.items;
-      faults = c.new-2.result.found.items;
-    } in
+    let began = held c.new.result c.new-2.result in
     let is = ap (λ files. setting_at files p.inner) (c.new-2.ensures.labels ∙ c.deref.ensures.value) in
-    let none : began ≡ no_items = λ i. record {
-      messages = c.new.ensures.messages i;
-      enums = c.new.ensures.enums i;
-      services = c.new.ensures.services i;
-      extensions = c.new.ensures.extensions i;
-      faults = c.new-2.ensures.found i;
-    } in
+    let none : began ≡ no_items = nothing-held c.new.result c.new-2.result c.new.ensures.messages c.new.ensures.enums c.new.ensures.services c.new.ensures.extensions c.new-2.ensures.found in
     let told = (references-end (setting_at c.new-2.result.labels p.inner) v began p.base fs none (c.in_ok-walk.ensures.ok.after_is [])).1 in
     sym (told ∙ (λ i. second_pass (is i) (declarations p.base (rest i)))) ∙ c.in_ok-refuse.ensures.ok
 
@@ -89,21 +65,9 @@ returns-in_err-refuse-clause-faults c =
     let v = c.walk.new.visitor in
     let fs = shown p.base c.deref-2.result.now in
     let rest = rest-records p.base.files c.deref-2.result.now p.inner.files.items c.deref-2.ensures.value in
-    let began : ReferenceState = record {
-      messages = c.new.result.messages.items;
-      enums = c.new.result.enums.items;
-      services = c.new.result.services.items;
-      extensions = c.new.result.extensions.items;
-      faults = c.new-2.result.found.items;
-    } in
+    let began = held c.new.result c.new-2.result in
     let is = ap (λ files. setting_at files p.inner) (c.new-2.ensures.labels ∙ c.deref.ensures.value) in
-    let none : began ≡ no_items = λ i. record {
-      messages = c.new.ensures.messages i;
-      enums = c.new.ensures.enums i;
-      services = c.new.ensures.services i;
-      extensions = c.new.ensures.extensions i;
-      faults = c.new-2.ensures.found i;
-    } in
+    let none : began ≡ no_items = nothing-held c.new.result c.new-2.result c.new.ensures.messages c.new.ensures.enums c.new.ensures.services c.new.ensures.extensions c.new-2.ensures.found in
     let told = (references-end (setting_at c.new-2.result.labels p.inner) v began p.base fs none (c.in_ok-walk.ensures.ok.after_is [])).1 in
     let all = told ∙ (λ i. second_pass (is i) (declarations p.base (rest i))) in
     tells-err _ c.in_err-refuse.field-0.0 _ (search rules) (subst (TellsFaults c.in_err-refuse.field-0.0) all c.in_err-refuse.ensures.err)
