@@ -7,7 +7,7 @@ use Rattle.proto_types.specs.declared.file.FileDescriptorProto.{FileDescriptorPr
 use Rattle.proto_types.specs.Readers.{text_of}
 use Rattle.plain_data.specs.Lists.{after_each}
 use Rattle.name_tables.specs.Entries.{Entry, names_with}
-use Rattle.name_tables.proofs.Entries.{get-with, with-more, with-nothing}
+use Rattle.name_tables.proofs.Entries.{get-with, with-more}
 use Rattle.record_walk.specs.Protos.{of_file}
 use Rattle.record_walk.specs.Shown.{Shown}
 use Rattle.name_pass.specs.Syntaxes.{syntax_faults}
@@ -41,18 +41,12 @@ module _ (files : List FileDescriptorProto) where
         | _ ↦ refl
       ]
 
-  first-behind : (state : NameState) (d : Shown) (before : List Shown) (e : Shown) → first_faults files (known (name_step files state d)) before e ≡ first_faults files (known state) (d ∷ before) e
-  first-behind state d before e = λ i.
-      file-faults-behind state.file_names (file_entries_of d) (file_entries before) e i
-      ++ clashes-behind state.names (entries_of d) (entries before) (entries_of e) i ++ shape_faults files e
-
-  -- the same of all that follow a declaration
+  -- what all that follow a declaration break
   pub all-behind : (state : NameState) (d : Shown) (ds : List Shown)
       → after_each (first_faults files (known (name_step files state d))) [] ds ≡ after_each (first_faults files (known state)) (d ∷ []) ds
-  all-behind state d ds = after-behind (first_faults files (known (name_step files state d))) (first_faults files (known state)) (d ∷ []) (first-behind state d) [] ds
-
-  pub entered-none : (state : NameState) → state ≡ entered files state []
-  entered-none state = λ i. record state { names = sym (with-nothing state.names) i; faults = sym (append-nil state.faults) i }
+  all-behind state d ds = after-behind (first_faults files (known (name_step files state d))) (first_faults files (known state)) (d ∷ []) (λ before e i.
+      file-faults-behind state.file_names (file_entries_of d) (file_entries before) e i
+      ++ clashes-behind state.names (entries_of d) (entries before) (entries_of e) i ++ shape_faults files e) [] ds
 
   -- one more entry behind entries
   pub entered-more : (state : NameState) (es : List Entry) (e : Entry) → entered files (entered files state es) (e ∷ []) ≡ entered files state (es ++ e ∷ [])

@@ -1,7 +1,6 @@
 -- One more name comes to the first pass.
-use Rattle.std.proofs.Common.{◌≡◌, ℕ, List, [], ◌∷◌, ◌++◌, Option, Some, None, is_some, true, false, Result, OnOk, refl, rules, ap, sym, ◌∙◌, append-nil}
+use Rattle.std.proofs.Common.{◌≡◌, ℕ, List, [], ◌∷◌, ◌++◌, Option, Some, None, is_some, true, false, Result, OnOk, refl, rules, append-nil}
 use Rattle.std.specs.FinMap as finite
-use Rattle.std.specs.Option.{option_or}
 use Rattle.pool_types.specs.Contents.{ByText}
 use Rattle.proto_types.specs.declared.file.FileDescriptorProto.{FileDescriptorProto}
 use Rattle.pool_types.specs.declared.contents.definition.Definition.{Definition}
@@ -10,7 +9,7 @@ use Rattle.name_tables.proofs.Entries.{with-absent, with-present}
 use Rattle.std.proofs.lemmas.Result.{on_ok_weaker}
 use Rattle.pool_faults.specs.declared.fault.DescriptorErrorKind.TheVariants.{DuplicateFileName}
 use Rattle.pool_faults.specs.declared.fault.DescriptorErrorKind.{DescriptorErrorKind}
-use Rattle.name_pass.specs.FirstPass.{file_name_faults, holder_faults}
+use Rattle.name_pass.specs.FirstPass.{holder_faults}
 use Rattle.name_pass.specs.Steps.{NameState, entered, file_named}
 
 module _ (files : List FileDescriptorProto) (state : NameState) (e : Entry) where

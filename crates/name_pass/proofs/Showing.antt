@@ -1,22 +1,20 @@
 -- One more declaration is shown to the first pass.
-use Rattle.std.proofs.Common.{◌≡◌, ℕ, ℤ, Result, OnOk, List, [], ◌∷◌, ◌++◌, length, map, refl, ap, subst, sym, ◌∙◌, append_assoc, append-nil}
+use Rattle.std.proofs.Common.{◌≡◌, Result, OnOk, List, [], ◌∷◌, ◌++◌, length, map, refl, ap, subst, sym, ◌∙◌, append_assoc, append-nil}
 use Rattle.std.proofs.lemmas.Result.{on_ok_weaker}
 use Rattle.std.specs.List.{fold}
 use Rattle.pool_faults.specs.declared.fault.DescriptorErrorKind.{DescriptorErrorKind}
 use Rattle.field_rules.specs.declared.findings.Faults.{Faults}
 use Rattle.pool_types.specs.Contents.{Contents}
 use Rattle.record_walk.specs.Progress.{HasSeen}
-use Rattle.proto_types.specs.Readers.{text_of}
 use Rattle.proto_types.specs.declared.file.FileDescriptorProto.{FileDescriptorProto}
 use Rattle.name_tables.specs.Entries.{names_with}
 use Rattle.name_tables.proofs.Entries.{with-nothing}
-use Rattle.record_walk.specs.Shown.{Shown, file_shown}
+use Rattle.record_walk.specs.Shown.{Shown}
 use Rattle.name_pass.specs.declared.names.NameVisitor.{NameVisitor}
 use Rattle.name_pass.specs.State.{first_new, kept_of, records_of, state_of, Stays}
-use Rattle.name_pass.specs.Entered.{entries_of, own_entry}
+use Rattle.name_pass.specs.Entered.{own_entry}
 use Rattle.name_pass.specs.FirstPass.{clashes}
-use Rattle.name_pass.specs.Steps.{CanBeEntered, NameState, entered, file_named, name_progress, name_step}
-use Rattle.name_pass.specs.Syntaxes.{syntax_faults}
+use Rattle.name_pass.specs.Steps.{CanBeEntered, NameState, entered, name_progress, name_step}
 use borrow.Rule.Reborrow.{re_v}
 
 -- what stays in two steps
@@ -63,22 +61,18 @@ BreaksOwn v d own = let state = state_of v in name_step (records_of v) state d �
 
 module _ (old here : NameVisitor) (d : Shown) (stays : Stays old here) (can : CanBeEntered (first_new old) (d ∷ [])) where
   -- its name is entered, and then comes what it breaks by itself
-  pub shown-own : (faults : Faults) (own : List DescriptorErrorKind) → BreaksOwn old d own → state_of here ≡ entered (records_of old) (state_of old) (own_entry d ∷ [])
-      → faults.found.items ≡ here.faults.now.found.items ++ own → faults.labels ≡ here.faults.now.labels → HasBeenShown old (record here { faults = re_v faults here.faults }) d
+  pub shown-own : (faults : Faults) (own : List FileDescriptorProto → List DescriptorErrorKind) → BreaksOwn old d (own (records_of old))
+      → state_of here ≡ entered (records_of old) (state_of old) (own_entry d ∷ []) → faults.found.items ≡ here.faults.now.found.items ++ own (records_of here)
+      → faults.labels ≡ here.faults.now.labels → HasBeenShown old (record here { faults = re_v faults here.faults }) d
   shown-own faults own is-own named told same =
       let state = state_of old in
+      let clash = clashes (records_of old) state.names [] (own_entry d ∷ []) in
       shown old (record here { faults = re_v faults here.faults }) d (stays-on stays (stays-told here faults same)) can ((λ i. record {
         names = (named i).names;
         file_names = (ap (λ (s : NameState). s.file_names) named ∙ sym (with-nothing state.file_names)) i;
-        faults = (told ∙ (λ j. (named j).faults ++ own) ∙ append_assoc state.faults (clashes (records_of old) state.names [] (own_entry d ∷ [])) own) i;
+        faults = (told ∙ (λ j. (named j).faults ++ own (map (λ f. f.raw) (stays.files j))) ∙ append_assoc state.faults clash (own (records_of old))) i;
       }) ∙ sym is-own)
 
   -- its name is entered, and it breaks nothing by itself
   pub shown-named : {U E : Type 0} (r : Result U E) → BreaksOwn old d [] → OnOk r (state_of here ≡ entered (records_of old) (state_of old) (own_entry d ∷ [])) → OnOk r (HasBeenShown old here d)
-  shown-named r is-own ok = on_ok_weaker r (λ named. shown-own here.faults.now [] is-own named (sym (append-nil here.faults.now.found.items)) refl) ok
-
--- of a file come the fault of its syntax, its name, and its packages
-pub step-file : (files : List FileDescriptorProto) (state : NameState) (path : List ℤ) (index : ℕ) (f : FileDescriptorProto)
-    → entered files (file_named (record state { faults = state.faults ++ syntax_faults files index f }) (text_of f.name) index) (entries_of (file_shown path index f))
-    ≡ name_step files state (file_shown path index f)
-step-file files state path index f = simp (append_assoc, append-nil)
+  shown-named r is-own ok = on_ok_weaker r (λ named. shown-own here.faults.now (λ files. []) is-own named (sym (append-nil here.faults.now.found.items)) refl) ok

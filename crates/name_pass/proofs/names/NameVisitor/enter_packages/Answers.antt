@@ -1,4 +1,4 @@
-use Rattle.std.proofs.Common.{◌≡◌, true, false, get_or, length, [], ◌∷◌, take, map, arith, rules, refl, ap, ◌∙◌}
+use Rattle.std.proofs.Common.{◌≡◌, true, false, get_or, length, [], ◌∷◌, take, map, arith, rules, refl, ap, sym, ◌∙◌, append-nil}
 use Rattle.std.proofs.lemmas.Bool.Decides.{nat_tests}
 use Rattle.proto_types.specs.Names.{fronts, is_dot}
 use Rattle.name_pass.specs.State.{records_of, state_of}
@@ -6,7 +6,7 @@ use Rattle.std.proofs.lemmas.List.{take_all}
 use Rattle.std.proofs.lemmas.Result.{on_ok_weaker}
 use Rattle.name_pass.specs.Entered.{package_entry}
 use Rattle.name_pass.specs.Steps.{entered}
-use Rattle.name_pass.proofs.Behind.{entered-none}
+use Rattle.name_tables.proofs.Entries.{with-nothing}
 use Rattle.name_pass.proofs.Packages.{packages_more, packages_whole}
 use Rattle.name_pass.proofs.Showing.{stays-on}
 use Rattle.name_pass.proofs.names.NameVisitor.enter_packages.Goals as goal
@@ -14,7 +14,7 @@ use Rattle.name_pass.proofs.names.NameVisitor.enter_packages.Goals.{then-byte-eq
 
 pub loop-end-init : goal.loop-end-init
 loop-end-init c = record {
-  state = entered-none (records_of c.args.self.now) (state_of c.args.self.now);
+  state = λ i. record (state_of c.args.self.now) { names = sym (with-nothing c.args.self.now.names.now) i; faults = sym (append-nil c.args.self.now.faults.now.found.items) i };
   stays = record { files = refl; kept = refl; borrows = refl };
 }
 
