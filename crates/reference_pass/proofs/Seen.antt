@@ -45,7 +45,7 @@ shown s t a b d same can is = record {
   ready_is = λ rest. (λ (all : CanBeRead rest). (can.0, all), λ (all : CanBeRead (d ∷ rest)). all.1);
 }
 
--- what it breaks is told behind what was told
+-- the same, where what the declaration breaks is told behind what was told
 pub seen : (v : ResolveVisitor) (items : NewItems) (faults : PassFaults) (d : Shown) → faults.labels ≡ v.faults.labels → CanBeRead (d ∷ [])
     → held items faults ≡ record (reference_step (setting_of v) (state_of v) d) { faults = v.faults.found.items ++ owner_faults (setting_of v) d }
     → HasSeen (after (setting_of v) (state_of v)) CanBeRead (after (setting_over v faults.labels) (held items faults)) CanBeRead (d ∷ [])
@@ -56,11 +56,11 @@ seen v items faults d same can is =
     shown s (setting_over v faults.labels) (state_of v) (held items faults) d (ap (setting_over v) same) can
     (is ∙ (λ i. record step { faults = v.faults.found.items ++ told i }))
 
--- it makes no item of a kind
+-- where no item of a kind is made, what there was is all
 pub none : {X : Type 0} {xs ys : List X} → ys ≡ xs → ys ≡ xs ++ []
 none {X} {xs} is = is ∙ sym (append-nil xs)
 
--- it makes nothing
+-- a declaration of which nothing is made changes nothing
 pub passed : (v : ResolveVisitor) (d : Shown) → reference_step (setting_of v) (state_of v) d ≡ with_declarations (setting_of v) (state_of v) []
     → CanBeRead (d ∷ []) → HasSeen (after (setting_of v) (state_of v)) CanBeRead (after (setting_of v) (state_of v)) CanBeRead (d ∷ [])
 passed v d nothing can =

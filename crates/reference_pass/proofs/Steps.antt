@@ -1,4 +1,4 @@
--- Further declarations in two parts, and none of them.
+-- What the second pass makes of no declarations, and of declarations in two parts.
 use Rattle.std.proofs.Common.{◌≡◌, Option, List, [], ◌++◌, map, ap, sym, ◌∙◌, append_assoc, append-nil}
 use Rattle.std.proofs.lemmas.Grind.{flat_map-append}
 use Rattle.std.proofs.lemmas.List.{map-append}
@@ -22,7 +22,7 @@ module _ {X Y : Type 0} (pick : Proto → Option X) (make : Shown → X → Y) w
       let of : Shown × X → Y = λ e. make e.0 e.1 in
       ap (map of) (kind-append pick ds es) ∙ map-append of (of_kind pick ds) (of_kind pick es)
 
-  -- behind what there was
+  -- what is made of two parts in turn stands behind what there was
   behind : (had : List Y) (ds es : List Shown) → (had ++ made_of pick make ds) ++ made_of pick make es ≡ had ++ made_of pick make (ds ++ es)
   behind had ds es = append_assoc had (made_of pick make ds) (made_of pick make es) ∙ ap (λ ys. had ++ ys) (sym (made-append ds es))
 
