@@ -26,9 +26,9 @@ use Rattle.record_walk.specs.Changed.{Changes, changed, changed_fields, changed_
 use Rattle.record_walk.specs.Counts.{counts_in, no_counts}
 use Rattle.record_walk.specs.Declarations.{declarations}
 use Rattle.record_walk.specs.Fits.{counts_with}
-use Rattle.record_walk.specs.Protos.{Proto, of_file, of_message, of_field, of_oneof, of_service, of_method, of_enum, of_value, of_extension, as_message, as_service, as_extension}
-use Rattle.record_walk.specs.Shown.{Shown, inside, of_kind}
-use Rattle.reference_pass.specs.Items.{extension_item, field_items, message_item, method_items, service_item, message_items, service_items, extension_items}
+use Rattle.record_walk.specs.Protos.{Proto, of_file, of_message, of_field, of_oneof, of_service, of_method, of_enum, of_value, of_extension}
+use Rattle.record_walk.specs.Shown.{Shown, inside}
+use Rattle.reference_pass.specs.Items.{extension_item, field_items, method_items, message_items, service_items, extension_items}
 use Rattle.reference_pass.specs.Linked.{linked_extension, linked_method, linking}
 use Rattle.reference_pass.specs.Linking.{HasItem, lists_in}
 use Rattle.reference_pass.specs.SecondPass.{owner_faults}
