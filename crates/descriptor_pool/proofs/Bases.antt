@@ -1,7 +1,7 @@
 -- What a growing pool had before is how much a roll-back leaves, and its new files are those behind that.
 use Rattle.std.proofs.Common.{◌≡◌, ◌-◌, ℕ, List, ◌++◌, length, map, take, drop, ap, sym, ◌∙◌, arith}
 use Rattle.std.proofs.Math.Seq.{drop-append_seam}
-use Rattle.std.proofs.lemmas.List.{drop-map, length-drop, length-map, length-take-le, take_all}
+use Rattle.std.proofs.lemmas.List.{drop-map, length-drop, length-take-le, take_all}
 use Rattle.pool_types.specs.declared.contents.file.FileDescriptorInner.{FileDescriptorInner}
 use Rattle.proto_types.specs.declared.file.FileDescriptorProto.{FileDescriptorProto}
 use Rattle.record_walk.specs.Counts.{counts_in}

@@ -1,16 +1,11 @@
 -- What is true of contents once their extensions are in the lists of messages: their counts, where names begin, and what is
 -- listed.
-use Rattle.std.proofs.Common.{◌≡◌, ◌≤◌, ◌<◌, ◌+◌, ◌==◌, ℕ, true, false, cond, List, [], ◌∷◌, ◌++◌, length, map, drop, refl, arith}
-use Rattle.std.proofs.lemmas.List.Elements.{All-append, All-from_recursion, All-weaker}
-use Rattle.std.specs.List.{All, AllByRecursion, enumerate_from, filter}
-use Rattle.plain_data.specs.Each.{map_enumerated}
+use Rattle.std.proofs.Common.{◌≡◌, ℕ, drop, refl}
 use Rattle.pool_types.specs.Contents.{Contents}
-use Rattle.pool_types.specs.declared.contents.extension.ExtensionDescriptorInner.{ExtensionDescriptorInner}
-use Rattle.pool_types.specs.declared.contents.message.MessageDescriptorInner.{MessageDescriptorInner}
 use Rattle.record_walk.specs.Counts.{counts_in}
 use Rattle.record_walk.proofs.Counted.{counts_are}
 use Rattle.reference_pass.specs.NamesBegin.{AllNamesBegin, MessageNamesBegin}
-use Rattle.pool_contents.specs.Extended.{extended_by, extending, with_extended}
+use Rattle.pool_contents.specs.Extended.{extended_by, with_extended}
 use Rattle.pool_contents.proofs.Each.{all-each, length-each}
 
 -- there are as many of each kind

@@ -1,9 +1,8 @@
 -- What is true of all contents that are made: their names, their counts, and their references.
-use Rattle.std.proofs.Common.{Bool, true, false, ◌&&◌, cond, IsOk, arith, ◌≡◌, ◌≤◌, ◌<◌, ℕ, Option, None, Some, IsSome, List, [], ◌∷◌, ◌++◌, ◌+◌, length, drop, map, refl, ap, subst, sym, ◌∙◌}
-use Rattle.std.proofs.lemmas.List.{length-append, length-drop, length-map}
-use Rattle.std.proofs.lemmas.List.Elements.{All-map, All-nil}
+use Rattle.std.proofs.Common.{Bool, true, false, ◌&&◌, cond, IsOk, arith, ◌≡◌, ℕ, Option, None, Some, IsSome, List, [], ◌∷◌, ◌++◌, ◌+◌, length, map, refl, ap, subst, sym, ◌∙◌}
+use Rattle.std.proofs.lemmas.List.{length-map}
 use Rattle.std.specs.FinMap as finite
-use Rattle.std.specs.List.{All, AllByRecursion, flat_map, list_all}
+use Rattle.std.specs.List.{AllByRecursion, flat_map, list_all}
 use Rattle.std.proofs.lemmas.Bool.Decides.{nat_tests}
 use Rattle.std.specs.declared.result.Result.TheVariants.{Err}
 use Rattle.record_walk.specs.declared.counts.Counts.{Counts}
@@ -11,8 +10,7 @@ use Rattle.record_walk.specs.declared.counts.CountKind.TheVariants.{ListTooLong}
 use Rattle.proto_types.specs.declared.file.FileDescriptorProto.{FileDescriptorProto}
 use Rattle.record_walk.specs.Fits.{counts_with}
 use Rattle.record_walk.specs.Walking.{WithinLimits}
-use Rattle.record_walk.specs.Protos.{as_extension, as_message}
-use Rattle.record_walk.specs.Shown.{Shown, of_kind}
+use Rattle.record_walk.specs.Shown.{Shown}
 use Rattle.record_walk.proofs.Changed.{all-fit-changed}
 use Rattle.record_walk.proofs.Listings.{first-true, second-true}
 use Rattle.record_walk.proofs.Room.{room-fits}
@@ -25,7 +23,6 @@ use Rattle.record_walk.specs.Declarations.{declarations}
 use Rattle.name_tables.specs.Entries.{Entry, first_of, names, names_with}
 use Rattle.name_tables.specs.NameTables.{AllBefore, FileNamesBefore}
 use Rattle.name_tables.proofs.Entries.{get-with, with-names}
-use Rattle.reference_pass.specs.Items.{extension_item, message_item}
 use Rattle.reference_pass.specs.Linked.{linking}
 use Rattle.reference_pass.specs.Short.{ShortFiles}
 use Rattle.name_pass.specs.Entered.{entries, file_entries}
