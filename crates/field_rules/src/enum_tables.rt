@@ -34,7 +34,7 @@ fn numbered(
     ensures { IfOk result (λ pairs. pairs.items
         ≡ map (λ e. (number_of e.1.number, e.0)) (enumerate_from 0 values.now)) }
 {
-    let mut pairs = Vec::new(alloc);
+    let mut pairs = Vec::with_capacity(alloc, values.len())?;
     for (position, value) in values.iter().enumerate() {
         pairs.push((value.number(), position as u32))?;
     }

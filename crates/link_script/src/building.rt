@@ -302,6 +302,9 @@ fn shrink_file(alloc: Global, file: &mut FileDescriptorProto)
     shrink(alloc, &mut file.enum_type);
     shrink(alloc, &mut file.service);
     shrink(alloc, &mut file.extension);
+    if let Some(source) = &mut file.source_code_info {
+        shrink(alloc, &mut source.location);
+    }
 }
 
 /// Gives back the room of a message's lists in which nothing stands.

@@ -83,7 +83,7 @@ fn read_fields(
         (out-DescriptorProto owner.entry.message.now).field)) }
 {
     let fields = owner.message.field.as_slice();
-    let mut items = Vec::new(reading.findings.alloc);
+    let mut items = Vec::with_capacity(reading.findings.alloc, fields.len())?;
     for position in 0..fields.len() {
         items.push(read_field(reading, owner, ranges, position)?)?;
         maps.insert(&mut reading.findings, owner, position)?;
@@ -105,7 +105,7 @@ fn read_oneofs(
 {
     let oneofs = message.oneof_decl.as_slice();
     let lists = members(alloc, oneofs, message.field.as_slice())?;
-    let mut items = Vec::new(alloc);
+    let mut items = Vec::with_capacity(alloc, oneofs.len())?;
     for (position, oneof) in oneofs.iter().enumerate() {
         let tag = tag::message::ONEOF_DECL;
         let id = identity_inside(alloc, place, tag, position, oneof.name())?;

@@ -62,7 +62,7 @@ fn read_methods(
     ensures faults { OnOk result (Reads reading.old reading.new
         (faults_of_methods (setting_of reading.old) (inside_of service.entry) methods.now)) }
 {
-    let mut items = Vec::new(reading.findings.alloc);
+    let mut items = Vec::with_capacity(reading.findings.alloc, methods.len())?;
     for (position, method) in methods.iter().enumerate() {
         items.push(read_method(reading, service, position, method)?)?;
     }
