@@ -8,6 +8,10 @@ use crate::{
 };
 use plain_data::ExactEq;
 
+impl<T: ExactEq> ExactEq for Options<T> {
+    ghost exact = { options-exact T.exact };
+}
+
 impl ExactEq for FieldOptions {
     ghost exact = { field_options-exact };
 }
