@@ -32,8 +32,6 @@ use Rattle.name_resolution.specs.Resolution.{Resolution, found, invalid_type, no
 use Rattle.name_resolution.proofs.Named.{IsNamed, resolution-named}
 use Rattle.name_resolution.proofs.Wanted.{IsWanted, resolution-wanted}
 use Rattle.field_rules.specs.Places.{field_at}
-use Rattle.reference_pass.specs.Defaults.{field_default_faults}
-use Rattle.reference_pass.specs.Extensions.{extendee_faults, number_faults}
 use Rattle.reference_pass.specs.FieldTypes.{field_kind, resolve_type, type_faults}
 use Rattle.reference_pass.specs.Items.{extension_item, field_item, method_item}
 use Rattle.reference_pass.specs.Linked.{linked_extension, linked_field, linked_method, resolved, typed}
@@ -41,7 +39,8 @@ use Rattle.reference_pass.specs.Messages.{index_or_max, message_found, message_i
 use Rattle.reference_pass.specs.SecondPass.{Faults, Owner, extension_faults, field_faults, method_faults}
 use Rattle.reference_pass.specs.Setting.{Setting, seen_by}
 use Rattle.descriptor_pool.specs.References.{ExtensionNames, FieldNames, MethodNames, NamesKind, NamesType}
-use Rattle.descriptor_pool.proofs.Resolved.{no_items, type-told}
+use Rattle.descriptor_pool.proofs.Resolved.{type-told}
+use Rattle.reference_pass.proofs.Unbroken.{both-empty, extension-parts}
 
 -- a name that means a definition names its kind
 names-kind : (names : ByText Definition) (name : List ℕ) (def : Definition) (kind : DefinitionKind) → finite.get names name ≡ Some def → def.kind ≡ kind
@@ -146,14 +145,14 @@ module _ (s : Setting) where
   fields-named owner oneofs i (f ∷ fs) none =
       let d = field_at (inside owner.0) i f in
       let rest = flat_map (λ (faults : Faults). faults) (map_enumerated (λ n g. field_faults s owner (field_at (inside owner.0) n g) g) (suc i) fs) in
-      let both = no_items (field_faults s owner d f) rest none in
+      let both = both-empty (field_faults s owner d f) rest none in
       (field-names d f (type-told s owner d f both.0), fields-named owner oneofs (suc i) fs both.1)
 
   method-names : (d : Shown) (m : MethodDescriptorProto) → method_faults s d m ≡ [] → MethodNames s.names (method_item s d m) (linked_method s d.file d.full_name m)
   method-names d m none =
       let input = d.path ++ method.INPUT_TYPE ∷ [] in
       let output = d.path ++ method.OUTPUT_TYPE ∷ [] in
-      let both = no_items (listed (reference_fault s.files (text_of m.input_type) d.file input (resolve_message s d m.input_type)))
+      let both = both-empty (listed (reference_fault s.files (text_of m.input_type) d.file input (resolve_message s d m.input_type)))
       (listed (reference_fault s.files (text_of m.output_type) d.file output (resolve_message s d m.output_type))) none in
       record { input = message-names d input m.input_type both.0; output = message-names d output m.output_type both.1 }
 
@@ -164,18 +163,14 @@ module _ (s : Setting) where
   methods-named here i [] none = tt
   methods-named here i (m ∷ ms) none =
       let rest = flat_map (λ (faults : Faults). faults) (map_enumerated (λ n k. method_faults s (method_at here n k) k) (suc i) ms) in
-      let both = no_items (method_faults s (method_at here i m) m) rest none in
+      let both = both-empty (method_faults s (method_at here i m) m) rest none in
       (method-names (method_at here i m) m both.0, methods-named here (suc i) ms both.1)
 
   -- an extension
-  pub extension-named : (d : Shown) (x : FieldDescriptorProto) → extension_faults s d x ≡ [] → ExtensionNames s.names (extension_item s d x) (linked_extension s d.file d.full_name x)
+  pub extension-named : (d : Shown) (x : FieldDescriptorProto) → extension_faults s [] d x ≡ [] → ExtensionNames s.names (extension_item s d x) (linked_extension s d.file d.full_name x)
   extension-named d x none =
-      let extendee = extendee_faults s d x in
-      let numbers = number_faults s d x (resolve_message s d x.extendee) in
-      let types = type_faults s d x in
-      let parts = no_items ((extendee ++ numbers) ++ types) (field_default_faults s d x) none in
-      let first = no_items (extendee ++ numbers) types parts.0 in
+      let parts = extension-parts s d x [] none in
       record {
-        extendee = message-names d (d.path ++ field.EXTENDEE ∷ []) x.extendee (no_items extendee numbers first.0).0;
-        type_ = field-names d x first.1;
+        extendee = message-names d (d.path ++ field.EXTENDEE ∷ []) x.extendee parts.extendee;
+        type_ = field-names d x parts.type_;
       }

@@ -42,7 +42,8 @@ use Rattle.descriptor_pool.specs.References.{AllNamed, ExtensionNames, FieldName
 use Rattle.descriptor_pool.proofs.Declared.{declared-linked}
 use Rattle.descriptor_pool.proofs.Definitions.{extension-named, fields-named, methods-named}
 use Rattle.descriptor_pool.proofs.NamedItems.{get-before, get-each, linked-items-are}
-use Rattle.descriptor_pool.proofs.Resolved.{all-append, no_items}
+use Rattle.descriptor_pool.proofs.Resolved.{all-append}
+use Rattle.reference_pass.proofs.Unbroken.{both-empty, owners-apart}
 use Rattle.descriptor_pool.proofs.Sound.{Known, made-sound}
 
 -- an item by what it has
@@ -60,7 +61,7 @@ linked-fields c file name (DescriptorProto' own fields n nested enums ranges ext
 module _ (p : Contents) (s : Setting) (names : s.names ≡ p.names) where
   one-named : (file : ℕ) (parent : Option ℕ) (index : ℕ) (path : List ℤ) (full_name : List ℕ) (proto : Proto)
       → let d : Shown = record { file = file; parent = parent; index = index; path = path; full_name = full_name; proto = proto } in
-      HasItem s (lists_in p) d → owner_faults s d ≡ [] → NamesOwn p (changed (linking s) d)
+      HasItem s (lists_in p) d → owner_faults s [] d ≡ [] → NamesOwn p (changed (linking s) d)
   one-named file parent index path full_name (of_message m) has none =
       let d : Shown = record { file = file; parent = parent; index = index; path = path; full_name = full_name; proto = of_message m } in
       let parts = out-DescriptorProto m in
@@ -90,10 +91,10 @@ module _ (p : Contents) (s : Setting) (names : s.names ≡ p.names) where
   one-named file parent index path full_name (of_enum e) has none = tt
   one-named file parent index path full_name (of_value v) has none = tt
 
-  each-named : (ds : List Shown) → AllByRecursion (HasItem s (lists_in p)) ds → flat_map (owner_faults s) ds ≡ [] → AllByRecursion (NamesOwn p) (map (changed (linking s)) ds)
+  each-named : (ds : List Shown) → AllByRecursion (HasItem s (lists_in p)) ds → flat_map (owner_faults s []) ds ≡ [] → AllByRecursion (NamesOwn p) (map (changed (linking s)) ds)
   each-named [] has none = tt
   each-named (d ∷ ds) has none =
-      let both = no_items (owner_faults s d) (flat_map (owner_faults s) ds) none in
+      let both = both-empty (owner_faults s [] d) (flat_map (owner_faults s []) ds) none in
       (one-named d.file d.parent d.index d.path d.full_name d.proto has.0 both.0, each-named ds has.1 both.1)
 
 -- what names mean stays behind further entries
@@ -191,7 +192,7 @@ module _ (q : Contents) (new : List FileDescriptorProto) where
   -- and so do those of new files that fit and break nothing
   link-named : Made q → Known q → IsOk (counts_with (counts_in q) new) → reference_faults q new ≡ [] → AllNamed q → AllNamed p
   link-named made known fits none named =
-      let came = each-named p s refl ds (linked-items-are q made new fits).items (sym (owners-tell s (counts_in q) new) ∙ none) in
+      let came = each-named p s refl ds (linked-items-are q made new fits).items (owners-apart s q.extensions ds (sym (owners-tell s q.extensions (counts_in q) new) ∙ none)).0 in
       subst (AllByRecursion (NamesOwn p)) (sym (declared-linked (with_names q ds) new known.counts_are s))
       (all-append (NamesOwn p) (declarations no_counts (files_of q)) (map (changed (linking s)) ds) (each-stays (declarations no_counts (files_of q)) named) came)
 

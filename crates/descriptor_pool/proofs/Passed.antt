@@ -1,10 +1,11 @@
 -- What a pass has found once its visitor has been shown all declarations, and is gone.
-use Rattle.std.proofs.Common.{rules, ◌≡◌, ℕ, true, false, List, [], ◌∷◌, ◌++◌, length, ap, sym, subst, ◌∙◌, append-nil, Result, Ok, Err, OnOk, OnErr, IfErr}
+use Rattle.std.proofs.Common.{rules, ◌≡◌, ℕ, true, List, [], ◌∷◌, ◌++◌, length, ap, sym, subst, ◌∙◌, append-nil, Result, Ok, Err, OnOk, OnErr, IfErr}
 use Rattle.std.specs.List.{fold}
 use Rattle.std.specs.Result.{is_err}
 use Rattle.std.specs.declared.alloc.AllocError.{AllocError}
 use Rattle.field_rules.specs.declared.findings.Faults.{Faults as PassFaults}
 use Rattle.pool_types.specs.Contents.{ByText, Contents, no_contents}
+use Rattle.pool_types.specs.declared.contents.extension.ExtensionDescriptorInner.{ExtensionDescriptorInner}
 use Rattle.pool_types.specs.declared.contents.file.FileDescriptorInner.{FileDescriptorInner}
 use Rattle.proto_types.specs.declared.file.FileDescriptorProto.{FileDescriptorProto}
 use Rattle.record_walk.specs.declared.counts.Counts.{Counts}
@@ -16,6 +17,7 @@ use Rattle.record_walk.specs.Shown.{Shown}
 use Rattle.name_pass.specs.declared.names.NameVisitor.{NameVisitor}
 use Rattle.name_pass.specs.State.{borrows_of, first_new, kept_of, records_of, state_of}
 use Rattle.name_pass.specs.Steps.{NameState, name_progress, name_step, state_at}
+use Rattle.reference_pass.specs.Items.{extension_items}
 use Rattle.reference_pass.specs.Setting.{Setting}
 use Rattle.reference_pass.specs.SecondPass.{second_pass, Faults}
 use Rattle.reference_pass.specs.declared.items.NewItems.{NewItems}
@@ -79,29 +81,38 @@ module _ (new : NameVisitor) {m n k : ℕ} (same : borrows_of new ≡ m ∷ n �
         ap (file_names_before first) file-names-left ∙ (λ i. file_names_before (sym here-still i) new.file_names.now)
         ∙ ap (λ (c : Contents). c.file_names) kept ∙ (λ i. file_names_before (here i) file_names)
 
--- a second pass that has found nothing yet
-abbrev pub no_items : ReferenceState
-no_items = record { messages = []; enums = []; services = []; extensions = []; faults = [] }
+-- a second pass that has found nothing yet behind the extensions of a pool
+abbrev pub no_items : List ExtensionDescriptorInner → ReferenceState
+no_items old = record { messages = []; enums = []; services = []; extensions = old; faults = [] }
 
-pub nothing-held : (items : NewItems) (faults : PassFaults) → items.messages.items ≡ [] → items.enums.items ≡ [] → items.services.items ≡ [] → items.extensions.items ≡ []
-    → faults.found.items ≡ [] → held items faults ≡ no_items
-nothing-held items faults ms es ss xs found = λ i. record { messages = ms i; enums = es i; services = ss i; extensions = xs i; faults = found i }
+pub nothing-held : (old : List ExtensionDescriptorInner) (items : NewItems) (faults : PassFaults) → items.messages.items ≡ [] → items.enums.items ≡ [] → items.services.items ≡ [] → items.extensions.items ≡ []
+    → faults.found.items ≡ [] → held old items faults ≡ no_items old
+nothing-held old items faults ms es ss xs found = λ i. record { messages = ms i; enums = es i; services = ss i; extensions = (ap (λ ys. old ++ ys) xs ∙ append-nil old) i; faults = found i }
 
--- the items and the faults that a visitor of the second pass has once it was shown all that files declare, and began with none
-pub references-end : (s : Setting) (v : ResolveVisitor) (old : ReferenceState) (base : Counts) (fs : List FileDescriptorProto)
-    → old ≡ no_items
-    → reference_progress (state_of_references v) ≡ reference_progress (fold (reference_step s) old (declarations base fs ++ []))
-    → HasItems v.items s (declarations base fs) × (v.faults.found.items ≡ second_pass s (declarations base fs))
-references-end s v old base fs none seen =
+abbrev tail : {X : Type 0} → List X → List X
+tail [] = []
+tail (x ∷ xs) = xs
+
+append-same : {X : Type 0} (old xs ys : List X) → old ++ xs ≡ old ++ ys → xs ≡ ys
+append-same [] xs ys same = same
+append-same (o ∷ os) xs ys same = append-same os xs ys (ap tail same)
+
+-- the items and the faults that a visitor of the second pass has once it was shown all that files declare, and began with none, behind the extensions of a pool
+pub references-end : (s : Setting) (v : ResolveVisitor) (old : List ExtensionDescriptorInner) (began : ReferenceState) (base : Counts) (fs : List FileDescriptorProto)
+    → began ≡ no_items old → v.pool.extensions.now ≡ old
+    → reference_progress (state_of_references v) ≡ reference_progress (fold (reference_step s) began (declarations base fs ++ []))
+    → HasItems v.items s (declarations base fs) × (v.faults.found.items ≡ second_pass s old (declarations base fs))
+references-end s v old began base fs none kept seen =
     let ds = declarations base fs in
-    let e = seen ∙ (λ i. reference_progress (fold (reference_step s) (none i) (append-nil ds i))) ∙ ap reference_progress (fold-seen s no_items ds) in (
+    let e = seen ∙ (λ i. reference_progress (fold (reference_step s) (none i) (append-nil ds i))) ∙ ap reference_progress (fold-seen s (no_items old) ds) in (
       record {
         messages = ap (λ (p : Progress). p.contents.messages) e;
         enums = ap (λ (p : Progress). p.contents.enums) e;
         services = ap (λ (p : Progress). p.contents.services) e;
-        extensions = ap (λ (p : Progress). p.contents.extensions) e;
+        extensions = append-same old v.items.extensions.items (extension_items s ds)
+            (ap (λ xs. xs ++ v.items.extensions.items) (sym kept) ∙ ap (λ (p : Progress). p.contents.extensions) e);
       },
-      ap (λ (p : Progress). p.faults) e ∙ faults-seen s base fs,
+      ap (λ (p : Progress). p.faults) e ∙ faults-seen s old base fs,
     )
 
 -- a pass that is refused with its faults tells them
@@ -117,11 +128,7 @@ pub ok-is : {X U E : Type 0} (r : Result U E) (x a b : X) → a ≡ b → OnOk r
 ok-is (Ok u) x a b same is = is ∙ same
 ok-is (Err e) x a b same is = tt
 
--- what holds where no error came, and where one did
-pub after-ok : {U E P : Type 0} (r : Result U E) → false ≡ is_err r → OnOk r P → P
-after-ok (Ok u) well p = p
-after-ok (Err e) well p = absurd (search rules)
-
+-- what holds where an error came
 pub after-err : {U E P : Type 0} (r : Result U E) → true ≡ is_err r → OnErr r P → P
 after-err (Ok u) failed p = absurd (search rules)
 after-err (Err e) failed p = p

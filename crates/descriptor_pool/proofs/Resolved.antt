@@ -16,6 +16,7 @@ use Rattle.pool_types.specs.declared.contents.definition.Definition.{Definition}
 use Rattle.pool_faults.specs.declared.fault.DescriptorErrorKind.TheVariants.{MissingRequiredField}
 use Rattle.pool_types.specs.Contents.{ByText}
 use Rattle.pool_faults.specs.Labels.{label_in}
+use Rattle.pool_types.specs.declared.contents.extension.ExtensionDescriptorInner.{ExtensionDescriptorInner}
 use Rattle.record_walk.specs.Changed.{changed}
 use Rattle.record_walk.specs.Protos.{Proto, of_file, of_message, of_field, of_oneof, of_service, of_method, of_enum, of_value, of_extension}
 use Rattle.record_walk.specs.Shown.{Shown}
@@ -26,10 +27,11 @@ use Rattle.name_resolution.specs.Resolution.{Resolution, found, invalid_type, no
 use Rattle.name_resolution.proofs.Named.{IsNamed, resolution-named}
 use Rattle.reference_pass.specs.SecondPass.{Faults, Owner, field_faults, field_record_faults, message_of, second_faults, second_pass}
 use Rattle.reference_pass.specs.Defaults.{field_default_faults}
-use Rattle.reference_pass.specs.Extensions.{extendee_faults, number_faults}
 use Rattle.reference_pass.specs.FieldTypes.{resolve_type, type_faults}
 use Rattle.reference_pass.specs.Linked.{resolved, typed, linking}
 use Rattle.reference_pass.specs.Messages.{resolve_message}
+use Rattle.reference_pass.specs.Items.{extension_items}
+use Rattle.reference_pass.proofs.Unbroken.{both-empty, extension-parts}
 use Rattle.reference_pass.specs.Setting.{Setting, seen_by}
 use Rattle.std.specs.BTreeSet.{contains_by}
 use Rattle.std.specs.Ordering.{nat_cmp}
@@ -92,58 +94,51 @@ message-resolved s d path given none =
     found-full s path d.file (text_of given) given (resolve_message s d given)
     (resolution-named s.names (λ n. contains_by (nat_cmp n) (seen_by s d.file)) Message d.full_name (text_of given)) none
 
-pub no_items : {X : Type 0} (xs ys : List X) → xs ++ ys ≡ [] → (xs ≡ []) × (ys ≡ [])
-no_items [] ys none = (refl, none)
-no_items (x ∷ xs) ys none = absurd (cc)
-
 -- the type of a field is among what it breaks
 pub type-told : (s : Setting) (owner : Owner) (d : Shown) (f : FieldDescriptorProto) → field_faults s owner d f ≡ [] → type_faults s d f ≡ []
 type-told s owner d f none =
     let m = out-DescriptorProto owner.1 in
     let again = duplicate_faults s.files owner.0.file owner.0.path (take d.index m.field) d.index f in
-    let own = no_items (field_record_faults s owner d f) again none in
+    let own = both-empty (field_record_faults s owner d f) again none in
     let numbers = field_number_faults s.files owner.0 owner.1 d f in
-    let first = no_items ((numbers ++ type_faults s d f) ++ field_default_faults s d f) (oneof_faults m.oneof_decl f) own.0 in
-    let types = no_items (numbers ++ type_faults s d f) (field_default_faults s d f) first.0 in
-    (no_items numbers (type_faults s d f) types.0).1
+    let first = both-empty ((numbers ++ type_faults s d f) ++ field_default_faults s d f) (oneof_faults m.oneof_decl f) own.0 in
+    let types = both-empty (numbers ++ type_faults s d f) (field_default_faults s d f) first.0 in
+    (both-empty numbers (type_faults s d f) types.0).1
 
 -- a declaration without a fault has only references that are resolved, once it is linked
-one-resolved : (s : Setting) (before : List Shown) (file : ℕ) (parent : Option ℕ) (index : ℕ) (path : List ℤ) (full_name : List ℕ) (p : Proto)
+one-resolved : (s : Setting) (old : List ExtensionDescriptorInner) (before : List Shown) (file : ℕ) (parent : Option ℕ) (index : ℕ) (path : List ℤ) (full_name : List ℕ) (p : Proto)
     → let d : Shown = record { file = file; parent = parent; index = index; path = path; full_name = full_name; proto = p } in
-    second_faults s before d ≡ [] → AllByRecursion (Names s.names) (references_in (changed (linking s) d))
-one-resolved s before file parent index path full_name (of_field f) none =
+    second_faults s old before d ≡ [] → AllByRecursion (Names s.names) (references_in (changed (linking s) d))
+one-resolved s old before file parent index path full_name (of_field f) none =
     let d : Shown = record { file = file; parent = parent; index = index; path = path; full_name = full_name; proto = of_field f } in
     type-resolved s d (changed (linking s) d) f (codes "type_name") (text_of f.type_name) refl (type-told s (message_of before d) d f none)
-one-resolved s before file parent index path full_name (of_file f) none = tt
-one-resolved s before file parent index path full_name (of_message m) none = tt
-one-resolved s before file parent index path full_name (of_oneof o) none = tt
-one-resolved s before file parent index path full_name (of_service v) none = tt
-one-resolved s before file parent index path full_name (of_method m) none =
+one-resolved s old before file parent index path full_name (of_file f) none = tt
+one-resolved s old before file parent index path full_name (of_message m) none = tt
+one-resolved s old before file parent index path full_name (of_oneof o) none = tt
+one-resolved s old before file parent index path full_name (of_service v) none = tt
+one-resolved s old before file parent index path full_name (of_method m) none =
     let d : Shown = record { file = file; parent = parent; index = index; path = path; full_name = full_name; proto = of_method m } in
     let input = path ++ method.INPUT_TYPE ∷ [] in
     let output = path ++ method.OUTPUT_TYPE ∷ [] in
-    let both = no_items (listed (reference_fault s.files (text_of m.input_type) file input (resolve_message s d m.input_type)))
+    let both = both-empty (listed (reference_fault s.files (text_of m.input_type) file input (resolve_message s d m.input_type)))
     (listed (reference_fault s.files (text_of m.output_type) file output (resolve_message s d m.output_type))) none in
     (message-resolved s d input m.input_type both.0, (message-resolved s d output m.output_type both.1, tt))
-one-resolved s before file parent index path full_name (of_enum e) none = tt
-one-resolved s before file parent index path full_name (of_value v) none = tt
-one-resolved s before file parent index path full_name (of_extension x) none =
+one-resolved s old before file parent index path full_name (of_enum e) none = tt
+one-resolved s old before file parent index path full_name (of_value v) none = tt
+one-resolved s old before file parent index path full_name (of_extension x) none =
     let d : Shown = record { file = file; parent = parent; index = index; path = path; full_name = full_name; proto = of_extension x } in
-    let extendee = extendee_faults s d x in
-    let numbers = number_faults s d x (resolve_message s d x.extendee) in
-    let types = type_faults s d x in
-    let parts = no_items ((extendee ++ numbers) ++ types) (field_default_faults s d x) none in
-    let first = no_items (extendee ++ numbers) types parts.0 in
-    let found = (no_items extendee numbers first.0).0 in
-    (message-resolved s d (path ++ field.EXTENDEE ∷ []) x.extendee found, type-resolved s d (changed (linking s) d) x (codes "type_name") (text_of x.type_name) refl first.1)
+    let parts = extension-parts s d x (old ++ extension_items s before) none in (
+      message-resolved s d (path ++ field.EXTENDEE ∷ []) x.extendee parts.extendee,
+      type-resolved s d (changed (linking s) d) x (codes "type_name") (text_of x.type_name) refl parts.type_,
+    )
 
 -- and so have declarations
-all-resolved : (s : Setting) (before ds : List Shown) → after_each (second_faults s) before ds ≡ [] → AllNamed s.names (map (changed (linking s)) ds)
-all-resolved s before [] none = tt
-all-resolved s before (d ∷ ds) none =
-    let both = no_items (second_faults s before d) (after_each (second_faults s) (before ++ d ∷ []) ds) none in
+all-resolved : (s : Setting) (old : List ExtensionDescriptorInner) (before ds : List Shown) → after_each (second_faults s old) before ds ≡ [] → AllNamed s.names (map (changed (linking s)) ds)
+all-resolved s old before [] none = tt
+all-resolved s old before (d ∷ ds) none =
+    let both = both-empty (second_faults s old before d) (after_each (second_faults s old) (before ++ d ∷ []) ds) none in
     all-append (Names s.names) (references_in (changed (linking s) d)) (flat_map references_in (map (changed (linking s)) ds))
-    (one-resolved s before d.file d.parent d.index d.path d.full_name d.proto both.0) (all-resolved s (before ++ d ∷ []) ds both.1)
+    (one-resolved s old before d.file d.parent d.index d.path d.full_name d.proto both.0) (all-resolved s old (before ++ d ∷ []) ds both.1)
 
-pub linked-resolved : (s : Setting) (ds : List Shown) → second_pass s ds ≡ [] → AllNamed s.names (map (changed (linking s)) ds)
-linked-resolved s ds none = all-resolved s [] ds none
+pub linked-resolved : (s : Setting) (old : List ExtensionDescriptorInner) (ds : List Shown) → second_pass s old ds ≡ [] → AllNamed s.names (map (changed (linking s)) ds)
+linked-resolved s old ds none = all-resolved s old [] ds none

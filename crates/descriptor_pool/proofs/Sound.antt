@@ -102,7 +102,7 @@ link-sound q batch sound none fits =
           ∙ both-fit (declarations no_counts (files_of q)) (map (changed (linking s)) ds) sound.short
           (all-fit-changed (linking s) ds ∙ (room-fits (counts_in q) new fits).short);
       resolved = subst (AllNamed s.names) (sym (declared-linked named new sound.known.counts_are s))
-          (named-append s.names (declarations no_counts (files_of q)) (map (changed (linking s)) ds) earlier (linked-resolved s ds none));
+          (named-append s.names (declarations no_counts (files_of q)) (map (changed (linking s)) ds) earlier (linked-resolved s q.extensions ds none));
     }
 
 pub made-sound : (p : Contents) → Made p → Sound p

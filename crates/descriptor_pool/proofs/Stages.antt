@@ -28,7 +28,7 @@ use Rattle.pool_contents.specs.declared.growing.GrowingPool.{GrowingPool}
 use Rattle.descriptor_pool.specs.declared.error.BuildError.{BuildError}
 use Rattle.descriptor_pool.specs.declared.error.BuildError.TheVariants.{TooMany, Descriptor, OutOfMemory}
 use Rattle.descriptor_pool.specs.Linking.{name_faults, reference_faults, first_of_both, setting_with, linked_with, with_items, with_names}
-use Rattle.pool_contents.specs.Extended.{with_extended}
+use Rattle.pool_contents.specs.Extended.{NumbersLead, with_extended}
 use Rattle.name_pass.specs.FirstPass.{first_pass}
 use Rattle.pool_contents.specs.Growing.{before_items, files_seeing, first_extension, rolled_back, new_records}
 use Rattle.pool_contents.specs.Unlinked.{unlinked}
@@ -78,8 +78,11 @@ module _ (p q : Contents) (base : Counts) (new : List FileDescriptorProto) (base
     }
 
     -- what the second pass tells, and what it makes
-    pub references_are : second_pass (setting_against t.inner) (declarations base new) ≡ reference_faults p new
-    references_are = λ i. second_pass (setting_is i) (declarations (base_is i) new)
+    extensions_are : t.inner.extensions.items ≡ p.extensions
+    extensions_are = ap (λ (x : Contents). x.extensions) seen ∙ ap (λ (x : Contents). x.extensions) named_is
+
+    pub references_are : second_pass (setting_against t.inner) t.inner.extensions.items (declarations base new) ≡ reference_faults p new
+    references_are = λ i. second_pass (setting_is i) (extensions_are i) (declarations (base_is i) new)
 
     pub items_before : before_items t ≡ with_names p (declarations (counts_in p) new)
     items_before = λ i. record ((seen ∙ (λ j. record (named_is j) { files = files_seeing r })) i) { files = ap (λ (x : Contents). x.files) (still ∙ kept) i }
@@ -166,6 +169,11 @@ module _ (old added r : GrowingPool) (new : List FileDescriptorProto) (base_is :
       pub short-seen : ShortFiles (files_of before ++ new) → ShortFiles (files_of (contents_in t.inner))
       short-seen short = subst ShortFiles (sym files-seen) short
 
+      pub numbers-seen : NumbersLead before.extensions before.messages → NumbersLead t.inner.extensions.items t.inner.messages.items
+      numbers-seen lead =
+          let Lead : Contents → Type 0 = λ p. NumbersLead p.extensions p.messages in
+          subst Lead (sym seen) (subst Lead (sym entered-is) (subst Lead (sym put) lead))
+
       pub begin-seen : AllNamesBegin before → AllNamesBegin (contents_in t.inner)
       begin-seen begin =
           subst AllNamesBegin (sym seen) (subst AllNamesBegin (sym entered-is) (subst AllNamesBegin (sym put) begin))
@@ -197,7 +205,7 @@ module _ (old added r : GrowingPool) (new : List FileDescriptorProto) (base_is :
           (λ i. with_extended (first_extension t) (with_items (before_items t) (setting_against t.inner) (declared-seen i)))
           ∙ linked_is before (contents_in added.inner) old.base new base_is rest-added files-added r t entered-is kept-is seen still
 
-      pub references-told : second_pass (setting_against t.inner) (declarations t.base (new_records t)) ≡ reference_faults before new
+      pub references-told : second_pass (setting_against t.inner) t.inner.extensions.items (declarations t.base (new_records t)) ≡ reference_faults before new
       references-told =
-          ap (second_pass (setting_against t.inner)) declared-seen
+          ap (second_pass (setting_against t.inner) t.inner.extensions.items) declared-seen
           ∙ references_are before (contents_in added.inner) old.base new base_is rest-added files-added r t entered-is kept-is seen still

@@ -55,7 +55,7 @@ name_faults p new = first_pass (files_of p ++ new) p (declared_with p new)
 
 -- faults of the second pass
 abbrev pub reference_faults : Contents → List FileDescriptorProto → Faults
-reference_faults p new = second_pass (setting_with p new) (declared_with p new)
+reference_faults p new = second_pass (setting_with p new) p.extensions (declared_with p new)
 
 -- the faults of the first pass that has any
 abbrev pub first_of_both : Faults → Faults → Faults

@@ -10,7 +10,7 @@ ghost use Rattle.reference_pass.specs.SecondPass.{second_pass};
 ghost use Rattle.reference_pass.specs.NamesBegin.{AllNamesBegin, NamesBegin};
 ghost use Rattle.reference_pass.specs.Short.{ShortFiles};
 ghost use Rattle.descriptor_pool.specs.Linking.{batch_faults, linked_with, with_items, with_names};
-ghost use Rattle.pool_contents.specs.Extended.{with_extended};
+ghost use Rattle.pool_contents.specs.Extended.{NumbersLead, with_extended};
 ghost use Rattle.name_pass.specs.FirstPass.{first_pass};
 ghost use Rattle.pool_contents.specs.Growing.{before_items, first_extension, rolled_back, new_records, records_from};
 ghost use Rattle.name_tables.specs.NameTables.{file_names_before, without_files_from};
@@ -30,7 +30,7 @@ use pool_contents::{DescriptorPoolInner, GrowingPool};
 use pool_faults::{DescriptorError, DescriptorErrorKind};
 use proto_types::FileDescriptorProto;
 use record_walk::{Counts, walk};
-use reference_pass::{Linker, NewItems, NextItems, ResolveVisitor};
+use reference_pass::{Linker, NewItems, NextItems, PoolExtensions, ResolveVisitor};
 use std::alloc::{AllocError, Global};
 use std::mem;
 
@@ -45,6 +45,8 @@ pub(crate) fn link(
     requires base { base ≡ counts_in (contents_in pool.old) }
     requires counts { IsOk (counts_with base new.items) }
     requires before { NamesLieIn (contents_in pool.old) }
+    requires numbers { NumbersLead (contents_in pool.old).extensions
+        (contents_in pool.old).messages }
     requires names { AllNamesBegin (contents_in pool.old) }
     requires short { ShortFiles (files_of (contents_in pool.old) ++ new.items) }
     ensures ok { OnOk result (contents_in pool.new
@@ -75,6 +77,7 @@ fn link_new(
     requires base { pool.old.base ≡ counts_in (contents_in pool.old.inner) }
     requires counts { IsOk (counts_with pool.old.base new.items) }
     requires whole { rolled_back pool.old ≡ contents_in pool.old.inner }
+    requires numbers { NumbersLead pool.old.inner.extensions.items pool.old.inner.messages.items }
     requires before { NamesLieIn (contents_in pool.old.inner) }
     requires names { AllNamesBegin (contents_in pool.old.inner) }
     requires short { ShortFiles (files_of (contents_in pool.old.inner) ++ new.items) }
@@ -151,6 +154,7 @@ fn show_names(
 fn make_items(alloc: Global, pool: &mut GrowingPool) -> Result<(), BuildError>
     requires counts { IsOk (counts_with pool.old.base (new_records pool.old)) }
     requires before { pool.old.base ≡ counts_in (before_items pool.old) }
+    requires numbers { NumbersLead pool.old.inner.extensions.items pool.old.inner.messages.items }
     requires names { AllNamesBegin (contents_in pool.old.inner) }
     requires short { ShortFiles (files_of (contents_in pool.old.inner)) }
     requires imports { AllByRecursion (HasImports (setting_against pool.old.inner))
@@ -164,7 +168,7 @@ fn make_items(alloc: Global, pool: &mut GrowingPool) -> Result<(), BuildError>
         (with_items (before_items pool.old) (setting_against pool.old.inner)
         (declarations pool.old.base (new_records pool.old)))) }
     ensures faults { TellsAll result (second_pass (setting_against pool.old.inner)
-        (declarations pool.old.base (new_records pool.old))) }
+        pool.old.inner.extensions.items (declarations pool.old.base (new_records pool.old))) }
     ensures kept { OnErr result (rolled_back pool.new ≡ rolled_back pool.old) }
     ensures names { OnOk result (AllNamesBegin (contents_in pool.new.inner)) }
 {
@@ -178,11 +182,12 @@ fn make_items(alloc: Global, pool: &mut GrowingPool) -> Result<(), BuildError>
 /// The items of what the new files of a pool declare, or all faults of the second pass.
 fn read_items(alloc: Global, pool: &GrowingPool) -> Result<NewItems, BuildError>
     requires counts { IsOk (counts_with pool.now.base (new_records pool.now)) }
+    requires numbers { NumbersLead pool.now.inner.extensions.items pool.now.inner.messages.items }
     requires short { ShortFiles (files_of (contents_in pool.now.inner)) }
     ensures items { IfOk result (λ items. HasItems items (setting_against pool.now.inner)
         (declarations pool.now.base (new_records pool.now))) }
     ensures faults { TellsAll result (second_pass (setting_against pool.now.inner)
-        (declarations pool.now.base (new_records pool.now))) }
+        pool.now.inner.extensions.items (declarations pool.now.base (new_records pool.now))) }
     ensures names { IfOk result (λ items. NamesBegin items.messages.items items.enums.items
         items.services.items items.extensions.items) }
 {
@@ -192,6 +197,10 @@ fn read_items(alloc: Global, pool: &GrowingPool) -> Result<NewItems, BuildError>
         alloc,
         names: &inner.names,
         file_names: &inner.file_names,
+        pool: PoolExtensions {
+            messages: &inner.messages,
+            extensions: &inner.extensions,
+        },
         items: NewItems::new(alloc),
         faults: Faults::new(alloc, &inner.files),
     };
@@ -218,6 +227,7 @@ fn put_items(pool: &mut GrowingPool, items: NewItems) -> Result<(), AllocError>
         mut enums,
         mut services,
         mut extensions,
+        ..
     } = items;
     pool.inner.messages.append(&mut messages)?;
     pool.inner.enums.append(&mut enums)?;

@@ -1,5 +1,5 @@
 ghost use Rattle.std.specs.Prelude.{◌≡◌, [], IsOk, IfOk, IfSome, slice_get};
-ghost use Rattle.std.specs.Option.{option_copied};
+ghost use Rattle.std.specs.Option.{option_copied, option_map};
 
 use crate::build::link;
 use crate::error::BuildError;
@@ -41,7 +41,8 @@ impl DescriptorPool {
     ghost use Rattle.pool_types.specs.Contents.{no_contents, files_of};
     ghost use Rattle.record_walk.specs.Counts.{counts_in, no_counts};
     ghost use Rattle.record_walk.specs.Fits.{counts_with};
-    ghost use Rattle.descriptor_pool.specs.Extensions.{ExtendeesLieIn, ListsAreWhole};
+    ghost use Rattle.descriptor_pool.specs.Extensions.{ExtendeesLieIn, ListsAreWhole, NumbersAreUnique};
+    ghost use Rattle.pool_contents.specs.Extended.{extension_numbered};
     ghost use Rattle.descriptor_pool.specs.Invariant.{IsPool};
     ghost use Rattle.pool_contents.specs.LookUps.{definition_named};
     ghost use Rattle.field_rules.specs.NamesBegin.{EnumNamesBegin};
@@ -119,6 +120,23 @@ impl DescriptorPool {
         ensures extendees { ExtendeesLieIn self.now }
     {
         self.inner.extension(extension)
+    }
+
+    /// The extension of a message that has a number, which is the field number that its item has.
+    /// There is none where no extension of the pool extends the message with that number, or where
+    /// the index of the message is past the end. No two extensions of a message have one number: that
+    /// is a rule of this linker.
+    #[tactic(auto, using(crate::proofs::Extendees::numbers_are_unique))]
+    pub fn get_extension(
+        &self,
+        message: MessageDescriptor,
+        number: u32,
+    ) -> Option<ExtensionDescriptor>
+        ensures extension { option_map (λ extension. extension.index) result
+            ≡ extension_numbered self.now.extensions message.index number }
+        ensures unique { NumbersAreUnique self.now }
+    {
+        self.inner.get_extension(message, number)
     }
 
     /// The service with an index, or none past the end. Its name, and that of each of its methods,

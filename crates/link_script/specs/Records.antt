@@ -60,6 +60,7 @@ built b say.Link = b
 built b (say.Find name) = b
 built b say.Walk = b
 built b (say.Refs name) = b
+built b (say.Ext name number) = b
 built b say.Relink = b
 built b say.End = close_step b b.open_records
 built b said = open_or_state b said (opened_by said)

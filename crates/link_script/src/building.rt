@@ -13,7 +13,6 @@ use proto_types::{
     Options, ReservedRange, ServiceDescriptorProto, SourceCodeInfo,
 };
 use std::alloc::{AllocError, Global};
-use std::mem;
 
 /// A record whose block is open.
 #[derive(Drop)]
@@ -87,14 +86,14 @@ impl Open {
     }
 
     /// The same record, which gives back the room of its lists in which nothing stands.
-    pub fn shrunk(mut self, alloc: Global) -> Open
+    pub fn shrunk(mut self) -> Open
         ensures { result ≡ self }
     {
         match &mut self {
-            Open::File(file) => shrink_file(alloc, file),
-            Open::Message(message) => shrink_message(alloc, message),
-            Open::Enum(closed) => shrink(alloc, &mut closed.value),
-            Open::Service(service) => shrink(alloc, &mut service.method),
+            Open::File(file) => shrink_file(file),
+            Open::Message(message) => shrink_message(message),
+            Open::Enum(closed) => closed.value.shrink_to_fit(),
+            Open::Service(service) => service.method.shrink_to_fit(),
         }
         self
     }
@@ -294,35 +293,26 @@ fn state_in_service(
 }
 
 /// Gives back the room of a file's lists in which nothing stands.
-fn shrink_file(alloc: Global, file: &mut FileDescriptorProto)
+fn shrink_file(file: &mut FileDescriptorProto)
     ensures { file.new ≡ file.old }
 {
-    shrink(alloc, &mut file.dependency);
-    shrink(alloc, &mut file.message_type);
-    shrink(alloc, &mut file.enum_type);
-    shrink(alloc, &mut file.service);
-    shrink(alloc, &mut file.extension);
+    file.dependency.shrink_to_fit();
+    file.message_type.shrink_to_fit();
+    file.enum_type.shrink_to_fit();
+    file.service.shrink_to_fit();
+    file.extension.shrink_to_fit();
     if let Some(source) = &mut file.source_code_info {
-        shrink(alloc, &mut source.location);
+        source.location.shrink_to_fit();
     }
 }
 
 /// Gives back the room of a message's lists in which nothing stands.
-fn shrink_message(alloc: Global, message: &mut DescriptorProto)
+fn shrink_message(message: &mut DescriptorProto)
     ensures { message.new ≡ message.old }
 {
-    shrink(alloc, &mut message.field);
-    shrink(alloc, &mut message.nested_type);
-    shrink(alloc, &mut message.enum_type);
-    shrink(alloc, &mut message.extension);
-    shrink(alloc, &mut message.oneof_decl);
-}
-
-/// Gives back the room of a list in which nothing stands.
-fn shrink<T: Drop>(alloc: Global, items: &mut Items<T>)
-    ensures { items.new ≡ items.old }
-{
-    let mut list = mem::replace(items, Items::new(alloc)).into_vec();
-    list.shrink_to_fit();
-    *items = Items::from_vec(list);
+    message.field.shrink_to_fit();
+    message.nested_type.shrink_to_fit();
+    message.enum_type.shrink_to_fit();
+    message.extension.shrink_to_fit();
+    message.oneof_decl.shrink_to_fit();
 }

@@ -79,6 +79,7 @@ impl RecordBuilder {
             | Statement::Find(_)
             | Statement::Walk
             | Statement::Refs(_)
+            | Statement::Ext(_, _)
             | Statement::Relink => Ok(()),
             statement => self.amend(statement),
         }
@@ -120,7 +121,7 @@ impl RecordBuilder {
         let Some(closed) = self.open_records.pop() else {
             return Ok(());
         };
-        let inner = closed.shrunk(self.alloc);
+        let inner = closed.shrunk();
         if let Some(outer) = self.open_records.last_mut() {
             outer.close_in(inner)?;
         } else if let Open::File(file) = inner {

@@ -1,3 +1,4 @@
 pub mod Each
 pub mod Seeing
 pub mod Extending
+pub mod Numbered

@@ -1,12 +1,14 @@
-ghost use Rattle.std.specs.Prelude.{◌≡◌, ◌≤◌, ◌<◌, ◌+◌, ◌^◌, ◌++◌, List, OnOk, OnErr, length, map};
+ghost use Rattle.std.specs.Prelude.{◌≡◌, ◌≤◌, ◌<◌, ◌+◌, ◌^◌, ◌++◌, [], ◌∷◌, ℕ, List, OnOk, OnErr, length, map};
+ghost use Rattle.plain_data.specs.Maps.{ByNumber};
+ghost use Rattle.pool_contents.specs.Extended.{LieBefore, with_extensions, with_number};
 ghost use Rattle.pool_contents.specs.Unlinked.{unlinked};
 
 use crate::DescriptorPoolInner;
 use name_pass::syntax_of;
 use name_resolution::{imported_files, visible_from};
 use name_tables::NameTable;
-use plain_data::Items;
-use pool_types::FileDescriptorInner;
+use plain_data::{Items, NumberMap};
+use pool_types::{ExtensionDescriptorInner, FileDescriptorInner, MessageDescriptorInner};
 use proto_types::FileDescriptorProto;
 use record_walk::Counts;
 use std::alloc::{AllocError, Global};
@@ -30,7 +32,7 @@ impl GrowingPool {
     ghost use Rattle.pool_contents.specs.Inner.{contents_in, NamesLieIn};
     ghost use Rattle.name_tables.specs.NameTables.{FileNamesBefore};
     ghost use Rattle.pool_contents.specs.Growing.{file_seeing, files_seeing, first_extension, first_new, rolled_back};
-    ghost use Rattle.pool_contents.specs.Extended.{extended_between, with_extended};
+    ghost use Rattle.pool_contents.specs.Extended.{extended_between, with_extended, NumbersLieBefore};
 
     /// A pool before anything of a batch came, and how much it has. Its names mean something in its
     /// files.
@@ -104,12 +106,14 @@ impl GrowingPool {
         Ok(())
     }
 
-    /// Puts the index of each extension that came behind the list of the message that it extends.
+    /// Puts each extension that came into the message that it extends.
     ///
     /// # Errors
-    /// `AllocError` where memory was refused; the lists are then as they were.
+    /// `AllocError` where memory was refused; the messages are then as they were.
     pub fn extend_messages(&mut self) -> Result<(), AllocError>
         requires few { length self.old.inner.extensions.items < 2 ^ 32 }
+        requires numbers { NumbersLieBefore (first_extension self.old)
+            self.old.inner.messages.items }
         ensures ok { OnOk result (contents_in self.new.inner
             ≡ with_extended (first_extension self.old) (contents_in self.old.inner)) }
         ensures kept { OnErr result (rolled_back self.new ≡ rolled_back self.old) }
@@ -124,8 +128,7 @@ impl GrowingPool {
         Ok(())
     }
 
-    /// Puts an extension behind the list of the message that it extends, if there is one with the
-    /// index.
+    /// Puts an extension into the message that it extends, if there is one with the index.
     fn extend_message(&mut self, extension: u32) -> Result<(), AllocError>
         requires here { extension < length self.old.inner.extensions.items }
         ensures ok { OnOk result (contents_in self.new.inner
@@ -136,18 +139,20 @@ impl GrowingPool {
         ensures err { OnErr result (contents_in self.new.inner ≡ contents_in self.old.inner) }
         ensures base { self.new.base ≡ self.old.base }
     {
-        let message = self.inner.extensions[extension as usize].extendee as usize;
+        let item = &self.inner.extensions[extension as usize];
+        let message = item.extendee as usize;
         if message < self.inner.messages.len() {
-            self.inner.messages[message].extensions.push(extension)?;
+            return add_extension(&mut self.inner.messages[message], extension, item);
         }
         Ok(())
     }
 
-    /// Takes the extensions that came, up to an index, out of the lists of the messages that they
-    /// extend, the last one first.
+    /// Takes the extensions that came, up to an index, out of the messages that they extend, the last
+    /// one first.
     fn retract_extensions(&mut self, end: u32)
         requires { end ≤ length self.old.inner.extensions.items }
-        ensures back { (ms : List MessageDescriptorInner) → self.old.inner.messages.items
+        ensures back { (ms : List MessageDescriptorInner)
+            → NumbersLieBefore self.old.base.extensions ms → self.old.inner.messages.items
             ≡ extended_between self.old.base.extensions end self.old.inner.extensions.items ms
             → self.new.inner.messages.items ≡ ms }
         ensures others { contents_in self.new.inner ≡ record (contents_in self.old.inner)
@@ -161,19 +166,21 @@ impl GrowingPool {
         }
     }
 
-    /// Takes the last of its extensions away from the message that an extension extends.
+    /// Takes an extension out of the message that it extends, of whose extensions it is the last.
     fn retract_extension(&mut self, extension: u32)
         requires here { extension < length self.old.inner.extensions.items }
-        ensures back { (ms : List MessageDescriptorInner) → self.old.inner.messages.items
+        ensures back { (ms : List MessageDescriptorInner) → NumbersLieBefore extension ms
+            → self.old.inner.messages.items
             ≡ extended_between extension (extension + 1) self.old.inner.extensions.items ms
             → self.new.inner.messages.items ≡ ms }
         ensures others { contents_in self.new.inner ≡ record (contents_in self.old.inner)
             { messages = self.new.inner.messages.items } }
         ensures base { self.new.base ≡ self.old.base }
     {
-        let message = self.inner.extensions[extension as usize].extendee as usize;
+        let item = &self.inner.extensions[extension as usize];
+        let message = item.extendee as usize;
         if message < self.inner.messages.len() {
-            self.inner.messages[message].extensions.pop();
+            remove_extension(&mut self.inner.messages[message], extension, item);
         }
     }
 
@@ -202,5 +209,59 @@ fn unlinked(alloc: Global, file: FileDescriptorProto) -> FileDescriptorInner
         raw: file,
         dependencies: Items::new(alloc),
         transitive_dependencies: BTreeSet::new(alloc),
+    }
+}
+
+/// Puts an extension, by its index, behind the list of a message, and into its map of numbers.
+fn add_extension(
+    message: &mut MessageDescriptorInner,
+    index: u32,
+    extension: &ExtensionDescriptorInner,
+) -> Result<(), AllocError>
+    ensures ok { OnOk result
+        (message.new ≡ with_extensions ((index, extension.now) ∷ []) message.old) }
+    ensures err { OnErr result (message.new ≡ message.old) }
+{
+    message.extensions.push(index)?;
+    let added = add_number(&mut message.extension_numbers, index, extension.number);
+    if added.is_err() {
+        message.extensions.pop();
+    }
+    added
+}
+
+/// Takes an extension, by its index, out of a message again, of whose extensions it is the last.
+fn remove_extension(
+    message: &mut MessageDescriptorInner,
+    index: u32,
+    extension: &ExtensionDescriptorInner,
+)
+    ensures { (was : MessageDescriptorInner) → LieBefore index was.extension_numbers
+        → message.old ≡ with_extensions ((index, extension.now) ∷ []) was → message.new ≡ was }
+{
+    message.extensions.pop();
+    remove_number(&mut message.extension_numbers, index, extension.number);
+}
+
+/// Enters an extension for a number, unless the number has one.
+fn add_number(numbers: &mut NumberMap, index: u32, number: u32) -> Result<(), AllocError>
+    ensures ok { OnOk result (numbers.new ≡ with_number numbers.old (index, number)) }
+    ensures err { OnErr result (numbers.new ≡ numbers.old) }
+{
+    if numbers.get(number).is_some() {
+        return Ok(());
+    }
+    numbers.insert(number, index)
+}
+
+/// Takes an extension away from its number again, if the number has that one.
+fn remove_number(numbers: &mut NumberMap, index: u32, number: u32)
+    ensures { (was : ByNumber ℕ) → LieBefore index was
+        → numbers.old ≡ with_number was (index, number) → numbers.new ≡ was }
+{
+    if let Some(held) = numbers.get(number) {
+        if held == index {
+            numbers.remove(number);
+        }
     }
 }

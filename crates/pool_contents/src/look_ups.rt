@@ -3,9 +3,10 @@
 ghost use Rattle.std.specs.Prelude.{◌≡◌, not, is_some, IfOk, slice_get};
 ghost use Rattle.std.specs.FinMap as finite;
 ghost use Rattle.std.specs.List.{filter};
-ghost use Rattle.std.specs.Option.{option_copied};
+ghost use Rattle.std.specs.Option.{option_copied, option_map};
 ghost use Rattle.pool_types.specs.Contents.{files_of};
 ghost use Rattle.proto_types.specs.Readers.{text_of};
+ghost use Rattle.pool_contents.specs.Extended.{number_held};
 ghost use Rattle.pool_contents.specs.Inner.{contents_in};
 ghost use Rattle.pool_contents.specs.LookUps.{definition_named, without_dot};
 
@@ -53,6 +54,21 @@ impl DescriptorPoolInner {
         ensures { option_copied result ≡ slice_get self.now.extensions.items extension.index }
     {
         self.extensions.get(extension.index() as usize)
+    }
+
+    /// The extension that the message with an index has for a number, or none where it has none, or
+    /// the index is past the end.
+    pub fn get_extension(
+        &self,
+        message: MessageDescriptor,
+        number: u32,
+    ) -> Option<ExtensionDescriptor>
+        ensures { option_map (λ extension. extension.index) result
+            ≡ number_held self.now.messages.items message.index number }
+    {
+        let message = self.message(message)?;
+        let extension = message.extension_numbers.get(number)?;
+        Some(ExtensionDescriptor::new(extension))
     }
 
     /// The service with an index, or none past the end.

@@ -66,6 +66,10 @@ pub extension_number_out_of_range : fault_text (fault.ExtensionNumberOutOfRange 
 unfolding digits
 extension_number_out_of_range = refl
 
+pub duplicate_extension_number : fault_text (fault.DuplicateExtensionNumber (pos 7) (codes "p.M") here here) ≡ codes "extension number '7' of message 'p.M' is already used"
+unfolding digits
+duplicate_extension_number = refl
+
 pub name_not_found : fault_text (fault.NameNotFound (codes "n") here) ≡ codes "name 'n' is not defined"
 name_not_found = refl
 

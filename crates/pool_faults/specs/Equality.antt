@@ -53,6 +53,7 @@ fault-exact a b = Decides-like (fault.ghosts.eq a b) (values_one enum a b) (ap e
     or signed_Decides and signed_Decides and signed_Decides and label-exact and last label-exact
     or signed_Decides and signed_Decides and signed_Decides and label-exact and last label-exact
     or signed_Decides and text-exact and last label-exact
+    or signed_Decides and text-exact and label-exact and last label-exact
     or text-exact and last label-exact
     or text-exact and text-exact and last label-exact
     or text-exact and text-exact and label-exact and last label-exact

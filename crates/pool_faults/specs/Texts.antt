@@ -42,6 +42,7 @@ shown_label (fault.InvalidFieldNumber _ found) = Some found
 shown_label (fault.FieldNumberInReservedRange _ _ _ _ found) = Some found
 shown_label (fault.FieldNumberInExtensionRange _ _ _ _ found) = Some found
 shown_label (fault.ExtensionNumberOutOfRange _ _ found) = Some found
+shown_label (fault.DuplicateExtensionNumber _ _ _ second) = Some second
 shown_label (fault.NameNotFound _ found) = Some found
 shown_label (fault.NameShadowed _ _ found) = Some found
 shown_label (fault.InvalidType _ _ found _) = Some found
@@ -65,7 +66,21 @@ out_of_range_text message number =
     (between (codes "' does not define '") (signed_decimal number)
     (codes "' as an extension number"))
 
--- of numbers that may not stand there
+-- a number that an earlier extension of a message has
+abbrev pub taken_text : List ℕ → ℤ → List ℕ
+taken_text message number =
+    between (codes "extension number '") (signed_decimal number)
+    (between (codes "' of message '") message (codes "' is already used"))
+
+-- of numbers that a value of an enum may not have
+abbrev pub value_fault_text : DescriptorErrorKind → List ℕ
+value_fault_text (fault.DuplicateEnumNumber number _ _) =
+    between (codes "enum number '") (signed_decimal number) (codes "' has already been used")
+value_fault_text (fault.EnumNumberInReservedRange number start last _ _) =
+    range_text (codes "enum") number (codes "reserved") start last
+value_fault_text _ = []
+
+-- of numbers that a field or an extension may not have, and then of values
 abbrev pub number_fault_text : DescriptorErrorKind → List ℕ
 number_fault_text (fault.DuplicateFieldNumber number _ _) =
     between (codes "field number '") (signed_decimal number) (codes "' is already used")
@@ -77,11 +92,8 @@ number_fault_text (fault.FieldNumberInExtensionRange number start behind _ _) =
     range_text (codes "field") number (codes "extension") start (behind -ℤ pos 1)
 number_fault_text (fault.ExtensionNumberOutOfRange number message _) =
     out_of_range_text message number
-number_fault_text (fault.DuplicateEnumNumber number _ _) =
-    between (codes "enum number '") (signed_decimal number) (codes "' has already been used")
-number_fault_text (fault.EnumNumberInReservedRange number start last _ _) =
-    range_text (codes "enum") number (codes "reserved") start last
-number_fault_text _ = []
+number_fault_text (fault.DuplicateExtensionNumber number message _ _) = taken_text message number
+number_fault_text other = value_fault_text other
 
 -- of references and defaults that mean nothing, and then of numbers
 abbrev pub reference_fault_text : DescriptorErrorKind → List ℕ

@@ -1,7 +1,7 @@
 ghost use Rattle.std.specs.Prelude.{◌≡◌, pos, ◌-ℤ◌, Some, codes};
 ghost use Rattle.std.specs.Fmt.{DisplaysOnOk};
 ghost use Rattle.std.specs.Option.{option_copied};
-ghost use Rattle.pool_faults.specs.Texts.{shown_label, name_fault_text, reference_fault_text, number_fault_text, range_text, out_of_range_text, between, line_text};
+ghost use Rattle.pool_faults.specs.Texts.{shown_label, name_fault_text, reference_fault_text, number_fault_text, value_fault_text, range_text, out_of_range_text, taken_text, between, line_text};
 
 use crate::Label;
 use plain_data::Text;
@@ -85,6 +85,13 @@ pub enum DescriptorErrorKind {
         message: Text,
         found: Label,
     },
+    /// Two extensions of a message have one number.
+    DuplicateExtensionNumber {
+        number: i32,
+        message: Text,
+        first: Label,
+        second: Label,
+    },
     /// A reference means nothing that the file sees.
     NameNotFound {
         name: Text,
@@ -160,6 +167,7 @@ impl DescriptorErrorKind {
             | DescriptorErrorKind::DuplicateFieldNumber { second, .. }
             | DescriptorErrorKind::DuplicateFieldJsonName { second, .. }
             | DescriptorErrorKind::DuplicateFieldCamelCaseName { second, .. }
+            | DescriptorErrorKind::DuplicateExtensionNumber { second, .. }
             | DescriptorErrorKind::DuplicateEnumNumber { second, .. } => Some(second),
         }
     }
@@ -237,7 +245,8 @@ impl DescriptorErrorKind {
         }
     }
 
-    /// Writes the text of a number that may not stand there, and nothing for another fault.
+    /// Writes the text of a number that a field or an extension may not have, or what follows for
+    /// another fault.
     fn fmt_number_fault<W: fmt::Write>(&self, f: &mut fmt::Formatter<W>) -> fmt::Result
         ensures { DisplaysOnOk W.write_str_gives f.old result
             (Some (number_fault_text self.now)) f.new }
@@ -266,6 +275,22 @@ impl DescriptorErrorKind {
                 message,
                 ..
             } => fmt_out_of_range(f, message.as_str(), *number),
+            DescriptorErrorKind::DuplicateExtensionNumber {
+                number,
+                message,
+                ..
+            } => fmt_taken(f, message.as_str(), *number),
+            _ => self.fmt_value_fault(f),
+        }
+    }
+
+    /// Writes the text of a number that a value of an enum may not have, and nothing for another
+    /// fault.
+    fn fmt_value_fault<W: fmt::Write>(&self, f: &mut fmt::Formatter<W>) -> fmt::Result
+        ensures { DisplaysOnOk W.write_str_gives f.old result
+            (Some (value_fault_text self.now)) f.new }
+    {
+        match self {
             DescriptorErrorKind::DuplicateEnumNumber { number, .. } => {
                 write!(f, "enum number '{number}' has already been used")
             }
@@ -339,6 +364,17 @@ fn fmt_out_of_range<W: fmt::Write>(
     write!(
         f,
         "message '{message}' does not define '{number}' as an extension number"
+    )
+}
+
+/// Writes that an earlier extension of a message has a number.
+fn fmt_taken<W: fmt::Write>(f: &mut fmt::Formatter<W>, message: &str, number: i32) -> fmt::Result
+    ensures { DisplaysOnOk W.write_str_gives f.old result
+        (Some (taken_text message.now number)) f.new }
+{
+    write!(
+        f,
+        "extension number '{number}' of message '{message}' is already used"
     )
 }
 

@@ -1,6 +1,7 @@
--- A declaration that is carried to another setting: it breaks nothing.
+-- A declaration that is carried to another setting, behind the same extensions: it breaks nothing.
 use Rattle.std.proofs.Common.{◌≡◌, ◌<◌, ℕ, ℤ, Option, Some, List, [], refl}
 use Rattle.std.specs.FinMap as finite
+use Rattle.pool_types.specs.declared.contents.extension.ExtensionDescriptorInner.{ExtensionDescriptorInner}
 use Rattle.record_walk.specs.Changed.{Changes, changed}
 use Rattle.record_walk.specs.Protos.{Proto, of_file, of_message, of_field, of_oneof, of_service, of_method, of_enum, of_value, of_extension}
 use Rattle.record_walk.specs.Shown.{Shown}
@@ -19,10 +20,10 @@ pub all-mean : (s t : Setting) → ((name : List ℕ) (n : ℕ) → finite.get s
 all-mean s t stay (of_file f) = all-stay s t stay f.dependency
 all-mean s t stay _ = tt
 
-module _ {s t : Setting} {c : Changes} {many : ℕ} (carries : Carries s t c many) where
+module _ {s t : Setting} {c : Changes} {many : ℕ} (carries : Carries s t c many) (earlier : List ExtensionDescriptorInner) where
   by-record : (p : Proto) (file : ℕ) (parent : Option ℕ) (index : ℕ) (path : List ℤ) (full_name : List ℕ)
       → let d : Shown = record { file = file; parent = parent; index = index; path = path; full_name = full_name; proto = p } in
-      file < many → ImportsMean s t p → owner_faults s d ≡ [] → owner_faults t (changed c d) ≡ []
+      file < many → ImportsMean s t p → owner_faults s earlier d ≡ [] → owner_faults t earlier (changed c d) ≡ []
   by-record (of_file f) file parent index path full_name below mean none = imports-still s t index f mean none
   by-record (of_message m) file parent index path full_name below mean none =
       let d : Shown = record { file = file; parent = parent; index = index; path = path; full_name = full_name; proto = of_message m } in
@@ -35,11 +36,11 @@ module _ {s t : Setting} {c : Changes} {many : ℕ} (carries : Carries s t c man
       values-still s.files t.files d e none
   by-record (of_extension x) file parent index path full_name below mean none =
       let d : Shown = record { file = file; parent = parent; index = index; path = path; full_name = full_name; proto = of_extension x } in
-      (extension-carried carries d below x none).faults
+      (extension-carried carries d below x earlier none).faults
   by-record (of_field f) file parent index path full_name below mean none = refl
   by-record (of_oneof o) file parent index path full_name below mean none = refl
   by-record (of_method m) file parent index path full_name below mean none = refl
   by-record (of_value v) file parent index path full_name below mean none = refl
 
-  pub declaration-carried : (d : Shown) → d.file < many → ImportsMean s t d.proto → owner_faults s d ≡ [] → owner_faults t (changed c d) ≡ []
+  pub declaration-carried : (d : Shown) → d.file < many → ImportsMean s t d.proto → owner_faults s earlier d ≡ [] → owner_faults t earlier (changed c d) ≡ []
   declaration-carried d = by-record d.proto d.file d.parent d.index d.path d.full_name

@@ -13,7 +13,8 @@ use Rattle.field_rules.specs.EnumItems.{allows_alias}
 use Rattle.field_rules.specs.EnumRanges.{reserves}
 use Rattle.field_rules.specs.EnumValues.{duplicate_faults, reserved_fault, reserved_faults, value_faults, values_faults}
 use Rattle.reference_pass.specs.SecondPass.{Faults}
-use Rattle.pool_laws.proofs.Numbered.{both-empty, none-listed}
+use Rattle.reference_pass.proofs.Unbroken.{both-empty}
+use Rattle.pool_laws.proofs.Numbered.{none-listed}
 use Rattle.pool_laws.proofs.Typed.{no-fault}
 
 module _ (fs gs : List FileDescriptorProto) (d : Shown) (e : EnumDescriptorProto) where

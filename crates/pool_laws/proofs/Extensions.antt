@@ -1,7 +1,10 @@
 -- An extension that is carried to another setting: it breaks nothing, and its item and what linking makes of it are what they were.
-use Rattle.std.proofs.Common.{◌≡◌, ◌<◌, ℕ, Option, unwrap_or, List, [], ◌∷◌, ◌++◌, refl, ap, sym, subst, ◌∙◌}
+use Rattle.std.proofs.Common.{◌≡◌, ◌<◌, ℕ, Option, unwrap_or, List, [], ◌∷◌, refl, ap, sym, subst, ◌∙◌}
+use Rattle.std.specs.List.{find}
 use Rattle.proto_types.specs.declared.records.field.FieldDescriptorProto.{FieldDescriptorProto}
 use Rattle.proto_types.specs.Readers.{label_of, number_of, text_of}
+use Rattle.pool_types.specs.declared.contents.extension.ExtensionDescriptorInner.{ExtensionDescriptorInner}
+use Rattle.pool_contents.specs.Extended.{has_number}
 use Rattle.pool_types.specs.declared.kinds.KindIndex.TheVariants.{Double}
 use Rattle.record_walk.specs.Changed.{Changes}
 use Rattle.record_walk.specs.Shown.{Shown}
@@ -13,16 +16,14 @@ use Rattle.field_rules.specs.Identities.{named_at}
 use Rattle.field_rules.specs.Encoding.{is_packed}
 use Rattle.field_rules.specs.DuplicateNumbers.{item_number}
 use Rattle.reference_pass.specs.SecondPass.{extension_faults}
-use Rattle.reference_pass.specs.Defaults.{field_default_faults}
-use Rattle.reference_pass.specs.Extensions.{extendee_faults, number_faults}
-use Rattle.reference_pass.specs.FieldTypes.{type_faults}
+use Rattle.reference_pass.specs.Extensions.{number_faults}
 use Rattle.reference_pass.specs.Items.{extension_item}
 use Rattle.reference_pass.specs.Linked.{linked_extension, typed}
 use Rattle.reference_pass.specs.Messages.{resolve_message, index_or_max}
 use Rattle.reference_pass.specs.Setting.{Setting, resolve}
 use Rattle.pool_laws.specs.SettingLaws.{IsExtension, extension_at_place}
 use Rattle.pool_laws.proofs.Carries.{Carries}
-use Rattle.pool_laws.proofs.Numbered.{both-empty}
+use Rattle.reference_pass.proofs.Unbroken.{all-parts, extension-apart, extension-parts, untaken}
 
 -- a field is linked whatever it extends
 extendee-aside : (r : Resolution) (f : FieldDescriptorProto) (extendee : Option (List ℕ)) (name : List ℕ)
@@ -39,28 +40,31 @@ module _ {s t : Setting} {c : Changes} {many : ℕ} (carries : Carries s t c man
   abbrev extendee : Option (List ℕ)
   extendee = (c.extension d.file d.full_name x).extendee
 
-  abbrev IsCarried : FieldDescriptorProto → Type 0
-  IsCarried = IsExtension t d (extension_item s (extension_at_place d x) x) (linked_extension s d.file d.full_name x)
+  abbrev IsCarried : List ExtensionDescriptorInner → FieldDescriptorProto → Type 0
+  IsCarried earlier = IsExtension t earlier d (extension_item s (extension_at_place d x) x) (linked_extension s d.file d.full_name x)
 
-  by-parts : extension_faults s d x ≡ [] → IsCarried (record field { extendee = extendee })
-  by-parts none =
+  by-parts : (earlier : List ExtensionDescriptorInner) → extension_faults s earlier d x ≡ [] → IsCarried earlier (record field { extendee = extendee })
+  by-parts earlier none =
       let new : FieldDescriptorProto = record field { extendee = extendee } in
-      let extended = extendee_faults s d x in
-      let number = number_faults s d x (resolve_message s d x.extendee) in
-      let three = both-empty (extended ++ number ++ type_faults s d x) (field_default_faults s d x) none in
-      let two = both-empty (extended ++ number) (type_faults s d x) three.0 in
-      let one = both-empty extended number two.0 in
-      let named = carries.extendees d below x one.0 in
-      let typed = carries.typed d below x two.1 in
-      let default = carries.defaulted d below x two.1 three.1 in
+      let parts = extension-parts s d x earlier none in
+      let named = carries.extendees d below x parts.extendee in
+      let typed = carries.typed d below x parts.type_ in
+      let default = carries.defaulted d below x parts.type_ parts.default in
       let kept = carries.kept d.file d.full_name x in
       let number_is = ap (λ (y : FieldDescriptorProto). y.number) kept in
-      let number_still : number_faults t d new (resolve_message t d extendee) ≡ [] = carries.numbered d below x new number_is one.0 one.1 in
+      let number_still : number_faults t d new (resolve_message t d extendee) ≡ [] = carries.numbered d below x new number_is parts.extendee parts.number in
+      let still_new = (λ j. find (has_number (index_or_max (named.index_is j)) (item_number (number_of (number_is j)))) earlier) ∙ (extension-apart s d x earlier none).1 in
       let syntax = carries.syntaxes d.file below in
       let aside = extendee-aside (resolve t d.file d.full_name AnyType (text_of field.type_name)) field extendee (text_of field.type_name) in
       let linked = aside ∙ (λ j. record (typed.linked_is j) { extendee = extendee }) in
       record {
-        faults = λ j. named.faults j ++ number_still j ++ typed.faults j ++ default.faults j;
+        faults = all-parts t d new earlier (record {
+          extendee = named.faults;
+          number = number_still;
+          taken = untaken t d new earlier (resolve_message t d extendee) still_new;
+          type_ = typed.faults;
+          default = default.faults;
+        });
         item_is =
             (λ j. record (extension_item t (extension_at_place d new) new) {
               id = named_at d.file d.path d.full_name (text_of (kept j).name);
@@ -74,5 +78,5 @@ module _ {s t : Setting} {c : Changes} {many : ℕ} (carries : Carries s t c man
         linked_is = λ j. record (linked j) { extendee = named.linked_is j };
       }
 
-  pub extension-carried : extension_faults s d x ≡ [] → IsCarried (c.extension d.file d.full_name x)
-  extension-carried none = subst IsCarried (sym (carries.extensions d.file d.full_name x)) (by-parts none)
+  pub extension-carried : (earlier : List ExtensionDescriptorInner) → extension_faults s earlier d x ≡ [] → IsCarried earlier (c.extension d.file d.full_name x)
+  extension-carried earlier none = subst (IsCarried earlier) (sym (carries.extensions d.file d.full_name x)) (by-parts earlier none)

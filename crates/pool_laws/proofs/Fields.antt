@@ -22,7 +22,8 @@ use Rattle.reference_pass.specs.Setting.{Setting}
 use Rattle.pool_laws.specs.SettingLaws.{SameRanges}
 use Rattle.pool_laws.proofs.SettingRelinks.{again-still}
 use Rattle.pool_laws.proofs.Carries.{Carries}
-use Rattle.pool_laws.proofs.Numbered.{both-empty, field-numbered}
+use Rattle.reference_pass.proofs.Unbroken.{both-empty}
+use Rattle.pool_laws.proofs.Numbered.{field-numbered}
 
 -- a field that breaks nothing: nothing of its own, by its number, its type, its default value and its oneof
 pub record BreaksNothing (s : Setting) (owner : Owner) (d : Shown) (f : FieldDescriptorProto) : Type 0 where

@@ -16,7 +16,7 @@ use Rattle.reference_pass.specs.Setting.{Setting}
 use Rattle.pool_laws.specs.SettingLaws.{IsFile, NamesStay}
 use Rattle.pool_laws.proofs.Carries.{Carries}
 use Rattle.pool_laws.proofs.Imports.{imports-still}
-use Rattle.pool_laws.proofs.Numbered.{both-empty}
+use Rattle.reference_pass.proofs.Unbroken.{both-empty}
 use Rattle.pool_laws.proofs.Still.{all-unbroken, file-linked}
 
 -- a name that is there means the same
@@ -33,7 +33,7 @@ imported s t index k (name ∷ names) stay none =
     λ j. cons_option (here j) (imported s t index (suc k) names stay.1 parts.1 j)
 
 module _ {s t : Setting} {c : Changes} {many : ℕ} (carries : Carries s t c many) where
-  pub file-carried : (base : Counts) (f : FileDescriptorProto) → base.files < many → NamesStay s t f.dependency → flat_map (owner_faults s) (file_walk base f) ≡ []
+  pub file-carried : (base : Counts) (f : FileDescriptorProto) → base.files < many → NamesStay s t f.dependency → flat_map (owner_faults s []) (file_walk base f) ≡ []
       → IsFile t base.files (file_item s base.files f) (changed_file c base.files f)
   file-carried base f below stay none =
       let own = (all-unbroken s (file_walk base f) none).0 in

@@ -32,7 +32,7 @@ use Rattle.name_pass.specs.Syntaxes.{is_proto3, known_syntax, syntax_at, syntax_
 use Rattle.name_pass.specs.Entered.{entries, entries_of, file_entries}
 use Rattle.name_pass.specs.FirstPass.{clashes, file_faults, file_name_faults, first_faults, holder, holder_faults, shape_faults}
 use Rattle.pool_laws.proofs.Messages.{parts-of}
-use Rattle.pool_laws.proofs.Numbered.{both-empty}
+use Rattle.reference_pass.proofs.Unbroken.{both-empty}
 use Rattle.pool_laws.proofs.Typed.{no-fault}
 
 or-or : {X : Type 0} (a b c : Option X) → option_or a (option_or b c) ≡ option_or (option_or a b) c

@@ -22,7 +22,7 @@ use Rattle.record_walk.specs.declared.counts.Counts.{Counts}
 use Rattle.record_walk.specs.Counts.{counted, counts_in, no_counts}
 use Rattle.record_walk.specs.Declarations.{declarations, file_walk}
 use Rattle.record_walk.specs.Leads.{leads}
-use Rattle.record_walk.specs.Protos.{Proto, as_enum, as_message, of_file}
+use Rattle.record_walk.specs.Protos.{Proto, as_enum, as_extension, as_message, of_file}
 use Rattle.record_walk.specs.Shown.{Shown}
 use Rattle.record_walk.specs.Walking.{within_file}
 use Rattle.record_walk.proofs.Walks.{IsInside, within-all}
@@ -30,12 +30,15 @@ use Rattle.name_resolution.specs.declared.filter.ResolveNameFilter.{ResolveNameF
 use Rattle.name_resolution.specs.Resolution.{found, resolution}
 use Rattle.name_pass.specs.Syntaxes.{syntax_of}
 use Rattle.reference_pass.specs.SecondPass.{owner_faults}
+use Rattle.reference_pass.specs.Items.{extension_item, extension_items}
 use Rattle.reference_pass.specs.Definitions.{declaration_path, message_record, record_of}
 use Rattle.reference_pass.specs.Setting.{Setting, resolve, seen_by}
 use Rattle.reference_pass.proofs.Owners.{owners-tell}
+use Rattle.reference_pass.proofs.Unbroken.{AllNew, owners-behind}
 use Rattle.pool_laws.specs.SettingLaws.{ImportsMean, NamesStay, RangesStay, ReferenceCarriesOver, Stands, unchanged}
 use Rattle.pool_laws.proofs.AsGiven.{given-carried}
 use Rattle.pool_laws.proofs.Fewer.{found-fewer}
+use Rattle.pool_laws.proofs.Items.{all-fine, kind-again, same-extension}
 use Rattle.pool_laws.proofs.Looked.{IsLooked, looked-seen, resolution-looked}
 use Rattle.pool_laws.proofs.Unchanged.{declarations-unchanged, unchanged-keeps}
 use Rattle.name_pass.specs.Entered.{file_entries, file_entries_of}
@@ -47,7 +50,7 @@ use Rattle.descriptor_pool.proofs.Resolved.{all-append}
 use Rattle.descriptor_pool.proofs.Sound.{Known}
 use Rattle.pool_laws.specs.Laws.{ArePlain}
 use Rattle.pool_laws.proofs.Relinks.{first-kept, slice-front}
-use Rattle.pool_laws.proofs.Parts.{AllKnown, declared-both, earlier, known-stays, later, many-files, part, sees-same, sees-within, unbroken-both, whole}
+use Rattle.pool_laws.proofs.Parts.{AllKnown, declared-both, earlier, known-stays, later, many-files, new-both, part, sees-same, sees-within, unbroken-both, whole}
 use Rattle.pool_laws.proofs.Passes.{after-parts, pass-again, unbroken-carried}
 use Rattle.pool_laws.proofs.Records.{ranges-itself}
 use Rattle.pool_laws.proofs.Relinked.{Relinked, syntaxes-of}
@@ -154,10 +157,23 @@ module _ (p : Contents) (entered : Known p) (again : Relinked p) (front back : L
         ∙ pass-again unchanged unchanged-keeps was.files now.files p p [] [] first (record { names = λ _. refl; files = λ _. refl })
         (syntaxes-of many was.files now.files front-stands.syntaxes first lie) alone
 
+    -- its extensions are those that it has at once
+    pub extensions-same : reference_faults p (front ++ back) ≡ [] → extension_items now first ≡ extension_items was first
+    extensions-same none =
+        let carried = given-carried front-stands in
+        ap (extension_items now) (sym (declarations-unchanged first))
+        ∙ kind-again carried as_extension (extension_item was) (extension_item now) (same-extension carried) first (all-fine was many first lie (unbroken-both p entered again front back closed none).0)
+
+    unbroken : reference_faults p (front ++ back) ≡ [] → flat_map (owner_faults now []) first ≡ []
+    unbroken none =
+        sym (ap (flat_map (owner_faults now [])) (declarations-unchanged first))
+        ∙ unbroken-carried (given-carried front-stands) first lie (imports-mean (counts_in p) front closed) (unbroken-both p entered again front back closed none).0
+
     pub references-fine : reference_faults p (front ++ back) ≡ [] → reference_faults p front ≡ []
     references-fine none =
-        owners-tell now (counts_in p) front ∙ sym (ap (flat_map (owner_faults now)) (declarations-unchanged first))
-        ∙ unbroken-carried (given-carried front-stands) first lie (imports-mean (counts_in p) front closed) (unbroken-both p entered again front back closed none).0
+        owners-tell now p.extensions (counts_in p) front
+        ∙ owners-behind now p.extensions first (unbroken none)
+        (subst (AllNew p.extensions) (sym (extensions-same none)) (new-both p entered again front back closed none).0)
 
 -- names that files have are known behind them
 name-entered : (base : Counts) (fs : List FileDescriptorProto) (name : List ℕ) → Contains (map (λ g. text_of g.name) fs) name

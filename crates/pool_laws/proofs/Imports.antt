@@ -10,7 +10,7 @@ use Rattle.reference_pass.specs.SecondPass.{Faults}
 use Rattle.reference_pass.specs.Imports.{import_faults, index_fault, missing_file, missing_files}
 use Rattle.reference_pass.specs.Setting.{Setting}
 use Rattle.pool_laws.specs.SettingLaws.{NamesStay}
-use Rattle.pool_laws.proofs.Numbered.{both-empty}
+use Rattle.reference_pass.proofs.Unbroken.{both-empty}
 
 -- what is there stays there
 missing-still : (old now : Option ℕ) (a b : DescriptorErrorKind) → ((n : ℕ) → old ≡ Some n → now ≡ Some n) → only_if (not (is_some old)) a ≡ [] → only_if (not (is_some now)) b ≡ []

@@ -20,7 +20,7 @@ use Rattle.pool_laws.proofs.Carries.{Carries}
 use Rattle.pool_laws.proofs.Extensions.{extension-carried}
 use Rattle.pool_laws.proofs.Files.{file-carried}
 use Rattle.pool_laws.proofs.Messages.{message-carried}
-use Rattle.pool_laws.proofs.Numbered.{both-empty}
+use Rattle.reference_pass.proofs.Unbroken.{both-empty}
 use Rattle.pool_laws.proofs.Services.{service-carried}
 use Rattle.pool_laws.proofs.Relinks.{first-of-files}
 
@@ -32,12 +32,12 @@ kind-first item d (Some x) rest = refl
 
 -- it lies in the first files, and breaks nothing
 abbrev Fine : Setting → ℕ → Shown → Type 0
-Fine s many d = (d.file < many) × (owner_faults s d ≡ [])
+Fine s many d = (d.file < many) × (owner_faults s [] d ≡ [])
 
-pub all-fine : (s : Setting) (many : ℕ) (ds : List Shown) → AllByRecursion (λ d. d.file < many) ds → flat_map (owner_faults s) ds ≡ [] → AllByRecursion (Fine s many) ds
+pub all-fine : (s : Setting) (many : ℕ) (ds : List Shown) → AllByRecursion (λ d. d.file < many) ds → flat_map (owner_faults s []) ds ≡ [] → AllByRecursion (Fine s many) ds
 all-fine s many [] lie none = tt
 all-fine s many (d ∷ ds) lie none =
-    let parts = both-empty (owner_faults s d) (flat_map (owner_faults s) ds) none in
+    let parts = both-empty (owner_faults s [] d) (flat_map (owner_faults s []) ds) none in
     ((lie.0, parts.0), all-fine s many ds lie.1 parts.1)
 
 module _ {s t : Setting} {c : Changes} {many : ℕ} (carries : Carries s t c many) where
@@ -76,7 +76,7 @@ module _ {s t : Setting} {c : Changes} {many : ℕ} (carries : Carries s t c man
 
     extension-by : (p : Proto) → Fine s many (at p)
         → option_map (extension_item t (changed c (at p))) (as_extension (changed c (at p)).proto) ≡ option_map (extension_item s (at p)) (as_extension p)
-    extension-by (of_extension x) fine = ap Some (extension-carried carries (at (of_extension x)) fine.0 x fine.1).item_is
+    extension-by (of_extension x) fine = ap Some (extension-carried carries (at (of_extension x)) fine.0 x [] fine.1).item_is
     extension-by _ fine = refl
 
   pub same-message : SameItem as_message (message_item s) (message_item t)
@@ -93,7 +93,7 @@ module _ {s t : Setting} {c : Changes} {many : ℕ} (carries : Carries s t c man
 
   -- and the items of files
   pub files-again : (base : Counts) (fs : List FileDescriptorProto) → base.files + length fs ≤ many → AllByRecursion (λ f. NamesStay s t f.dependency) fs
-      → flat_map (owner_faults s) (declarations base fs) ≡ [] → map_enumerated (file_item t) base.files (changed_files c base.files fs) ≡ map_enumerated (file_item s) base.files fs
+      → flat_map (owner_faults s []) (declarations base fs) ≡ [] → map_enumerated (file_item t) base.files (changed_files c base.files fs) ≡ map_enumerated (file_item s) base.files fs
   files-again base [] room stay none = refl
   files-again base (f ∷ fs) room stay none =
       let next = counted base (file_walk base f) in

@@ -1,11 +1,12 @@
 -- The lists of extensions of messages, filled at once and in two steps.
-use Rattle.std.proofs.Common.{◌≡◌, ◌≤◌, ◌<◌, ◌+◌, ℕ, List, ◌++◌, length, append_assoc, ap, sym, ◌∙◌, arith}
+use Rattle.std.proofs.Common.{◌≡◌, ◌≤◌, ◌<◌, ◌+◌, ℕ, List, ◌++◌, length, ap, sym, ◌∙◌, arith}
 use Rattle.std.proofs.lemmas.List.{length-append}
 use Rattle.std.specs.List.{AllByRecursion}
 use Rattle.pool_types.specs.declared.contents.extension.ExtensionDescriptorInner.{ExtensionDescriptorInner}
 use Rattle.pool_types.specs.declared.contents.message.MessageDescriptorInner.{MessageDescriptorInner}
 use Rattle.plain_data.specs.Each.{map_enumerated}
-use Rattle.pool_contents.specs.Extended.{extended_by, extending}
+use Rattle.pool_contents.specs.Extended.{extended_by, extending, with_extensions}
+use Rattle.pool_contents.proofs.Extending.{with-more}
 use Rattle.pool_contents.proofs.Each.{each-append, each-same, each-twice, length-each}
 use Rattle.descriptor_pool.proofs.Extendees.{extending-append, extending-none}
 
@@ -25,16 +26,13 @@ module _ (old first second : List ExtensionDescriptorInner) (before later : List
       ap (λ k. extending n (length old) first ++ extending n k second) (length-append old first) ∙ sym (extending-append n (length old) first second)
 
   both-steps : (n : ℕ) (m : MessageDescriptorInner) → step_two n (step_one n m) ≡ at_once n m
-  both-steps n m = λ i. record m {
-    extensions =
-        (append_assoc m.extensions (extending n (length old) first) (extending n (length (old ++ first)) second) ∙ ap (λ es. m.extensions ++ es) (joined n)) i;
-  }
+  both-steps n m = with-more (extending n (length old) first) (extending n (length (old ++ first)) second) m ∙ ap (λ es. with_extensions es m) (joined n)
 
   -- a later message is extended by none of the first
   one-step : (n : ℕ) (m : MessageDescriptorInner) → length before ≤ n → step_two n m ≡ at_once n m
   one-step n m from =
       let none = extending-none n (length old) (length before) first below from in
-      λ i. record m { extensions = m.extensions ++ ((λ j. sym none j ++ extending n (length (old ++ first)) second) ∙ joined n) i }
+      ap (λ es. with_extensions es m) ((λ j. sym none j ++ extending n (length (old ++ first)) second) ∙ joined n)
 
   pub in-two-steps : map_enumerated step_two 0 (map_enumerated step_one 0 before ++ later) ≡ map_enumerated at_once 0 (before ++ later)
   in-two-steps =

@@ -16,14 +16,10 @@ use Rattle.plain_data.specs.Each.{map_enumerated}
 use Rattle.field_rules.specs.Numbers.{by_extendee, extension_number_faults, extension_range_faults, field_number_faults, invalid_faults, outside_faults, reserved_fault, reserved_faults}
 use Rattle.field_rules.specs.Ranges.{extends, reserves}
 use Rattle.reference_pass.specs.Extensions.{defined_at}
+use Rattle.reference_pass.proofs.Unbroken.{both-empty}
 use Rattle.reference_pass.specs.Setting.{Setting}
 use Rattle.pool_laws.specs.SettingLaws.{RangesStay, SameRanges}
 use Rattle.pool_laws.proofs.Typed.{no-fault}
-
--- where both parts of a list hold nothing
-pub both-empty : {X : Type 0} (xs ys : List X) → xs ++ ys ≡ [] → (xs ≡ []) × (ys ≡ [])
-both-empty [] ys none = (refl, none)
-both-empty (x ∷ xs) ys none = absurd (cc)
 
 -- what is listed of nothing
 pub none-listed : {X Y : Type 0} (o : Option X) (f g : X → Y) → listed (option_map f o) ≡ [] → listed (option_map g o) ≡ []

@@ -22,11 +22,14 @@ use Rattle.record_walk.specs.Declarations.{declarations}
 use Rattle.record_walk.specs.Shown.{Shown}
 use Rattle.record_walk.proofs.Appended.{declarations-append}
 use Rattle.plain_data.specs.Each.{map_enumerated}
-use Rattle.reference_pass.specs.SecondPass.{owner_faults}
+use Rattle.record_walk.specs.Protos.{as_extension}
+use Rattle.reference_pass.specs.SecondPass.{owner_faults, owners_faults}
+use Rattle.reference_pass.specs.Items.{extension_item, extension_items}
 use Rattle.reference_pass.specs.Setting.{Setting, seen_by}
 use Rattle.reference_pass.proofs.Owners.{owners-tell}
+use Rattle.reference_pass.proofs.Steps.{made-append}
 use Rattle.pool_laws.specs.SettingLaws.{ImportsStay, NamesFiles}
-use Rattle.pool_laws.proofs.Numbered.{both-empty}
+use Rattle.reference_pass.proofs.Unbroken.{AllNew, all-new-parts, both-empty, owners-apart}
 use Rattle.pool_laws.proofs.SeenStays.{seen-stays}
 use Rattle.pool_contents.proofs.Each.{each-append, each-same, length-each}
 use Rattle.name_pass.specs.Entered.{file_entries, file_entries_of}
@@ -223,9 +226,21 @@ module _ (p : Contents) (entered : Known p) (again : Relinked p) (front back : L
         omega (arith, within, many)
   ]
 
+  told-apart : reference_faults p (front ++ back) ≡ []
+      → (flat_map (owner_faults whole []) (earlier ++ later) ≡ []) × AllNew p.extensions (extension_items whole (earlier ++ later))
+  told-apart none =
+      owners-apart whole p.extensions (earlier ++ later)
+      (sym (ap (owners_faults whole p.extensions) declared-both) ∙ sym (owners-tell whole p.extensions (counts_in p) (front ++ back)) ∙ none)
+
+  -- the numbers of extensions that are new at once are new in either part
+  pub new-both : reference_faults p (front ++ back) ≡ []
+      → AllNew p.extensions (extension_items whole earlier) × AllNew (p.extensions ++ extension_items whole earlier) (extension_items whole later)
+  new-both none =
+      all-new-parts p.extensions (extension_items whole earlier) (extension_items whole later)
+      (subst (AllNew p.extensions) (made-append as_extension (extension_item whole) earlier later) (told-apart none).1)
+
   -- declarations that break nothing at once break nothing in either part
-  pub unbroken-both : reference_faults p (front ++ back) ≡ [] → (flat_map (owner_faults whole) earlier ≡ []) × (flat_map (owner_faults whole) later ≡ [])
+  pub unbroken-both : reference_faults p (front ++ back) ≡ [] → (flat_map (owner_faults whole []) earlier ≡ []) × (flat_map (owner_faults whole []) later ≡ [])
   unbroken-both none =
-      let told : flat_map (owner_faults whole) (earlier ++ later) ≡ [] =
-      sym (ap (flat_map (owner_faults whole)) declared-both) ∙ sym (owners-tell whole (counts_in p) (front ++ back)) ∙ none in
-      both-empty (flat_map (owner_faults whole) earlier) (flat_map (owner_faults whole) later) (sym (flat_map-append (owner_faults whole) earlier later) ∙ told)
+      let told = (told-apart none).0 in
+      both-empty (flat_map (owner_faults whole []) earlier) (flat_map (owner_faults whole []) later) (sym (flat_map-append (owner_faults whole []) earlier later) ∙ told)

@@ -18,7 +18,7 @@ use Rattle.pool_laws.proofs.AsLinked.{linked-carried}
 use Rattle.pool_laws.proofs.Carries.{Carries}
 use Rattle.pool_laws.proofs.Declarations.{all-mean, declaration-carried}
 use Rattle.pool_laws.proofs.FirstPass.{first-again, holder-more}
-use Rattle.pool_laws.proofs.Numbered.{both-empty}
+use Rattle.reference_pass.proofs.Unbroken.{both-empty}
 use Rattle.name_pass.specs.Entered.{entries, file_entries, file_entries_of}
 use Rattle.name_pass.specs.FirstPass.{first_faults, holder}
 use Rattle.std.proofs.lemmas.Grind.{flat_map-append}
@@ -41,16 +41,16 @@ after-both f before xs ys first second = after-append f before xs ys ∙ (λ i. 
 
 -- the second pass
 module _ {s t : Setting} {c : Changes} {many : ℕ} (carries : Carries s t c many) where
-  pub unbroken-carried : (ds : List Shown) → AllByRecursion (λ d. d.file < many) ds → AllByRecursion (λ d. ImportsMean s t d.proto) ds → flat_map (owner_faults s) ds ≡ []
-      → flat_map (owner_faults t) (map (changed c) ds) ≡ []
+  pub unbroken-carried : (ds : List Shown) → AllByRecursion (λ d. d.file < many) ds → AllByRecursion (λ d. ImportsMean s t d.proto) ds → flat_map (owner_faults s []) ds ≡ []
+      → flat_map (owner_faults t []) (map (changed c) ds) ≡ []
   unbroken-carried [] lie mean none = refl
   unbroken-carried (d ∷ ds) lie mean none =
-      let parts = both-empty (owner_faults s d) (flat_map (owner_faults s) ds) none in
-      λ i. declaration-carried carries d lie.0 mean.0 parts.0 i ++ unbroken-carried ds lie.1 mean.1 parts.1 i
+      let parts = both-empty (owner_faults s [] d) (flat_map (owner_faults s []) ds) none in
+      λ i. declaration-carried carries [] d lie.0 mean.0 parts.0 i ++ unbroken-carried ds lie.1 mean.1 parts.1 i
 
 -- linked declarations
-pub unbroken-again : (s t : Setting) → Rereads s t → (ds : List Shown) → AllByRecursion (λ d. d.file < length s.files) ds → flat_map (owner_faults s) ds ≡ []
-    → flat_map (owner_faults t) (map (changed (linking s)) ds) ≡ []
+pub unbroken-again : (s t : Setting) → Rereads s t → (ds : List Shown) → AllByRecursion (λ d. d.file < length s.files) ds → flat_map (owner_faults s []) ds ≡ []
+    → flat_map (owner_faults t []) (map (changed (linking s)) ds) ≡ []
 unbroken-again s t again ds lie = unbroken-carried (linked-carried s t again) ds lie (all-of (λ d. all-mean s t again.file_names d.proto) ds)
 
 -- the first pass: declarations whose names stay, behind others, where each name is held as it was

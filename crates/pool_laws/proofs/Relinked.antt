@@ -32,6 +32,7 @@ use Rattle.reference_pass.specs.Linked.{linking}
 use Rattle.reference_pass.specs.Setting.{Setting}
 use Rattle.reference_pass.proofs.Owners.{owners-tell}
 use Rattle.reference_pass.proofs.Steps.{made-append}
+use Rattle.reference_pass.proofs.Unbroken.{AllNew, owners-apart, owners-behind}
 use Rattle.pool_laws.specs.SettingLaws.{Rereads}
 use Rattle.pool_laws.proofs.AsLinked.{linked-carried}
 use Rattle.pool_laws.proofs.Carries.{Carries}
@@ -40,7 +41,7 @@ use Rattle.pool_contents.specs.Extended.{extended_by, with_extended}
 use Rattle.pool_contents.proofs.Each.{each-all, each-append, each-map, each-same}
 use Rattle.name_pass.specs.FirstPass.{first_faults, first_pass, holder}
 use Rattle.descriptor_pool.specs.Linking.{declared_with, linked_with, name_faults, reference_faults, setting_with, with_items, with_names}
-use Rattle.descriptor_pool.specs.Extensions.{ListsAreWhole}
+use Rattle.descriptor_pool.specs.Extensions.{ListsAreWhole, bare}
 use Rattle.descriptor_pool.specs.Invariant.{IsPool}
 use Rattle.descriptor_pool.specs.Pool.{Made, empty, linked_to, new_files}
 use Rattle.descriptor_pool.proofs.Declared.{declared-linked, each-changed, items-of-files, known_file_names, known_names, linking-keeps}
@@ -56,14 +57,10 @@ use Rattle.pool_laws.proofs.Passes.{after-both, all-of, pass-again, unbroken-aga
 abbrev declared : Contents → List Shown
 declared p = declarations no_counts (files_of p)
 
--- a message without the list of its extensions
-abbrev bare : MessageDescriptorInner → MessageDescriptorInner
-bare m = record m { extensions = [] }
-
 -- the files of a pool break nothing once more, and its items are what they make
 pub record Relinked (p : Contents) : Type 0 where
   pub first : first_pass (files_of p) no_contents (declared p) ≡ []
-  pub second : flat_map (owner_faults (reread p)) (declared p) ≡ []
+  pub second : flat_map (owner_faults (reread p) []) (declared p) ≡ []
   pub files : p.files ≡ map_enumerated (file_item (reread p)) 0 (files_of p)
   pub messages : map bare p.messages ≡ message_items (reread p) (declared p)
   pub enums : p.enums ≡ enum_items (declared p)
@@ -149,14 +146,14 @@ module _ (q : Contents) (new : List FileDescriptorProto) (before : Known q) (was
   lie-new : AllByRecursion (λ d. d.file < length (files_of q ++ new)) ds
   lie-new = subst (λ n. AllByRecursion (λ d. d.file < n) ds) many-files (lie-between (counts_in q) new).1
 
-  unbroken : flat_map (owner_faults s) ds ≡ []
-  unbroken = sym (owners-tell s (counts_in q) new) ∙ second
+  unbroken : flat_map (owner_faults s []) ds ≡ []
+  unbroken = (owners-apart s q.extensions ds (sym (owners-tell s q.extensions (counts_in q) new) ∙ second)).0
 
   -- neither pass finds a fault
-  second-again : flat_map (owner_faults t) (declared p) ≡ []
+  second-again : flat_map (owner_faults t []) (declared p) ≡ []
   second-again =
-      let old = ap (flat_map (owner_faults t)) (sym declared-still) ∙ unbroken-again alone t again-old (declared q) lie-old was.second in
-      ap (flat_map (owner_faults t)) declared-are ∙ flat_map-append (owner_faults t) (declared q) linked_ds
+      let old = ap (flat_map (owner_faults t [])) (sym declared-still) ∙ unbroken-again alone t again-old (declared q) lie-old was.second in
+      ap (flat_map (owner_faults t [])) declared-are ∙ flat_map-append (owner_faults t []) (declared q) linked_ds
       ∙ (λ i. old i ++ unbroken-again s t again-new ds lie-new unbroken i)
 
   held : {X : Type 0} (known : ByText X) (es : List (List ℕ × X)) → known ≡ names es → (name : List ℕ) → holder finite.empty es name ≡ holder known [] name
@@ -255,8 +252,10 @@ relinked p pool =
     let fs = files_of p in
     let known = (made-sound p pool.made).known in
     let again = made-relinked p pool.made in
-    let second = ap (λ s. second_pass s (declared p)) (setting-again p known) ∙ owners-tell (reread p) no_counts fs ∙ again.second in (
+    let whole = made-whole p pool.made in
+    let new = subst (AllNew []) again.extensions whole.numbers in
+    let second = ap (λ s. second_pass s [] (declared p)) (setting-again p known) ∙ owners-tell (reread p) [] no_counts fs ∙ owners-behind (reread p) [] (declared p) again.second new in (
       (ap (name_faults no_contents) (all-new fs) ∙ again.first, ap (reference_faults no_contents) (all-new fs) ∙ second),
       subst (λ new. IsOk (counts_with no_counts new)) (sym (all-new fs)) (fits_again p pool),
-      ap (linked_with no_contents) (all-new fs) ∙ linked-again p known (made-whole p pool.made).lists again,
+      ap (linked_with no_contents) (all-new fs) ∙ linked-again p known whole.lists again,
     )

@@ -31,7 +31,7 @@ use Rattle.reference_pass.specs.Imports.{import_faults, index_fault, missing_fil
 use Rattle.reference_pass.specs.Linked.{linking}
 use Rattle.reference_pass.specs.Setting.{Setting, seen_by}
 use Rattle.pool_laws.specs.SettingLaws.{ImportsStay, NamesFiles, RangesStay, Rereads}
-use Rattle.pool_laws.proofs.Numbered.{both-empty}
+use Rattle.reference_pass.proofs.Unbroken.{both-empty}
 use Rattle.pool_laws.proofs.SeenStays.{seen-stays}
 use Rattle.name_pass.specs.Entered.{entries, file_entries}
 use Rattle.descriptor_pool.specs.Linking.{declared_with, linked_with, setting_with, with_names}
@@ -110,15 +110,15 @@ names-mean-within p known name def is =
     omega (arith, below)
 
 -- what files break is what the first breaks, and then the others
-pub first-of-files : (s : Setting) (base : Counts) (f : FileDescriptorProto) (fs : List FileDescriptorProto) → flat_map (owner_faults s) (declarations base (f ∷ fs)) ≡ []
-    → (flat_map (owner_faults s) (file_walk base f) ≡ []) × (flat_map (owner_faults s) (declarations (counted base (file_walk base f)) fs) ≡ [])
+pub first-of-files : (s : Setting) (base : Counts) (f : FileDescriptorProto) (fs : List FileDescriptorProto) → flat_map (owner_faults s []) (declarations base (f ∷ fs)) ≡ []
+    → (flat_map (owner_faults s []) (file_walk base f) ≡ []) × (flat_map (owner_faults s []) (declarations (counted base (file_walk base f)) fs) ≡ [])
 first-of-files s base f fs none =
     let first = file_walk base f in
     let rest = declarations (counted base first) fs in
-    both-empty (flat_map (owner_faults s) first) (flat_map (owner_faults s) rest) (sym (flat_map-append (owner_faults s) first rest) ∙ none)
+    both-empty (flat_map (owner_faults s []) first) (flat_map (owner_faults s []) rest) (sym (flat_map-append (owner_faults s []) first rest) ∙ none)
 
 -- files that break nothing have imports that break nothing
-imports-unbroken : (s : Setting) (base : Counts) (fs : List FileDescriptorProto) → flat_map (owner_faults s) (declarations base fs) ≡ []
+imports-unbroken : (s : Setting) (base : Counts) (fs : List FileDescriptorProto) → flat_map (owner_faults s []) (declarations base fs) ≡ []
     → (n : ℕ) → n < length fs → import_faults s (base.files + n) (file_at fs n) ≡ []
 imports-unbroken s base [] none n below = absurd (omega (arith, below))
 imports-unbroken s base (f ∷ fs) none zero below =
@@ -147,7 +147,7 @@ imports-known s index k (here ∷ names) none name (suc m, below, same) =
     imports-known s index (suc k) names parts.1 name (m, omega (arith, below), same)
 
 -- a pool that breaks nothing knows the imports of its files
-pub known-imports : (q : Contents) → flat_map (owner_faults (reread q)) (declarations no_counts (files_of q)) ≡ []
+pub known-imports : (q : Contents) → flat_map (owner_faults (reread q) []) (declarations no_counts (files_of q)) ≡ []
     → (n : ℕ) → n < length (files_of q) → (name : List ℕ) → Contains (file_at (files_of q) n).dependency name → IsSome (finite.get q.file_names name)
 known-imports q unbroken n below name found =
     let f = file_at (files_of q) n in
@@ -190,7 +190,7 @@ module _ (q : Contents) (new : List FileDescriptorProto) (before : Known q) (aft
   record-old def below = ap (option_and_then (λ f. leads f (declaration_path def.path))) (slice-old def.file below)
 
   -- of a pool that breaks nothing, once more
-  module _ (unbroken : flat_map (owner_faults (reread q)) (declarations no_counts (files_of q)) ≡ []) where
+  module _ (unbroken : flat_map (owner_faults (reread q) []) (declarations no_counts (files_of q)) ≡ []) where
     imports-stay : ImportsStay (files_of q) (finite.get q.file_names) (finite.get p.file_names)
     imports-stay n below name found =
         let known = known-imports q unbroken n below name found in

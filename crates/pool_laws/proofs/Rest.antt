@@ -19,16 +19,18 @@ use Rattle.record_walk.specs.Changed.{changed_files}
 use Rattle.record_walk.specs.Counts.{counted, counts_in}
 use Rattle.record_walk.specs.Declarations.{declarations}
 use Rattle.record_walk.specs.Leads.{leads}
+use Rattle.record_walk.specs.Protos.{as_extension}
 use Rattle.record_walk.specs.Shown.{Shown}
 use Rattle.name_resolution.specs.Resolution.{resolution}
 use Rattle.plain_data.specs.Each.{map_enumerated}
 use Rattle.name_pass.specs.Syntaxes.{syntax_at, syntax_of}
-use Rattle.reference_pass.specs.SecondPass.{owner_faults}
+use Rattle.reference_pass.specs.SecondPass.{owner_faults, owners_faults}
 use Rattle.reference_pass.specs.Definitions.{declaration_path, record_of}
-use Rattle.reference_pass.specs.Items.{file_item}
+use Rattle.reference_pass.specs.Items.{extension_item, extension_items, file_item}
 use Rattle.reference_pass.specs.Linked.{linking}
 use Rattle.reference_pass.specs.Setting.{Setting, seen_by}
 use Rattle.reference_pass.proofs.Owners.{owners-tell}
+use Rattle.reference_pass.proofs.Unbroken.{AllNew, owners-behind}
 use Rattle.pool_laws.specs.SettingLaws.{Stands, unchanged}
 use Rattle.pool_laws.proofs.AsGiven.{given-carried}
 use Rattle.pool_laws.proofs.Declarations.{all-mean}
@@ -44,7 +46,8 @@ use Rattle.descriptor_pool.proofs.Sound.{Known, link-known}
 use Rattle.pool_laws.proofs.Relinks.{files-are}
 use Rattle.pool_laws.proofs.Alike.{SameImports, sees-alike}
 use Rattle.pool_laws.proofs.Batches.{between-at}
-use Rattle.pool_laws.proofs.Parts.{AllKnown, declared-both, earlier, keys-at, keys_part, later, more-file-names, old_seen, part, seen-more, unbroken-both, whole}
+use Rattle.pool_laws.proofs.Items.{all-fine, kind-again, same-extension}
+use Rattle.pool_laws.proofs.Parts.{AllKnown, declared-both, earlier, keys-at, keys_part, later, more-file-names, new-both, old_seen, part, seen-more, unbroken-both, whole}
 use Rattle.pool_laws.proofs.Passes.{after-parts, all-of, pass-again, unbroken-carried}
 use Rattle.pool_laws.proofs.Records.{Stays, file-stays, stays-itself}
 use Rattle.pool_laws.proofs.Relinked.{Relinked, or-nothing, syntaxes-of}
@@ -183,7 +186,23 @@ module _ (p : Contents) (entered : Known p) (again : Relinked p) (front back : L
       })
       (syntaxes-of many at_once.files behind.files rest-stands.syntaxes second lie-second) parts
 
-  pub references-fine : reference_faults p (front ++ back) ≡ [] → reference_faults grown back ≡ []
-  references-fine none =
-      owners-tell behind (counts_in grown) back ∙ ap (flat_map (owner_faults behind)) (declared-second ∙ sym (declarations-unchanged second))
+  unbroken : reference_faults p (front ++ back) ≡ [] → flat_map (owner_faults behind []) second ≡ []
+  unbroken none =
+      sym (ap (flat_map (owner_faults behind [])) (declarations-unchanged second))
       ∙ unbroken-carried (given-carried rest-stands) second lie-second (all-of (λ d. all-mean at_once behind same-file-names d.proto) second) (unbroken-both p entered again front back closed none).1
+
+  -- its extensions are those that it has at once
+  pub extensions-same : reference_faults p (front ++ back) ≡ [] → extension_items behind second ≡ extension_items at_once second
+  extensions-same none =
+      let carried = given-carried rest-stands in
+      ap (extension_items behind) (sym (declarations-unchanged second))
+      ∙ kind-again carried as_extension (extension_item at_once) (extension_item behind) (same-extension carried) second (all-fine at_once many second lie-second (unbroken-both p entered again front back closed none).1)
+
+  -- where the extensions of the first part are those that it has at once
+  pub references-fine : extension_items (part p entered again front back closed) first ≡ extension_items at_once first
+      → reference_faults p (front ++ back) ≡ [] → reference_faults grown back ≡ []
+  references-fine same none =
+      owners-tell behind grown.extensions (counts_in grown) back ∙ ap (owners_faults behind grown.extensions) declared-second
+      ∙ owners-behind behind grown.extensions second (unbroken none)
+      (subst (AllNew grown.extensions) (sym (extensions-same none))
+      (subst (λ es. AllNew (p.extensions ++ es) (extension_items at_once second)) (sym same) (new-both p entered again front back closed none).1))

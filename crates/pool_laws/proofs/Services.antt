@@ -18,7 +18,7 @@ use Rattle.reference_pass.specs.Messages.{resolve_message, method_at, index_or_m
 use Rattle.reference_pass.specs.Setting.{Setting}
 use Rattle.pool_laws.specs.SettingLaws.{IsService, service_at_place}
 use Rattle.pool_laws.proofs.Carries.{CarriesMethods}
-use Rattle.pool_laws.proofs.Numbered.{both-empty}
+use Rattle.reference_pass.proofs.Unbroken.{both-empty}
 
 module _ {s t : Setting} {c : Changes} {many : ℕ} (carries : CarriesMethods s t c many) (d : Shown) (below : d.file < many) where
   -- a method of the service as it is carried

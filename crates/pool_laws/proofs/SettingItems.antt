@@ -32,7 +32,7 @@ use Rattle.reference_pass.specs.Items.{field_item, item_of_kind, oneof_items}
 use Rattle.reference_pass.specs.Setting.{Setting}
 use Rattle.pool_laws.proofs.Carries.{Carries}
 use Rattle.pool_laws.proofs.Fields.{carried, kept, renamed, breaks-nothing}
-use Rattle.pool_laws.proofs.Numbered.{both-empty}
+use Rattle.reference_pass.proofs.Unbroken.{both-empty}
 
 -- entries that are read off changed fields, where the change leaves what is read
 module _ {X : Type 0} (change : FieldDescriptorProto → FieldDescriptorProto) (entry : ℕ × FieldDescriptorProto → Option X)

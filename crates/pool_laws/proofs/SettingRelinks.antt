@@ -12,7 +12,7 @@ use Rattle.proto_types.specs.Readers.{number_of}
 use Rattle.proto_types.specs.declared.file.FileDescriptorProto.{FileDescriptorProto}
 use Rattle.pool_faults.specs.declared.fault.DescriptorErrorKind.TheVariants as fault
 use Rattle.field_rules.specs.Duplicates.{duplicate_faults, json_name_duplicate, latest, name_label, number_duplicate}
-use Rattle.pool_laws.proofs.Numbered.{both-empty}
+use Rattle.reference_pass.proofs.Unbroken.{both-empty}
 
 or-some : {X : Type 0} (a : Option X) (b : Bool) (e : X) → is_some (option_or a (cond b (Some e) None)) ≡ (is_some a || b)
 or-some None true e = refl

@@ -29,7 +29,7 @@ use Rattle.record_walk.proofs.Room.{room-fits}
 use Rattle.record_walk.proofs.Tallies.{declarations-tally}
 use Rattle.name_pass.specs.Syntaxes.{syntax_faults}
 use Rattle.pool_laws.proofs.FirstPass.{holder-more}
-use Rattle.pool_laws.proofs.Numbered.{both-empty}
+use Rattle.reference_pass.proofs.Unbroken.{both-empty}
 use Rattle.name_pass.specs.Entered.{entries, entries_of, file_entries, file_entries_of}
 use Rattle.name_pass.specs.FirstPass.{clashes, file_faults, file_name_faults, first_faults, holder, shape_faults}
 use Rattle.descriptor_pool.specs.Linking.{linked_with, name_faults, reference_faults}
@@ -167,7 +167,7 @@ splits p pool front back plain closed accepts =
     still-new p q (λ name there. ap is_some (get-with p.file_names (file_entries first) name) ∙ some-before (finite.get p.file_names name) (first_of (file_entries first) name) there) back
     (held-as q gs is_new (λ name. ap is_some (get-with p.file_names (file_entries first) name))) in (
       (front_part.names-fine p entered again fs gs known alone names, front_part.references-fine p entered again fs gs known alone references),
-      (ap (name_faults q) same ∙ rest_part.names-fine p entered again fs gs known names, ap (reference_faults q) same ∙ rest_part.references-fine p entered again fs gs known references),
+      (ap (name_faults q) same ∙ rest_part.names-fine p entered again fs gs known names, ap (reference_faults q) same ∙ rest_part.references-fine p entered again fs gs known (front_part.extensions-same p entered again fs gs known alone references) references),
       ap (linked_with q) same ∙ linked-joined p entered again fs gs known alone references (made-whole p pool.made) ∙ ap (linked_with p) (sym both),
       λ fits.
           let room = room-fits (counts_in p) (fs ++ gs) (subst (λ new. IsOk (counts_with (counts_in p) new)) both fits) in

@@ -25,7 +25,7 @@ use Rattle.pool_laws.proofs.Carries.{Carries}
 use Rattle.pool_laws.proofs.Extensions.{extension-carried}
 use Rattle.pool_laws.proofs.Fields.{carried, kept, breaks-nothing}
 use Rattle.pool_laws.proofs.Messages.{parts-of}
-use Rattle.pool_laws.proofs.Numbered.{both-empty}
+use Rattle.reference_pass.proofs.Unbroken.{both-empty}
 use Rattle.pool_laws.proofs.Services.{service-carried}
 
 -- what is true of two lists, one behind the other
@@ -39,11 +39,11 @@ all-rest P (x ∷ xs) ys all = all-rest P xs ys all.1
 
 -- it breaks nothing in the second pass
 abbrev pub Unbroken : Setting → Shown → Type 0
-Unbroken s d = owner_faults s d ≡ []
+Unbroken s d = owner_faults s [] d ≡ []
 
-pub all-unbroken : (s : Setting) (ds : List Shown) → flat_map (owner_faults s) ds ≡ [] → AllByRecursion (Unbroken s) ds
+pub all-unbroken : (s : Setting) (ds : List Shown) → flat_map (owner_faults s []) ds ≡ [] → AllByRecursion (Unbroken s) ds
 all-unbroken s [] none = tt
-all-unbroken s (d ∷ ds) none = let parts = both-empty (owner_faults s d) (flat_map (owner_faults s) ds) none in (parts.0, all-unbroken s ds parts.1)
+all-unbroken s (d ∷ ds) none = let parts = both-empty (owner_faults s [] d) (flat_map (owner_faults s []) ds) none in (parts.0, all-unbroken s ds parts.1)
 
 module _ {s t : Setting} {c : Changes} {many : ℕ} (carries : Carries s t c many) where
   -- the fields of a message
@@ -77,7 +77,7 @@ module _ {s t : Setting} {c : Changes} {many : ℕ} (carries : Carries s t c man
       let new = c.extension here.file d.full_name x in
       let name = ap (λ (y : FieldDescriptorProto). text_of y.name) (carries.extensions here.file d.full_name x)
       ∙ ap (λ (y : FieldDescriptorProto). text_of y.name) (carries.kept here.file d.full_name x) in
-      let first = (λ j. linked_extension t here.file (join here.scope (name j)) new) ∙ (extension-carried carries d below x all.0).linked_is in
+      let first = (λ j. linked_extension t here.file (join here.scope (name j)) new) ∙ (extension-carried carries d below x [] all.0).linked_is in
       λ j. first j ∷ extensions-linked here below tag (suc i) (suc n) xs all.1 j
 
   -- services in surroundings
@@ -138,7 +138,7 @@ module _ {s t : Setting} {c : Changes} {many : ℕ} (carries : Carries s t c man
       λ j. first j ∷ others j
 
   -- a file
-  pub file-linked : (base : Counts) (f : FileDescriptorProto) → base.files < many → flat_map (owner_faults s) (file_walk base f) ≡ []
+  pub file-linked : (base : Counts) (f : FileDescriptorProto) → base.files < many → flat_map (owner_faults s []) (file_walk base f) ≡ []
       → linked t base.files (changed_file c base.files f) ≡ linked s base.files f
   file-linked base f below none =
       let here = in_file base.files f in

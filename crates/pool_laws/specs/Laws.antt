@@ -21,6 +21,7 @@ use Rattle.name_pass.specs.Entered.{entries}
 use Rattle.pool_laws.specs.SettingLaws.{SeenAmong}
 use Rattle.descriptor_pool.specs.Linking.{declared_with, with_names}
 use Rattle.descriptor_pool.specs.Pool.{Accepts, Batch, Fits, has_file, link, new_files}
+use Rattle.pool_contents.specs.Extended.{Indexed, with_extensions}
 
 -- law: the linked files of a pool, linked at once from nothing, break nothing, fit, and make an
 -- equal pool
@@ -32,13 +33,11 @@ Relinks p = Accepts no_contents (files_of p) × Fits no_contents (files_of p)
 abbrev pub Begins : {X : Type 0} → List X → List X → Type 0
 Begins {X} xs ys = (rest : List X) × (ys ≡ xs ++ rest)
 
--- what is in contents is in others as it was, save that further extensions stand behind those that
--- a message lists
+-- what is in contents is in others as it was, save that further extensions extend a message
 pub record Keeps (p q : Contents) : Type 0 where
   pub files : Begins p.files q.files
   pub messages : (n : ℕ) (m : MessageDescriptorInner) → slice_get p.messages n ≡ Some m
-      → (more : List ℕ)
-      × (slice_get q.messages n ≡ Some (record m { extensions = m.extensions ++ more }))
+      → (more : List Indexed) × (slice_get q.messages n ≡ Some (with_extensions more m))
   pub enums : Begins p.enums q.enums
   pub services : Begins p.services q.services
   pub extensions : Begins p.extensions q.extensions

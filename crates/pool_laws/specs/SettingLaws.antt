@@ -1,7 +1,7 @@
 -- Laws on linked files that are read again, behind which files may come: what relinking rests on.
 use Rattle.std.specs.Prelude.{◌≡◌, ◌<◌, ℕ, ℤ, Bool, true, IsSome, List, [], ◌∷◌, ◌++◌, length}
 use Rattle.std.specs.FinMap as finite
-use Rattle.std.specs.List.{All, AllByRecursion, Contains, flat_map}
+use Rattle.std.specs.List.{All, AllByRecursion, Contains}
 use Rattle.std.specs.declared.option.Option.{Option}
 use Rattle.std.specs.declared.option.Option.TheVariants.{None, Some}
 use Rattle.proto_types.specs.declared.file.FileDescriptorProto.{FileDescriptorProto}
@@ -34,7 +34,7 @@ use Rattle.reference_pass.specs.Defaults.{field_default, field_default_faults}
 use Rattle.reference_pass.specs.Definitions.{enum_record, message_record}
 use Rattle.reference_pass.specs.FieldTypes.{field_kind, type_faults}
 use Rattle.field_rules.specs.EnumValues.{values_faults}
-use Rattle.reference_pass.specs.SecondPass.{extension_faults, message_faults, owner_faults, service_faults}
+use Rattle.reference_pass.specs.SecondPass.{extension_faults, message_faults, owner_faults, owners_faults, service_faults}
 use Rattle.reference_pass.specs.Imports.{import_faults}
 use Rattle.reference_pass.specs.Items.{extension_item, file_item, message_item, service_item}
 use Rattle.reference_pass.specs.Linked.{linked, linked_extension, linked_field, linking, resolved}
@@ -196,21 +196,22 @@ MessageRelinks =
 abbrev pub extension_at_place : Shown → FieldDescriptorProto → Shown
 extension_at_place d x = record d { proto = of_extension x }
 
--- an extension breaks nothing, its item is this one, and linking makes this of it
-pub record IsExtension (t : Setting) (d : Shown) (item : ExtensionDescriptorInner)
-    (made x : FieldDescriptorProto) : Type 0 where
-  pub faults : extension_faults t d x ≡ []
+-- an extension breaks nothing behind earlier ones, its item is this one, and linking makes this of
+-- it
+pub record IsExtension (t : Setting) (earlier : List ExtensionDescriptorInner) (d : Shown)
+    (item : ExtensionDescriptorInner) (made x : FieldDescriptorProto) : Type 0 where
+  pub faults : extension_faults t earlier d x ≡ []
   pub item_is : extension_item t (extension_at_place d x) x ≡ item
   pub linked_is : linked_extension t d.file d.full_name x ≡ made
 
--- law: so it is with a linked extension that broke nothing: the item is what it was, and linking
--- leaves it as it is
+-- law: so it is with a linked extension that broke nothing behind the same ones: the item is what it
+-- was, and linking leaves it as it is
 abbrev pub ExtensionRelinks : Type 0
 ExtensionRelinks =
     (s t : Setting) → Rereads s t → (d : Shown) → d.file < length s.files
-    → (x : FieldDescriptorProto)
-    → extension_faults s d x ≡ [] → let made =
-    linked_extension s d.file d.full_name x in IsExtension t d
+    → (x : FieldDescriptorProto) (earlier : List ExtensionDescriptorInner)
+    → extension_faults s earlier d x ≡ [] → let made =
+    linked_extension s d.file d.full_name x in IsExtension t earlier d
     (extension_item s (extension_at_place d x) x) made made
 
 -- a service that is declared where another is
@@ -239,12 +240,13 @@ abbrev pub EnumRelinks : Type 0
 EnumRelinks = (files others : List FileDescriptorProto) (d : Shown) (e : EnumDescriptorProto)
     → values_faults files d e ≡ [] → values_faults others d e ≡ []
 
--- law: a linked declaration that broke nothing in the second pass breaks nothing when it is read
--- again
+-- law: a linked declaration that broke nothing in the second pass behind earlier extensions breaks
+-- nothing when it is read again behind them
 abbrev pub DeclarationRelinks : Type 0
 DeclarationRelinks =
-    (s t : Setting) → Rereads s t → (d : Shown) → d.file < length s.files → owner_faults s d ≡ []
-    → owner_faults t (changed (linking s) d) ≡ []
+    (s t : Setting) → Rereads s t → (earlier : List ExtensionDescriptorInner) (d : Shown)
+    → d.file < length s.files → owner_faults s earlier d ≡ []
+    → owner_faults t earlier (changed (linking s) d) ≡ []
 
 -- the imports of a file break nothing, and its item is this one, with its linked record
 pub record IsFile (t : Setting) (index : ℕ) (item : FileDescriptorInner)
@@ -258,7 +260,8 @@ abbrev pub FileRelinks : Type 0
 FileRelinks =
     (s t : Setting) → Rereads s t → (base : Counts) (f : FileDescriptorProto)
     → base.files < length s.files
-    → flat_map (owner_faults s) (file_walk base f) ≡ []
+    → (earlier : List ExtensionDescriptorInner)
+    → owners_faults s earlier (file_walk base f) ≡ []
     → IsFile t base.files (file_item s base.files f) (linked s base.files f)
 
 -- law: a message whose fields broke nothing breaks nothing where references stand, and its item is
@@ -270,13 +273,13 @@ MessageCarriesOver =
     → message_faults s (message_at_place d m) m ≡ []
     → IsMessage t d (message_item s (message_at_place d m) m) m
 
--- law: so it is with an extension, and linking makes of it what it made
+-- law: so it is with an extension behind the same ones, and linking makes of it what it made
 abbrev pub ExtensionCarriesOver : Type 0
 ExtensionCarriesOver =
     (s t : Setting) (many : ℕ) → Stands s t many → (d : Shown) → d.file < many
-    → (x : FieldDescriptorProto)
-    → extension_faults s d x ≡ []
-    → IsExtension t d (extension_item s (extension_at_place d x) x)
+    → (x : FieldDescriptorProto) (earlier : List ExtensionDescriptorInner)
+    → extension_faults s earlier d x ≡ []
+    → IsExtension t earlier d (extension_item s (extension_at_place d x) x)
     (linked_extension s d.file d.full_name x) x
 
 -- law: and with a service
@@ -298,19 +301,21 @@ abbrev pub ImportsMean : Setting → Setting → Proto → Type 0
 ImportsMean s t (of_file f) = NamesStay s t f.dependency
 ImportsMean s t _ = Unit {0}
 
--- law: a declaration that broke nothing in the second pass breaks nothing where references and
--- imports stand
+-- law: a declaration that broke nothing in the second pass behind earlier extensions breaks nothing
+-- behind them where references and imports stand
 abbrev pub DeclarationCarriesOver : Type 0
 DeclarationCarriesOver =
-    (s t : Setting) (many : ℕ) → Stands s t many → (d : Shown) → d.file < many
-    → ImportsMean s t d.proto → owner_faults s d ≡ [] → owner_faults t d ≡ []
+    (s t : Setting) (many : ℕ) → Stands s t many → (earlier : List ExtensionDescriptorInner)
+    (d : Shown) → d.file < many → ImportsMean s t d.proto
+    → owner_faults s earlier d ≡ [] → owner_faults t earlier d ≡ []
 
 -- law: a file whose declarations broke nothing has the item that it had, with the linked record
 abbrev pub FileCarriesOver : Type 0
 FileCarriesOver =
     (s t : Setting) (many : ℕ) → Stands s t many → (base : Counts) (f : FileDescriptorProto)
     → base.files < many → NamesStay s t f.dependency
-    → flat_map (owner_faults s) (file_walk base f) ≡ []
+    → (earlier : List ExtensionDescriptorInner)
+    → owners_faults s earlier (file_walk base f) ≡ []
     → IsFile t base.files (file_item s base.files f) f
 
 -- some names of others: what they mean stays, they have all that mean what is seen, and the texts

@@ -131,13 +131,16 @@ message_inner-exact =
         m.parent,
         (
           m.extensions,
-          (m.fields, (m.field_numbers, (m.field_names, (m.field_json_names, m.oneofs)))),
+          (
+            m.extension_numbers,
+            (m.fields, (m.field_numbers, (m.field_names, (m.field_json_names, m.oneofs)))),
+          ),
         ),
       ),
     ))
     (λ a b e. search rules)
-    (identity-exact and given unsigned_Decides and items-exact unsigned_Decides and items-exact
-    field_inner-exact and number_map-exact and text_map-exact and text_map-exact and items-exact
+    (identity-exact and given unsigned_Decides and items-exact unsigned_Decides and
+    number_map-exact and items-exact field_inner-exact and number_map-exact and text_map-exact and text_map-exact and items-exact
     oneof_inner-exact)
 
 pub value_inner-exact : Exact value_inner.ghosts.eq

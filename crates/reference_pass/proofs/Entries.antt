@@ -1,5 +1,9 @@
 -- Entries of lists, by their positions.
-use Rattle.std.proofs.Common.{◌≡◌, ℕ, zero, suc, ◌+◌, ◌<◌, List, [], ◌∷◌, ◌++◌, length, get_or, refl, ap, sym, ◌∙◌, arith, append_assoc}
+use Rattle.std.proofs.Common.{◌≡◌, ℕ, zero, suc, ◌+◌, ◌<◌, Option, Some, None, Bor, List, [], ◌∷◌, ◌++◌, length, get_or, refl, ap, sym, ◌∙◌, arith, append_assoc}
+use Rattle.std.proofs.lemmas.Option.{slice_get_past, slice_get_read}
+use Rattle.std.specs.Option.{option_copied}
+use Rattle.std.specs.Prelude.{slice_get}
+use Rattle.std.specs.Slice.{IsItemAt}
 use Rattle.plain_data.specs.Each.{map_enumerated}
 
 -- an entry is itself, whatever stands in for one that isn't there
@@ -27,3 +31,8 @@ regroup a b c d = append_assoc (a ++ b) c d ∙ append_assoc a b (c ++ d)
 -- two lists come behind a list that came behind an old one
 pub behind : {X : Type 0} (old a b c : List X) → (old ++ a) ++ (b ++ c) ≡ old ++ (a ++ b ++ c)
 behind old a b c = append_assoc old a (b ++ c) ∙ ap (λ xs. old ++ xs) (sym (append_assoc a b c))
+
+-- what is lent at a position of a list
+pub got-at : {X : Type 0} (xs : List X) (i : ℕ) (r : Option (Bor X)) → IsItemAt xs i r → option_copied r ≡ slice_get xs i
+got-at xs i None at = sym (slice_get_past xs i at.3)
+got-at xs i (Some x) at = sym (slice_get_read xs (length xs) i x.now refl at.3.0 at.1)

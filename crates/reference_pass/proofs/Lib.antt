@@ -5,4 +5,6 @@ pub mod Found
 pub mod Owners
 pub mod ByItems
 pub mod Steps
+pub mod Numbered
+pub mod Unbroken
 pub mod Seen

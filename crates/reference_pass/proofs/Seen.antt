@@ -1,6 +1,7 @@
 -- One more declaration is shown to the second pass.
-use Rattle.std.proofs.Common.{◌≡◌, List, [], ◌∷◌, ◌++◌, map, refl, ap, sym, ◌∙◌, append-nil}
+use Rattle.std.proofs.Common.{◌≡◌, List, [], ◌∷◌, ◌++◌, map, refl, ap, sym, ◌∙◌, append-nil, append_assoc}
 use Rattle.std.specs.List.{fold}
+use Rattle.pool_types.specs.declared.contents.extension.ExtensionDescriptorInner.{ExtensionDescriptorInner}
 use Rattle.pool_types.specs.declared.contents.file.FileDescriptorInner.{FileDescriptorInner}
 use Rattle.field_rules.specs.declared.findings.Faults.{Faults as PassFaults}
 use Rattle.record_walk.specs.FullNames.{CanBeRead}
@@ -18,13 +19,13 @@ use Rattle.reference_pass.proofs.Steps.{with-none}
 abbrev after : Setting → ReferenceState → List Shown → Progress
 after s a ds = reference_progress (fold (reference_step s) a ds)
 
--- what is held with these items and faults
-abbrev pub held : NewItems → PassFaults → ReferenceState
-held items faults = record {
+-- what is held with these items and faults, behind extensions
+abbrev pub held : List ExtensionDescriptorInner → NewItems → PassFaults → ReferenceState
+held old items faults = record {
   messages = items.messages.items;
   enums = items.enums.items;
   services = items.services.items;
-  extensions = items.extensions.items;
+  extensions = old ++ items.extensions.items;
   faults = faults.found.items;
 }
 
@@ -47,18 +48,25 @@ shown s t a b d same can is = record {
 
 -- the same, where what the declaration breaks is told behind what was told
 pub seen : (v : ResolveVisitor) (items : NewItems) (faults : PassFaults) (d : Shown) → faults.labels ≡ v.faults.labels → CanBeRead (d ∷ [])
-    → held items faults ≡ record (reference_step (setting_of v) (state_of v) d) { faults = v.faults.found.items ++ owner_faults (setting_of v) d }
-    → HasSeen (after (setting_of v) (state_of v)) CanBeRead (after (setting_over v faults.labels) (held items faults)) CanBeRead (d ∷ [])
+    → held v.pool.extensions.now items faults ≡ record (reference_step (setting_of v) (state_of v) d) { faults = v.faults.found.items ++ owner_faults (setting_of v) (state_of v).extensions d }
+    → HasSeen (after (setting_of v) (state_of v)) CanBeRead (after (setting_over v faults.labels) (held v.pool.extensions.now items faults)) CanBeRead (d ∷ [])
 seen v items faults d same can is =
     let s = setting_of v in
     let step = reference_step s (state_of v) d in
-    let told = sym (append-nil (owner_faults s d)) in
-    shown s (setting_over v faults.labels) (state_of v) (held items faults) d (ap (setting_over v) same) can
+    let told = sym (append-nil (owner_faults s (state_of v).extensions d)) in
+    shown s (setting_over v faults.labels) (state_of v) (held v.pool.extensions.now items faults) d (ap (setting_over v) same) can
     (is ∙ (λ i. record step { faults = v.faults.found.items ++ told i }))
 
 -- where no item of a kind is made, what there was is all
 pub none : {X : Type 0} {xs ys : List X} → ys ≡ xs → ys ≡ xs ++ []
 none {X} {xs} is = is ∙ sym (append-nil xs)
+
+-- so it is behind others, and so where one is made
+pub none-behind : {X : Type 0} {xs ys : List X} (old : List X) → ys ≡ xs → old ++ ys ≡ (old ++ xs) ++ []
+none-behind old is = none (ap (λ zs. old ++ zs) is)
+
+pub one-behind : {X : Type 0} {ys : List X} (old xs zs : List X) → ys ≡ xs ++ zs → old ++ ys ≡ (old ++ xs) ++ zs
+one-behind old xs zs is = ap (λ ws. old ++ ws) is ∙ sym (append_assoc old xs zs)
 
 -- a declaration of which nothing is made changes nothing
 pub passed : (v : ResolveVisitor) (d : Shown) → reference_step (setting_of v) (state_of v) d ≡ with_declarations (setting_of v) (state_of v) []

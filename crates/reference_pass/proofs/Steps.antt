@@ -1,15 +1,14 @@
 -- What the second pass makes of no declarations, and of declarations in two parts.
-use Rattle.std.proofs.Common.{◌≡◌, Option, List, [], ◌++◌, map, ap, sym, ◌∙◌, append_assoc, append-nil}
-use Rattle.std.proofs.lemmas.Grind.{flat_map-append}
+use Rattle.std.proofs.Common.{◌≡◌, Option, List, [], ◌∷◌, ◌++◌, map, ap, sym, ◌∙◌, append_assoc, append-nil}
 use Rattle.std.proofs.lemmas.List.{map-append}
 use Rattle.std.proofs.lemmas.List.Elements.{filter_map-append}
-use Rattle.std.specs.List.{flat_map}
 use Rattle.std.specs.Option.{option_map}
+use Rattle.pool_types.specs.declared.contents.extension.ExtensionDescriptorInner.{ExtensionDescriptorInner}
 use Rattle.record_walk.specs.Protos.{Proto, as_message, as_enum, as_service, as_extension}
 use Rattle.record_walk.specs.Shown.{Shown, of_kind}
 use Rattle.field_rules.specs.EnumItems.{enum_item}
-use Rattle.reference_pass.specs.Items.{made_of, message_item, service_item, extension_item}
-use Rattle.reference_pass.specs.SecondPass.{owner_faults}
+use Rattle.reference_pass.specs.Items.{made_of, message_item, service_item, extension_item, extension_items}
+use Rattle.reference_pass.specs.SecondPass.{owner_faults, owners_faults}
 use Rattle.reference_pass.specs.Setting.{Setting}
 use Rattle.reference_pass.specs.Steps.{ReferenceState, with_declarations}
 
@@ -23,8 +22,18 @@ module _ {X Y : Type 0} (pick : Proto → Option X) (make : Shown → X → Y) w
       ap (map of) (kind-append pick ds es) ∙ map-append of (of_kind pick ds) (of_kind pick es)
 
   -- what is made of two parts in turn stands behind what there was
-  behind : (had : List Y) (ds es : List Shown) → (had ++ made_of pick make ds) ++ made_of pick make es ≡ had ++ made_of pick make (ds ++ es)
-  behind had ds es = append_assoc had (made_of pick make ds) (made_of pick make es) ∙ ap (λ ys. had ++ ys) (sym (made-append ds es))
+  pub made-behind : (had : List Y) (ds es : List Shown) → (had ++ made_of pick make ds) ++ made_of pick make es ≡ had ++ made_of pick make (ds ++ es)
+  made-behind had ds es = append_assoc had (made_of pick make ds) (made_of pick make es) ∙ ap (λ ys. had ++ ys) (sym (made-append ds es))
+
+-- what declarations break, behind extensions, in two parts
+pub owners-append : (s : Setting) (earlier : List ExtensionDescriptorInner) (ds es : List Shown)
+    → owners_faults s earlier (ds ++ es) ≡ owners_faults s earlier ds ++ owners_faults s (earlier ++ extension_items s ds) es
+owners-append s earlier [] es = ap (λ xs. owners_faults s xs es) (sym (append-nil earlier))
+owners-append s earlier (d ∷ ds) es =
+    let own = owner_faults s earlier d in
+    let then = earlier ++ extension_items s (d ∷ []) in
+    ap (λ fs. own ++ fs) (owners-append s then ds es ∙ ap (λ xs. owners_faults s then ds ++ owners_faults s xs es) (made-behind as_extension (extension_item s) earlier (d ∷ []) ds))
+    ∙ sym (append_assoc own (owners_faults s then ds) (owners_faults s (earlier ++ extension_items s (d ∷ ds)) es))
 
 module _ (s : Setting) (r : ReferenceState) where
   pub with-none : with_declarations s r [] ≡ r
@@ -38,11 +47,12 @@ module _ (s : Setting) (r : ReferenceState) where
 
   pub with-more : (ds es : List Shown) → with_declarations s (with_declarations s r ds) es ≡ with_declarations s r (ds ++ es)
   with-more ds es =
-      let told = flat_map (owner_faults s) in
+      let told = owners_faults s in
       λ i. record {
-        messages = behind as_message (message_item s) r.messages ds es i;
-        enums = behind as_enum enum_item r.enums ds es i;
-        services = behind as_service (service_item s) r.services ds es i;
-        extensions = behind as_extension (extension_item s) r.extensions ds es i;
-        faults = (append_assoc r.faults (told ds) (told es) ∙ ap (λ fs. r.faults ++ fs) (sym (flat_map-append (owner_faults s) ds es))) i;
+        messages = made-behind as_message (message_item s) r.messages ds es i;
+        enums = made-behind as_enum enum_item r.enums ds es i;
+        services = made-behind as_service (service_item s) r.services ds es i;
+        extensions = made-behind as_extension (extension_item s) r.extensions ds es i;
+        faults = (append_assoc r.faults (told r.extensions ds) (told (r.extensions ++ extension_items s ds) es)
+            ∙ ap (λ fs. r.faults ++ fs) (sym (owners-append s r.extensions ds es))) i;
       }

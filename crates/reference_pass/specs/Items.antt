@@ -102,6 +102,7 @@ message_item s d m =
       id = identity d;
       parent = d.parent;
       extensions = [];
+      extension_numbers = finite.empty;
       fields = field_items s oneofs (inside d) fields;
       field_numbers = by_number fields;
       field_names = by_name fields;

@@ -5,6 +5,8 @@ pub mod FieldTypes
 pub mod Messages
 pub mod Short
 pub mod Definitions
+pub mod Numbered
+pub mod Earlier
 pub mod Extensions
 pub mod Defaults
 pub mod Imports

@@ -11,6 +11,7 @@ use Rattle.proto_types.specs.declared.records.service.MethodDescriptorProto.{Met
 use Rattle.proto_types.specs.declared.records.service.ServiceDescriptorProto.{ServiceDescriptorProto}
 use Rattle.proto_types.specs.declared.message.DescriptorProto.{DescriptorProto, out-DescriptorProto}
 use Rattle.proto_types.specs.EmptyFile.{no_message}
+use Rattle.pool_types.specs.declared.contents.extension.ExtensionDescriptorInner.{ExtensionDescriptorInner}
 use Rattle.pool_faults.specs.declared.fault.DescriptorErrorKind.{DescriptorErrorKind}
 use Rattle.proto_types.specs.Empty.{no_enum}
 use Rattle.plain_data.specs.Lists.{flat_map_after, listed}
@@ -24,9 +25,10 @@ use Rattle.field_rules.specs.Oneofs.{oneof_faults}
 use Rattle.field_rules.specs.EnumValues.{value_faults, values_faults}
 use Rattle.plain_data.specs.Each.{map_enumerated}
 use Rattle.reference_pass.specs.Defaults.{field_default_faults}
-use Rattle.reference_pass.specs.Extensions.{extendee_faults, number_faults}
+use Rattle.reference_pass.specs.Extensions.{extendee_faults, number_faults, taken_faults}
 use Rattle.reference_pass.specs.FieldTypes.{type_faults}
 use Rattle.reference_pass.specs.Imports.{import_faults}
+use Rattle.reference_pass.specs.Items.{extension_items}
 use Rattle.reference_pass.specs.Messages.{method_at, resolve_message}
 use Rattle.field_rules.specs.Places.{field_at}
 use Rattle.reference_pass.specs.Setting.{Setting}
@@ -52,10 +54,12 @@ field_faults s owner d f =
     ++ duplicate_faults s.files owner.0.file owner.0.path
     (take d.index (out-DescriptorProto owner.1).field) d.index f
 
--- of an extension: its extendee, its number by that, its type, its default value
-abbrev pub extension_faults : Setting → Shown → FieldDescriptorProto → Faults
-extension_faults s d x =
-    extendee_faults s d x ++ number_faults s d x (resolve_message s d x.extendee)
+-- of an extension behind earlier ones: its extendee, its number by that, its type, its default value
+abbrev pub extension_faults : Setting → List ExtensionDescriptorInner → Shown
+    → FieldDescriptorProto → Faults
+extension_faults s earlier d x =
+    let extendee = resolve_message s d x.extendee in
+    extendee_faults s d x ++ number_faults s d x extendee ++ taken_faults s earlier d x extendee
     ++ type_faults s d x ++ field_default_faults s d x
 
 -- of an input, then of an output, that isn't found
@@ -79,20 +83,20 @@ message_of earlier d = unwrap_or (last (of_kind as_message earlier)) (d, no_mess
 abbrev pub enum_of : List Shown → Shown → Shown × EnumDescriptorProto
 enum_of earlier d = unwrap_or (last (of_kind as_enum earlier)) (d, no_enum)
 
--- what a declaration breaks behind earlier ones
-abbrev pub second_faults : Setting → List Shown → Shown → Faults
-second_faults s earlier d = elim d.proto [
+-- what a declaration breaks behind the extensions of a pool and earlier declarations
+abbrev pub second_faults : Setting → List ExtensionDescriptorInner → List Shown → Shown → Faults
+second_faults s old earlier d = elim d.proto [
   | of_file f ↦ import_faults s d.index f
   | of_field f ↦ field_faults s (message_of earlier d) d f
   | of_value v ↦ let owner = enum_of earlier d in value_faults s.files owner.0 owner.1 d.index v
   | of_method m ↦ method_faults s d m
-  | of_extension x ↦ extension_faults s d x
+  | of_extension x ↦ extension_faults s (old ++ extension_items s earlier) d x
   | _ ↦ []
 ]
 
--- all faults of the second pass over declarations
-abbrev pub second_pass : Setting → List Shown → Faults
-second_pass s ds = flat_map_after (second_faults s) ds
+-- all faults of the second pass over declarations, behind the extensions of a pool
+abbrev pub second_pass : Setting → List ExtensionDescriptorInner → List Shown → Faults
+second_pass s old ds = flat_map_after (second_faults s old) ds
 
 -- what the fields of a message break, one field after another
 abbrev pub faults_of_fields : Setting → Owner → List FieldDescriptorProto → Faults
@@ -114,12 +118,19 @@ faults_of_methods s here ms =
 abbrev pub service_faults : Setting → Shown → ServiceDescriptorProto → Faults
 service_faults s d v = faults_of_methods s (inside d) v.method
 
-abbrev pub owner_faults : Setting → Shown → Faults
-owner_faults s d = elim d.proto [
+-- what a declaration breaks behind earlier extensions, by itself and by its parts
+abbrev pub owner_faults : Setting → List ExtensionDescriptorInner → Shown → Faults
+owner_faults s earlier d = elim d.proto [
   | of_file f ↦ import_faults s d.index f
   | of_message m ↦ message_faults s d m
   | of_service v ↦ service_faults s d v
   | of_enum e ↦ values_faults s.files d e
-  | of_extension x ↦ extension_faults s d x
+  | of_extension x ↦ extension_faults s earlier d x
   | _ ↦ []
 ]
+
+-- what declarations break so, each behind the extensions of those before it
+abbrev pub owners_faults : Setting → List ExtensionDescriptorInner → List Shown → Faults
+owners_faults s earlier [] = []
+owners_faults s earlier (d ∷ ds) =
+    owner_faults s earlier d ++ owners_faults s (earlier ++ extension_items s (d ∷ [])) ds

@@ -1,5 +1,5 @@
 -- What the second pass holds, as its definitions have it.
-use Rattle.std.specs.Prelude.{map}
+use Rattle.std.specs.Prelude.{◌++◌, map}
 use Rattle.reference_pass.specs.Setting.{Setting}
 use Rattle.reference_pass.specs.declared.resolve.ResolveVisitor.{ResolveVisitor}
 use Rattle.reference_pass.specs.Steps.{ReferenceState}
@@ -9,7 +9,7 @@ state_of v = record {
   messages = v.items.messages.items;
   enums = v.items.enums.items;
   services = v.items.services.items;
-  extensions = v.items.extensions.items;
+  extensions = v.pool.extensions.now ++ v.items.extensions.items;
   faults = v.faults.found.items;
 }
 

@@ -1,6 +1,5 @@
 -- What the second pass makes of further declarations.
 use Rattle.std.specs.Prelude.{List, [], ◌∷◌, ◌++◌}
-use Rattle.std.specs.List.{flat_map}
 use Rattle.pool_types.specs.declared.contents.enumeration.EnumDescriptorInner.{EnumDescriptorInner}
 use Rattle.pool_types.specs.declared.contents.extension.ExtensionDescriptorInner.{ExtensionDescriptorInner}
 use Rattle.pool_types.specs.declared.contents.message.MessageDescriptorInner.{MessageDescriptorInner}
@@ -8,11 +7,11 @@ use Rattle.pool_types.specs.declared.contents.service.ServiceDescriptorInner.{Se
 use Rattle.pool_types.specs.Contents.{no_contents}
 use Rattle.record_walk.specs.Progress.{Progress}
 use Rattle.record_walk.specs.Shown.{Shown}
-use Rattle.reference_pass.specs.SecondPass.{Faults, owner_faults}
+use Rattle.reference_pass.specs.SecondPass.{Faults, owners_faults}
 use Rattle.reference_pass.specs.Items.{message_items, enum_items, service_items, extension_items}
 use Rattle.reference_pass.specs.Setting.{Setting}
 
--- the new items, and the faults so far
+-- the new items, the extensions of the pool and the new ones, and the faults so far
 pub record ReferenceState : Type 0 where
   pub messages : List MessageDescriptorInner
   pub enums : List EnumDescriptorInner
@@ -27,7 +26,7 @@ with_declarations s state ds = record {
   enums = state.enums ++ enum_items ds;
   services = state.services ++ service_items s ds;
   extensions = state.extensions ++ extension_items s ds;
-  faults = state.faults ++ flat_map (owner_faults s) ds;
+  faults = state.faults ++ owners_faults s state.extensions ds;
 }
 
 -- after one more declaration

@@ -3,29 +3,38 @@ ghost use Rattle.name_resolution.specs.Resolution.{resolution_in};
 ghost use Rattle.record_walk.specs.FullNames.{EndsWithName};
 ghost use Rattle.record_walk.specs.Protos.{of_extension};
 ghost use Rattle.reference_pass.specs.SecondPass.{extension_faults};
-ghost use Rattle.reference_pass.specs.Extensions.{extendee_faults, number_faults};
+ghost use Rattle.reference_pass.specs.Earlier.{earlier_in};
+ghost use Rattle.reference_pass.specs.Extensions.{extendee_faults, number_faults, taken_faults};
 ghost use Rattle.reference_pass.specs.Items.{bracketed, extension_item};
 ghost use Rattle.reference_pass.specs.Messages.{message_found, resolve_message, index_or_max};
 ghost use Rattle.reference_pass.specs.NamesBegin.{ExtensionNameBegins};
 ghost use Rattle.reference_pass.specs.Reading.{Reads, setting_of};
 ghost use Rattle.reference_pass.specs.Short.{ShortFiles};
+ghost use Rattle.proto_types.specs.declared.tag.field.TheConstants as field;
+ghost use Rattle.field_rules.specs.Labels.{part_label};
 ghost use Rattle.field_rules.specs.Places.{shown_at};
+ghost use Rattle.field_rules.specs.Tells.{named_files};
 
 use crate::declared::{declaration_path, message_record};
+use crate::earlier::EarlierExtensions;
 use crate::field::is_proto3;
 use crate::reading::Reading;
 use crate::references::message_index_or_max;
 use crate::types::type_and_default;
-use field_rules::{Owner, Place, check_extension_number, identity, is_packed, item_number};
+use field_rules::{
+    Findings, Owner, Place, check_extension_number, identity, is_packed, item_number,
+};
 use name_resolution::{ResolveNameResult, cardinality_of};
 use plain_data::Text;
-use pool_types::{ExtensionDescriptorInner, KindIndex};
+use pool_faults::{DescriptorErrorKind, Label};
+use pool_types::{ExtensionDescriptorInner, Identity, KindIndex};
 use proto_types::{FieldDescriptorProto, tag};
 use std::alloc::{AllocError, Global};
 
-/// The item of an extension. What it breaks is appended to `faults`: that its extendee is no
-/// message; else what its number breaks by the record of that message; its type; its default value.
-/// No list of the files that it is read against is longer than a pool allows.
+/// The item of an extension behind earlier ones. What it breaks is appended to `faults`: that its
+/// extendee is no message; else what its number breaks by the record of that message, and that an
+/// earlier extension of the message has it; its type; its default value. No list of the files that it
+/// is read against is longer than a pool allows.
 ///
 /// # Errors
 /// `AllocError` where memory was refused.
@@ -33,6 +42,7 @@ pub fn read_extension(
     reading: &mut Reading,
     place: Place,
     extension: &FieldDescriptorProto,
+    earlier: EarlierExtensions,
 ) -> Result<ExtensionDescriptorInner, AllocError>
     requires { ShortFiles (setting_of reading.old).files }
     ensures item { IfOk result (λ item. item
@@ -42,12 +52,12 @@ pub fn read_extension(
         EndsWithName (shown_at place.entry (of_extension extension.now))
         → ExtensionNameBegins item) }
     ensures faults { OnOk result (Reads reading.old reading.new
-        (extension_faults (setting_of reading.old)
+        (extension_faults (setting_of reading.old) (earlier_in earlier.entry)
         (shown_at place.entry (of_extension extension.now)) extension.now)) }
 {
     let id = identity(reading.findings.alloc, place, extension.name())?;
     let json_name = bracketed(reading.findings.alloc, place.full_name)?;
-    let extendee = read_extendee(reading, place, extension)?;
+    let extendee = read_extendee(reading, place, extension, earlier)?;
     let (kind, default) = type_and_default(reading, place, extension)?;
     let kind = kind.unwrap_or(KindIndex::Double);
     Ok(ExtensionDescriptorInner {
@@ -64,11 +74,13 @@ pub fn read_extension(
 }
 
 /// The index of the message that is extended, or the largest number where none is found. That, or
-/// what the number breaks by the record of the message, is appended to `faults`.
+/// what the number breaks by the record of the message and by earlier extensions, is appended to
+/// `faults`.
 fn read_extendee(
     reading: &mut Reading,
     place: Place,
     extension: &FieldDescriptorProto,
+    earlier: EarlierExtensions,
 ) -> Result<u32, AllocError>
     requires { ShortFiles (setting_of reading.old).files }
     ensures index { IfOk result (λ index. index
@@ -80,11 +92,16 @@ fn read_extendee(
         ++ number_faults (setting_of reading.old)
         (shown_at place.entry (of_extension extension.now)) extension.now
         (resolve_message (setting_of reading.old)
+        (shown_at place.entry (of_extension extension.now)) extension.now.extendee)
+        ++ taken_faults (setting_of reading.old) (earlier_in earlier.entry)
+        (shown_at place.entry (of_extension extension.now)) extension.now
+        (resolve_message (setting_of reading.old)
         (shown_at place.entry (of_extension extension.now)) extension.now.extendee))) }
 {
     let extendee = extension.extendee();
     let meaning = reading.resolve_message(place, tag::field::EXTENDEE, extendee)?;
     check_number(reading, &meaning, place, extension)?;
+    check_taken(reading, &meaning, place, extension, earlier)?;
     Ok(message_index_or_max(&meaning))
 }
 
@@ -120,6 +137,50 @@ fn check_number(
         message,
     };
     check_extension_number(&mut reading.findings, owner, place, extension)
+}
+
+/// Appends to `faults` that an earlier extension of the message that was found has the number.
+fn check_taken(
+    reading: &mut Reading,
+    extendee: &ResolveNameResult,
+    place: Place,
+    extension: &FieldDescriptorProto,
+    earlier: EarlierExtensions,
+) -> Result<(), AllocError>
+    ensures { OnOk result (Reads reading.old reading.new
+        (taken_faults (setting_of reading.old) (earlier_in earlier.entry)
+        (shown_at place.entry (of_extension extension.now)) extension.now
+        (resolution_in extendee.now))) }
+{
+    let ResolveNameResult::Found { name, .. } = extendee else {
+        return Ok(());
+    };
+    let message = message_index_or_max(extendee);
+    let number = extension.number();
+    let Some(first) = earlier.extension(message, item_number(number)) else {
+        return Ok(());
+    };
+    let findings = &mut reading.findings;
+    let first = number_label(findings, &first.id)?;
+    let second = findings.part_label(place, tag::field::NUMBER)?;
+    let message = name.clone(findings.alloc)?;
+    findings.push(DescriptorErrorKind::DuplicateExtensionNumber {
+        number,
+        message,
+        first,
+        second,
+    })
+}
+
+/// The label of the number of an extension.
+fn number_label(findings: &mut Findings, extension: &Identity) -> Result<Label, AllocError>
+    ensures label { IfOk result (λ l. l ≡ part_label (named_files findings.old)
+        extension.now.file extension.now.path field.NUMBER) }
+    ensures stays { findings.new ≡ findings.old }
+{
+    let mut path = Vec::from_slice(findings.alloc, extension.path())?;
+    path.push(tag::field::NUMBER)?;
+    findings.label(extension.file, &path)
 }
 
 /// A text in square brackets.

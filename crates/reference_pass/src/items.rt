@@ -1,13 +1,18 @@
 //! The items that the second pass makes.
 
-ghost use Rattle.std.specs.Prelude.{◌≡◌, ◌++◌, ◌∷◌, [], OnOk};
+ghost use Rattle.std.specs.Prelude.{◌≡◌, ◌++◌, ◌∷◌, [], OnOk, OnErr};
+ghost use Rattle.std.specs.List.{find};
+ghost use Rattle.std.specs.Option.{option_copied};
+ghost use Rattle.pool_contents.specs.Extended.{has_number};
 ghost use Rattle.field_rules.specs.NamesBegin.{EnumNamesBegin};
 ghost use Rattle.reference_pass.specs.NamesBegin.{ExtensionNameBegins, MessageNamesBegin, NamesBegin, ServiceNamesBegin};
+ghost use Rattle.reference_pass.specs.Numbered.{EntersFirst, LeadsToFirst};
 
 use pool_types::{
     EnumDescriptorInner, ExtensionDescriptorInner, MessageDescriptorInner, ServiceDescriptorInner,
 };
 use std::alloc::{AllocError, Global};
+use std::collections::BTreeMap;
 
 /// The items of new messages, enums, services and extensions, in the order of their indexes.
 #[derive(Drop)]
@@ -16,6 +21,9 @@ pub struct NewItems {
     pub enums: Vec<EnumDescriptorInner>,
     pub services: Vec<ServiceDescriptorInner>,
     pub extensions: Vec<ExtensionDescriptorInner>,
+    /// Where the first extension stands that has a message and a number.
+    pub positions: BTreeMap<(u32, u32), usize>,
+    ghost numbered: { LeadsToFirst extensions.items positions },
 }
 
 impl NewItems {
@@ -31,7 +39,17 @@ impl NewItems {
             enums: Vec::new(alloc),
             services: Vec::new(alloc),
             extensions: Vec::new(alloc),
+            positions: BTreeMap::new(alloc),
         }
+    }
+
+    /// The first extension of the message with an index that has a number.
+    pub(crate) fn extension(&self, message: u32, number: u32) -> Option<&ExtensionDescriptorInner>
+        ensures { option_copied result
+            ≡ find (has_number message number) self.now.extensions.items }
+    {
+        let position = self.positions.get(&(message, number))?;
+        self.extensions.get(*position)
     }
 
     /// Appends the item of a message.
@@ -94,7 +112,42 @@ impl NewItems {
             → NamesBegin self.new.messages.items self.new.enums.items
             self.new.services.items self.new.extensions.items }
     {
-        self.extensions.push(extension)?;
-        Ok(())
+        push_numbered(&mut self.extensions, &mut self.positions, extension)
     }
+}
+
+/// Appends the item of an extension, and enters its position for its message and its number.
+fn push_numbered(
+    extensions: &mut Vec<ExtensionDescriptorInner>,
+    positions: &mut BTreeMap<(u32, u32), usize>,
+    extension: ExtensionDescriptorInner,
+) -> Result<(), AllocError>
+    requires { LeadsToFirst extensions.old.items positions.old }
+    ensures leads { LeadsToFirst extensions.new.items positions.new }
+    ensures ok { OnOk result (extensions.new.items ≡ extensions.old.items ++ extension ∷ []) }
+    ensures err { OnErr result (extensions.new.items ≡ extensions.old.items) }
+{
+    let position = extensions.len();
+    let key = (extension.extendee, extension.number);
+    extensions.push(extension)?;
+    let entered = enter(positions, key, position);
+    if entered.is_err() {
+        extensions.pop();
+    }
+    entered
+}
+
+/// Enters a position for a message and a number, unless they have one.
+fn enter(
+    positions: &mut BTreeMap<(u32, u32), usize>,
+    key: (u32, u32),
+    position: usize,
+) -> Result<(), AllocError>
+    ensures ok { OnOk result (EntersFirst positions.old positions.new key position) }
+    ensures err { OnErr result (positions.new.entries ≡ positions.old.entries) }
+{
+    if positions.get(&key).is_none() {
+        positions.insert(key, position)?;
+    }
+    Ok(())
 }

@@ -3,6 +3,7 @@
 #![tactic(auto)]
 
 mod declared;
+mod earlier;
 mod extension;
 mod field;
 mod imports;
@@ -10,6 +11,7 @@ mod items;
 mod linking;
 mod message;
 mod owner_reading;
+mod pool_extensions;
 mod reading;
 mod references;
 mod resolve;
@@ -17,11 +19,13 @@ mod service;
 mod setting;
 mod types;
 
+pub use earlier::EarlierExtensions;
 pub use extension::read_extension;
 pub use imports::check_imports;
 pub use items::NewItems;
 pub use linking::{Linker, NextItems};
 pub use message::read_message;
+pub use pool_extensions::PoolExtensions;
 pub use reading::Reading;
 pub use resolve::ResolveVisitor;
 pub use service::read_service;

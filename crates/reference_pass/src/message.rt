@@ -16,7 +16,7 @@ ghost use Rattle.reference_pass.specs.Reading.{Reads, setting_of};
 use crate::field::read_field;
 use crate::reading::Reading;
 use field_rules::{FieldMaps, MessageRanges, Owner, Place, identity, identity_inside, members};
-use plain_data::Items;
+use plain_data::{Items, NumberMap};
 use pool_types::{FieldDescriptorInner, MessageDescriptorInner, OneofDescriptorInner};
 use proto_types::{DescriptorProto, tag};
 use std::alloc::{AllocError, Global};
@@ -52,6 +52,7 @@ pub fn read_message(
         id,
         parent: place.parent,
         extensions: Items::new(alloc),
+        extension_numbers: NumberMap::new(alloc),
         fields: Items::from_vec(fields),
         field_numbers: maps.numbers,
         field_names: maps.names,

@@ -9,13 +9,14 @@ ghost use Rattle.field_rules.specs.EnumItems.{enum_item};
 ghost use Rattle.field_rules.specs.EnumValues.{values_faults};
 ghost use Rattle.reference_pass.specs.SettingCode.{setting_in};
 ghost use Rattle.reference_pass.specs.SecondPass.{extension_faults, message_faults, service_faults};
+ghost use Rattle.reference_pass.specs.Earlier.{earlier_in};
 ghost use Rattle.reference_pass.specs.Imports.{import_faults};
 ghost use Rattle.reference_pass.specs.Items.{extension_item, message_item, service_item};
 ghost use Rattle.field_rules.specs.NamesBegin.{EnumNamesBegin};
 ghost use Rattle.reference_pass.specs.NamesBegin.{ExtensionNameBegins, MessageNamesBegin, ServiceNamesBegin};
 ghost use Rattle.reference_pass.specs.Short.{ShortFiles};
 
-use crate::{Reading, Setting};
+use crate::{EarlierExtensions, Reading, Setting};
 use field_rules::{Faults, Findings, Place};
 use pool_types::{
     EnumDescriptorInner, ExtensionDescriptorInner, MessageDescriptorInner, ServiceDescriptorInner,
@@ -125,10 +126,11 @@ pub(crate) fn read_service<'f>(
     Ok(item)
 }
 
-/// The item of an extension. What it breaks is appended to `faults`.
+/// The item of an extension behind earlier ones. What it breaks is appended to `faults`.
 pub(crate) fn read_extension<'f>(
     alloc: Global,
     setting: Setting<'f>,
+    earlier: EarlierExtensions,
     place: Place,
     extension: &FieldDescriptorProto,
     faults: &mut Faults<'f>,
@@ -142,7 +144,7 @@ pub(crate) fn read_extension<'f>(
         EndsWithName (shown_at place.entry (of_extension extension.now))
         → ExtensionNameBegins item) }
     ensures faults { OnOk result (faults.new.found.items ≡ faults.old.found.items
-        ++ extension_faults (setting_in setting.entry)
+        ++ extension_faults (setting_in setting.entry) (earlier_in earlier.entry)
         (shown_at place.entry (of_extension extension.now)) extension.now) }
     ensures labels { faults.new.labels ≡ faults.old.labels }
 {
@@ -154,7 +156,7 @@ pub(crate) fn read_extension<'f>(
         names: setting.names,
         file_names: setting.file_names,
     };
-    let item = crate::read_extension(&mut reading, place, extension)?;
+    let item = crate::read_extension(&mut reading, place, extension, earlier)?;
     let Reading { findings, .. } = reading;
     let Findings { faults: found, .. } = findings;
     *faults = found;

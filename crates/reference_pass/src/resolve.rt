@@ -3,9 +3,9 @@ ghost use Rattle.reference_pass.specs.SettingCode.{setting_in};
 ghost use Rattle.reference_pass.specs.NamesBegin.{NamesBegin};
 ghost use Rattle.reference_pass.specs.Short.{ShortFiles};
 
-use crate::Setting;
 use crate::items::NewItems;
 use crate::owner_reading::{check_imports, read_enum, read_extension, read_message, read_service};
+use crate::{EarlierExtensions, PoolExtensions, Setting};
 use field_rules::{Faults, Place};
 use name_tables::{FileNames, HashedNames};
 use proto_types::{
@@ -17,7 +17,8 @@ use std::alloc::{AllocError, Global};
 
 /// The second pass: it reads a batch against a pool whose files and names are those of the batch as
 /// well, makes the items of messages, enums, services and extensions, and gathers the faults of
-/// imports, of fields, of extensions, of values and of references. A message is read with its
+/// imports, of fields, of extensions, of values and of references. Extensions are read behind those
+/// of the pool. A message is read with its
 /// oneofs and fields, an enum with its values, and a service with its methods. The full name of
 /// each declaration that it is shown ends with the declared name, and its lists are short enough
 /// for a pool, as are those of all files that it is read against, which are those that labels name.
@@ -26,6 +27,7 @@ pub struct ResolveVisitor<'a> {
     pub alloc: Global,
     pub names: &'a HashedNames,
     pub file_names: &'a FileNames,
+    pub pool: PoolExtensions<'a>,
     pub items: NewItems,
     pub faults: Faults<'a>,
     ghost names_begin: { NamesBegin items.messages.items items.enums.items items.services.items
@@ -62,7 +64,7 @@ impl Visitor for ResolveVisitor<'_> {
 
     ghost ready = { λ _ ds. CanBeRead ds };
 
-    ghost kept = { λ _. no_contents };
+    ghost kept = { λ v. record no_contents { extensions = v.pool.extensions.now } };
 
     ghost borrows = { λ _. [] };
 
@@ -208,7 +210,12 @@ impl Visitor for ResolveVisitor<'_> {
             full_name,
         };
         let setting = self.setting();
-        let item = read_extension(self.alloc, setting, place, extension, &mut self.faults)?;
+        let earlier = EarlierExtensions {
+            pool: self.pool,
+            new: &self.items,
+        };
+        let faults = &mut self.faults;
+        let item = read_extension(self.alloc, setting, earlier, place, extension, faults)?;
         self.items.push_extension(item)
     }
 }

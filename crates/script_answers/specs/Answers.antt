@@ -71,13 +71,17 @@ kind_words (definition.Enum e) = codes "enum " ++ decimal e
 kind_words (definition.EnumValue e) = codes "value " ++ decimal e
 kind_words (definition.Extension x) = codes "extension " ++ decimal x
 
--- the answer where nothing has the name
+-- the answer where there is nothing
 abbrev pub none_line : List ℕ
 none_line = line (codes "none" ∷ [])
 
 -- a definition's kind, the name of its file, and its path
 abbrev pub definition_line : List ℕ → Definition → List ℕ
 definition_line file def = line (kind_words def.kind ∷ alone file ∷ path_text def.path ∷ [])
+
+-- an extension's index and its full name
+abbrev pub extension_line : ℕ → List ℕ → List ℕ
+extension_line index name = line (codes "extension" ∷ decimal index ∷ alone name ∷ [])
 
 -- a kind of declaration
 abbrev pub declared_word : DeclarationKind → List ℕ

@@ -132,7 +132,19 @@ pub fn write_definition(
     writeln!(report, "{kind} {file} {path:?}")
 }
 
-/// Tells that nothing has a name.
+/// Tells an extension: its index, and its full name.
+///
+/// # Errors
+/// `AllocError` where memory was refused.
+pub fn write_extension(report: &mut String, index: u32, full_name: &str) -> Result<(), AllocError>
+    ensures { OnOk result (string_bytes report.new ≡ string_bytes report.old
+        ++ spec.extension_line index full_name.now) }
+{
+    let name = alone(full_name);
+    writeln!(report, "extension {index} {name}")
+}
+
+/// Tells that there is nothing.
 ///
 /// # Errors
 /// `AllocError` where memory was refused.

@@ -15,7 +15,7 @@ use Rattle.reference_pass.specs.SecondPass.{Faults}
 use Rattle.descriptor_pool.specs.Pool.{Batch, faults, counts_after, link}
 use Rattle.link_script.specs.Records.{Building, built, nothing_built}
 use Rattle.script_answers.specs.Answers.{counts_line, refused_lines, too_many_line, walk_answer, refs_answer, fault_line}
-use Rattle.descriptor_linker.specs.Report.Answers.{find_answer, relink_answer}
+use Rattle.descriptor_linker.specs.Report.Answers.{ext_answer, find_answer, relink_answer}
 
 -- what is built, the pool, and the report so far
 pub record Session : Type 0 where
@@ -53,6 +53,7 @@ step s say.Link = link_step s
 step s (say.Find name) = write s (find_answer s.pool name)
 step s say.Walk = write s (walk_answer (files_of s.pool))
 step s (say.Refs name) = write s (refs_answer (files_of s.pool) name)
+step s (say.Ext name number) = write s (ext_answer s.pool name number)
 step s say.Relink = write s (relink_answer s.pool)
 step s statement = record s { building = built s.building statement }
 

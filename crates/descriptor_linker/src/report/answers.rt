@@ -1,15 +1,16 @@
 //! What the commands of a script answer of a pool.
 
 ghost use Rattle.std.specs.Prelude.{◌≡◌, ◌++◌, OnOk, string_bytes};
+ghost use Rattle.std.specs.Option.{option_map};
 ghost use Rattle.pool_types.specs.Contents.{files_of};
 ghost use Rattle.pool_faults.specs.Labels.{file_at};
 ghost use Rattle.proto_types.specs.Readers.{text_of};
 ghost use Rattle.script_answers.specs.Answers.{walk_answer, refs_answer};
-ghost use Rattle.descriptor_linker.specs.Report.Answers.{find_answer};
+ghost use Rattle.descriptor_linker.specs.Report.Answers as spec;
 
 use descriptor_pool::DescriptorPool;
-use pool_types::FileDescriptor;
-use script_answers::{write_definition, write_none};
+use pool_types::{DefinitionKind, ExtensionDescriptor, FileDescriptor, MessageDescriptor};
+use script_answers::{write_definition, write_extension, write_none};
 use std::alloc::{AllocError, Global};
 
 /// The name of the file with an index, or the empty text where there is none.
@@ -29,7 +30,7 @@ pub(super) fn write_found(
     name: &str,
 ) -> Result<(), AllocError>
     ensures { OnOk result (string_bytes report.new ≡ string_bytes report.old
-        ++ find_answer pool.now name.now) }
+        ++ spec.find_answer pool.now name.now) }
 {
     let Some(definition) = pool.get_by_name(name) else {
         return write_none(report);
@@ -60,4 +61,51 @@ pub(super) fn write_refs(
         ++ refs_answer (files_of pool.now) name.now) }
 {
     script_answers::write_refs(alloc, report, pool.files(), name)
+}
+
+/// The message that a name means in a pool.
+fn message_named(pool: &DescriptorPool, name: &str) -> Option<MessageDescriptor>
+    ensures { option_map (λ message. message.index) result ≡ spec.message_named pool.now name.now }
+{
+    match pool.get_by_name(name)?.kind {
+        DefinitionKind::Message(index) => Some(MessageDescriptor::new(index)),
+        _ => None,
+    }
+}
+
+/// The extension with a number of the message that a name means.
+fn extension_found(pool: &DescriptorPool, name: &str, number: i32) -> Option<ExtensionDescriptor>
+    ensures { option_map (λ extension. extension.index) result
+        ≡ spec.extension_found pool.now name.now number }
+{
+    if number < 0 {
+        return None;
+    }
+    pool.get_extension(message_named(pool, name)?, number as u32)
+}
+
+/// The full name of the extension with an index, or the empty text where there is none.
+fn extension_name(pool: &DescriptorPool, extension: ExtensionDescriptor) -> &str
+    ensures { result.now ≡ spec.extension_name pool.now extension.index }
+{
+    match pool.extension(extension) {
+        Some(extension) => extension.id.full_name(),
+        None => "",
+    }
+}
+
+/// Tells the extension with a number of the message that a name means: its index and its full name.
+pub(super) fn write_ext(
+    report: &mut String,
+    pool: &DescriptorPool,
+    name: &str,
+    number: i32,
+) -> Result<(), AllocError>
+    ensures { OnOk result (string_bytes report.new ≡ string_bytes report.old
+        ++ spec.ext_answer pool.now name.now number) }
+{
+    let Some(extension) = extension_found(pool, name, number) else {
+        return write_none(report);
+    };
+    write_extension(report, extension.index(), extension_name(pool, extension))
 }

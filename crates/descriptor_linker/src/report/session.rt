@@ -4,7 +4,7 @@ ghost use Rattle.std.specs.Prelude.{◌≡◌, OnOk};
 ghost use Rattle.link_script.specs.declared.script.statement.Statement.TheVariants as say;
 ghost use Rattle.descriptor_linker.specs.Report.Session.{new_session, step};
 
-use super::answers::{write_found, write_refs, write_walk};
+use super::answers::{write_ext, write_found, write_refs, write_walk};
 use super::relink::write_relink;
 use descriptor_pool::{BuildError, DescriptorPool};
 use link_script::{RecordBuilder, Statement};
@@ -46,6 +46,9 @@ impl Session {
             Statement::Walk => write_walk(self.alloc, &mut self.text, &self.pool),
             Statement::Refs(name) => {
                 write_refs(self.alloc, &mut self.text, &self.pool, name.as_str())
+            }
+            Statement::Ext(name, number) => {
+                write_ext(&mut self.text, &self.pool, name.as_str(), number)
             }
             Statement::Relink => write_relink(self.alloc, &mut self.text, &self.pool),
             statement => self.builder.state(statement),

@@ -145,6 +145,9 @@ of_two word.Extensions start «end» =
 of_two word.Value name number =
     and_then (number_in number)
     (λ number. Ok (say.Value (record no_value { name = text_in name; number = number })))
+of_two word.Ext name number =
+    and_then (given_number_in number)
+    (λ number. Ok (say.Ext (text_of (text_in name)) number))
 of_two _ _ _ = Err WrongCount
 
 abbrev pub of_three : Keyword → List ℕ → List ℕ → List ℕ → Result Statement ScriptFault

@@ -22,7 +22,7 @@ spellings =
     ∷ (codes "json", word.Json) ∷ (codes "packed", word.Packed) ∷ (codes "default", word.Default)
     ∷ (codes "end", word.End) ∷ (codes "link", word.Link) ∷ (codes "find", word.Find)
     ∷ (codes "walk", word.Walk) ∷ (codes "refs", word.Refs)
-    ∷ (codes "relink", word.Relink) ∷ []
+    ∷ (codes "ext", word.Ext) ∷ (codes "relink", word.Relink) ∷ []
 
 abbrev pub spelled : List (List ℕ × Keyword) → List ℕ → Option Keyword
 spelled [] text = None
@@ -45,6 +45,7 @@ outside word.Link = true
 outside word.Find = true
 outside word.Walk = true
 outside word.Refs = true
+outside word.Ext = true
 outside word.Relink = true
 outside _ = false
 

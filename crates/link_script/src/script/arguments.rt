@@ -140,6 +140,10 @@ fn of_two(
                 ..EnumValueDescriptorProto::empty(alloc)
             }))
         }
+        Keyword::Ext => {
+            let number = given_number(second)?;
+            Ok(Statement::Ext(name_of(alloc, first)?, number))
+        }
         _ => Err(LineError::Fault(ScriptFault::WrongCount)),
     }
 }

@@ -7,7 +7,7 @@ use super::statement::{Block, Keyword};
 use std::alloc::AllocError;
 
 /// Each keyword as it is written.
-const SPELLINGS: [(&str, Keyword); 27] = [
+const SPELLINGS: [(&str, Keyword); 28] = [
     ("file", Keyword::File),
     ("package", Keyword::Package),
     ("syntax", Keyword::Syntax),
@@ -34,6 +34,7 @@ const SPELLINGS: [(&str, Keyword); 27] = [
     ("find", Keyword::Find),
     ("walk", Keyword::Walk),
     ("refs", Keyword::Refs),
+    ("ext", Keyword::Ext),
     ("relink", Keyword::Relink),
 ];
 
@@ -68,6 +69,7 @@ pub(super) fn stands(blocks: &[Block], keyword: Keyword) -> bool
                 | Keyword::Find
                 | Keyword::Walk
                 | Keyword::Refs
+                | Keyword::Ext
                 | Keyword::Relink
         ),
         Some(Block::File) => stands_in_file(keyword),

@@ -34,6 +34,7 @@ pub enum Keyword {
     Find,
     Walk,
     Refs,
+    Ext,
     Relink,
 }
 
@@ -75,6 +76,7 @@ pub enum Statement {
     Find(Text),
     Walk,
     Refs(Text),
+    Ext(Text, i32),
     Relink,
 }
 

@@ -14,6 +14,9 @@ pub struct MessageDescriptorInner {
     pub parent: Option<u32>,
     /// The indexes of all extensions that extend it, in rising order.
     pub extensions: Items<u32>,
+    /// From the number of an extension that extends it to its index; of two with one number, to
+    /// that of the earlier one.
+    pub extension_numbers: NumberMap,
     pub fields: Items<FieldDescriptorInner>,
     /// From the number of a field to its position, from 0; of two with one number, to that of the
     /// later one.
@@ -34,6 +37,7 @@ impl MessageDescriptorInner {
         ensures { IfOk result (λ copy. copy ≡ self.now) }
     {
         let extensions = Items::from_slice(alloc, self.extensions.as_slice())?;
+        let extension_numbers = self.extension_numbers.clone(alloc)?;
         let field_numbers = self.field_numbers.clone(alloc)?;
         let field_names = self.field_names.clone(alloc)?;
         let field_json_names = self.field_json_names.clone(alloc)?;
@@ -43,6 +47,7 @@ impl MessageDescriptorInner {
             id,
             parent: self.parent,
             extensions,
+            extension_numbers,
             fields: self.fields.clone(alloc)?,
             field_numbers,
             field_names,

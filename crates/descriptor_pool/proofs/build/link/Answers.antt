@@ -1,13 +1,13 @@
 use Rattle.std.proofs.Common.{◌≡◌, rules, true, Result, Ok, Err, OnOk, ap, subst, sym, ◌∙◌}
 use Rattle.std.specs.Result.{is_err}
-use Rattle.record_walk.proofs.Listings.{on-ok}
+use Rattle.record_walk.proofs.Listings.{after-ok, on-ok}
 use Rattle.reference_pass.specs.NamesBegin.{AllNamesBegin}
 use Rattle.pool_contents.specs.declared.growing.GrowingPool.{GrowingPool}
 use Rattle.pool_contents.specs.declared.inner.DescriptorPoolInner.{DescriptorPoolInner}
 use Rattle.descriptor_pool.specs.Linking.{batch_faults, linked_with}
 use Rattle.pool_contents.specs.Inner.{contents_in}
 use Rattle.descriptor_pool.specs.Tells.{TellsAll}
-use Rattle.descriptor_pool.proofs.Passed.{after-ok, after-err}
+use Rattle.descriptor_pool.proofs.Passed.{after-err}
 use Rattle.descriptor_pool.proofs.build.link.Goals as goal
 use Rattle.descriptor_pool.proofs.build.link.Goals.{then-is_err, else-is_err}
 

@@ -3,7 +3,7 @@ use Rattle.descriptor_pool.specs.Linking.{name_faults, reference_faults}
 use Rattle.descriptor_pool.specs.Tells.{TellsAll, TellsFaults}
 use Rattle.pool_contents.specs.Inner.{contents_in}
 use Rattle.descriptor_pool.proofs.Passed.{ok-is, tells-err}
-use Rattle.descriptor_pool.proofs.Stages.{before-seen, begin-seen, counts-added, counts-seen, few-files, imports-seen, items-seen, made-seen, names-told, places-lie, references-told, short-seen, told-first, told-second}
+use Rattle.descriptor_pool.proofs.Stages.{before-seen, begin-seen, counts-added, counts-seen, few-files, imports-seen, items-seen, made-seen, names-told, numbers-seen, places-lie, references-told, short-seen, told-first, told-second}
 use Rattle.descriptor_pool.proofs.build.link_new.Goals as goal
 
 -- what is new fits
@@ -44,6 +44,12 @@ pub make_items-requires-clause-before : goal.make_items-requires-clause-before
 make_items-requires-clause-before c =
     before-seen c.args.pool.now c.add_files.new.self c.enter_names.new.pool c.args.new.items c.requires.base c.requires.whole c.in_ok-add_files.ensures.ok c.add_files.ensures.kept
     c.in_ok-enter_names.ensures.entered c.enter_names.ensures.kept c.see_files.new.self c.in_ok-see_files.ensures.ok c.see_files.ensures.kept
+
+-- the messages of the pool lead to its extensions
+pub make_items-requires-clause-numbers : goal.make_items-requires-clause-numbers
+make_items-requires-clause-numbers c =
+    numbers-seen c.args.pool.now c.add_files.new.self c.enter_names.new.pool c.args.new.items c.requires.base c.requires.whole c.in_ok-add_files.ensures.ok c.add_files.ensures.kept
+    c.in_ok-enter_names.ensures.entered c.enter_names.ensures.kept c.see_files.new.self c.in_ok-see_files.ensures.ok c.see_files.ensures.kept c.requires.numbers
 
 -- the names of messages begin where they began
 pub make_items-requires-clause-names : goal.make_items-requires-clause-names

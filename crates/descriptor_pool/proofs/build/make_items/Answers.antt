@@ -1,4 +1,4 @@
-use Rattle.std.proofs.Common.{◌++◌, length, ap, subst, sym, ◌∙◌, arith}
+use Rattle.std.proofs.Common.{◌≡◌, ◌++◌, length, ap, subst, sym, ◌∙◌, arith}
 use Rattle.std.proofs.lemmas.List.Elements.{All-append}
 use Rattle.std.specs.List.{All}
 use Rattle.pool_types.specs.Contents.{Contents}
@@ -8,11 +8,17 @@ use Rattle.record_walk.specs.declared.counts.Counts.{Counts}
 use Rattle.record_walk.specs.Counts.{counted}
 use Rattle.record_walk.specs.Declarations.{declarations}
 use Rattle.record_walk.proofs.Room.{room-fits}
-use Rattle.pool_contents.specs.Extended.{with_extended}
+use Rattle.pool_contents.specs.Extended.{NumbersLieBefore, with_extended}
 use Rattle.pool_contents.specs.Growing.{before_items, first_extension, new_records}
 use Rattle.reference_pass.specs.Against.{setting_against}
 use Rattle.descriptor_pool.specs.Linking.{with_items}
 use Rattle.descriptor_pool.proofs.Declared.{counts-with}
+use Rattle.std.proofs.lemmas.List.{length-take-le}
+use Rattle.record_walk.specs.Protos.{as_message}
+use Rattle.record_walk.specs.Shown.{of_kind}
+use Rattle.reference_pass.specs.Items.{message_items}
+use Rattle.pool_contents.proofs.Numbered.{lead-before}
+use Rattle.descriptor_pool.proofs.Extendees.{numbers-append, numbers-new}
 use Rattle.descriptor_pool.proofs.Listed.{names-extended}
 use Rattle.descriptor_pool.proofs.MadeItems.{made-is}
 use Rattle.descriptor_pool.proofs.build.make_items.Goals as goal
@@ -28,7 +34,17 @@ extend_messages-requires c =
     let room = (room-fits p.base (new_records p) c.requires.counts).within.extensions in
     let many = ap (λ (n : Counts). n.extensions) (counts-with (before_items p) (setting_against p.inner) ds ∙ before) in
     let extensions = ap (λ (x : Contents). length x.extensions) is in
-    record { few = omega (arith, extensions, many, room) }
+    let first = ap (λ (x : Contents). length x.extensions) (c.in_ok-link_files.ensures.kept ∙ c.in_ok-put_items.ensures.kept)
+    ∙ length-take-le p.base.extensions p.inner.extensions.items p.extensions_within in
+    let many_before : p.base.extensions ≡ length p.inner.extensions.items = ap (λ (n : Counts). n.extensions) c.requires.before in
+    let lie = subst (λ n. NumbersLieBefore n p.inner.messages.items) (sym many_before) (lead-before p.inner.extensions.items p.inner.messages.items c.requires.numbers) in
+    let numbers = numbers-append p.base.extensions p.inner.messages.items (message_items (setting_against p.inner) ds) lie
+    (numbers-new p.base.extensions (setting_against p.inner) (of_kind as_message ds)) in
+    record {
+      few = omega (arith, extensions, many, room);
+      numbers = subst (λ n. NumbersLieBefore n c.link_files.new.pool.inner.messages.items) (sym first)
+          (subst (λ (x : Contents). NumbersLieBefore p.base.extensions x.messages) (sym is) numbers);
+    }
 
 pub returns-clause-made : goal.returns-clause-made
 returns-clause-made c =

@@ -6,5 +6,5 @@ use Rattle.pool_laws.proofs.Unchanged.{declaration-unchanged}
 use Rattle.pool_laws.proofs.setting_laws.declaration_carries_over.Goals as goal
 
 pub returns : goal.returns
-returns c = λ s t many stands d below mean none.
-    subst (λ e. owner_faults t e ≡ []) (declaration-unchanged d) (declaration-carried (given-carried stands) d below mean none)
+returns c = λ s t many stands earlier d below mean none.
+    subst (λ e. owner_faults t earlier e ≡ []) (declaration-unchanged d) (declaration-carried (given-carried stands) earlier d below mean none)

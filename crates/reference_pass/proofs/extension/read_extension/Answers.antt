@@ -9,7 +9,8 @@ use Rattle.field_rules.specs.Places.{shown_at}
 use Rattle.name_resolution.specs.Kinds.{cardinality_of}
 use Rattle.name_pass.specs.Syntaxes.{is_proto3, syntax_at}
 use Rattle.reference_pass.specs.Defaults.{field_default, field_default_faults}
-use Rattle.reference_pass.specs.Extensions.{extendee_faults, number_faults}
+use Rattle.reference_pass.specs.Extensions.{extendee_faults, number_faults, taken_faults}
+use Rattle.reference_pass.specs.Earlier.{earlier_in}
 use Rattle.reference_pass.specs.FieldTypes.{field_kind, type_faults}
 use Rattle.reference_pass.specs.Messages.{resolve_message}
 use Rattle.reference_pass.specs.Reading.{setting_of}
@@ -47,5 +48,6 @@ returns-clause-faults c =
     let d : Shown = shown_at c.args.place (of_extension x) in
     let first = c.in_ok-extendee.ensures.faults in
     let rest = reads-as (ap (λ t. type_faults t d x ++ field_default_faults t d x) (same-setting first)) c.in_ok-kind.ensures.faults in
-    reads-as (sym (append_assoc (extendee_faults s d x ++ number_faults s d x (resolve_message s d x.extendee)) (type_faults s d x) (field_default_faults s d x)))
+    let extendee = resolve_message s d x.extendee in
+    reads-as (sym (append_assoc (extendee_faults s d x ++ number_faults s d x extendee ++ taken_faults s (earlier_in c.args.earlier) d x extendee) (type_faults s d x) (field_default_faults s d x)))
     (reads-two first rest)

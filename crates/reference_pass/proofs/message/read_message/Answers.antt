@@ -10,6 +10,7 @@ returns-clause-item c =
       id = (c.in_ok-id.ensures.id ∙ ap (named_at place.file place.path.now place.full_name.now) c.name.ensures) i;
       parent = place.parent;
       extensions = c.new-2.ensures i;
+      extension_numbers = c.new-3.ensures i;
       fields = (c.from_vec.ensures ∙ c.in_ok-fields.ensures.items) i;
       field_numbers = c.in_ok-fields.ensures.maps.numbers i;
       field_names = c.in_ok-fields.ensures.maps.names i;

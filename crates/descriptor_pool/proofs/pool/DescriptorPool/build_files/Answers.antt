@@ -8,6 +8,7 @@ use Rattle.pool_contents.specs.Inner.{contents_in}
 use Rattle.descriptor_pool.specs.Outcome.{Outcome, IsLinked}
 use Rattle.descriptor_pool.specs.Pool.{new_files, counts_after}
 use Rattle.descriptor_pool.proofs.Grown.{IsBehind, fits_of, outcome_with, pool_after}
+use Rattle.descriptor_pool.proofs.Extendees.{numbers_lead}
 use Rattle.descriptor_pool.proofs.Sound.{names_lie, short-behind}
 use Rattle.descriptor_pool.proofs.NewFiles.{nothing_linked}
 use Rattle.descriptor_pool.proofs.pool.DescriptorPool.build_files.Goals as goal
@@ -55,6 +56,9 @@ invariant_of-self c =
 
 pub link-requires-clause-before : goal.link-requires-clause-before
 link-requires-clause-before c = names_lie (contents_in c.self.inside.inner) c.self.invariant
+
+pub link-requires-clause-numbers : goal.link-requires-clause-numbers
+link-requires-clause-numbers c = numbers_lead (contents_in c.self.inside.inner) c.self.invariant
 
 -- no list of the pool's files and of the new ones is too long
 pub link-requires-clause-short : goal.link-requires-clause-short

@@ -1,7 +1,7 @@
-use Rattle.std.proofs.Common.{◌≡◌, ◌≤◌, ◌<◌, ◌+◌, true, false, Result, Ok, Err, OnOk, OnErr, length, ap, sym, refl, ◌∙◌, arith}
-use Rattle.std.specs.Result.{is_err}
+use Rattle.std.proofs.Common.{◌≡◌, ◌≤◌, ◌<◌, ◌+◌, length, ap, sym, refl, ◌∙◌, arith}
 use Rattle.std.proofs.lemmas.List.{length-take-le}
 use Rattle.pool_types.specs.Contents.{Contents}
+use Rattle.record_walk.proofs.Listings.{after-ok}
 use Rattle.pool_contents.specs.Extended.{extended_between}
 use Rattle.pool_contents.specs.Growing.{first_extension}
 use Rattle.pool_contents.specs.Inner.{contents_in}
@@ -29,14 +29,6 @@ extend_message-extended-requires c =
     let many = ap (λ (x : Contents). length x.extensions) c.loop-index.invariant.is in
     omega (arith, many, c.loop-index-test.true, c.len-index-end.ensures)
 
-ok-of : {U E P : Type 0} (r : Result U E) → false ≡ is_err r → OnOk r P → P
-ok-of (Ok u) fine is = is
-ok-of (Err e) fine is = absurd (cc)
-
-err-of : {U E P : Type 0} (r : Result U E) → true ≡ is_err r → OnErr r P → P
-err-of (Ok u) failed is = absurd (cc)
-err-of (Err e) failed is = is
-
 -- one more is in the list of its message
 pub loop-index-preserved : goal.loop-index-preserved
 loop-index-preserved c =
@@ -48,7 +40,7 @@ loop-index-preserved c =
     let below : k < length xs = omega (arith, c.loop-index-test.true, c.len-index-end.ensures) in
     let next = ap (λ (y : Contents). extended_between k (k + 1) y.extensions y.messages) is ∙ extended-more (first_extension p) k xs p.inner.messages.items from below in
     record {
-      is = ok-of c.extend_message-extended.result c.if-is_err.ensures.value c.extend_message-extended.ensures.ok ∙ (λ i. record (is i) { messages = next i });
+      is = after-ok c.extend_message-extended.result c.if-is_err.ensures.value c.extend_message-extended.ensures.ok ∙ (λ i. record (is i) { messages = next i });
       base = c.extend_message-extended.ensures.base ∙ c.loop-index.invariant.base;
     }
 

@@ -1,6 +1,6 @@
 use Rattle.std.proofs.Common.{◌≡◌, ◌≤◌, List}
 use Rattle.pool_types.specs.declared.contents.message.MessageDescriptorInner.{MessageDescriptorInner}
-use Rattle.pool_contents.specs.Extended.{extended_between}
+use Rattle.pool_contents.specs.Extended.{NumbersLieBefore, extended_between}
 use Rattle.pool_contents.specs.Inner.{contents_in}
 use Rattle.pool_contents.proofs.growing.GrowingPool.retract_extensions.Given as goal
 
@@ -11,7 +11,7 @@ invariant-loop-self l =
     let xs = old.inner.extensions.items in
     record {
       within : l.end ≤ l.initial.end;
-      back : (ms : List MessageDescriptorInner) → old.inner.messages.items ≡ extended_between old.base.extensions l.initial.end xs ms
+      back : (ms : List MessageDescriptorInner) → NumbersLieBefore old.base.extensions ms → old.inner.messages.items ≡ extended_between old.base.extensions l.initial.end xs ms
           → l.self.inner.messages.items ≡ extended_between old.base.extensions l.end xs ms;
       others : contents_in l.self.inner ≡ record (contents_in old.inner) { messages = l.self.inner.messages.items };
       base : l.self.base ≡ old.base;

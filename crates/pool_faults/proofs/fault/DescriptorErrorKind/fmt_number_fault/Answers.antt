@@ -9,7 +9,3 @@ returns-in-FieldNumberInReservedRange g c =
 pub returns-in-FieldNumberInExtensionRange : goal.returns-in-FieldNumberInExtensionRange
 returns-in-FieldNumberInExtensionRange g c =
     search (rules, c.fmt_field_in_range-in-FieldNumberInExtensionRange.ensures, c.in-FieldNumberInExtensionRange.is)
-
-pub returns-in-EnumNumberInReservedRange : goal.returns-in-EnumNumberInReservedRange
-returns-in-EnumNumberInReservedRange g c =
-    search (rules, c.fmt_value_in_range.ensures, c.in-EnumNumberInReservedRange.is)

@@ -2,7 +2,7 @@ use Rattle.std.proofs.Common.{ap, ◌∙◌, ◌++◌, ◌∷◌, []}
 use Rattle.record_walk.specs.Shown.{Shown, shown_as}
 use Rattle.std.proofs.lemmas.Result.{on_ok_weaker}
 use Rattle.record_walk.specs.Protos.{of_enum}
-use Rattle.reference_pass.proofs.Seen.{none, seen}
+use Rattle.reference_pass.proofs.Seen.{none, none-behind, seen}
 use Rattle.reference_pass.proofs.resolve.ResolveVisitorVisitor.visit_enum.Goals as goal
 
 -- its item is made, and what it breaks is told
@@ -16,6 +16,6 @@ returns-clause-ok c =
       messages = none (λ j. (c.push_enum.ensures.messages j).items) i;
       enums = (pushed ∙ ap (λ x. v.items.enums.items ++ x ∷ []) c.in_ok-item.ensures.item) i;
       services = none (λ j. (c.push_enum.ensures.services j).items) i;
-      extensions = none (λ j. (c.push_enum.ensures.extensions j).items) i;
+      extensions = none-behind v.pool.extensions.now (λ j. (c.push_enum.ensures.extensions j).items) i;
       faults = c.in_ok-item.ensures.faults i;
     })) c.push_enum.ensures.ok

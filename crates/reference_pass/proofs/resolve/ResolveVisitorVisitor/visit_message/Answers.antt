@@ -4,7 +4,7 @@ use Rattle.std.proofs.lemmas.Result.{on_ok_weaker}
 use Rattle.record_walk.specs.Protos.{of_message}
 use Rattle.reference_pass.specs.SecondPass.{message_faults}
 use Rattle.reference_pass.specs.Items.{message_item}
-use Rattle.reference_pass.proofs.Seen.{none, seen}
+use Rattle.reference_pass.proofs.Seen.{none, none-behind, seen}
 use Rattle.reference_pass.proofs.resolve.ResolveVisitorVisitor.visit_message.Goals as goal
 
 -- its item is made, and what it breaks is told
@@ -21,6 +21,6 @@ returns-clause-ok c =
       messages = (pushed ∙ ap (λ x. v.items.messages.items ++ x ∷ []) item) i;
       enums = none (λ j. (c.push_message.ensures.enums j).items) i;
       services = none (λ j. (c.push_message.ensures.services j).items) i;
-      extensions = none (λ j. (c.push_message.ensures.extensions j).items) i;
+      extensions = none-behind v.pool.extensions.now (λ j. (c.push_message.ensures.extensions j).items) i;
       faults = told i;
     })) c.push_message.ensures.ok

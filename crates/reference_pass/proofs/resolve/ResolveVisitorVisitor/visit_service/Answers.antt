@@ -5,7 +5,7 @@ use Rattle.record_walk.specs.Protos.{of_service}
 use Rattle.std.specs.declared.option.Option.TheVariants.{None}
 use Rattle.reference_pass.specs.SecondPass.{service_faults}
 use Rattle.reference_pass.specs.Items.{service_item}
-use Rattle.reference_pass.proofs.Seen.{none, seen}
+use Rattle.reference_pass.proofs.Seen.{none, none-behind, seen}
 use Rattle.reference_pass.proofs.resolve.ResolveVisitorVisitor.visit_service.Goals as goal
 
 -- its item is made, and what it breaks is told
@@ -22,6 +22,6 @@ returns-clause-ok c =
       messages = none (λ j. (c.push_service.ensures.messages j).items) i;
       enums = none (λ j. (c.push_service.ensures.enums j).items) i;
       services = (pushed ∙ ap (λ y. v.items.services.items ++ y ∷ []) item) i;
-      extensions = none (λ j. (c.push_service.ensures.extensions j).items) i;
+      extensions = none-behind v.pool.extensions.now (λ j. (c.push_service.ensures.extensions j).items) i;
       faults = told i;
     })) c.push_service.ensures.ok

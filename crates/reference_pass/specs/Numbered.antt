@@ -1,0 +1,24 @@
+-- The new extensions by their messages and numbers.
+use Rattle.std.specs.Prelude.{◌≡◌, ◌==◌, ◌&&◌, ℕ, List, if◌then◌else◌}
+use Rattle.std.specs.BTreeMap.{BTreeMap, get}
+use Rattle.std.specs.Option.{option_or}
+use Rattle.std.specs.Ordering.{nat_cmp, ordering_then}
+use Rattle.std.specs.declared.cmp.Ordering.{Ordering}
+use Rattle.std.specs.declared.option.Option.TheVariants.{None, Some}
+use Rattle.pool_types.specs.declared.contents.extension.ExtensionDescriptorInner.{ExtensionDescriptorInner}
+use Rattle.pool_contents.specs.Extended.{extension_numbered}
+
+-- pairs in the order of their first and then of their second numbers
+abbrev pub pair_cmp : ℕ × ℕ → ℕ × ℕ → Ordering
+pair_cmp x y = ordering_then (nat_cmp x.0 y.0) (nat_cmp x.1 y.1)
+
+-- a message and a number lead to the first of these extensions that has them
+abbrev pub LeadsToFirst : List ExtensionDescriptorInner → BTreeMap (ℕ × ℕ) ℕ → Type 0
+LeadsToFirst xs positions = (message number : ℕ)
+    → get pair_cmp positions (message, number) ≡ extension_numbered xs message number
+
+-- a message and a number lead to a position then, unless they had one, and all else stays
+abbrev pub EntersFirst : BTreeMap (ℕ × ℕ) ℕ → BTreeMap (ℕ × ℕ) ℕ → ℕ × ℕ → ℕ → Type 0
+EntersFirst old new key position = (other : ℕ × ℕ)
+    → get pair_cmp new other ≡ option_or (get pair_cmp old other)
+    (if key.0 == other.0 && key.1 == other.1 then Some position else None)
