@@ -1,6 +1,7 @@
 //! What no contract says of scripts: printed reports, worked scripts, and devices that fail.
 
 mod devices;
+mod extensions;
 mod face;
 mod faults;
 mod imports;

@@ -11,7 +11,7 @@ use std::test::Fail;
 pub(super) const FIRST: &str = "file a.proto\npackage p.q\nmessage M\n\
     field f 1 optional int32 ~ ~\nfield g 2 optional message .p.q.M ~\nend\nend\n";
 
-const GOOD: &str = "file good.proto\nmessage Good\nextensions 1 2\nend\nend\n";
+const GOOD: &str = "file good.proto\nmessage Good\nextensions 1 3\nend\nend\n";
 
 /// Batches that one pool is given in turn, what it answers, a name, and what that means then: a
 /// kind, an index, the index of the file, and a path.
@@ -46,7 +46,7 @@ const BATCHES: &[(&str, &str, &str, &str)] = &[
     ),
     (
         "file parts.proto\nimport good.proto\nenum E\nvalue V 0\nend\nservice S\nend\n\
-        extend x 1 optional int32 ~ Good\nextend g 1 optional message Nope Good\nend\n",
+        extend x 1 optional int32 ~ Good\nextend g 2 optional message Nope Good\nend\n",
         "refused parts.proto: name 'Nope' is not defined",
         "x",
         "none",

@@ -82,6 +82,7 @@ pub(super) const EXTENSION_FAULTS: &[(&str, &str, &str)] = &[
         a.proto: field number '0' conflicts with reserved range '-1 to 0' \
         [7, 1, 3] a.proto [4, 0, 9, 0]\n\
         a.proto: message 'M' does not define '0' as an extension number [7, 1, 3]\n\
+        a.proto: extension number '0' of message 'M' is already used [7, 1, 3] a.proto [7, 0, 3]\n\
         a.proto: missing required field at [7, 1, 6] [7, 1, 6]\n",
     ),
     (
@@ -109,10 +110,52 @@ pub(super) const EXTENSION_FAULTS: &[(&str, &str, &str)] = &[
         c.proto: name 'q.M' is not defined [7, 0, 2]\n",
     ),
     (
-        "two extensions may have one number and one JSON name",
+        "two extensions may have one JSON name",
         "file a.proto\nmessage M\nextensions 100 200\nend\nextend e 100 optional int32 ~ M\njson x\n\
-        extend g 100 optional int32 ~ M\njson x\nend\n",
+        extend g 101 optional int32 ~ M\njson x\nend\n",
         "",
+    ),
+    (
+        "each extension of a number that an earlier one has cites the first, in each message apart",
+        "file a.proto\nmessage M\nextensions 100 200\nend\nmessage N\nextensions 100 200\nend\nend\n\
+        file b.proto\nimport a.proto\nextend e 100 optional int32 ~ M\n\
+        extend g 100 optional int32 ~ M\nextend h 100 optional int32 ~ N\n\
+        extend i 100 optional int32 ~ M\nend\n",
+        "b.proto: extension number '100' of message 'M' is already used \
+        [7, 1, 3] b.proto [7, 0, 3]\n\
+        b.proto: extension number '100' of message 'M' is already used \
+        [7, 3, 3] b.proto [7, 0, 3]\n",
+    ),
+    (
+        "an extension of a message has the number of one that stands in a message",
+        "file a.proto\npackage p\nmessage M\nextensions 1 9\nextend e 1 optional int32 ~ M\nend\n\
+        extend f 1 optional int32 ~ .p.M\nend\n",
+        "a.proto: extension number '1' of message 'p.M' is already used \
+        [7, 0, 3] a.proto [4, 0, 6, 0, 3]\n",
+    ),
+    (
+        "a number counts that no extension range holds, or that no extension may have",
+        "file a.proto\nmessage M\nextensions 1 9\nend\nextend e 9 optional int32 ~ M\n\
+        extend f 9 optional int32 ~ M\nextend g -1 optional int32 ~ M\n\
+        extend h -1 optional int32 ~ M\nend\n",
+        "a.proto: message 'M' does not define '9' as an extension number [7, 0, 3]\n\
+        a.proto: message 'M' does not define '9' as an extension number [7, 1, 3]\n\
+        a.proto: extension number '9' of message 'M' is already used [7, 1, 3] a.proto [7, 0, 3]\n\
+        a.proto: invalid field number '-1' [7, 2, 3]\n\
+        a.proto: message 'M' does not define '-1' as an extension number [7, 2, 3]\n\
+        a.proto: invalid field number '-1' [7, 3, 3]\n\
+        a.proto: message 'M' does not define '-1' as an extension number [7, 3, 3]\n\
+        a.proto: extension number '-1' of message 'M' is already used [7, 3, 3] a.proto [7, 2, 3]\n",
+    ),
+    (
+        "two extensions of a message that stands further on in the batch, and two of nothing",
+        "file b.proto\nimport a.proto\nextend e 1 optional message Nope M\n\
+        extend f 1 optional int32 ~ M\nextend g 1 optional int32 ~ Nada\n\
+        extend h 1 optional int32 ~ Nada\nend\nfile a.proto\nmessage M\nextensions 1 9\nend\nend\n",
+        "b.proto: name 'Nope' is not defined [7, 0, 6]\n\
+        b.proto: extension number '1' of message 'M' is already used [7, 1, 3] b.proto [7, 0, 3]\n\
+        b.proto: name 'Nada' is not defined [7, 2, 2]\n\
+        b.proto: name 'Nada' is not defined [7, 3, 2]\n",
     ),
     (
         "extensions have faults in the order of the walk",
@@ -124,9 +167,13 @@ pub(super) const EXTENSION_FAULTS: &[(&str, &str, &str)] = &[
         a.proto: message 'M' does not define '0' as an extension number [4, 0, 3, 0, 6, 0, 3]\n\
         a.proto: invalid field number '0' [4, 0, 6, 0, 3]\n\
         a.proto: message 'M' does not define '0' as an extension number [4, 0, 6, 0, 3]\n\
+        a.proto: extension number '0' of message 'M' is already used \
+        [4, 0, 6, 0, 3] a.proto [4, 0, 3, 0, 6, 0, 3]\n\
         a.proto: name 'Nope' is not defined [6, 0, 2, 0, 2]\n\
         a.proto: invalid field number '0' [7, 0, 3]\n\
-        a.proto: message 'M' does not define '0' as an extension number [7, 0, 3]\n",
+        a.proto: message 'M' does not define '0' as an extension number [7, 0, 3]\n\
+        a.proto: extension number '0' of message 'M' is already used \
+        [7, 0, 3] a.proto [4, 0, 3, 0, 6, 0, 3]\n",
     ),
 ];
 

@@ -17,9 +17,9 @@ const NESTED: &str = "file a.proto\npackage p\nsyntax proto3\nenum D\nvalue Y 0\
     extend e 100 repeated int32 ~ M\njson x\npacked false\n\
     extend f 199 repeated enum E M\ndefault A\nend\nend\n";
 
-/// Extensions in proto2, of which two have one number, and one has a default value.
+/// Extensions in proto2, of which one has a default value.
 const BESIDE: &str = "file a.proto\nmessage M\nextensions 100 200\nend\n\
-    extend e 100 repeated sint32 ~ M\npacked true\nextend g 100 required string ~ M\npacked true\n\
+    extend e 100 repeated sint32 ~ M\npacked true\nextend g 104 required string ~ M\npacked true\n\
     default ''\nextend h 101 repeated int32 ~ M\nextend i 102 ~ ~ ~ M\nextend ~ 103 ~ ~ ~ M\nend\n";
 
 /// An extension of a message that stands further on in the batch, and is of another one.
@@ -74,7 +74,7 @@ const ITEMS: &[(&[&str], u32, KindIndex, Cardinality, &str)] = &[
         1,
         KindIndex::String,
         Cardinality::Required,
-        "g g 0 [7, 1] None 100 [g] 0 false string ",
+        "g g 0 [7, 1] None 104 [g] 0 false string ",
     ),
     (
         &[BESIDE],
@@ -164,9 +164,9 @@ fn extensions_have_items(rt: HostRuntime) -> Result<(), Fail> {
     Ok(())
 }
 
-/// Two extensions of one number.
+/// Two extensions of one message.
 const ALIKE: &str = "file a.proto\nmessage M\nextensions 100 200\nend\n\
-    extend e 100 optional int32 ~ M\nextend g 100 optional int32 ~ M\nend\n";
+    extend e 100 optional int32 ~ M\nextend g 101 optional int32 ~ M\nend\n";
 
 /// A message without extensions, and two others.
 const BARE: &str =

@@ -338,6 +338,7 @@ fn cited(fault: &DescriptorErrorKind) -> Option<&Label> {
     match fault {
         DescriptorErrorKind::DuplicateFieldNumber { first, .. }
         | DescriptorErrorKind::DuplicateFieldJsonName { first, .. }
+        | DescriptorErrorKind::DuplicateExtensionNumber { first, .. }
         | DescriptorErrorKind::DuplicateEnumNumber { first, .. } => Some(first),
         DescriptorErrorKind::FieldNumberInReservedRange { defined, .. }
         | DescriptorErrorKind::FieldNumberInExtensionRange { defined, .. }

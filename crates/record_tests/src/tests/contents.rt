@@ -105,16 +105,22 @@ fn oneofs(alloc: Global) -> Result<Items<OneofDescriptorInner>, AllocError> {
     Ok(oneofs)
 }
 
-/// A message that these extensions extend.
-fn message(alloc: Global, extensions: &[u32]) -> Result<MessageDescriptorInner, AllocError> {
+/// A message that these extensions extend, of which the first has this number.
+fn message(
+    alloc: Global,
+    extensions: &[u32],
+    number: u32,
+) -> Result<MessageDescriptorInner, AllocError> {
     let extensions = Items::from_slice(alloc, extensions)?;
     let (field_numbers, field_names) = (numbers(alloc, 7)?, names(alloc, "f")?);
     let (field_json_names, id) = (names(alloc, "g")?, identity(alloc)?);
+    let extension_numbers = numbers(alloc, number)?;
     let oneofs = oneofs(alloc)?;
     Ok(MessageDescriptorInner {
         id,
         parent: Some(2),
         extensions,
+        extension_numbers,
         fields: fields(alloc, &DefaultValue::EnumNumber(5))?,
         field_numbers,
         field_names,
@@ -239,7 +245,13 @@ fn items_equal_their_copies(rt: HostRuntime) -> Result<(), Fail> {
             check_made(&rt, alloc, field(alloc, default), field(alloc, other))?;
         }
     }
-    check_made(&rt, alloc, message(alloc, &[1, 4]), message(alloc, &[1]))?;
+    check_made(
+        &rt,
+        alloc,
+        message(alloc, &[1, 4], 8),
+        message(alloc, &[1], 8),
+    )?;
+    check_made(&rt, alloc, message(alloc, &[1], 8), message(alloc, &[1], 9))?;
     check_made(&rt, alloc, enumeration(alloc, -1), enumeration(alloc, 1))?;
     check_made(&rt, alloc, service(alloc, 1), service(alloc, 2))?;
     for other in 0..OTHERS {

@@ -14,7 +14,16 @@ pub(super) const FAULTY: &[(&str, &str, &str)] = &[
         "relink a\n",
         "line 1: wrong count of words\n",
     ),
-    ("`ext` is no keyword", "ext M 1\n", "line 1: unknown word\n"),
+    (
+        "an extension is looked up by a number",
+        "ext M x\n",
+        "line 1: bad number\n",
+    ),
+    (
+        "an extension is looked up by two words",
+        "ext M\n",
+        "line 1: wrong count of words\n",
+    ),
     (
         "lines that say nothing are counted",
         "\n# a comment\n  \nnope\n",

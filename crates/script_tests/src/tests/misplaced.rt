@@ -40,6 +40,11 @@ pub(super) const MISPLACED: &[(&str, &str, &str)] = &[
     ),
     ("a walk in a file", "file a\nwalk\n", "line 2: misplaced\n"),
     (
+        "a look-up of an extension in a file",
+        "file a\next M 1\n",
+        "line 2: misplaced\n",
+    ),
+    (
         "an import in a message",
         "file a\nmessage M\nimport b\n",
         "line 3: misplaced\n",

@@ -1,5 +1,6 @@
 //! Runs of scripts from memory to memory, and their reports.
 
+use super::extensions::NUMBERED;
 use super::faults::FAULTY;
 use super::imports::IMPORTED;
 use super::linking::LINKED;
@@ -112,6 +113,7 @@ fn scripts_are_reported(rt: HostRuntime) -> Result<(), Fail> {
     check_rows(&rt, rt.alloc(), REFUSED)?;
     check_rows(&rt, rt.alloc(), IMPORTED)?;
     check_rows(&rt, rt.alloc(), WALKED)?;
+    check_rows(&rt, rt.alloc(), NUMBERED)?;
     check_faulty(&rt, rt.alloc(), FAULTY)?;
     check_faulty(&rt, rt.alloc(), MISPLACED)?;
     for (name, script, report) in NO_TEXTS {

@@ -25,6 +25,11 @@ const SAID: &[(&str, &str, &str)] = &[
         "refs '.a'\nrefs ''\nrefs ''\n",
     ),
     (
+        "an extension is looked up by a name and a number, and neither is absent",
+        "ext .M +7\next ~ -1\next '' 0\next M ~",
+        "ext '.M' 7\next '' -1\next '' 0\nline 4: bad number\n",
+    ),
+    (
         "numbers have signs",
         "file a\nmessage b\nfield c +007 99 -0 ~ -2147483648\nend\nend",
         "file 'a'\nmessage 'b'\n\
@@ -111,6 +116,7 @@ fn tell(report: &mut String, statement: &Statement) -> Result<(), AllocError> {
         Statement::Find(name) => write_text(report, "find", name),
         Statement::Walk => writeln!(report, "walk"),
         Statement::Refs(name) => write_text(report, "refs", name),
+        Statement::Ext(name, number) => write_numbered(report, "ext", name, *number),
         Statement::Relink => writeln!(report, "relink"),
     }
 }
@@ -118,6 +124,16 @@ fn tell(report: &mut String, statement: &Statement) -> Result<(), AllocError> {
 fn write_text(report: &mut String, word: &str, text: &Text) -> Result<(), AllocError> {
     let text = text.as_str();
     writeln!(report, "{word} '{text}'")
+}
+
+fn write_numbered(
+    report: &mut String,
+    word: &str,
+    text: &Text,
+    number: i32,
+) -> Result<(), AllocError> {
+    let text = text.as_str();
+    writeln!(report, "{word} '{text}' {number}")
 }
 
 fn write_given(report: &mut String, word: &str, text: &Option<Text>) -> Result<(), AllocError> {

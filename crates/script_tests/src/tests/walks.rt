@@ -99,9 +99,9 @@ pub(super) const WALKED: &[(&str, &str, &str, Ending)] = &[
         Ending::Whole,
     ),
     (
-        "two extensions of one number of one message",
+        "two extensions of one message",
         "file a.proto\nmessage M\nextensions 100 200\nend\nextend e 100 optional int32 ~ M\n\
-        extend g 100 optional int32 ~ M\nend\nlink\nrefs a.proto\n",
+        extend g 101 optional int32 ~ M\nend\nlink\nrefs a.proto\n",
         "ok 1 1 0 0 2\nrefs 2\ne extendee .M\ng extendee .M\n",
         Ending::Whole,
     ),
