@@ -55,7 +55,7 @@ module _ {s t : Setting} {many : ℕ} (stands : Stands s t many) where
         → number_faults t d y (resolve_message t d x.extendee) ≡ []
     numbered (found name def) is named none =
         let there = stands.references d.file below d.full_name (text_of x.extendee) Message name def is in
-        ap (number_faults t d y) there.meaning_is ∙ numbered-by s t d x y number name def (message_record s def) (message_record t def) there.ranges none
+        ap (number_faults t d y) there.meaning_is ∙ numbered-by s t d d x y number name name def def (message_record s def) (message_record t def) there.ranges none
     numbered (invalid_type name def filter) is named none = absurd (cc)
     numbered (not_imported name other) is named none = absurd (cc)
     numbered (shadowed name other) is named none = absurd (cc)
@@ -134,7 +134,7 @@ module _ {s t : Setting} {many : ℕ} (stands : Stands s t many) where
         let enum : type_enum t d f ≡ type_enum s d f = same.enum_is in
         record {
           faults = (λ i. option_map_or (λ k. default_faults t.files d.file d.path k (enum i) f.default_value) (kind i) [])
-              ∙ no-default-fault s.files t.files d.file d.path (type_enum s d f) (field_kind s d f) f.default_value none;
+              ∙ no-default-fault s.files t.files d.file d.file d.path (type_enum s d f) (field_kind s d f) f.default_value none;
           value_is = λ i. default_by (kind i) (enum i) f.default_value;
         }
 

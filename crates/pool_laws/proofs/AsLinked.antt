@@ -38,7 +38,7 @@ module _ (s t : Setting) (again : Rereads s t) where
         let now = subst (IsLooked s.names (seen s d.file) Message) is (resolution-looked s.names (seen s d.file) Message d.full_name (text_of x.extendee)) in
         let got = looked-named s.names (seen s d.file) Message name name def now.0 in
         ap (number_faults t d y) (found-again s t again.grows d.file d.full_name d.full_name (text_of x.extendee) Message name def below is)
-        ∙ numbered-by s t d x y number name def (message_record s def) (message_record t def) (again.ranges name def got) none
+        ∙ numbered-by s t d d x y number name name def def (message_record s def) (message_record t def) (again.ranges name def got) none
     numbered (invalid_type name def filter) is named none = absurd (cc)
     numbered (not_imported name other) is named none = absurd (cc)
     numbered (shadowed name other) is named none = absurd (cc)

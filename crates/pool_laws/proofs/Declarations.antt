@@ -33,7 +33,7 @@ module _ {s t : Setting} {c : Changes} {many : ℕ} (carries : Carries s t c man
       (service-carried carries.methods d below v none).faults
   by-record (of_enum e) file parent index path full_name below mean none =
       let d : Shown = record { file = file; parent = parent; index = index; path = path; full_name = full_name; proto = of_enum e } in
-      values-still s.files t.files d e none
+      values-still s.files t.files d d e none
   by-record (of_extension x) file parent index path full_name below mean none =
       let d : Shown = record { file = file; parent = parent; index = index; path = path; full_name = full_name; proto = of_extension x } in
       (extension-carried carries d below x earlier none).faults

@@ -24,13 +24,13 @@ use Rattle.pool_laws.specs.SettingLaws.{EnumsStay, Grows, IsDefaulted}
 use Rattle.pool_laws.proofs.Looked.{IsLooked, looked-named, resolution-looked}
 use Rattle.pool_laws.proofs.Typed.{found-again, no-fault, seen, typed-again}
 
--- a default that breaks nothing breaks nothing where other files are cited
-pub no-default-fault : (fs gs : List FileDescriptorProto) (file : ℕ) (path : List ℤ) (meant : DefaultEnum) (kind : Option KindIndex) (given : Option (List ℕ))
-    → option_map_or (λ k. default_faults fs file path k meant given) kind [] ≡ [] → option_map_or (λ k. default_faults gs file path k meant given) kind [] ≡ []
-no-default-fault fs gs file path meant None given none = refl
-no-default-fault fs gs file path meant (Some k) None none = refl
-no-default-fault fs gs file path meant (Some k) (Some text) none =
-    no-fault (is_none (value_of k meant.values text)) (default_fault fs file path k meant text) (default_fault gs file path k meant text) none
+-- a default that breaks nothing breaks nothing in another file
+pub no-default-fault : (fs gs : List FileDescriptorProto) (file other : ℕ) (path : List ℤ) (meant : DefaultEnum) (kind : Option KindIndex) (given : Option (List ℕ))
+    → option_map_or (λ k. default_faults fs file path k meant given) kind [] ≡ [] → option_map_or (λ k. default_faults gs other path k meant given) kind [] ≡ []
+no-default-fault fs gs file other path meant None given none = refl
+no-default-fault fs gs file other path meant (Some k) None none = refl
+no-default-fault fs gs file other path meant (Some k) (Some text) none =
+    no-fault (is_none (value_of k meant.values text)) (default_fault fs file path k meant text) (default_fault gs other path k meant text) none
 
 -- linking leaves the text of a default
 given-kept : (r : Resolution) (f : FieldDescriptorProto) (name : List ℕ) → let g : FieldDescriptorProto = elim name [ [] ↦ f | _ ∷ _ ↦ typed r f ] in g.default_value ≡ f.default_value
@@ -70,6 +70,6 @@ module _ (s t : Setting) (grows : Grows s t) (stay : EnumsStay s t) (d : Shown) 
       let given = given-kept (resolve_type s d f) f (text_of f.type_name) in
       record {
         faults = (λ i. option_map_or (λ k. default_faults t.files d.file d.path k (meant i) (given i)) (kind i) [])
-            ∙ no-default-fault s.files t.files d.file d.path (type_enum s d f) (field_kind s d f) f.default_value none;
+            ∙ no-default-fault s.files t.files d.file d.file d.path (type_enum s d f) (field_kind s d f) f.default_value none;
         value_is = λ i. default_by (kind i) (meant i) (given i);
       }

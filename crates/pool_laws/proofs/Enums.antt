@@ -1,4 +1,4 @@
--- The values of an enum that break nothing break nothing where other files are cited.
+-- The values of an enum that break nothing break nothing where it stands elsewhere, and other files are cited.
 use Rattle.std.proofs.Common.{◌≡◌, ℕ, ℤ, suc, Bool, true, false, if◌then◌else◌, List, [], ◌∷◌, ◌++◌, take, refl}
 use Rattle.std.specs.List.{find, enumerate_from, flat_map}
 use Rattle.std.specs.Ordering.{int_eq}
@@ -17,22 +17,22 @@ use Rattle.reference_pass.proofs.Unbroken.{both-empty}
 use Rattle.pool_laws.proofs.Numbered.{none-listed}
 use Rattle.pool_laws.proofs.Typed.{no-fault}
 
-module _ (fs gs : List FileDescriptorProto) (d : Shown) (e : EnumDescriptorProto) where
+module _ (fs gs : List FileDescriptorProto) (d g : Shown) (e : EnumDescriptorProto) where
   reserved-still : (position : ℕ) (n : ℤ) (k : ℕ) (ranges : List EnumReservedRange)
       → flat_map (λ (faults : Faults). faults) (map_enumerated (reserved_fault fs d position n) k ranges) ≡ []
-      → flat_map (λ (faults : Faults). faults) (map_enumerated (reserved_fault gs d position n) k ranges) ≡ []
+      → flat_map (λ (faults : Faults). faults) (map_enumerated (reserved_fault gs g position n) k ranges) ≡ []
   reserved-still position n k [] none = refl
   reserved-still position n k (range ∷ ranges) none =
       let parts = both-empty (reserved_fault fs d position n k range) (flat_map (λ (faults : Faults). faults) (map_enumerated (reserved_fault fs d position n) (suc k) ranges)) none in
-      let here : reserved_fault gs d position n k range ≡ [] = no-fault (reserves n range) _ _ parts.0 in
+      let here : reserved_fault gs g position n k range ≡ [] = no-fault (reserves n range) _ _ parts.0 in
       λ i. here i ++ reserved-still position n (suc k) ranges parts.1 i
 
   unless-alias : (alias : Bool) (position : ℕ) (n : ℤ) (earlier : List EnumValueDescriptorProto)
-      → (if alias then [] else duplicate_faults fs d position n earlier) ≡ [] → (if alias then [] else duplicate_faults gs d position n earlier) ≡ []
+      → (if alias then [] else duplicate_faults fs d position n earlier) ≡ [] → (if alias then [] else duplicate_faults gs g position n earlier) ≡ []
   unless-alias true position n earlier none = refl
   unless-alias false position n earlier none = none-listed (find (λ x. int_eq (number_of x.1.number) n) (enumerate_from 0 earlier)) _ _ none
 
-  value-still : (position : ℕ) (v : EnumValueDescriptorProto) → value_faults fs d e position v ≡ [] → value_faults gs d e position v ≡ []
+  value-still : (position : ℕ) (v : EnumValueDescriptorProto) → value_faults fs d e position v ≡ [] → value_faults gs g e position v ≡ []
   value-still position v none =
       let n = number_of v.number in
       let earlier = take position e.value in
@@ -40,11 +40,11 @@ module _ (fs gs : List FileDescriptorProto) (d : Shown) (e : EnumDescriptorProto
       λ i. reserved-still position n 0 e.reserved_range parts.0 i ++ unless-alias (allows_alias e.options) position n earlier parts.1 i
 
   each-still : (k : ℕ) (vs : List EnumValueDescriptorProto) → flat_map (λ (faults : Faults). faults) (map_enumerated (value_faults fs d e) k vs) ≡ []
-      → flat_map (λ (faults : Faults). faults) (map_enumerated (value_faults gs d e) k vs) ≡ []
+      → flat_map (λ (faults : Faults). faults) (map_enumerated (value_faults gs g e) k vs) ≡ []
   each-still k [] none = refl
   each-still k (v ∷ vs) none =
       let parts = both-empty (value_faults fs d e k v) (flat_map (λ (faults : Faults). faults) (map_enumerated (value_faults fs d e) (suc k) vs)) none in
       λ i. value-still k v parts.0 i ++ each-still (suc k) vs parts.1 i
 
-  pub values-still : values_faults fs d e ≡ [] → values_faults gs d e ≡ []
+  pub values-still : values_faults fs d e ≡ [] → values_faults gs g e ≡ []
   values-still = each-still 0 e.value

@@ -52,7 +52,7 @@ first-inside P (c ∷ cs) name dot all =
     first-holds (λ front. P ((c ∷ cs) ++ 46 ∷ front)) name dot (all-mapped (λ front. P ((c ∷ cs) ++ front)) (λ front. 46 ∷ front) (fronts name) behind.1)
 
 -- it found nothing, or something
-decided : (r : Resolution) → (is_found r ≡ false) ⊎ ((name : List ℕ) × (def : Definition) × (r ≡ found name def))
+pub decided : (r : Resolution) → (is_found r ≡ false) ⊎ ((name : List ℕ) × (def : Definition) × (r ≡ found name def))
 decided (found name def) = inr (name, def, refl)
 decided (invalid_type name def filter) = inl refl
 decided (not_imported name file) = inl refl
@@ -60,7 +60,7 @@ decided (shadowed name other) = inl refl
 decided not_found = inl refl
 
 -- where no answer found something, neither did the first that isn't nothing
-none-later : (rs : List Resolution) → find is_found rs ≡ None → is_found (unwrap_or (find (λ r. not (is_not_found r)) rs) not_found) ≡ false
+pub none-later : (rs : List Resolution) → find is_found rs ≡ None → is_found (unwrap_or (find (λ r. not (is_not_found r)) rs) not_found) ≡ false
 none-later [] none = refl
 none-later (r ∷ rs) none = elim (decided r) [
   | inl missed ↦

@@ -76,7 +76,7 @@ module _ {s t : Setting} {c : Changes} {many : ℕ} (carries : Carries s t c man
         (λ j. option_map_or (λ n. only_if (not (is_some (at (oneofs j) n))) InvalidOneofIndex) (index j) []) ∙ parts.oneof in
         let no_other : duplicate_faults t.files d.file d.path (take i (out-DescriptorProto k).field) i (carried f) ≡ [] =
         ap (λ earlier. duplicate_faults t.files d.file d.path earlier i (carried f)) (ap (take i) fields ∙ take-map carried i fs)
-        ∙ again-still s.files t.files d.file d.path carried (λ x. ap (λ (y : FieldDescriptorProto). y.number) (kept x)) (λ x. ap (λ (y : FieldDescriptorProto). y.json_name) (kept x)) (take i fs) i f parts.other in
+        ∙ again-still s.files t.files d.file d.file d.path carried (λ x. ap (λ (y : FieldDescriptorProto). y.number) (kept x)) (λ x. ap (λ (y : FieldDescriptorProto). y.json_name) (kept x)) (take i fs) i f parts.other in
         λ j. (numbered j ++ typed_still j ++ default_still j ++ oneof_still j) ++ no_other j
 
     each-again : (i : ℕ) (fs : List FieldDescriptorProto)

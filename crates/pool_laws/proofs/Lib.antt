@@ -1,4 +1,5 @@
 pub mod SeenStays
+pub mod SeenMoved
 pub mod Looked
 pub mod Typed
 pub mod MessageNames
@@ -25,11 +26,23 @@ pub mod Fewer
 pub mod Batches
 pub mod Records
 pub mod Alike
+pub mod Moved
+pub mod Renamed
+pub mod RenamedFaults
+pub mod RenamedLinks
+pub mod MovedWalk
+pub mod Sharing
+pub mod NamedAlike
+pub mod Exchanged
+pub mod NewExchanged
 pub mod Relinks
+pub mod ExchangedFiles
+pub mod ExchangedBatch
 pub mod Passes
 pub mod Items
 pub mod Relinked
 pub mod Parts
+pub mod ExchangedSetting
 pub mod Entered
 pub mod Stays
 pub mod Unseen
@@ -38,3 +51,7 @@ pub mod Lists
 pub mod Rest
 pub mod Joined
 pub mod Splits
+pub mod SameLinked
+pub mod MessagesApart
+pub mod ReferencesExchanged
+pub mod Reordered

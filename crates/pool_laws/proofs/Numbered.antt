@@ -81,12 +81,12 @@ extension-numbered fs gs owner other d e m k f g same number none =
     (λ i. by_extendee gs e.file e.path (number_of (number i)) (inside other) k) ∙ by-extendee-again fs gs (inside owner) (inside other) d e (number_of f.number) m k same none
 
 -- the number of an extension, by the record of the message that it extends, if it has one
-module _ (s t : Setting) (d : Shown) (x y : FieldDescriptorProto) (number : y.number ≡ x.number) where
-  pub numbered-by : (name : List ℕ) (def : Definition) (old now : Option DescriptorProto) → RangesStay old now
+module _ (s t : Setting) (d e : Shown) (x y : FieldDescriptorProto) (number : y.number ≡ x.number) where
+  pub numbered-by : (name other : List ℕ) (def to : Definition) (old now : Option DescriptorProto) → RangesStay old now
       → option_map_or (λ m. extension_number_faults s.files (defined_at name def m) m d x) old [] ≡ []
-      → option_map_or (λ m. extension_number_faults t.files (defined_at name def m) m d y) now [] ≡ []
-  numbered-by name def None None stay none = refl
-  numbered-by name def None (Some m) stay none = absurd stay
-  numbered-by name def (Some m) None stay none = absurd stay
-  numbered-by name def (Some m) (Some k) stay none =
-      extension-numbered s.files t.files (defined_at name def m) (defined_at name def k) d d m k x y stay number none
+      → option_map_or (λ m. extension_number_faults t.files (defined_at other to m) m e y) now [] ≡ []
+  numbered-by name other def to None None stay none = refl
+  numbered-by name other def to None (Some m) stay none = absurd stay
+  numbered-by name other def to (Some m) None stay none = absurd stay
+  numbered-by name other def to (Some m) (Some k) stay none =
+      extension-numbered s.files t.files (defined_at name def m) (defined_at other to k) d e m k x y stay number none

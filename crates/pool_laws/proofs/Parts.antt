@@ -74,12 +74,12 @@ AllKnown files naming = (n : ℕ) → n < length files → (name : List ℕ) →
 file-front : (fs gs : List FileDescriptorProto) (n : ℕ) → n < length fs → file_at (fs ++ gs) n ≡ file_at fs n
 file-front fs gs n below = ap (λ o. unwrap_or o no_file) (slice-front fs gs n below)
 
-slice-rest : {X : Type 0} (xs ys : List X) (n : ℕ) → slice_get (xs ++ ys) (length xs + n) ≡ slice_get ys n
+pub slice-rest : {X : Type 0} (xs ys : List X) (n : ℕ) → slice_get (xs ++ ys) (length xs + n) ≡ slice_get ys n
 slice-rest [] ys n = let same : 0 + n ≡ n = omega arith in ap (slice_get ys) same
 slice-rest (x ∷ xs) ys n = let same : suc (length xs) + n ≡ suc (length xs + n) = omega arith in ap (slice_get (x ∷ (xs ++ ys))) same ∙ slice-rest xs ys n
 
 -- a position that isn't before a length comes so many behind it
-position-behind : (n k : ℕ) → k ≤ n → (m : ℕ) × (n ≡ k + m)
+pub position-behind : (n k : ℕ) → k ≤ n → (m : ℕ) × (n ≡ k + m)
 position-behind n zero le = (n, omega arith)
 position-behind zero (suc k) le = absurd (omega (arith, le))
 position-behind (suc n) (suc k) le = let less = position-behind n k (omega (arith, le)) in (less.0, (let is = less.1 in omega (arith, is)))

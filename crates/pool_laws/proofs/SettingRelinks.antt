@@ -48,10 +48,10 @@ last-changed change test other same n (x ∷ xs) =
     ∙ (λ i. last-changed change test other same (n + 1) xs i || same x i)
     ∙ sym (last-more test n x xs)
 
-module _ (fs gs : List FileDescriptorProto) (file : ℕ) (path : List ℤ) (change : FieldDescriptorProto → FieldDescriptorProto)
+module _ (fs gs : List FileDescriptorProto) (file other : ℕ) (path : List ℤ) (change : FieldDescriptorProto → FieldDescriptorProto)
     (numbers : (x : FieldDescriptorProto) → (change x).number ≡ x.number) (names : (x : FieldDescriptorProto) → (change x).json_name ≡ x.json_name)
     (earlier : List FieldDescriptorProto) (position : ℕ) (f : FieldDescriptorProto) where
-  number-still : number_duplicate fs file path earlier position f ≡ [] → number_duplicate gs file path (map change earlier) position (change f) ≡ []
+  number-still : number_duplicate fs file path earlier position f ≡ [] → number_duplicate gs other path (map change earlier) position (change f) ≡ []
   number-still none =
       let test : FieldDescriptorProto → Bool = λ g. int_eq (number_of g.number) (number_of f.number) in
       let other : FieldDescriptorProto → Bool = λ g. int_eq (number_of g.number) (number_of (change f).number) in
@@ -61,7 +61,7 @@ module _ (fs gs : List FileDescriptorProto) (file : ℕ) (path : List ℤ) (chan
   name-still : (given : Option (List ℕ))
       → option_map_or (λ name. listed (option_map (λ e. fault.DuplicateFieldJsonName name (name_label fs file path e.0) (name_label fs file path position))
       (latest (λ g. option_map_or (bytes_eq name) g.json_name false) earlier))) given [] ≡ []
-      → option_map_or (λ name. listed (option_map (λ e. fault.DuplicateFieldJsonName name (name_label gs file path e.0) (name_label gs file path position))
+      → option_map_or (λ name. listed (option_map (λ e. fault.DuplicateFieldJsonName name (name_label gs other path e.0) (name_label gs other path position))
       (latest (λ g. option_map_or (bytes_eq name) g.json_name false) (map change earlier)))) given [] ≡ []
   name-still None none = refl
   name-still (Some name) none =
@@ -69,10 +69,10 @@ module _ (fs gs : List FileDescriptorProto) (file : ℕ) (path : List ℤ) (chan
       lists-nothing (latest test (map change earlier)) _
       (last-changed change test test (λ x i. option_map_or (bytes_eq name) (names x i) false) 0 earlier ∙ nothing-of (latest test earlier) _ none)
 
-  pub again-still : duplicate_faults fs file path earlier position f ≡ [] → duplicate_faults gs file path (map change earlier) position (change f) ≡ []
+  pub again-still : duplicate_faults fs file path earlier position f ≡ [] → duplicate_faults gs other path (map change earlier) position (change f) ≡ []
   again-still none =
       let parts = both-empty (number_duplicate fs file path earlier position f) (json_name_duplicate fs file path earlier position f) none in
-      let named : json_name_duplicate gs file path (map change earlier) position (change f) ≡ [] =
-      (λ i. option_map_or (λ name. listed (option_map (λ e. fault.DuplicateFieldJsonName name (name_label gs file path e.0) (name_label gs file path position))
+      let named : json_name_duplicate gs other path (map change earlier) position (change f) ≡ [] =
+      (λ i. option_map_or (λ name. listed (option_map (λ e. fault.DuplicateFieldJsonName name (name_label gs other path e.0) (name_label gs other path position))
       (latest (λ g. option_map_or (bytes_eq name) g.json_name false) (map change earlier)))) (names f i) []) ∙ name-still f.json_name parts.1 in
       λ i. number-still parts.0 i ++ named i

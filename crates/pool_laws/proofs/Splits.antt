@@ -109,11 +109,11 @@ fit-by base c true is within = grind (arith, nat_tests, within.files, within.mes
 fit-by base c false is within = absurd (cc)
 
 -- counts that a pool can hold, or what there is too much of
-abbrev within-tally : Option Counts → Result Counts CountKind
+abbrev pub within-tally : Option Counts → Result Counts CountKind
 within-tally None = Err ListTooLong
 within-tally (Some c) = within_limit c
 
-counts-tally : (ds : List Shown) → counts_of ds ≡ within-tally (tally ds)
+pub counts-tally : (ds : List Shown) → counts_of ds ≡ within-tally (tally ds)
 counts-tally ds = elim (list_all (λ d. lists_fit d.proto) ds) as (λ b. cond b (within_limit (counted no_counts ds)) (Err ListTooLong) ≡ within-tally (cond b (Some (counted no_counts ds)) None))
     [ true ↦ refl | false ↦ refl ]
 

@@ -4,7 +4,9 @@
 mod laws;
 mod setting_laws;
 
-pub use laws::{dot_says_nothing, earlier_stays, prefixes, relink, seen_names_stand, split};
+pub use laws::{
+    dot_says_nothing, earlier_stays, prefixes, relink, reorder, seen_names_stand, split,
+};
 pub use setting_laws::{
     declaration_carries_over, declaration_relinks, defaulted_relinks, enum_relinks,
     extension_carries_over, extension_relinks, file_carries_over, file_relinks, found_among_fewer,
