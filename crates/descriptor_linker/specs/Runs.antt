@@ -7,10 +7,21 @@ use Rattle.script_devices.specs.Devices.{Source, Sink, Took}
 use Rattle.link_script.specs.Script.Reading.{script}
 use Rattle.descriptor_linker.specs.Report.Session.{report}
 
+-- no read and no write failed, and each write of some bytes took one at least
+pub record HasNotStopped (old new : Source) (before after : Sink) : Type 0 where
+  pub reads : new.failures ≡ old.failures
+  pub writes : after.failures ≡ before.failures
+  pub idle : after.idle ≡ before.idle
+
 -- the input was read to its end, and the whole report of all its bytes was written
 pub record IsWhole (bytes : List ℕ) (source : Source) (old new : Sink) : Type 0 where
   pub ended : source.bytes ≡ Some []
   pub wrote : Took old.bytes (report (script bytes)) new.bytes
+
+-- memory was refused: no read and no write failed, and nothing was written
+pub record HasRefused (old new : Source) (before after : Sink) : Type 0 where
+  pub unfailed : HasNotStopped old new before after
+  pub nothing : after.bytes ≡ before.bytes
 
 -- a read failed, and nothing was written
 pub record HasBrokenIn (old new : Source) (before after : Sink) : Type 0 where
@@ -34,6 +45,6 @@ RunsTo bytes old new before after ending.Whole = IsWhole bytes new before after
     × ((script bytes).fault ≡ None)
 RunsTo bytes old new before after ending.ScriptFault = IsWhole bytes new before after
     × ((script bytes).fault ≢ None)
-RunsTo bytes old new before after ending.OutOfMemory = after.bytes ≡ before.bytes
+RunsTo bytes old new before after ending.OutOfMemory = HasRefused old new before after
 RunsTo bytes old new before after ending.Device = HasBrokenIn old new before after
     ⊎ HasBrokenOut bytes before after

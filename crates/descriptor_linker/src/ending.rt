@@ -5,7 +5,7 @@ pub enum Ending {
     Whole,
     /// 2: the whole report was written, and ends with the line of the script's fault.
     ScriptFault,
-    /// 3: memory was refused, and nothing was written.
+    /// 3: memory was refused: no read and no write failed, and nothing was written.
     OutOfMemory,
     /// 4: a read failed and nothing was written, or a write failed or took no byte, and a
     /// beginning of the report was written.

@@ -1,6 +1,6 @@
-ghost use Rattle.std.specs.Prelude.{◌≡◌, ◌<◌, ◌⊎◌, ℕ, List, [], ◌++◌, Some, IfOk, OnOk, OnErr, IsErrOf};
+ghost use Rattle.std.specs.Prelude.{◌≡◌, ◌≢◌, ◌<◌, ◌⊎◌, ℕ, List, [], ◌++◌, Some, IfOk, OnOk, OnErr, IsErrOf};
 ghost use Rattle.script_devices.specs.Devices.{Took, failure_limit};
-ghost use Rattle.descriptor_linker.specs.Runs.{RunsTo, HasStopped};
+ghost use Rattle.descriptor_linker.specs.Runs.{RunsTo, HasStopped, HasNotStopped};
 
 use crate::ending::Ending;
 use crate::report::report_of;
@@ -19,7 +19,8 @@ enum ReadError {
 }
 
 /// Reads a script from the input to its end, and then writes the whole report of it to the output.
-/// Nothing is written where a read failed or memory was refused.
+/// Nothing is written where a read failed or memory was refused. `Device` is told exactly where a
+/// read or a write failed, or a write took no byte.
 pub fn run<R: ScriptInput, W: ReportOutput>(alloc: Global, input: &mut R, output: &mut W) -> Ending
     requires readable { (R.source input.old).failures < failure_limit }
     requires writable { (W.sink output.old).failures < failure_limit }
@@ -29,6 +30,9 @@ pub fn run<R: ScriptInput, W: ReportOutput>(alloc: Global, input: &mut R, output
         (W.sink output.old) (W.sink output.new) result }
     ensures stopped { result ≡ Ending.Device
         → HasStopped (R.source input.old) (R.source input.new)
+        (W.sink output.old) (W.sink output.new) }
+    ensures unstopped { result ≢ Ending.Device
+        → HasNotStopped (R.source input.old) (R.source input.new)
         (W.sink output.old) (W.sink output.new) }
 {
     let bytes = match read_all(alloc, input) {
@@ -49,13 +53,15 @@ pub fn run<R: ScriptInput, W: ReportOutput>(alloc: Global, input: &mut R, output
     }
 }
 
-/// All the bytes of the input. `Device`: a read failed.
+/// All the bytes of the input. `Device`: a read failed, which none did otherwise.
 fn read_all<R: ScriptInput>(alloc: Global, input: &mut R) -> Result<Vec<u8>, ReadError>
     requires { (R.source input.old).failures < failure_limit }
     ensures whole { (bytes : List ℕ) → (R.source input.old).bytes ≡ Some bytes →
         IfOk result (λ v. (v.items ≡ bytes) × ((R.source input.new).bytes ≡ Some [])) }
     ensures failed { IsErrOf result ReadError.Device
         → (R.source input.old).failures < (R.source input.new).failures }
+    ensures unfailed { result ≢ Err ReadError.Device
+        → (R.source input.new).failures ≡ (R.source input.old).failures }
 {
     let mut bytes = Vec::new(alloc);
     let mut buffer = [0u8; BUFFER_LEN];
@@ -80,6 +86,8 @@ fn write_all<W: ReportOutput>(output: &mut W, bytes: &[u8]) -> io::Result<()>
         × Took (W.sink output.old).bytes front (W.sink output.new).bytes }
     ensures stopped { OnErr result (((W.sink output.old).failures < (W.sink output.new).failures)
         ⊎ ((W.sink output.old).idle < (W.sink output.new).idle)) }
+    ensures unfailed { OnOk result ((W.sink output.new).failures ≡ (W.sink output.old).failures) }
+    ensures busy { OnOk result ((W.sink output.new).idle ≡ (W.sink output.old).idle) }
 {
     let mut rest = bytes;
     while !rest.is_empty() {
