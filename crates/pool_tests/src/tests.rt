@@ -2,14 +2,19 @@
 
 mod batches;
 mod errors;
+mod escapes;
 mod extension_faults;
 mod extensions;
 mod face;
 mod items;
 mod kinds;
+mod laws;
 mod meanings;
+mod name_faults;
 mod names;
+mod order;
 mod parts;
+mod places;
 mod rules;
 mod values;
 

@@ -6,6 +6,7 @@ mod copies;
 mod counting;
 mod face;
 mod finding;
+mod indexes;
 mod laws;
 mod plain;
 mod reading;

@@ -88,7 +88,7 @@ fn found_words(alloc: Global, pool: &DescriptorPool, name: &str) -> Result<Strin
     format!(in alloc; "{word} {index} {file} {path:?}")
 }
 
-fn kind_words(kind: DefinitionKind) -> (&'static str, u32) {
+pub(super) fn kind_words(kind: DefinitionKind) -> (&'static str, u32) {
     match kind {
         DefinitionKind::Package => ("package", 0),
         DefinitionKind::Message(index) => ("message", index),
@@ -191,9 +191,85 @@ fn check_clone(
     Ok(())
 }
 
+/// Three messages, of which the first may be extended.
+const BARE: &str = "file a.proto\nmessage M\nextensions 100 200\nend\nmessage A\nend\n\
+    message B\nend\nend\n";
+
+/// Two extensions of that, of which the last is of a type that is not there.
+const EXTENDED: &str = "file b.proto\nimport a.proto\nextend e 100 optional int32 ~ M\n\
+    extend g 101 optional message Nope M\nend\n";
+
+/// Gives a pool a batch that it refuses: it is what its clone is.
+fn check_refused(
+    rt: &impl Abort,
+    alloc: Global,
+    pool: &mut DescriptorPool,
+) -> Result<(), AllocError> {
+    let (copy, first) = (pool.clone()?, MessageDescriptor::new(0));
+    let report = answer(alloc, pool, EXTENDED)?;
+    assert!(rt;
+        report.as_str() == "refused b.proto: name 'Nope' is not defined",
+        "{report}"
+    );
+    assert!(rt; *pool == copy);
+    assert!(rt; pool.get_by_name("e").is_none());
+    let Some(message) = pool.message(first) else {
+        panic!(rt; "no message");
+    };
+    assert!(rt; message.extensions.as_slice().is_empty());
+    Ok(())
+}
+
+#[test]
+fn a_refused_batch_leaves_a_pool_as_its_clone(rt: HostRuntime) -> Result<(), Fail> {
+    let mut pool = pool_of(rt.alloc(), &[BARE])?;
+    check_refused(&rt, rt.alloc(), &mut pool)?;
+    Ok(())
+}
+
+/// Gives a pool of one file an empty one: its clone has one file as before.
+fn check_counts(
+    rt: &impl Abort,
+    alloc: Global,
+    pool: &mut DescriptorPool,
+) -> Result<(), AllocError> {
+    let copy = pool.clone()?;
+    let report = answer(alloc, pool, "file c.proto\nend\n")?;
+    assert!(rt; report.as_str() == "ok 2 3 0 0 0", "{report}");
+    assert!(rt; pool.counts().files == 2);
+    assert!(rt; copy.counts().files == 1);
+    Ok(())
+}
+
+#[test]
+fn a_clone_keeps_its_count_of_files(rt: HostRuntime) -> Result<(), Fail> {
+    let mut pool = pool_of(rt.alloc(), &[BARE])?;
+    check_counts(&rt, rt.alloc(), &mut pool)?;
+    Ok(())
+}
+
 #[test]
 fn a_clone_stays_where_its_pool_grows(rt: HostRuntime) -> Result<(), Fail> {
     let mut pool = pool_of(rt.alloc(), &[FIRST])?;
     check_clone(&rt, rt.alloc(), &mut pool)?;
+    Ok(())
+}
+
+/// A file, one that imports it, and both.
+const IMPORTED: &str = "file x.proto\npackage foo\nmessage Bar\nend\nend\n";
+
+const IMPORTING: &str = "file y.proto\npackage p\nimport x.proto\nmessage M\n\
+    field f 1 optional ~ foo.Bar ~\nend\nend\n";
+
+const BOTH: &str = "file x.proto\npackage foo\nmessage Bar\nend\nend\n\
+    file y.proto\npackage p\nimport x.proto\nmessage M\n\
+    field f 1 optional ~ foo.Bar ~\nend\nend\n";
+
+#[test]
+fn files_make_the_same_pool_in_two_batches_and_in_one(rt: HostRuntime) -> Result<(), Fail> {
+    let parts = pool_of(rt.alloc(), &[IMPORTED, IMPORTING])?;
+    let whole = pool_of(rt.alloc(), &[BOTH])?;
+    assert!(rt; parts.counts().files == 2 && whole.counts().files == 2);
+    assert!(rt; parts == whole);
     Ok(())
 }

@@ -180,6 +180,22 @@ pub(super) const EXTENSION_FAULTS: &[(&str, &str, &str)] = &[
 /// The same of batches with default values that are none of the type.
 pub(super) const DEFAULT_FAULTS: &[(&str, &str, &str)] = &[
     (
+        "an enum without a package has no value of the name",
+        "file a.proto\nenum E\nvalue A 5\nend\nmessage M\nfield f 1 optional enum E ~\n\
+        default B\nend\nend\n",
+        "a.proto: invalid default value 'B' for type 'E' [4, 0, 2, 0, 7]\n",
+    ),
+    (
+        "a message has no default value",
+        "file a.proto\nmessage M\nfield f 1 optional message M ~\ndefault x\nend\nend\n",
+        "a.proto: invalid default value 'x' for type 'message type' [4, 0, 2, 0, 7]\n",
+    ),
+    (
+        "bytes with a letter that begins no escape",
+        "file a.proto\nmessage M\nfield f 1 optional bytes ~ ~\ndefault \\w\nend\nend\n",
+        "a.proto: invalid default value '\\w' for type 'bytes' [4, 0, 2, 0, 7]\n",
+    ),
+    (
         "an enum has no value of the name",
         "file a.proto\npackage p\nmessage M\nfield f 1 optional enum E ~\ndefault B\n\
         field g 2 optional enum E ~\ndefault p.A\nfield h 3 optional enum E ~\ndefault 5\n\

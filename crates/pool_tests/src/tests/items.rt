@@ -188,6 +188,14 @@ fn a_pool_has_items_and_linked_records(rt: HostRuntime) -> Result<(), Fail> {
 /// A batch, another behind it, and of each file those that it imports and those that it sees.
 const SEEN: &[(&str, &str, &str)] = &[
     (
+        "file a.proto\nimport b.proto\nmessage M\nfield f 1 optional message .d.D ~\nend\nend\n\
+        file b.proto\nimport c.proto\npublic 0\nend\nfile c.proto\nimport d.proto\npublic 0\nend\n\
+        file d.proto\npackage d\nmessage D\nend\nend\n\
+        file s.proto\nimport s.proto\npublic 0\nend\n",
+        "",
+        "[1] 0 1 2 3\n[2] 1 2 3\n[3] 2 3\n[] 3\n[4] 4\n",
+    ),
+    (
         "file a.proto\nimport b.proto\nend\nfile b.proto\nimport c.proto\npublic 0\nend\n\
         file c.proto\nimport d.proto\npublic 0\nend\nfile d.proto\nend\n\
         file s.proto\nimport s.proto\npublic 0\nend\n",
@@ -238,12 +246,13 @@ fn files_see_what_is_imported(rt: HostRuntime) -> Result<(), Fail> {
     Ok(())
 }
 
-/// A file with a message inside another, and so on, 64 of them.
+/// A file with a message inside another, and so on, 64 of them, and with a field in the inmost.
 fn nested(alloc: Global) -> Result<String, AllocError> {
     let mut script = String::from_str(alloc, "file a.proto\n")?;
     for _ in 0..64 {
         script.push_str("message M\n")?;
     }
+    script.push_str("field f 1 optional message M ~\n")?;
     for _ in 0..65 {
         script.push_str("end\n")?;
     }
@@ -251,7 +260,7 @@ fn nested(alloc: Global) -> Result<String, AllocError> {
 }
 
 /// How many messages there are, and of the inmost its parent, the lengths of its path and of its
-/// full name, and its name.
+/// full name, its name, and the lengths of the paths of its fields.
 fn inmost_report(alloc: Global, pool: &DescriptorPool) -> Result<String, AllocError> {
     let count = pool.counts().messages;
     let Some(inmost) = pool.message(MessageDescriptor::new(63)) else {
@@ -259,12 +268,17 @@ fn inmost_report(alloc: Global, pool: &DescriptorPool) -> Result<String, AllocEr
     };
     let (parent, name) = (inmost.parent, inmost.id.name());
     let (path_len, name_len) = (inmost.id.path().len(), inmost.id.full_name().len());
-    format!(in alloc; "{count} {parent:?} {path_len} {name_len} {name}")
+    let mut report = format!(in alloc; "{count} {parent:?} {path_len} {name_len} {name}")?;
+    for field in inmost.fields.as_slice() {
+        let path_len = field.id.path().len();
+        write!(&mut report, " {path_len}")?;
+    }
+    Ok(report)
 }
 
 fn check_inmost(rt: &impl Abort, alloc: Global, pool: &DescriptorPool) -> Result<(), AllocError> {
     let report = inmost_report(alloc, pool)?;
-    assert!(rt; report.as_str() == "64 Some(62) 128 127 M", "{report}");
+    assert!(rt; report.as_str() == "64 Some(62) 128 127 M 130", "{report}");
     Ok(())
 }
 

@@ -20,6 +20,16 @@ use std::test::Fail;
 /// has one; of each oneof its fields.
 const MESSAGES: &[(&str, &str)] = &[
     (
+        "file a.proto\nmessage M\noneof o\nfield a 1 optional int32 ~ 0\n\
+        field b 2 optional int32 ~ ~\nfield c 3 optional int32 ~ 0\nend\nend\n",
+        "M 3 3 0\na 1 Some(0) Some(0) Some(0) none\nb 2 None Some(1) Some(1) none\n\
+        c 3 Some(0) Some(2) Some(2) none\noneof o [0, 2]\nnone\n",
+    ),
+    (
+        "file a.proto\nmessage M\nfield f 1 optional float ~ ~\ndefault what?\nend\nend\n",
+        "M 1 1 0\nf 1 None Some(0) Some(0) none float what?\nnone\n",
+    ),
+    (
         "file a.proto\nmessage M\noneof o\noneof q\nfield a 7 optional int32 ~ 0\n\
         field b 2 optional int32 ~ ~\nfield c 3 optional int32 ~ 0\nend\nend\n",
         "M 3 3 0\na 7 Some(0) Some(0) Some(0) none\nb 2 None Some(1) Some(1) none\n\

@@ -2,6 +2,7 @@
 
 use super::extension_faults::{DEFAULT_FAULTS, EXTENSION_FAULTS};
 use super::files_of;
+use super::name_faults::NAME_FAULTS;
 use descriptor_pool::{BuildError, DescriptorPool};
 use plain_data::Text;
 use pool_faults::{DescriptorError, DescriptorErrorKind, Label, Labelled};
@@ -230,6 +231,12 @@ const FAULTS: &[(&str, &str, &str)] = &[
 /// message. The last extension of that file is given a oneof, which counts for nothing.
 const EXTENDING: &[(&str, &str, &str, &str)] = &[
     (
+        "a message without a package and without a range",
+        "file a.proto\nmessage M\nfield f 1 optional int32 ~ ~\nend\nend\n",
+        "Nope",
+        "a.proto: message 'M' does not define '1' as an extension number [4, 0, 2, 0, 3]\n",
+    ),
+    (
         "no extension range holds the number",
         "file a.proto\npackage p\nmessage M\nfield f 1 optional int32 ~ ~\nend\nend\n",
         "Nope",
@@ -302,7 +309,10 @@ pub(super) fn built(alloc: Global, files: Vec<FileDescriptorProto>) -> Result<()
 }
 
 /// A line for each fault of a batch.
-fn faults_report(alloc: Global, files: Vec<FileDescriptorProto>) -> Result<String, AllocError> {
+pub(super) fn faults_report(
+    alloc: Global,
+    files: Vec<FileDescriptorProto>,
+) -> Result<String, AllocError> {
     match built(alloc, files) {
         Ok(()) => Ok(String::new(alloc)),
         Err(BuildError::Descriptor(error)) => error_report(alloc, &error),
@@ -336,7 +346,9 @@ fn write_fault(report: &mut String, fault: &DescriptorErrorKind) -> Result<(), A
 /// The label of what a fault cites: an earlier declaration, a range, or what a name means.
 fn cited(fault: &DescriptorErrorKind) -> Option<&Label> {
     match fault {
-        DescriptorErrorKind::DuplicateFieldNumber { first, .. }
+        DescriptorErrorKind::DuplicateName { first, .. }
+        | DescriptorErrorKind::DuplicateFieldCamelCaseName { first, .. }
+        | DescriptorErrorKind::DuplicateFieldNumber { first, .. }
         | DescriptorErrorKind::DuplicateFieldJsonName { first, .. }
         | DescriptorErrorKind::DuplicateExtensionNumber { first, .. }
         | DescriptorErrorKind::DuplicateEnumNumber { first, .. } => Some(first),
@@ -362,6 +374,7 @@ fn check_faults(
 
 #[test]
 fn faults_cite_what_they_conflict_with(rt: HostRuntime) -> Result<(), Fail> {
+    check_faults(&rt, rt.alloc(), NAME_FAULTS)?;
     check_faults(&rt, rt.alloc(), FAULTS)?;
     check_faults(&rt, rt.alloc(), EXTENSION_FAULTS)?;
     check_faults(&rt, rt.alloc(), DEFAULT_FAULTS)?;

@@ -1,6 +1,6 @@
 //! Default values as they are written, and maps of items.
 
-use default_values::{EscapeFault, ValueFault, parse_simple_value, unescape_c_escape_string};
+use default_values::{EscapeFault, ValueFault, parse_simple_value};
 use plain_data::{Duplicate, NumberMap, TextMap};
 use pool_types::{DefaultValue, KindIndex};
 use std::alloc::{AllocError, Global};
@@ -221,7 +221,7 @@ pub(super) fn write_value(report: &mut String, value: &DefaultValue) -> Result<(
     }
 }
 
-fn escape_words(alloc: Global, fault: EscapeFault) -> Result<String, AllocError> {
+pub(super) fn escape_words(alloc: Global, fault: EscapeFault) -> Result<String, AllocError> {
     match fault {
         EscapeFault::MissingEscape => String::from_str(alloc, "missing escape"),
         EscapeFault::HexTooShort => String::from_str(alloc, "hex too short"),
@@ -257,10 +257,6 @@ fn default_values_are_read(rt: HostRuntime) -> Result<(), Fail> {
     for (kind, text, wanted) in VALUES {
         let report = value_report(rt.alloc(), *kind, text)?;
         assert!(rt; report.as_str() == *wanted, "{text} {report}");
-    }
-    match unescape_c_escape_string(rt.alloc(), "\\377\\'") {
-        Ok(bytes) => assert!(rt; bytes.as_slice() == [255, 39].as_slice()),
-        Err(fault) => assert!(rt; fault == EscapeFault::OutOfMemory),
     }
     Ok(())
 }

@@ -69,10 +69,36 @@ fn check(rt: &impl Abort, file: &FileDescriptorProto) {
     }
 }
 
+/// Paths at which no record stands.
+const NOWHERE: &[&[i32]] = &[
+    &[4, 0, 2],
+    &[4, 2_147_483_647],
+    &[9, 0],
+    &[4, 0, 3, -1],
+    &[],
+    &[4],
+    &[4, -1],
+];
+
+fn check_nowhere(rt: &impl Abort, file: &FileDescriptorProto) {
+    for path in NOWHERE {
+        assert!(rt; find_message_proto(file, path).is_none(), "{path:?}");
+        assert!(rt; find_field_proto(file, path).is_none(), "{path:?}");
+        assert!(rt; find_oneof_proto(file, path).is_none(), "{path:?}");
+        assert!(rt; find_enum_proto(file, path).is_none(), "{path:?}");
+        assert!(rt; find_enum_value_proto(file, path).is_none(), "{path:?}");
+        assert!(rt; find_service_proto(file, path).is_none(), "{path:?}");
+        assert!(rt; find_method_proto(file, path).is_none(), "{path:?}");
+    }
+}
+
 #[test]
 fn paths_lead_to_records(rt: HostRuntime) -> Result<(), Fail> {
-    for file in &files_of(rt.alloc(), WHOLE_SCRIPT)? {
+    let files = files_of(rt.alloc(), WHOLE_SCRIPT)?;
+    assert!(rt; !files.is_empty());
+    for file in &files {
         check(&rt, file);
+        check_nowhere(&rt, file);
     }
     Ok(())
 }

@@ -3,17 +3,20 @@
 use super::counting::{EVERY_KIND, NONE};
 use super::files_of;
 use proto_types::FileDescriptorProto;
-use record_walk::{declared_indexes, declared_paths};
+use record_walk::{declared_changed, declared_in_turn, declared_indexes, declared_paths};
 use std::alloc::{AllocError, Global};
 use std::process::Abort;
 use std::test::Fail;
 use visitor_example::fields_of;
 
 #[test]
-fn laws_are_called_and_take_nothing(rt: HostRuntime) -> Result<(), Fail> {
+fn laws_are_called(rt: HostRuntime) -> Result<(), Fail> {
     let files = files_of(rt.alloc(), EVERY_KIND)?;
+    let more = files_of(rt.alloc(), "file b.proto\nmessage B\nend\nend\n")?;
     declared_paths(NONE, &files);
     declared_indexes(NONE, &files);
+    declared_in_turn(NONE, &files, &more);
+    declared_changed(NONE, &files);
     Ok(())
 }
 

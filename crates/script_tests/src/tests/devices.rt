@@ -1,6 +1,7 @@
 //! Devices over memory, and runs that they end.
 
 use super::linking::{FIRST_REPORT, FIRST_SCRIPT};
+use super::walks::{THREE_FILES, THREE_REPORT};
 use descriptor_linker::{Ending, run};
 use script_devices::{MemoryInput, MemoryOutput, ReportOutput, ScriptInput};
 use std::alloc::{AllocError, Global};
@@ -141,6 +142,47 @@ fn a_device_that_fails_ends_the_run(rt: HostRuntime) -> Result<(), Fail> {
         for fuse in 0..3 {
             check_failed_write(&rt, rt.alloc(), room, fuse)?;
         }
+    }
+    Ok(())
+}
+
+/// The fuses of the input and of the output of a run, the room of the output, how the run ends, and
+/// how many bytes it writes.
+const FUSES: &[(u64, u64, usize, Ending, usize)] = &[
+    (1, 0, 1000, Ending::Device, 0),
+    (2, 0, 1000, Ending::Device, 0),
+    (3, 0, 1000, Ending::Whole, THREE_REPORT.len()),
+    (0, 1, 1000, Ending::Device, 0),
+    (0, 2, 1000, Ending::Whole, THREE_REPORT.len()),
+    (0, 2, 7, Ending::Device, 7),
+    (0, 0, 7, Ending::Device, 7),
+    (0, 0, 0, Ending::Device, 0),
+];
+
+fn check_fuses(
+    rt: &impl Abort,
+    alloc: Global,
+    row: &(u64, u64, usize, Ending, usize),
+) -> Result<(), AllocError> {
+    let (input_fuse, output_fuse, room, ending, count) = *row;
+    let mut input = MemoryInput::with_fuse(THREE_FILES.as_bytes(), input_fuse);
+    let mut output = MemoryOutput::with_fuse(alloc, room, output_fuse)?;
+    let ended = run(alloc, &mut input, &mut output);
+    if ended == Ending::OutOfMemory {
+        return Err(AllocError);
+    }
+    assert!(rt; ended == ending, "{row:?} {ended:?}");
+    assert!(rt;
+        THREE_REPORT.as_bytes().get(..count) == Some(output.written()),
+        "{row:?}"
+    );
+    Ok(())
+}
+
+#[test]
+fn fuses_end_a_run_of_three_files(rt: HostRuntime) -> Result<(), Fail> {
+    for row in FUSES {
+        check_fuses(&rt, rt.alloc(), row)?;
     }
     Ok(())
 }

@@ -1,7 +1,7 @@
 //! Each name of the face `descriptor_linker`: where one is lost, this is not compiled.
 
 use descriptor_linker::laws::{
-    dot_says_nothing, earlier_stays, prefixes, relink, seen_names_stand, split,
+    dot_says_nothing, earlier_stays, prefixes, relink, reorder, seen_names_stand, split,
 };
 use descriptor_linker::{
     Block, BuildError, Cardinality, CountKind, Counts, DefaultValue, Definition, DefinitionKind,

@@ -166,7 +166,7 @@ pub(super) const FAULTY: &[(&str, &str, &str)] = &[
     ),
     (
         "a path with an empty number",
-        "file a\nat 3,,0 1\n",
+        "file a.proto\nat 3,,0 1\n",
         "line 2: bad number\n",
     ),
     (
@@ -221,7 +221,7 @@ pub(super) const FAULTY: &[(&str, &str, &str)] = &[
     ),
     (
         "an import that is absent",
-        "file a\nimport ~\n",
+        "file a.proto\nimport ~\n",
         "line 2: bad word\n",
     ),
     (

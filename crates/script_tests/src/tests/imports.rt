@@ -66,9 +66,23 @@ pub(super) const IMPORTED: &[(&str, &str, &str, Ending)] = &[
         Ending::Whole,
     ),
     (
+        "two files import each other publicly, and the second refers to the first",
+        "file a.proto\nimport b.proto\npublic 0\nmessage M\nfield f 1 optional message N ~\nend\nend\n\
+        file b.proto\nimport a.proto\npublic 0\nmessage N\nfield g 1 optional message M ~\nend\nend\n\
+        link\nrefs b.proto\n",
+        "ok 2 2 0 0 0\nrefs 1\nN.g type_name .M\n",
+        Ending::Whole,
+    ),
+    (
         "an import is there",
         "file a.proto\nimport b.proto\nat 3,0 2,0,16\nend\nlink\n",
         "refused 1\na.proto:3:1: imported file 'b.proto' has not been added\n",
+        Ending::Whole,
+    ),
+    (
+        "a place of an import in the last line that a number tells",
+        "file a.proto\nimport b.proto\nat 3,0 2147483647,0,3\nend\nlink\n",
+        "refused 1\na.proto:2147483648:1: imported file 'b.proto' has not been added\n",
         Ending::Whole,
     ),
     (

@@ -15,7 +15,7 @@ pub(super) const MISPLACED: &[(&str, &str, &str)] = &[
     ),
     (
         "a field outside of blocks",
-        "field f 1 ~ ~ ~ ~\n",
+        "field f 1 optional int32 ~ ~\n",
         "line 1: misplaced\n",
     ),
     (
@@ -37,6 +37,11 @@ pub(super) const MISPLACED: &[(&str, &str, &str)] = &[
         "a JSON name behind no field",
         "file a\njson x\n",
         "line 2: misplaced\n",
+    ),
+    (
+        "a JSON name at the start of a message",
+        "file a.proto\nmessage M\njson x\n",
+        "line 3: misplaced\n",
     ),
     ("a walk in a file", "file a\nwalk\n", "line 2: misplaced\n"),
     (

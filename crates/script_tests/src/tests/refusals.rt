@@ -30,6 +30,12 @@ pub(super) const REFUSED: &[(&str, &str, &str, Ending)] = &[
         Ending::Whole,
     ),
     (
+        "a message and its field may not both be without a name",
+        "file ~\nmessage ~\nfield ~ 1 optional message ~ ~\nend\nend\nlink\n",
+        "refused 1\n: name '' is defined twice\n",
+        Ending::Whole,
+    ),
+    (
         "all faults of names are report in order",
         "file a.proto\nmessage M\nfield f 1 ~ ~ ~ ~\nfield f 2 ~ ~ ~ ~\nend\nmessage M\nend\nend\n\
         file a.proto\nend\nlink\n",
@@ -190,6 +196,17 @@ pub(super) const REFUSED: &[(&str, &str, &str, Ending)] = &[
         a.proto: field number '7' conflicts with reserved range '5 to 7'\n\
         a.proto: invalid field number '536870912'\n\
         a.proto: enum number '8' conflicts with reserved range '5 to 8'\n",
+        Ending::Whole,
+    ),
+    (
+        "a reserved range from the least number to the greatest, which is not in it",
+        "file a.proto\nmessage M\nreserved -2147483648 2147483647\n\
+        field f 2147483647 optional int32 ~ ~\nfield g 2147483646 optional int32 ~ ~\nend\nend\n\
+        link\n",
+        "refused 3\na.proto: invalid field number '2147483647'\n\
+        a.proto: invalid field number '2147483646'\n\
+        a.proto: field number '2147483646' conflicts with reserved range \
+        '-2147483648 to 2147483646'\n",
         Ending::Whole,
     ),
     (

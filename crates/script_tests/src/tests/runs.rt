@@ -150,3 +150,78 @@ fn a_batch_of_a_thousand_files_is_linked(rt: HostRuntime) -> Result<(), Fail> {
     )?;
     Ok(())
 }
+
+/// A script of a thousand files, each of which but the first imports the one before it and refers
+/// to the message there.
+fn chain_script(alloc: Global) -> Result<String, AllocError> {
+    let mut script = String::from_str(alloc, "file f0.proto\nmessage M0\nend\nend\n")?;
+    let mut earlier = 0;
+    for number in 1..1000u32 {
+        write!(
+            &mut script,
+            "file f{number}.proto\nimport f{earlier}.proto\nmessage M{number}\n\
+            field f 1 optional message M{earlier} ~\nend\nend\n"
+        )?;
+        earlier = number;
+    }
+    script.push_str("link\nrelink\n")?;
+    Ok(script)
+}
+
+#[test]
+fn a_chain_of_a_thousand_files_is_linked_again(rt: HostRuntime) -> Result<(), Fail> {
+    let (name, wanted) = ("a chain of files", "ok 1000 1000 0 0 0\nsame\n");
+    let script = chain_script(rt.alloc())?;
+    check_run(
+        &rt,
+        rt.alloc(),
+        name,
+        script.as_bytes(),
+        wanted,
+        Ending::Whole,
+    )?;
+    Ok(())
+}
+
+/// A text, and behind it another, 63 times.
+fn followed(alloc: Global, first: &str, part: &str) -> Result<String, AllocError> {
+    let mut text = String::from_str(alloc, first)?;
+    for _ in 0..63 {
+        text.push_str(part)?;
+    }
+    Ok(text)
+}
+
+/// A script of a message inside another, and so on, 64 of them, and of a field in the inmost.
+fn deep_script(alloc: Global) -> Result<String, AllocError> {
+    let messages = followed(alloc, "file a.proto\nmessage M\n", "message M\n")?;
+    let ends = followed(alloc, "end\nend\n", "end\n")?;
+    let name = followed(alloc, "M", ".M")?;
+    format!(in alloc;
+        "{messages}field f 1 optional message M ~\n{ends}link\nrefs a.proto\nfind {name}.f\n"
+    )
+}
+
+/// Its report. The field's name has a path of one number more than the 130 of the field.
+fn deep_report(alloc: Global) -> Result<String, AllocError> {
+    let name = followed(alloc, "M", ".M")?;
+    let path = followed(alloc, "4, 0", ", 3, 0")?;
+    format!(in alloc;
+        "ok 1 64 0 0 0\nrefs 1\n{name}.f type_name .{name}\n\
+        field 63 a.proto [{path}, 2, 0, 1]\n"
+    )
+}
+
+#[test]
+fn a_field_64_messages_deep_is_linked(rt: HostRuntime) -> Result<(), Fail> {
+    let (script, report) = (deep_script(rt.alloc())?, deep_report(rt.alloc())?);
+    check(
+        &rt,
+        rt.alloc(),
+        "64 messages",
+        script.as_bytes(),
+        report.as_str(),
+        Ending::Whole,
+    )?;
+    Ok(())
+}

@@ -2,6 +2,17 @@
 
 use descriptor_linker::Ending;
 
+/// A script of three files.
+pub(super) const THREE_FILES: &str =
+    "file c.proto\nimport b.proto\nextend e 100 optional enum E M\ndefault A\nend\n\
+    file b.proto\nimport a.proto\npublic 0\nend\n\
+    file a.proto\nmessage M\nextensions 100 200\nend\nenum E\nvalue A 5\nend\nend\nlink\n\
+    refs c.proto\nfind e\n";
+
+/// The report of the script of three files.
+pub(super) const THREE_REPORT: &str = "ok 3 1 1 0 1\nrefs 2\ne extendee .M\ne type_name .E\n\
+    extension 0 c.proto [7, 0, 1]\n";
+
 /// What it shows, a script, its report, and how its run ends.
 pub(super) const WALKED: &[(&str, &str, &str, Ending)] = &[
     (
@@ -81,11 +92,8 @@ pub(super) const WALKED: &[(&str, &str, &str, Ending)] = &[
     ),
     (
         "an extension of a message that stands behind it, in a file that is imported publicly",
-        "file c.proto\nimport b.proto\nextend e 100 optional enum E M\ndefault A\nend\n\
-        file b.proto\nimport a.proto\npublic 0\nend\n\
-        file a.proto\nmessage M\nextensions 100 200\nend\nenum E\nvalue A 5\nend\nend\nlink\n\
-        refs c.proto\nfind e\n",
-        "ok 3 1 1 0 1\nrefs 2\ne extendee .M\ne type_name .E\nextension 0 c.proto [7, 0, 1]\n",
+        THREE_FILES,
+        THREE_REPORT,
         Ending::Whole,
     ),
     (

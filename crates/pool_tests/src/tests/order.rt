@@ -1,0 +1,363 @@
+//! Batches whose files are handed over in another order.
+
+use super::batches::kind_words;
+use super::files_of;
+use super::items::pool_of;
+use super::rules::faults_report;
+use descriptor_pool::DescriptorPool;
+use pool_types::{DefinitionKind, FileDescriptor};
+use proto_types::FileDescriptorProto;
+use std::alloc::{AllocError, Global};
+use std::fmt::Write;
+use std::process::Abort;
+use std::test::Fail;
+
+/// Five files of two packages. The first three import one another publicly, in a cycle.
+const A: &str = "file a.proto\npackage p.q\nimport b.proto\nimport d.proto\npublic 0\n\
+    message A\nfield b 1 optional message B ~\nfield c 2 repeated ~ C ~\n\
+    field e 3 optional enum r.E ~\ndefault ONE\nextensions 100 200\nend\nend\n";
+
+const B: &str = "file b.proto\npackage p.q\nimport c.proto\npublic 0\nmessage B\n\
+    field c 1 optional message C.Inner ~\nend\nextend x 100 optional message C A\nend\n";
+
+const C: &str = "file c.proto\npackage p.q\nimport a.proto\npublic 0\nmessage C\n\
+    field kind 1 optional enum Kind ~\ndefault SECOND\nmessage Inner\nend\nenum Kind\n\
+    value FIRST 0\nvalue SECOND 1\nend\nend\nservice S\nmethod m A B\nend\nend\n";
+
+const D: &str = "file d.proto\npackage p.r\nimport e.proto\nmessage D\noneof o\n\
+    field f 1 optional message F 0\nextensions 100 200\nend\nenum E\nvalue ZERO 0\nvalue ONE 1\n\
+    end\nend\n";
+
+const E: &str = "file e.proto\npackage p.r\nimport a.proto\nimport d.proto\nmessage F\n\
+    field e 1 required enum E ~\ndefault ZERO\nend\nservice T\nmethod n q.B D\nend\n\
+    extend y 101 optional enum E q.A\ndefault ONE\nextend z 100 optional message q.C.Kind D\n\
+    default SECOND\nend\n";
+
+/// Their linked records.
+const LINKED: &[&str] = &[
+    "file a.proto\npackage p.q\nimport b.proto\nimport d.proto\npublic 0\nmessage A\n\
+    field b 1 optional message .p.q.B ~\nfield c 2 repeated message .p.q.C ~\n\
+    field e 3 optional enum .p.r.E ~\ndefault ONE\nextensions 100 200\nend\nend\n",
+    "file b.proto\npackage p.q\nimport c.proto\npublic 0\nmessage B\n\
+    field c 1 optional message .p.q.C.Inner ~\nend\n\
+    extend x 100 optional message .p.q.C .p.q.A\nend\n",
+    "file c.proto\npackage p.q\nimport a.proto\npublic 0\nmessage C\n\
+    field kind 1 optional enum .p.q.C.Kind ~\ndefault SECOND\nmessage Inner\nend\nenum Kind\n\
+    value FIRST 0\nvalue SECOND 1\nend\nend\nservice S\nmethod m .p.q.A .p.q.B\nend\nend\n",
+    "file d.proto\npackage p.r\nimport e.proto\nmessage D\noneof o\n\
+    field f 1 optional message .p.r.F 0\nextensions 100 200\nend\nenum E\nvalue ZERO 0\n\
+    value ONE 1\nend\nend\n",
+    "file e.proto\npackage p.r\nimport a.proto\nimport d.proto\nmessage F\n\
+    field e 1 required enum .p.r.E ~\ndefault ZERO\nend\nservice T\nmethod n .p.q.B .p.r.D\nend\n\
+    extend y 101 optional enum .p.r.E .p.q.A\ndefault ONE\n\
+    extend z 100 optional enum .p.q.C.Kind .p.r.D\ndefault SECOND\nend\n",
+];
+
+/// What their names mean.
+const NAMES: &[(&str, &str)] = &[
+    ("p", "package"),
+    ("p.q", "package"),
+    ("p.r", "package"),
+    ("p.q.A", "message a.proto [4, 0, 1]"),
+    ("p.q.A.b", "field a.proto [4, 0, 2, 0, 1]"),
+    ("p.q.A.c", "field a.proto [4, 0, 2, 1, 1]"),
+    ("p.q.A.e", "field a.proto [4, 0, 2, 2, 1]"),
+    ("p.q.B", "message b.proto [4, 0, 1]"),
+    ("p.q.B.c", "field b.proto [4, 0, 2, 0, 1]"),
+    ("p.q.x", "extension b.proto [7, 0, 1]"),
+    ("p.q.C", "message c.proto [4, 0, 1]"),
+    ("p.q.C.kind", "field c.proto [4, 0, 2, 0, 1]"),
+    ("p.q.C.Inner", "message c.proto [4, 0, 3, 0, 1]"),
+    ("p.q.C.Kind", "enum c.proto [4, 0, 4, 0, 1]"),
+    ("p.q.C.FIRST", "value c.proto [4, 0, 4, 0, 2, 0, 1]"),
+    ("p.q.C.SECOND", "value c.proto [4, 0, 4, 0, 2, 1, 1]"),
+    ("p.q.S", "service c.proto [6, 0, 1]"),
+    ("p.q.S.m", "method c.proto [6, 0, 2, 0, 1]"),
+    ("p.r.D", "message d.proto [4, 0, 1]"),
+    ("p.r.D.o", "oneof d.proto [4, 0, 8, 0, 1]"),
+    ("p.r.D.f", "field d.proto [4, 0, 2, 0, 1]"),
+    ("p.r.E", "enum d.proto [5, 0, 1]"),
+    ("p.r.ZERO", "value d.proto [5, 0, 2, 0, 1]"),
+    ("p.r.ONE", "value d.proto [5, 0, 2, 1, 1]"),
+    ("p.r.F", "message e.proto [4, 0, 1]"),
+    ("p.r.F.e", "field e.proto [4, 0, 2, 0, 1]"),
+    ("p.r.T", "service e.proto [6, 0, 1]"),
+    ("p.r.T.n", "method e.proto [6, 0, 2, 0, 1]"),
+    ("p.r.y", "extension e.proto [7, 0, 1]"),
+    ("p.r.z", "extension e.proto [7, 1, 1]"),
+    ("p.r.q", "none"),
+    ("A", "none"),
+];
+
+/// What it shows, the files of a batch, their linked records, and what names mean, in any order.
+const ACCEPTED: &[(&str, &[&str], &[&str], &[(&str, &str)])] = &[
+    (
+        "a file and one that it imports",
+        &[
+            "file y.proto\nimport x.proto\nmessage M\nfield f 1 optional message X ~\nend\nend\n",
+            "file x.proto\nmessage X\nend\nend\n",
+        ],
+        &[
+            "file y.proto\nimport x.proto\nmessage M\nfield f 1 optional message .X ~\nend\nend\n",
+            "file x.proto\nmessage X\nend\nend\n",
+        ],
+        &[
+            ("M", "message y.proto [4, 0, 1]"),
+            ("M.f", "field y.proto [4, 0, 2, 0, 1]"),
+            ("X", "message x.proto [4, 0, 1]"),
+        ],
+    ),
+    ("five files", &[A, B, C, D, E], LINKED, NAMES),
+];
+
+/// The lists of positions below a count, each once in a list.
+fn orders(alloc: Global, count: usize) -> Result<Vec<Vec<usize>>, AllocError> {
+    let mut orders = vec![in alloc; Vec::new(alloc)]?;
+    for _ in 0..count {
+        orders = longer_orders(alloc, &orders, count)?;
+    }
+    Ok(orders)
+}
+
+/// Each list with each position that it lacks behind it.
+fn longer_orders(
+    alloc: Global,
+    orders: &[Vec<usize>],
+    count: usize,
+) -> Result<Vec<Vec<usize>>, AllocError> {
+    let mut longer = Vec::new(alloc);
+    for order in orders {
+        add_longer(alloc, &mut longer, order.as_slice(), count)?;
+    }
+    Ok(longer)
+}
+
+fn add_longer(
+    alloc: Global,
+    longer: &mut Vec<Vec<usize>>,
+    order: &[usize],
+    count: usize,
+) -> Result<(), AllocError> {
+    for position in 0..count {
+        if !order.iter().any(|taken| *taken == position) {
+            longer.push(with_position(alloc, order, position)?)?;
+        }
+    }
+    Ok(())
+}
+
+fn with_position(
+    alloc: Global,
+    order: &[usize],
+    position: usize,
+) -> Result<Vec<usize>, AllocError> {
+    let mut longer = Vec::new(alloc);
+    longer.extend_from_slice(order)?;
+    longer.push(position)?;
+    Ok(longer)
+}
+
+#[test]
+fn files_have_orders(rt: HostRuntime) -> Result<(), Fail> {
+    let two = orders(rt.alloc(), 2)?;
+    let report = format!(in rt.alloc(); "{two:?}")?;
+    assert!(rt; report.as_str() == "[[0, 1], [1, 0]]", "{report}");
+    assert!(rt; orders(rt.alloc(), 5)?.len() == 120);
+    Ok(())
+}
+
+/// The script of files in an order.
+fn batch_in(alloc: Global, files: &[&str], order: &[usize]) -> Result<String, AllocError> {
+    let mut batch = String::new(alloc);
+    for position in order {
+        if let Some(file) = files.get(*position) {
+            batch.push_str(file)?;
+        }
+    }
+    Ok(batch)
+}
+
+/// The files of scripts.
+fn records_of(alloc: Global, scripts: &[&str]) -> Result<Vec<FileDescriptorProto>, AllocError> {
+    let mut batch = String::new(alloc);
+    for script in scripts {
+        batch.push_str(script)?;
+    }
+    files_of(alloc, batch.as_str())
+}
+
+/// What a name means in a pool, without numbers: a kind, the name of the file, and a path.
+fn meaning(alloc: Global, pool: &DescriptorPool, name: &str) -> Result<String, AllocError> {
+    let Some(definition) = pool.get_by_name(name) else {
+        return String::from_str(alloc, "none");
+    };
+    if definition.kind == DefinitionKind::Package {
+        return String::from_str(alloc, "package");
+    }
+    let Some(file) = pool.file(FileDescriptor::new(definition.file)) else {
+        return String::from_str(alloc, "no file");
+    };
+    let (word, _) = kind_words(definition.kind);
+    let (file, path) = (file.raw.name(), definition.path.as_slice());
+    format!(in alloc; "{word} {file} {path:?}")
+}
+
+/// A line for each name that means something else than it should.
+fn other_meanings(
+    alloc: Global,
+    pool: &DescriptorPool,
+    names: &[(&str, &str)],
+) -> Result<String, AllocError> {
+    let mut report = String::new(alloc);
+    for (name, wanted) in names {
+        let found = meaning(alloc, pool, name)?;
+        if found.as_str() != *wanted {
+            writeln!(&mut report, "{name} {found}")?;
+        }
+    }
+    Ok(report)
+}
+
+/// Asserts that a pool has these linked records, each under the name of its file, and no others.
+fn check_records(
+    rt: &impl Abort,
+    case: &str,
+    pool: &DescriptorPool,
+    wanted: &[FileDescriptorProto],
+) -> Result<(), AllocError> {
+    let linked = pool.linked_files()?;
+    assert!(rt; linked.len() == wanted.len(), "{case}");
+    for record in wanted {
+        let name = record.name();
+        let Some(found) = linked.iter().find(|file| file.name() == name) else {
+            panic!(rt; "{case} {name}");
+        };
+        assert!(rt; *found == *record, "{case} {name}");
+    }
+    Ok(())
+}
+
+/// Asserts that a batch is accepted in each order, with the same records and meanings.
+fn check_accepted(
+    rt: &impl Abort,
+    alloc: Global,
+    row: &(&str, &[&str], &[&str], &[(&str, &str)]),
+) -> Result<(), AllocError> {
+    let (what, files, linked, names) = *row;
+    let wanted = records_of(alloc, linked)?;
+    for order in &orders(alloc, files.len())? {
+        let case = format!(in alloc; "{what} {order:?}")?;
+        let batch = batch_in(alloc, files, order.as_slice())?;
+        let Ok(pool) = pool_of(alloc, batch.as_str()) else {
+            panic!(rt; "{case}");
+        };
+        check_records(rt, case.as_str(), &pool, &wanted)?;
+        let report = other_meanings(alloc, &pool, names)?;
+        assert!(rt; report.is_empty(), "{case}\n{report}");
+    }
+    Ok(())
+}
+
+#[test]
+fn an_order_changes_numbers_alone(rt: HostRuntime) -> Result<(), Fail> {
+    for row in ACCEPTED {
+        check_accepted(&rt, rt.alloc(), row)?;
+    }
+    Ok(())
+}
+
+/// What it shows, the files of a batch, and a line for its fault, in any order.
+const REFUSED: &[(&str, &[&str], &str)] = &[
+    (
+        "a reference to what is nowhere",
+        &[
+            A,
+            "file b.proto\npackage p.q\nimport c.proto\npublic 0\nmessage B\n\
+            field c 1 optional message Nope ~\nend\nextend x 100 optional message C A\nend\n",
+            C,
+            D,
+            E,
+        ],
+        "b.proto: name 'Nope' is not defined [4, 0, 2, 0, 6]\n",
+    ),
+    (
+        "a reference to a file that is not imported",
+        &[
+            A,
+            B,
+            C,
+            "file d.proto\npackage p.r\nimport e.proto\nmessage D\noneof o\n\
+            field f 1 optional message q.A 0\nextensions 100 200\nend\nenum E\nvalue ZERO 0\n\
+            value ONE 1\nend\nend\n",
+            E,
+        ],
+        "d.proto: name 'p.q.A' is not defined [4, 0, 2, 0, 6]\n",
+    ),
+    (
+        "a reference that a package shadows",
+        &[
+            A,
+            B,
+            C,
+            D,
+            "file e.proto\npackage p.r\nimport a.proto\nimport d.proto\nmessage F\n\
+            field e 1 required enum q.E ~\ndefault ZERO\nend\nservice T\nmethod n q.B D\nend\n\
+            extend y 101 optional enum E q.A\ndefault ONE\n\
+            extend z 100 optional message q.C.Kind D\ndefault SECOND\nend\n",
+        ],
+        "e.proto: 'q.E' resolves to 'p.q.E', which is not defined [4, 0, 2, 0, 6]\n",
+    ),
+];
+
+/// Asserts that a batch is refused in each order, with the same fault.
+fn check_refused(
+    rt: &impl Abort,
+    alloc: Global,
+    row: &(&str, &[&str], &str),
+) -> Result<(), AllocError> {
+    let (what, files, wanted) = *row;
+    for order in &orders(alloc, files.len())? {
+        let batch = batch_in(alloc, files, order.as_slice())?;
+        let report = faults_report(alloc, files_of(alloc, batch.as_str())?)?;
+        assert!(rt; report.as_str() == wanted, "{what} {order:?}\n{report}");
+    }
+    Ok(())
+}
+
+#[test]
+fn a_broken_batch_is_refused_in_any_order(rt: HostRuntime) -> Result<(), Fail> {
+    for row in REFUSED {
+        check_refused(&rt, rt.alloc(), row)?;
+    }
+    Ok(())
+}
+
+/// Two files that declare one name.
+const CLASHING: &[&str] = &[
+    "file a.proto\npackage p\nmessage M\nend\nend\n",
+    "file b.proto\npackage p\nmessage M\nend\nend\n",
+];
+
+/// An order of them, and a line for its fault.
+const CLASHES: &[(&[usize], &str)] = &[
+    (
+        &[0, 1],
+        "b.proto: name 'p.M' is already defined in file 'a.proto' \
+        [4, 0, 1] a.proto [4, 0, 1]\n",
+    ),
+    (
+        &[1, 0],
+        "a.proto: name 'p.M' is already defined in file 'b.proto' \
+        [4, 0, 1] b.proto [4, 0, 1]\n",
+    ),
+];
+
+#[test]
+fn a_clash_cites_the_first_in_order(rt: HostRuntime) -> Result<(), Fail> {
+    for (order, wanted) in CLASHES {
+        let batch = batch_in(rt.alloc(), CLASHING, order)?;
+        let report = faults_report(rt.alloc(), files_of(rt.alloc(), batch.as_str())?)?;
+        assert!(rt; report.as_str() == *wanted, "{order:?}\n{report}");
+    }
+    Ok(())
+}
