@@ -3,8 +3,8 @@
 use super::files_of;
 use super::rules::built;
 use descriptor_pool::BuildError;
-use plain_data::Text;
-use pool_faults::{DescriptorError, DescriptorErrorKind, Labelled};
+use plain_data::{Items, Text};
+use pool_faults::{DescriptorError, DescriptorErrorKind, Label, Labelled};
 use record_walk::CountKind;
 use std::alloc::{AllocError, Global};
 use std::fmt::Write;
@@ -148,6 +148,44 @@ fn errors_of_a_batch_are_printed(rt: HostRuntime) -> Result<(), Fail> {
     let report = build_errors(rt.alloc())?;
     let wanted = "Descriptor(a different file named 'a.proto' has already been added)\n\
         TooMany(Files)\nOutOfMemory\n";
+    assert!(rt; report.as_str() == wanted, "{report}");
+    Ok(())
+}
+
+/// A label whose place in the source isn't known.
+fn label(alloc: Global) -> Result<Label, AllocError> {
+    Ok(Label {
+        file: Text::from_str(alloc, "a.proto")?,
+        path: Items::new(alloc),
+        span: None,
+    })
+}
+
+/// The fault of a number in a reserved range that ends with an exclusive number.
+fn reserved_fault(alloc: Global, end: i32) -> Result<DescriptorErrorKind, AllocError> {
+    let (defined, found) = (label(alloc)?, label(alloc)?);
+    Ok(DescriptorErrorKind::FieldNumberInReservedRange {
+        number: 5,
+        start: 0,
+        end,
+        defined,
+        found,
+    })
+}
+
+fn fault_report(alloc: Global, fault: &DescriptorErrorKind) -> Result<String, AllocError> {
+    format!(in alloc; "{fault}")
+}
+
+fn reserved_report(alloc: Global, end: i32) -> Result<String, AllocError> {
+    let fault = reserved_fault(alloc, end)?;
+    fault_report(alloc, &fault)
+}
+
+#[test]
+fn the_last_number_of_a_range_may_be_below_the_least(rt: HostRuntime) -> Result<(), Fail> {
+    let report = reserved_report(rt.alloc(), i32::MIN)?;
+    let wanted = "field number '5' conflicts with reserved range '0 to -2147483649'";
     assert!(rt; report.as_str() == wanted, "{report}");
     Ok(())
 }
