@@ -1,0 +1,287 @@
+#!/usr/bin/env python3
+"""Runs a program again and again, each time with another of its requests for memory refused, and
+checks each ending.
+
+    python3 refuse_memory.py trials ../crates/memory_trials/out/memory_trials
+    python3 refuse_memory.py script ../crates/protolink/out/protolink ../crates/well_known/stdin
+
+`trials` runs each trial of crates/memory_trials. Requests count from the mark before its call to
+the one behind it. A refused run must tell that memory was refused and that all is right, and one
+without a refusal must write the line that is stored beside the program's sources.
+
+`script` runs protolink on a script. Requests count from the beginning of the program. A refused run
+must end with status 3 and write nothing, and one without a refusal must write what the program
+writes when it is left alone.
+
+The first request is refused, then the second, and so on, until a run comes to its end without
+having met a refusal. A run may go on, and must then end as without a refusal, in two cases: where
+the request was for a block that has room enough already, as when it is to shrink; and where the
+program asked once more and was given the room, as the library's `collect` does, so that there was
+one request more than without a refusal. With --first and --every some are left out: all of the first are refused, and
+of those behind them each so many. With --behind a refusal lasts: all requests behind the refused
+one are refused too, up to the mark behind the call. A run is wrong if it is ended by a signal, ends
+otherwise than it must, or leaves a block of memory that it was given.
+
+With --valgrind N each N-th of the refused runs is run once more under valgrind, which must find no
+fault and no byte lost.
+
+Exit status: 0 all were right, 1 some were wrong, 2 nothing could be run.
+
+Needed are a C compiler, cc, and a program that is linked dynamically to the C library of GNU.
+"""
+
+from __future__ import annotations
+
+import argparse
+import os
+import shutil
+import subprocess
+import sys
+import tempfile
+from collections.abc import Iterator
+from pathlib import Path
+from typing import NamedTuple, Optional
+
+TOOLS = Path(__file__).resolve().parent
+STORED_LINES = TOOLS.parent / "crates/memory_trials/stdout"
+
+MARK = 7777
+"""The size of a request that begins and ends the count, as crates/memory_trials makes it."""
+
+OUT_OF_MEMORY = 3
+"""The exit status of protolink that was refused memory."""
+
+MEMORY_CHECK = (
+    "valgrind",
+    "-q",
+    "--error-exitcode=99",
+    "--leak-check=full",
+    "--show-leak-kinds=all",
+    "--errors-for-leak-kinds=all",
+    "--soname-synonyms=somalloc=nouserintercepts",
+)
+
+
+class ToolError(Exception):
+    """What keeps the tool from running anything."""
+
+
+class Ending(NamedTuple):
+    """How a run ends: its status, which is negative for a signal, and what it writes."""
+
+    status: int
+    output: bytes
+
+
+class Case(NamedTuple):
+    """A run that is repeated, with the two endings that it may have."""
+
+    name: str
+    words: list[str]
+    input: bytes
+    mark: int
+    whole: Ending
+    refused: Ending
+
+
+class Counts(NamedTuple):
+    """What the shim counted: requests, refused ones, those of them for a block that had room enough
+    already, and blocks that were not given back."""
+
+    requests: int
+    refused: int
+    roomy: int
+    left: int
+
+    def may_pass_over(self, requests: int) -> bool:
+        """Whether a run may go on in spite of these refusals, where there are so many requests
+        without any."""
+        return self.roomy == self.refused or self.requests > requests
+
+
+class Sample(NamedTuple):
+    """Which requests are refused, and which runs valgrind sees."""
+
+    first: int
+    every: int
+    is_lasting: bool
+    valgrind: int
+
+    def requests(self) -> Iterator[int]:
+        """The numbers of the requests, without end, behind a 0."""
+        yield 0
+        number = 1
+        while True:
+            yield number
+            number += 1 if number < self.first else self.every
+
+
+class Result:
+    """What has come of the runs of a case."""
+
+    def __init__(self, case: Case) -> None:
+        self.case = case
+        self.requests = 0
+        self.refused_runs = 0
+        self.whole_runs = 0
+        self.checked_runs = 0
+        self.faults: list[str] = []
+
+    def add(self, number: int, ending: Ending, counts: Optional[Counts]) -> bool:
+        """Takes a run in which a request was to be refused, and answers whether more are to come.
+        The first run is that without a refusal, whose number is 0."""
+        if counts is None:
+            self.faults.append(f"request {number}: ended by status {ending.status}, and no count")
+            return number > 0
+        if number == 0:
+            self.requests = counts.requests
+        if counts.refused > 0:
+            self.refused_runs += 1
+            self.whole_runs += ending == self.case.whole
+        if ending not in self._endings(counts):
+            told = ending.output[:60]
+            self.faults.append(f"request {number}: status {ending.status}, wrote {told!r}")
+        if counts.left != 0:
+            self.faults.append(f"request {number}: {counts.left} blocks left")
+        return number == 0 or counts.refused > 0
+
+    def _endings(self, counts: Counts) -> tuple[Ending, ...]:
+        """The endings that a run with these counts may have."""
+        if counts.refused == 0:
+            return (self.case.whole,)
+        if counts.may_pass_over(self.requests):
+            return (self.case.whole, self.case.refused)
+        return (self.case.refused,)
+
+    def add_checked(self, number: int, ending: Ending) -> None:
+        """Takes a run with a refusal under valgrind."""
+        self.checked_runs += 1
+        if ending not in (self.case.refused, self.case.whole):
+            self.faults.append(f"request {number}: status {ending.status} under valgrind")
+
+    def line(self) -> str:
+        """The result in one line."""
+        passed = f", {self.whole_runs} of them passed over" if self.whole_runs else ""
+        checked = f", {self.checked_runs} under valgrind" if self.checked_runs else ""
+        return (
+            f"{self.case.name}: {self.requests} requests, {self.refused_runs} refused{passed}"
+            f"{checked}, {len(self.faults)} wrong"
+        )
+
+
+class Shim:
+    """What is loaded into a program to refuse its requests."""
+
+    def __init__(self, room: str) -> None:
+        self.library = f"{room}/refuse_memory.so"
+        self.told = Path(room) / "told"
+        source = str(TOOLS / "refuse_memory.c")
+        words = ["cc", "-O1", "-fno-builtin", "-shared", "-fPIC", source, "-o", self.library]
+        try:
+            subprocess.run(words, check=True)
+        except (OSError, subprocess.CalledProcessError) as fault:
+            raise ToolError(f"cannot build {source}: {fault}") from fault
+
+    def run(
+        self, case: Case, number: int, is_lasting: bool, prefix: tuple[str, ...] = ()
+    ) -> tuple[Ending, Optional[Counts]]:
+        """Runs a case with a request refused. There is no count where the run had no proper end."""
+        asked = {
+            "LD_PRELOAD": self.library,
+            "REFUSE_PROGRAM": case.words[0],
+            "REFUSE_REQUEST": str(number),
+            "REFUSE_BEHIND": str(int(is_lasting)),
+            "REFUSE_MARK": str(case.mark),
+            "REFUSE_TOLD": str(self.told),
+        }
+        self.told.unlink(missing_ok=True)
+        ending = run([*prefix, *case.words], case.input, {**os.environ, **asked})
+        if not self.told.exists():
+            return ending, None
+        return ending, Counts(*map(int, self.told.read_text().split()))
+
+
+def run(words: list[str], given: bytes, environment: dict[str, str]) -> Ending:
+    """Runs a program on an input."""
+    try:
+        done = subprocess.run(
+            words, input=given, env=environment, stdout=subprocess.PIPE, check=False
+        )
+    except OSError as fault:
+        raise ToolError(f"{words[0]} cannot be run: {fault.strerror}") from fault
+    return Ending(done.returncode, done.stdout)
+
+
+def result_of(shim: Shim, case: Case, sample: Sample) -> Result:
+    """Runs a case with one request after another refused."""
+    result = Result(case)
+    for number in sample.requests():
+        if not result.add(number, *shim.run(case, number, sample.is_lasting)):
+            break
+        if sample.valgrind and number > 0 and number % sample.valgrind == 0:
+            checked, _ = shim.run(case, number, sample.is_lasting, MEMORY_CHECK)
+            result.add_checked(number, checked)
+    return result
+
+
+def trial_cases(program: str) -> Iterator[Case]:
+    """The trials of a built program, by the lines that are stored of them."""
+    for line in STORED_LINES.read_text().splitlines(keepends=True):
+        name = line.partition(":")[0]
+        whole, refused = line.encode(), f"{name}: out of memory, right\n".encode()
+        yield Case(name, [program, name], b"", MARK, Ending(0, whole), Ending(0, refused))
+
+
+def script_case(program: str, script: str) -> Case:
+    """A run of protolink on a script."""
+    given = Path(script).read_bytes()
+    whole = run([program], given, dict(os.environ))
+    return Case(script, [program], given, 0, whole, Ending(OUT_OF_MEMORY, b""))
+
+
+def argument_parser() -> argparse.ArgumentParser:
+    """The arguments."""
+    parser = argparse.ArgumentParser(
+        description=__doc__, formatter_class=argparse.RawDescriptionHelpFormatter
+    )
+    parser.add_argument("what", choices=("trials", "script"))
+    parser.add_argument("program", metavar="PROGRAM", help="the built program")
+    parser.add_argument("script", nargs="?", metavar="SCRIPT", help="the script for protolink")
+    parser.add_argument("--first", type=int, default=2000, help="refuse each of the first so many")
+    parser.add_argument("--every", type=int, default=97, help="and each so many-th behind them")
+    parser.add_argument("--behind", action="store_true", help="refuse those behind a refusal too")
+    parser.add_argument("--valgrind", type=int, default=0, metavar="N", help="see above")
+    return parser
+
+
+def results(asked: argparse.Namespace) -> Iterator[Result]:
+    """What comes of each case that is asked for."""
+    if (asked.what == "script") != (asked.script is not None):
+        raise ToolError("a script is given for `script`, and for nothing else")
+    if asked.valgrind and shutil.which("valgrind") is None:
+        raise ToolError("there is no valgrind")
+    program = str(Path(asked.program).resolve())
+    sample = Sample(asked.first, max(asked.every, 1), asked.behind, asked.valgrind)
+    with tempfile.TemporaryDirectory() as room:
+        shim = Shim(room)
+        is_script = asked.what == "script"
+        for case in [script_case(program, asked.script)] if is_script else trial_cases(program):
+            yield result_of(shim, case, sample)
+
+
+def main() -> int:
+    """Tells what has come of each case, and answers the exit status."""
+    parser = argument_parser()
+    status = 0
+    try:
+        for result in results(parser.parse_args()):
+            print("\n  ".join([result.line(), *result.faults]), flush=True)
+            status = 1 if result.faults else status
+    except (ToolError, OSError) as fault:
+        print(f"{parser.prog}: {fault}", file=sys.stderr)
+        return 2
+    return status
+
+
+if __name__ == "__main__":
+    sys.exit(main())
