@@ -14,8 +14,7 @@ pub struct MessageDescriptorInner {
     pub parent: Option<u32>,
     /// The indexes of all extensions that extend it, in rising order.
     pub extensions: Items<u32>,
-    /// From the number of an extension that extends it to its index; of two with one number, to
-    /// that of the earlier one.
+    /// From the number of an extension that extends it to its index.
     pub extension_numbers: NumberMap,
     pub fields: Items<FieldDescriptorInner>,
     /// From the number of a field to its position, from 0; of two with one number, to that of the
