@@ -1,5 +1,5 @@
 -- What a session makes of a batch, by what linking it ended in.
-use Rattle.std.proofs.Common.{◌≡◌, ◌≢◌, ℕ, List, [], ◌∷◌, ◌++◌, IsOk, OnOk, Ok, Err, refl, ap, sym, subst, ◌∙◌}
+use Rattle.std.proofs.Common.{◌≡◌, ◌≢◌, ◌<◌, ◌+◌, ℕ, List, [], ◌∷◌, ◌++◌, length, IsOk, OnOk, OnErr, Ok, Err, refl, ap, sym, subst, inr, ◌∙◌}
 use Rattle.std.specs.declared.result.Result.{Result}
 use Rattle.record_walk.specs.declared.counts.Counts.{Counts}
 use Rattle.record_walk.specs.declared.counts.CountKind.{CountKind}
@@ -12,10 +12,10 @@ use Rattle.descriptor_pool.specs.Linking.{first_of_both}
 use Rattle.descriptor_pool.specs.Pool.{Batch, faults, faults_of_names, faults_of_references, counts_after}
 use Rattle.descriptor_pool.specs.Outcome.{IsLinked, IsRefused, Outcome}
 use Rattle.descriptor_pool.specs.declared.error.BuildError.{BuildError}
-use Rattle.descriptor_pool.specs.declared.error.BuildError.TheVariants.{Descriptor}
-use Rattle.script_answers.specs.Answers.{counts_line, refused_lines}
+use Rattle.descriptor_pool.specs.declared.error.BuildError.TheVariants.{Descriptor, TooMany}
+use Rattle.script_answers.specs.Answers.{counts_line, refused_lines, too_many_line}
 use Rattle.link_script.specs.Records.{Building}
-use Rattle.descriptor_linker.specs.Report.Session.{Session, write, accepted_or, linking, link_step}
+use Rattle.descriptor_linker.specs.Report.Session.{Session, FitsOrLacksRoom, write, accepted_or, linking, link_step}
 
 -- the session with a pool and an empty batch, where a text is told
 abbrev behind : Session → Contents × List ℕ → Session
@@ -72,3 +72,11 @@ pub on-refused : {U E : Type 0} (r : Result U E) (s : Session) (batch : Batch) (
 on-refused {U} r s batch emptied new why error fs told same none is outcome shown more =
     let refused : IsRefused s.pool batch error new = subst (λ e. Outcome {U = U} s.pool batch (Err e) new) is outcome in
     on-ok r (told-refused s batch emptied new error fs told same none refused shown) more
+
+-- the batch has too much of a kind, and the report no room to tell
+pub lacks-room : {U E : Type 0} (r : Result U E) (s : Session) (batch : Batch) (new : Contents) (error : BuildError) (kind : CountKind) (len room : ℕ)
+    → batch ≡ s.building.files → error ≡ TooMany kind → Outcome {U = Unit {0}} s.pool batch (Err error) new → OnErr r (room < len + length (too_many_line kind))
+    → OnErr r (FitsOrLacksRoom s len room)
+lacks-room (Ok u) s batch new error kind len room same is outcome full = tt
+lacks-room (Err e) s batch new error kind len room same is outcome full =
+    inr (kind, ap (counts_after s.pool) (sym same) ∙ (subst (λ e. Outcome {U = Unit {0}} s.pool batch (Err e) new) is outcome).first, full)

@@ -1,6 +1,6 @@
 //! What the commands of a script answer.
 
-ghost use Rattle.std.specs.Prelude.{◌≡◌, ◌++◌, IsOk, OnOk, map, string_bytes};
+ghost use Rattle.std.specs.Prelude.{◌≡◌, ◌<◌, ◌+◌, ◌++◌, IsOk, OnOk, OnErr, length, map, string_bytes, string_len, string_capacity};
 ghost use Rattle.std.specs.List.{find};
 ghost use Rattle.std.specs.Option.{option_copied};
 ghost use Rattle.std.specs.Str.{bytes_eq};
@@ -88,13 +88,18 @@ pub fn write_counts(report: &mut String, counts: Counts) -> Result<(), AllocErro
 /// Tells what there is too much of.
 ///
 /// # Errors
-/// `AllocError` where memory was refused.
+/// `AllocError` where memory was refused, and the report has no room for the line.
 pub fn write_too_many(report: &mut String, kind: CountKind) -> Result<(), AllocError>
-    ensures { OnOk result (string_bytes report.new ≡ string_bytes report.old
+    ensures line { OnOk result (string_bytes report.new ≡ string_bytes report.old
         ++ spec.too_many_line kind) }
+    ensures full { OnErr result (string_capacity report.old
+        < string_len report.old + length (spec.too_many_line kind)) }
 {
     let word = count_word(kind);
-    writeln!(report, "too many {word}")
+    report.reserve("too many ".len() + word.len() + 1)?;
+    report.push_str("too many ")?;
+    report.push_str(word)?;
+    report.push('\n')
 }
 
 /// Tells how many faults there are, and each on a line of its own.

@@ -1,5 +1,5 @@
 -- A script, statement by statement.
-use Rattle.std.specs.Prelude.{ℕ, List, [], ◌∷◌, ◌++◌}
+use Rattle.std.specs.Prelude.{◌≡◌, ◌<◌, ◌+◌, ◌⊎◌, ℕ, List, [], ◌∷◌, ◌++◌, length}
 use Rattle.std.specs.List.{fold}
 use Rattle.std.specs.Option.{option_map_or}
 use Rattle.std.specs.declared.result.Result.{Result}
@@ -12,7 +12,7 @@ use Rattle.link_script.specs.declared.script.statement.Script.{Script}
 use Rattle.link_script.specs.declared.script.statement.Statement.{Statement}
 use Rattle.link_script.specs.declared.script.statement.Statement.TheVariants as say
 use Rattle.reference_pass.specs.SecondPass.{Faults}
-use Rattle.descriptor_pool.specs.Pool.{Batch, faults, counts_after, link}
+use Rattle.descriptor_pool.specs.Pool.{Batch, Fits, faults, counts_after, link}
 use Rattle.link_script.specs.Records.{Building, built, nothing_built}
 use Rattle.script_answers.specs.Answers.{counts_line, refused_lines, too_many_line, walk_answer, refs_answer, fault_line}
 use Rattle.descriptor_linker.specs.Report.Answers.{ext_answer, find_answer, relink_answer}
@@ -46,6 +46,14 @@ abbrev pub link_step : Session → Session
 link_step s =
     let after = linking s.pool s.building.files (counts_after s.pool s.building.files) in
     record (write s after.1) { pool = after.0; building = record s.building { files = [] } }
+
+-- the files that are built fit the pool, or a report of a length has no room for the line that tells
+-- what there is too much of
+abbrev pub FitsOrLacksRoom : Session → ℕ → ℕ → Type 0
+FitsOrLacksRoom s len room =
+    Fits s.pool s.building.files
+    ⊎ ((kind : CountKind) × (counts_after s.pool s.building.files ≡ Err kind)
+    × (room < len + length (too_many_line kind)))
 
 -- the session after one more statement
 abbrev pub step : Session → Statement → Session

@@ -1,8 +1,8 @@
 //! A script, statement by statement.
 
-ghost use Rattle.std.specs.Prelude.{◌≡◌, OnOk};
+ghost use Rattle.std.specs.Prelude.{◌≡◌, OnOk, OnErr, string_len, string_capacity};
 ghost use Rattle.link_script.specs.declared.script.statement.Statement.TheVariants as say;
-ghost use Rattle.descriptor_linker.specs.Report.Session.{new_session, step};
+ghost use Rattle.descriptor_linker.specs.Report.Session.{new_session, step, FitsOrLacksRoom};
 
 use super::answers::{write_ext, write_found, write_refs, write_walk};
 use super::relink::write_relink;
@@ -56,8 +56,14 @@ impl Session {
     }
 
     /// Links the files that are built, and tells what has come of it.
+    ///
+    /// # Errors
+    /// `AllocError` where memory was refused. The files fit the pool then, or the report has no
+    /// room for the line that tells what there is too much of.
     fn link(&mut self) -> Result<(), AllocError>
-        ensures { OnOk result (session_in self.new ≡ step (session_in self.old) say.Link) }
+        ensures step { OnOk result (session_in self.new ≡ step (session_in self.old) say.Link) }
+        ensures refused { OnErr result (FitsOrLacksRoom (session_in self.old)
+            (string_len self.old.text) (string_capacity self.old.text)) }
     {
         match self.pool.build_files(self.builder.take_files()) {
             Ok(()) => write_counts(&mut self.text, self.pool.counts()),
