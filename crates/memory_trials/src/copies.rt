@@ -2,8 +2,6 @@
 use crate::batches::first_pool;
 use crate::scripts;
 use crate::told::{Told, mark};
-use crate::values::some_names;
-use name_tables::NameTable;
 use pool_types::MessageDescriptor;
 use std::alloc::{AllocError, Global};
 
@@ -48,17 +46,6 @@ pub(crate) fn item(alloc: Global) -> Result<Told, AllocError> {
     let closed = mark(alloc)?;
     let is_same = copy.as_ref().ok().is_none_or(|copy| *copy == *message);
     let is_right = is_same && pool == before;
-    Told::new(opened, closed, answer(copy.is_ok()), is_right)
-}
-
-/// A copy of a table of names.
-pub(crate) fn table(alloc: Global) -> Result<Told, AllocError> {
-    let (names, before) = (some_names(alloc)?, some_names(alloc)?);
-    let opened = mark(alloc)?;
-    let copy = names.clone();
-    let closed = mark(alloc)?;
-    let is_same = copy.as_ref().ok().is_none_or(|copy| copy.same(&names));
-    let is_right = is_same && names.same(&before);
     Told::new(opened, closed, answer(copy.is_ok()), is_right)
 }
 

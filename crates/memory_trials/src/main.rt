@@ -7,6 +7,7 @@
 
 mod batches;
 mod copies;
+mod names;
 mod scripts;
 mod told;
 mod values;
@@ -16,8 +17,23 @@ use std::{env, io};
 use told::Told;
 
 /// The names of all trials.
-const TRIALS: [&str; 11] = [
-    "accepted", "names", "types", "pool", "record", "item", "table", "insert", "resolve", "value",
+const TRIALS: [&str; 17] = [
+    "accepted",
+    "names",
+    "types",
+    "pool",
+    "record",
+    "item",
+    "table",
+    "tree",
+    "insert",
+    "grow",
+    "joined",
+    "descend",
+    "resolve",
+    "resolve_over_tree",
+    "resolve_in_parts",
+    "value",
     "escapes",
 ];
 
@@ -60,11 +76,27 @@ fn trial(alloc: Global, name: &str) -> Result<Option<Told>, AllocError> {
         "pool" => copies::pool(alloc)?,
         "record" => copies::record(alloc)?,
         "item" => copies::item(alloc)?,
-        "table" => copies::table(alloc)?,
-        "insert" => values::insert(alloc)?,
-        "resolve" => values::resolve(alloc)?,
         "value" => values::value(alloc)?,
         "escapes" => values::escapes(alloc)?,
+        _ => return trial_of_names(alloc, name),
+    };
+    Ok(Some(told))
+}
+
+/// The same of the trials over tables of names.
+fn trial_of_names(alloc: Global, name: &str) -> Result<Option<Told>, AllocError> {
+    let (hashed, same) = (names::hashed(alloc)?, names::hashed(alloc)?);
+    let (tree, alike) = (names::in_parts(alloc)?, names::in_parts(alloc)?);
+    let told = match name {
+        "table" => names::copy(alloc, &hashed, &same)?,
+        "tree" => names::copy(alloc, &tree, &alike)?,
+        "insert" => names::insert(alloc, hashed, &same, names::hashed(alloc)?)?,
+        "grow" => names::insert(alloc, tree, &alike, names::in_parts(alloc)?)?,
+        "joined" => names::joined(alloc, &hashed, &same)?,
+        "descend" => names::joined(alloc, &tree, &alike)?,
+        "resolve" => names::resolve(alloc, &hashed, &same)?,
+        "resolve_over_tree" => names::resolve(alloc, &tree, &alike)?,
+        "resolve_in_parts" => names::resolve_as_tree(alloc, &tree, &alike)?,
         _ => return Ok(None),
     };
     Ok(Some(told))

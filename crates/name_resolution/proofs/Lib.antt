@@ -8,5 +8,8 @@ pub mod ResolutionChecks
 pub mod Dots
 pub mod Fronts
 pub mod Outward
+pub mod Around
+pub mod Innermost
+pub mod Held
 pub mod Named
 pub mod Wanted

@@ -56,14 +56,18 @@ or_shadowed written full other = other
 abbrev pub has_dot : List ℕ → Bool
 has_dot name = list_any is_dot name
 
+-- under which files are seen and which kinds are wanted, a full name that has a definition
+abbrev pub judged : (ℕ → Bool) → ResolveNameFilter → List ℕ → Definition → Resolution
+judged is_seen filter x def =
+    if not (is_seen def.file) then not_imported x def.file
+    else (if not (is_match filter def.kind) then invalid_type x def filter
+    else found x def)
+
 -- under what names mean, which files are seen, and which kinds are wanted
 module _ (names : ByText Definition) (is_seen : ℕ → Bool) (filter : ResolveNameFilter) where
   -- a full name
   abbrev pub look : List ℕ → Resolution
-  look x = option_map_or (λ def.
-      if not (is_seen def.file) then not_imported x def.file
-      else (if not (is_match filter def.kind) then invalid_type x def filter
-      else found x def)) (finite.get names x) not_found
+  look x = option_map_or (judged is_seen filter x) (finite.get names x) not_found
 
   -- a name without a dot, in scopes from the innermost out
   abbrev pub simple : List (List ℕ) → List ℕ → Resolution

@@ -13,6 +13,7 @@ ghost use Rattle.name_resolution.specs.References.{reference_fault};
 
 use crate::filter::ResolveNameFilter;
 use crate::parents::CandidateParents;
+use crate::wants::Wanted;
 use name_tables::NameTable;
 use plain_data::Text;
 use pool_faults::{DescriptorErrorKind, Label, Labels};
@@ -133,7 +134,7 @@ fn resolve_dotted<'a, N: NameTable>(
 }
 
 /// The text before the first dot of a name, or the whole name.
-fn first_part(name: &str) -> &str
+pub(crate) fn first_part(name: &str) -> &str
     ensures { result.now ≡ first_part name.now }
 {
     match name.split_once('.') {
@@ -166,16 +167,7 @@ fn look_up<'a, N: NameTable>(
         return Ok(ResolveNameResult::NotFound);
     };
     let name = Text::from_str(alloc, full_name)?;
-    if !visible.contains(&def.file) {
-        Ok(ResolveNameResult::NotImported {
-            name,
-            file: def.file,
-        })
-    } else if !filter.is_match(&def.kind) {
-        Ok(ResolveNameResult::InvalidType { name, def, filter })
-    } else {
-        Ok(ResolveNameResult::Found { name, def })
-    }
+    Ok(Wanted { visible, filter }.judge(name, def))
 }
 
 impl<'a> ResolveNameResult<'a> {

@@ -1,4 +1,17 @@
+pub mod Counterparts
 pub mod Earlier
 pub mod Entries
+pub mod Forgotten
+pub mod NameParts
 pub mod Names
+pub mod Noted
+pub mod Relinks
+pub mod Scoped
+pub mod Shown
+pub mod Siblings
 pub mod Texts
+pub mod Tree
+pub mod TreeChanges
+pub mod TreeNames
+pub mod Weaving
+pub mod Woven

@@ -3,6 +3,7 @@ ghost use Rattle.std.specs.FinMap as map;
 
 use crate::name_table::NameTable;
 use pool_types::Definition;
+use proto_types::join;
 use std::alloc::{AllocError, Global};
 use std::collections::HashMap;
 use std::marker::Model;
@@ -46,6 +47,16 @@ impl NameTable for HashedNames {
 
     fn get(&self, name: &str) -> Option<&Definition> {
         self.table.get(name)
+    }
+
+    fn get_joined(
+        &self,
+        alloc: Global,
+        scope: &str,
+        name: &str,
+    ) -> Result<Option<&Definition>, AllocError> {
+        let full_name = join(alloc, scope, name)?;
+        Ok(self.get(full_name.as_str()))
     }
 
     fn insert(&mut self, name: &str, definition: Definition) -> Result<(), AllocError> {

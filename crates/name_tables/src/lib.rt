@@ -2,12 +2,19 @@
 //! later files are taken away.
 #![tactic(auto)]
 
+mod branches;
 mod file_names;
 mod hashed_names;
 mod laws;
 mod name_table;
+mod part_names;
+mod parts;
+mod scope;
 
 pub use file_names::FileNames;
 pub use hashed_names::HashedNames;
 pub use laws::{earlier_names_stay, later_name_goes, names_are_first};
 pub use name_table::NameTable;
+pub use part_names::PartNames;
+pub use parts::Parts;
+pub use scope::Scope;

@@ -4,9 +4,10 @@ ghost use Rattle.std.specs.FinMap as map;
 ghost use Rattle.pool_types.specs.Contents.{ByText};
 ghost use Rattle.pool_types.specs.declared.contents.definition.Definition.{Definition};
 ghost use Rattle.name_tables.specs.NameTables.{without_files_from};
+ghost use Rattle.proto_types.specs.Names.{join};
 
 use pool_types::Definition;
-use std::alloc::AllocError;
+use std::alloc::{AllocError, Global};
 
 /// What each name means, as a finite map from texts.
 ///
@@ -18,6 +19,19 @@ pub trait NameTable: Drop {
     /// What the name means, or none where the table lacks it.
     fn get(&self, name: &str) -> Option<&Definition>
         ensures { option_copied result ≡ map.get (names self.now) name.now };
+
+    /// What a name inside a scope means, or none where the table lacks it.
+    ///
+    /// # Errors
+    /// `AllocError` where memory was refused.
+    fn get_joined(
+        &self,
+        alloc: Global,
+        scope: &str,
+        name: &str,
+    ) -> Result<Option<&Definition>, AllocError>
+        ensures { IfOk result (λ found. option_copied found
+            ≡ map.get (names self.now) (join scope.now name.now)) };
 
     /// Adds a name that the table lacks.
     ///

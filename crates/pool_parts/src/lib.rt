@@ -5,9 +5,9 @@
 pub use default_values::{EscapeFault, ValueFault, parse_simple_value, unescape_c_escape_string};
 pub use name_resolution::{
     CandidateParents, ResolveNameFilter, ResolveNameResult, cardinality_of, named_kind,
-    parents_count, resolve_name, simple_kind, visible_from,
+    parents_count, resolve_in_parts, resolve_name, simple_kind, visible_from,
 };
-pub use name_tables::{FileNames, HashedNames, NameTable};
+pub use name_tables::{FileNames, HashedNames, NameTable, PartNames, Parts, Scope};
 pub use plain_data::{Items, NumberMap, Text, TextMap};
 pub use pool_faults::{DescriptorError, DescriptorErrorKind, Label, Labelled, label_at};
 pub use pool_types::{

@@ -16,6 +16,7 @@ mod order;
 mod parts;
 mod places;
 mod rules;
+mod trees;
 mod values;
 
 use proto_types::FileDescriptorProto;

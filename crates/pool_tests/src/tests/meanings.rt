@@ -144,7 +144,7 @@ const REFERENCES: &[(&[u32], &str, &str, &str)] = &[
 ];
 
 /// What a reference means.
-fn meaning(alloc: Global, resolved: &ResolveNameResult) -> Result<String, AllocError> {
+pub(super) fn meaning(alloc: Global, resolved: &ResolveNameResult) -> Result<String, AllocError> {
     match resolved {
         ResolveNameResult::Found { name, .. } => {
             let name = name.as_str();

@@ -1,0 +1,216 @@
+//! Odd names in both tables of names, and references that are resolved over both.
+
+use super::meanings::meaning;
+use name_resolution::{ResolveNameFilter, ResolveNameResult, resolve_in_parts, resolve_name};
+use name_tables::{HashedNames, NameTable, PartNames};
+use plain_data::Items;
+use pool_types::{Definition, DefinitionKind};
+use std::alloc::{AllocError, Global};
+use std::collections::BTreeSet;
+use std::process::Abort;
+use std::test::Fail;
+
+/// Names whose parts may be empty, entered by the files 0, 1, and so on.
+const ODD: [&str; 5] = ["a", "a.b", "a..b", "a.", ""];
+
+/// Names that are not among them.
+const ABSENT: [&str; 4] = [".", "a..", "b", "a.b."];
+
+fn message_of(alloc: Global, file: u32) -> Definition {
+    Definition {
+        file,
+        path: Items::new(alloc),
+        kind: DefinitionKind::Message(0),
+    }
+}
+
+/// Enters names by the files 0, 1, and so on, unless the table has them.
+fn enter<N: NameTable>(alloc: Global, table: &mut N, names: &[&str]) -> Result<(), AllocError> {
+    let mut file = 0;
+    for name in names {
+        if table.get(name).is_none() {
+            table.insert(name, message_of(alloc, file))?;
+        }
+        file = 1u32.saturating_add(file);
+    }
+    Ok(())
+}
+
+/// The file of what a name means.
+fn file_of<N: NameTable>(table: &N, name: &str) -> Option<u32> {
+    Some(table.get(name)?.file)
+}
+
+fn check_odd_names<N: NameTable>(
+    rt: &impl Abort,
+    alloc: Global,
+    table: &mut N,
+    two: &mut N,
+) -> Result<(), AllocError> {
+    enter(alloc, table, &ODD)?;
+    for (file, name) in ODD.iter().enumerate() {
+        assert!(rt;
+            file_of(table, name).is_some_and(|found| found as usize == file),
+            "{name}"
+        );
+    }
+    for name in ABSENT {
+        assert!(rt; table.get(name).is_none(), "{name}");
+    }
+    table.remove_from(2);
+    for (file, name) in ODD.iter().enumerate() {
+        assert!(rt; file_of(table, name).is_some() == (file < 2), "{name}");
+    }
+    enter(alloc, two, &["a", "a.b"])?;
+    assert!(rt; table.same(two));
+    Ok(())
+}
+
+#[test]
+fn odd_names_are_told_apart(rt: HostRuntime) -> Result<(), Fail> {
+    let (mut hashed, mut two) = (HashedNames::new(rt.alloc()), HashedNames::new(rt.alloc()));
+    check_odd_names(&rt, rt.alloc(), &mut hashed, &mut two)?;
+    let (mut tree, mut two) = (PartNames::new(rt.alloc()), PartNames::new(rt.alloc()));
+    check_odd_names(&rt, rt.alloc(), &mut tree, &mut two)?;
+    Ok(())
+}
+
+/// Names behind the odd ones.
+const MORE: [&str; 8] = ["a", "a.b", "a..b", "a.", "", ".x", "..y", "x"];
+
+/// A scope, a name, and the file of the name inside the scope.
+const JOINED: &[(&str, &str, Option<u32>)] = &[
+    ("", "a", Some(0)),
+    ("a", "b", Some(1)),
+    ("a.", "b", Some(2)),
+    ("a", ".b", Some(2)),
+    ("a", "", Some(3)),
+    ("", "", Some(4)),
+    ("", ".x", Some(5)),
+    (".", "y", Some(6)),
+    ("", "..y", Some(6)),
+    ("", "x", Some(7)),
+    (".", "x", None),
+    ("a.b", "", None),
+    ("b", "a", None),
+    ("a.b.", "b", None),
+];
+
+fn check_joined<N: NameTable>(
+    rt: &impl Abort,
+    alloc: Global,
+    table: &mut N,
+) -> Result<(), AllocError> {
+    enter(alloc, table, &MORE)?;
+    for (scope, name, wanted) in JOINED {
+        let found = table.get_joined(alloc, scope, name)?;
+        assert!(rt;
+            found.map(|definition| definition.file) == *wanted,
+            "{scope} {name}"
+        );
+    }
+    Ok(())
+}
+
+#[test]
+fn names_are_found_inside_scopes(rt: HostRuntime) -> Result<(), Fail> {
+    check_joined(&rt, rt.alloc(), &mut HashedNames::new(rt.alloc()))?;
+    let mut tree = PartNames::new(rt.alloc());
+    check_joined(&rt, rt.alloc(), &mut tree)?;
+    for (scope, name, wanted) in JOINED {
+        let found = tree.find_joined(scope, name);
+        assert!(rt;
+            found.map(|definition| definition.file) == *wanted,
+            "{scope} {name}"
+        );
+    }
+    Ok(())
+}
+
+/// A name of many parts.
+fn deep_name(alloc: Global, parts: u32) -> Result<String, AllocError> {
+    let mut name = String::from_str(alloc, "a")?;
+    for _ in 1..parts {
+        name.push_str(".a")?;
+    }
+    Ok(name)
+}
+
+#[test]
+fn names_may_have_many_parts(rt: HostRuntime) -> Result<(), Fail> {
+    for parts in [64, 10_000] {
+        let mut table = PartNames::new(rt.alloc());
+        let (name, longer) = (
+            deep_name(rt.alloc(), parts)?,
+            deep_name(rt.alloc(), 1u32.saturating_add(parts))?,
+        );
+        enter(rt.alloc(), &mut table, &[name.as_str(), longer.as_str()])?;
+        assert!(rt; file_of(&table, name.as_str()) == Some(0));
+        assert!(rt; file_of(&table, longer.as_str()) == Some(1));
+        assert!(rt; table.get("a").is_none());
+        let copy = table.clone()?;
+        assert!(rt; copy.same(&table));
+        table.remove_from(0);
+        assert!(rt; table.same(&PartNames::new(rt.alloc())));
+    }
+    Ok(())
+}
+
+/// Names of messages in files that are seen, a scope, a reference that is written there, and what
+/// it means.
+const MEANINGS: &[(&[&str], &str, &str, &str)] = &[
+    (&[".x"], ".a", "x", "not found"),
+    (&[".x"], ".a", "..x", "found .x"),
+    (&[".x", "x"], ".a", "x", "found x"),
+    (&["p", "p.M", "p.M.N"], "p.M.f", "N", "found p.M.N"),
+    (&["p", "p.M", "p.M.N"], "p.M.f", "M.N", "found p.M.N"),
+    (&["p", "p.M", "p.M.N"], "p.q.r.s", "M", "found p.M"),
+    (&["p", "p.M"], "", "p.M", "found p.M"),
+    (
+        &["foo", "foo.Bar", "p", "p.foo"],
+        "p.M.f",
+        "foo.Bar",
+        "shadowed foo.Bar p.foo.Bar",
+    ),
+    (
+        &["foo", "foo.Bar", "p", "p.foo"],
+        "p.M.f",
+        ".foo.Bar",
+        "found foo.Bar",
+    ),
+    (&["p"], "p.q", "r", "not found"),
+    (&["p"], "p.q", "r.s", "not found"),
+];
+
+fn check_meaning(
+    rt: &impl Abort,
+    alloc: Global,
+    resolved: &ResolveNameResult,
+    wanted: &str,
+) -> Result<(), AllocError> {
+    let told = meaning(alloc, resolved)?;
+    assert!(rt; told.as_str() == wanted, "{told} for {wanted}");
+    Ok(())
+}
+
+#[test]
+fn references_mean_the_same_over_both_tables(rt: HostRuntime) -> Result<(), Fail> {
+    let alloc = rt.alloc();
+    let mut visible = BTreeSet::new(alloc);
+    for file in 0..4 {
+        visible.insert(file)?;
+    }
+    let filter = ResolveNameFilter::FieldType;
+    for (names, scope, name, wanted) in MEANINGS {
+        let (mut hashed, mut tree) = (HashedNames::new(alloc), PartNames::new(alloc));
+        enter(alloc, &mut hashed, names)?;
+        enter(alloc, &mut tree, names)?;
+        let resolved = resolve_name(alloc, &visible, &hashed, scope, name, filter)?;
+        check_meaning(&rt, alloc, &resolved, wanted)?;
+        let resolved = resolve_name(alloc, &visible, &tree, scope, name, filter)?;
+        check_meaning(&rt, alloc, &resolved, wanted)?;
+        let resolved = resolve_in_parts(alloc, &visible, &tree, scope, name, filter)?;
+        check_meaning(&rt, alloc, &resolved, wanted)?;
+    }
+    Ok(())
+}
