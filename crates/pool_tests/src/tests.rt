@@ -16,6 +16,7 @@ mod order;
 mod parts;
 mod places;
 mod rules;
+mod seen;
 mod trees;
 mod values;
 

@@ -5,6 +5,7 @@ use name_resolution::{ResolveNameFilter, cardinality_of, named_kind, simple_kind
 use pool_types::{Cardinality, DefinitionKind, EnumDescriptor, Kind, KindIndex, MessageDescriptor};
 use proto_types::{FieldLabel, FieldType};
 use std::cmp::Ordering;
+use std::hash::{BuildHasher, BuildHasherDefault, DefaultHasher};
 use std::test::Fail;
 
 /// A number, and whether a field may have it.
@@ -228,5 +229,15 @@ fn cardinalities_are_ordered(rt: HostRuntime) {
         assert!(rt; first.cmp(second) == *ordering, "{first:?} {second:?}");
         let is_less = *ordering == Ordering::Less;
         assert!(rt; (first < second) == is_less, "{first:?} {second:?}");
+    }
+}
+
+#[test]
+fn cardinalities_hash_alike_where_they_are_equal(rt: HostRuntime) {
+    let hashes: BuildHasherDefault<DefaultHasher> = BuildHasherDefault::default();
+    for (first, second, ordering) in ORDERED {
+        let is_alike = hashes.hash_one(*first) == hashes.hash_one(*second);
+        let is_equal = *ordering == Ordering::Equal;
+        assert!(rt; is_alike == is_equal, "{first:?} {second:?}");
     }
 }

@@ -43,12 +43,12 @@ fn names(alloc: Global) -> Result<HashedNames, AllocError> {
 }
 
 /// The files of which labels are made.
-fn linked(alloc: Global) -> Result<Vec<FileDescriptorInner>, AllocError> {
+const LABELLED: &str = "file a.proto\nend\nfile b.proto\nmessage M\nend\nend\n";
+
+/// The files that a script declares, as a pool has them that has not looked at their imports.
+pub(super) fn linked(alloc: Global, script: &str) -> Result<Vec<FileDescriptorInner>, AllocError> {
     let mut linked = Vec::new(alloc);
-    for raw in files_of(
-        alloc,
-        "file a.proto\nend\nfile b.proto\nmessage M\nend\nend\n",
-    )? {
+    for raw in files_of(alloc, script)? {
         linked.push(FileDescriptorInner {
             syntax: Syntax::Proto2,
             raw,
@@ -106,7 +106,7 @@ fn check_labels(
 
 #[test]
 fn labels_name_their_file(rt: HostRuntime) -> Result<(), Fail> {
-    check_labels(&rt, rt.alloc(), &linked(rt.alloc())?)?;
+    check_labels(&rt, rt.alloc(), &linked(rt.alloc(), LABELLED)?)?;
     Ok(())
 }
 
@@ -217,7 +217,7 @@ fn check_reference(
 
 #[test]
 fn references_mean_what_their_scope_says(rt: HostRuntime) -> Result<(), Fail> {
-    let (names, linked) = (names(rt.alloc())?, linked(rt.alloc())?);
+    let (names, linked) = (names(rt.alloc())?, linked(rt.alloc(), LABELLED)?);
     for row in REFERENCES {
         check_reference(&rt, rt.alloc(), row, &names, &linked)?;
     }

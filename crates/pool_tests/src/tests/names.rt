@@ -55,7 +55,7 @@ fn names_of_later_files_go(rt: HostRuntime) -> Result<(), Fail> {
 }
 
 /// Names a file where no file has the name, and tells whether it did.
-fn name_file(names: &mut FileNames, name: &str, file: u32) -> Result<bool, AllocError> {
+pub(super) fn name_file(names: &mut FileNames, name: &str, file: u32) -> Result<bool, AllocError> {
     if names.get(name).is_some() {
         return Ok(false);
     }
