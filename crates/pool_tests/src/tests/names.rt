@@ -71,7 +71,10 @@ fn names_of_files_go_with_them(rt: HostRuntime) -> Result<(), Fail> {
     assert!(rt; !name_file(&mut names, "a.proto", 2)?);
     assert!(rt; names.get("a.proto") == Some(0));
     assert!(rt; names.get("") == Some(1));
+    let copy = names.clone()?;
+    assert!(rt; copy.same(&names));
     names.remove_from(1);
+    assert!(rt; !copy.same(&names));
     assert!(rt; names.get("a.proto") == Some(0));
     assert!(rt; names.get("").is_none());
     Ok(())

@@ -2,11 +2,12 @@
 
 use super::meanings::meaning;
 use name_resolution::{ResolveNameFilter, ResolveNameResult, resolve_in_parts, resolve_name};
-use name_tables::{HashedNames, NameTable, PartNames};
+use name_tables::{HashedNames, NameTable, PartNames, Parts};
 use plain_data::Items;
 use pool_types::{Definition, DefinitionKind};
 use std::alloc::{AllocError, Global};
 use std::collections::BTreeSet;
+use std::fmt::Write;
 use std::process::Abort;
 use std::test::Fail;
 
@@ -124,6 +125,43 @@ fn names_are_found_inside_scopes(rt: HostRuntime) -> Result<(), Fail> {
             "{scope} {name}"
         );
     }
+    Ok(())
+}
+
+/// The parts of a name, each behind a stroke.
+fn parts_of(alloc: Global, name: &str) -> Result<String, AllocError> {
+    let mut told = String::new(alloc);
+    for part in Parts::new(name) {
+        write!(&mut told, "|{part}")?;
+    }
+    Ok(told)
+}
+
+#[test]
+fn parts_stand_between_dots(rt: HostRuntime) -> Result<(), Fail> {
+    for (name, wanted) in [("", "|"), ("a", "|a"), ("a..b.", "|a||b|"), (".", "||")] {
+        let told = parts_of(rt.alloc(), name)?;
+        assert!(rt; told.as_str() == wanted, "{told}");
+    }
+    Ok(())
+}
+
+#[test]
+fn scopes_stand_around_one_another(rt: HostRuntime) -> Result<(), Fail> {
+    let mut table = PartNames::new(rt.alloc());
+    enter(rt.alloc(), &mut table, &["p", "p.M", ".x"])?;
+    let scope = table.scope("p.M");
+    assert!(rt; scope.text() == "p.M" && scope.find("x").is_none());
+    let scope = scope.around().expect(&rt, "p is around p.M");
+    assert!(rt; scope.text() == "p" && scope.find("M").is_some());
+    let scope = scope.around().expect(&rt, "the empty scope is around p");
+    assert!(rt; scope.text().is_empty() && scope.find(".x").is_some());
+    assert!(rt; scope.find("x").is_none() && scope.around().is_none());
+    let scope = table
+        .scope(".a")
+        .around()
+        .expect(&rt, "the empty scope is around .a");
+    assert!(rt; scope.text().is_empty() && scope.find("p").is_some());
     Ok(())
 }
 
