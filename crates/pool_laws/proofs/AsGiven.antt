@@ -13,7 +13,7 @@ use Rattle.record_walk.specs.Shown.{Shown}
 use Rattle.name_resolution.specs.declared.filter.ResolveNameFilter.TheVariants.{FieldType as AnyType, Message}
 use Rattle.name_resolution.specs.Kinds.{named_kind, simple_kind}
 use Rattle.name_resolution.specs.References.{reference_fault}
-use Rattle.name_resolution.specs.Resolution.{Resolution, found, invalid_type, not_imported, shadowed, not_found, kind_found}
+use Rattle.name_resolution.specs.Resolution.{Resolution, found, kind_found}
 use Rattle.field_rules.specs.Defaults.{DefaultEnum, default_faults}
 use Rattle.reference_pass.specs.Defaults.{default_by, enum_found, field_default, field_default_faults, no_enum_meant, type_enum}
 use Rattle.reference_pass.specs.Definitions.{message_record}
@@ -24,26 +24,18 @@ use Rattle.reference_pass.specs.Messages.{message_found, resolve_message}
 use Rattle.reference_pass.specs.Setting.{Setting}
 use Rattle.pool_laws.specs.SettingLaws.{IsDefaulted, IsMessageName, IsTyped, Stands, unchanged}
 use Rattle.pool_laws.proofs.Carries.{Carries, CarriesMethods, NamedThere}
-use Rattle.pool_laws.proofs.Defaulted.{no-default-fault}
 use Rattle.pool_laws.proofs.Numbered.{numbered-by}
 use Rattle.pool_laws.proofs.Typed.{no-fault}
+use Rattle.pool_laws.proofs.Defaulted.{default-alone}
+use Rattle.pool_laws.proofs.MessageNames.{named-there}
 
 module _ {s t : Setting} {many : ℕ} (stands : Stands s t many) where
   -- the name of a message
   module _ (d : Shown) (below : d.file < many) (path : List ℤ) (given : Option (List ℕ)) where
     found-named : (r : Resolution) → resolve_message s d given ≡ r → listed (reference_fault s.files (text_of given) d.file path r) ≡ []
         → IsMessageName t d path (message_found r) (resolved r given) given
-    found-named (found name def) is none =
-        let now = (stands.references d.file below d.full_name (text_of given) Message name def is).meaning_is in
-        record {
-          faults = ap (λ r. listed (reference_fault t.files (text_of given) d.file path r)) now;
-          index_is = ap message_found now;
-          linked_is = ap (λ r. resolved r given) now;
-        }
-    found-named (invalid_type name def filter) is none = absurd (cc)
-    found-named (not_imported name other) is none = absurd (cc)
-    found-named (shadowed name other) is none = absurd (cc)
-    found-named not_found is none = absurd (cc)
+    found-named (found name def) is none = named-there t d path given name def (stands.references d.file below d.full_name (text_of given) Message name def is).meaning_is
+    found-named _ is none = absurd (cc)
 
     named : NamedThere s t d path given given
     named = found-named (resolve_message s d given) refl
@@ -56,10 +48,7 @@ module _ {s t : Setting} {many : ℕ} (stands : Stands s t many) where
     numbered (found name def) is named none =
         let there = stands.references d.file below d.full_name (text_of x.extendee) Message name def is in
         ap (number_faults t d y) there.meaning_is ∙ numbered-by s t d d x y number name name def def (message_record s def) (message_record t def) there.ranges none
-    numbered (invalid_type name def filter) is named none = absurd (cc)
-    numbered (not_imported name other) is named none = absurd (cc)
-    numbered (shadowed name other) is named none = absurd (cc)
-    numbered not_found is named none = absurd (cc)
+    numbered _ is named none = absurd (cc)
 
   -- the type of a field, and its default value
   module _ (d : Shown) (below : d.file < many) (f : FieldDescriptorProto) where
@@ -80,10 +69,7 @@ module _ {s t : Setting} {many : ℕ} (stands : Stands s t many) where
           meaning_is = there.meaning_is;
           enum_is = ap (enum_found t) there.meaning_is ∙ (λ i. record { full_name = name; values = option_map_or (λ x. x.value) (there.enum_is i) [] });
         }
-    meant (invalid_type name def filter) is none = absurd (cc)
-    meant (not_imported name other) is none = absurd (cc)
-    meant (shadowed name other) is none = absurd (cc)
-    meant not_found is none = absurd (cc)
+    meant _ is none = absurd (cc)
 
     -- all that is read by the type name
     record Same (name : List ℕ) : Type 0 where
@@ -134,7 +120,7 @@ module _ {s t : Setting} {many : ℕ} (stands : Stands s t many) where
         let enum : type_enum t d f ≡ type_enum s d f = same.enum_is in
         record {
           faults = (λ i. option_map_or (λ k. default_faults t.files d.file d.path k (enum i) f.default_value) (kind i) [])
-              ∙ no-default-fault s.files t.files d.file d.file d.path (type_enum s d f) (field_kind s d f) f.default_value none;
+              ∙ default-alone s.files t.files d.file d.file d.path (type_enum s d f) (field_kind s d f) (field_kind s d f) f.default_value refl none;
           value_is = λ i. default_by (kind i) (enum i) f.default_value;
         }
 

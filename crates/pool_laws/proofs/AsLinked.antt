@@ -7,7 +7,7 @@ use Rattle.proto_types.specs.Readers.{text_of}
 use Rattle.record_walk.specs.Shown.{Shown}
 use Rattle.name_resolution.specs.declared.filter.ResolveNameFilter.TheVariants.{Message}
 use Rattle.name_resolution.specs.References.{reference_fault}
-use Rattle.name_resolution.specs.Resolution.{Resolution, found, invalid_type, not_imported, shadowed, not_found}
+use Rattle.name_resolution.specs.Resolution.{Resolution, found}
 use Rattle.reference_pass.specs.Definitions.{message_record}
 use Rattle.reference_pass.specs.Extensions.{number_faults}
 use Rattle.reference_pass.specs.Linked.{linking, resolved}
@@ -39,10 +39,7 @@ module _ (s t : Setting) (again : Rereads s t) where
         let got = looked-named s.names (seen s d.file) Message name name def now.0 in
         ap (number_faults t d y) (found-again s t again.grows d.file d.full_name d.full_name (text_of x.extendee) Message name def below is)
         ∙ numbered-by s t d d x y number name name def def (message_record s def) (message_record t def) (again.ranges name def got) none
-    numbered (invalid_type name def filter) is named none = absurd (cc)
-    numbered (not_imported name other) is named none = absurd (cc)
-    numbered (shadowed name other) is named none = absurd (cc)
-    numbered not_found is named none = absurd (cc)
+    numbered _ is named none = absurd (cc)
 
   pub linked-carried : Carries s t (linking s) (length s.files)
   linked-carried = record {

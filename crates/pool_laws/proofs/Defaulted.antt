@@ -1,6 +1,6 @@
 -- A field that was linked, read once more: its default value is what it was, and breaks nothing.
-use Rattle.std.proofs.Common.{◌≡◌, ◌<◌, ℕ, ℤ, Option, None, Some, not, is_none, is_some, List, [], ◌∷◌, ◌++◌, length, refl, ap, subst, ◌∙◌}
-use Rattle.std.specs.Option.{option_map_or}
+use Rattle.std.proofs.Common.{◌≡◌, ◌<◌, ℕ, ℤ, Option, None, Some, not, is_none, is_some, List, [], ◌∷◌, ◌++◌, length, refl, ap, subst, ◌∙◌, sym}
+use Rattle.std.specs.Option.{option_map_or, option_map}
 use Rattle.proto_types.specs.declared.records.field.FieldDescriptorProto.{FieldDescriptorProto}
 use Rattle.proto_types.specs.declared.tag.field.TheConstants as field
 use Rattle.plain_data.specs.Lists.{listed, only_if}
@@ -14,7 +14,7 @@ use Rattle.record_walk.specs.Shown.{Shown}
 use Rattle.name_resolution.specs.declared.filter.ResolveNameFilter.TheVariants.{FieldType as AnyType}
 use Rattle.name_resolution.specs.Kinds.{simple_kind}
 use Rattle.name_resolution.specs.References.{reference_fault}
-use Rattle.name_resolution.specs.Resolution.{Resolution, found, invalid_type, not_imported, shadowed, not_found}
+use Rattle.name_resolution.specs.Resolution.{Resolution, found}
 use Rattle.field_rules.specs.Defaults.{DefaultEnum, default_fault, default_faults, value_of}
 use Rattle.reference_pass.specs.Defaults.{default_by, enum_found, field_default, field_default_faults, no_enum_meant, type_enum}
 use Rattle.reference_pass.specs.FieldTypes.{field_kind, type_faults, resolve_type}
@@ -23,14 +23,31 @@ use Rattle.reference_pass.specs.Setting.{Setting}
 use Rattle.pool_laws.specs.SettingLaws.{EnumsStay, Grows, IsDefaulted}
 use Rattle.pool_laws.proofs.Looked.{IsLooked, looked-named, resolution-looked}
 use Rattle.pool_laws.proofs.Typed.{found-again, no-fault, seen, typed-again}
+use Rattle.pool_types.specs.declared.kinds.KindIndex.TheVariants as index
 
--- a default that breaks nothing breaks nothing in another file
-pub no-default-fault : (fs gs : List FileDescriptorProto) (file other : ℕ) (path : List ℤ) (meant : DefaultEnum) (kind : Option KindIndex) (given : Option (List ℕ))
-    → option_map_or (λ k. default_faults fs file path k meant given) kind [] ≡ [] → option_map_or (λ k. default_faults gs other path k meant given) kind [] ≡ []
-no-default-fault fs gs file other path meant None given none = refl
-no-default-fault fs gs file other path meant (Some k) None none = refl
-no-default-fault fs gs file other path meant (Some k) (Some text) none =
-    no-fault (is_none (value_of k meant.values text)) (default_fault fs file path k meant text) (default_fault gs other path k meant text) none
+-- a kind of types without its number
+abbrev pub index_alone : KindIndex → KindIndex
+index_alone (index.Message _) = index.Message 0
+index_alone (index.Enum _) = index.Enum 0
+index_alone (index.Group _) = index.Group 0
+index_alone kind = kind
+
+-- a text writes the same value of it
+value-alone : (k : KindIndex) (meant : DefaultEnum) (text : List ℕ) → value_of (index_alone k) meant.values text ≡ value_of k meant.values text
+value-alone index.Double meant text = refl
+value-alone _ meant text = refl
+
+-- a default that breaks nothing breaks nothing where the number of its type is another
+pub default-alone : (fs gs : List FileDescriptorProto) (file other : ℕ) (path : List ℤ) (meant : DefaultEnum) (kind new : Option KindIndex) (given : Option (List ℕ))
+    → option_map index_alone new ≡ option_map index_alone kind
+    → option_map_or (λ k. default_faults fs file path k meant given) kind [] ≡ [] → option_map_or (λ k. default_faults gs other path k meant given) new [] ≡ []
+default-alone fs gs file other path meant None None given same none = refl
+default-alone fs gs file other path meant (Some k) (Some n) None same none = refl
+default-alone fs gs file other path meant (Some k) (Some n) (Some text) same none =
+    let kinds : index_alone n ≡ index_alone k = cc in
+    let value = sym (value-alone n meant text) ∙ ap (λ x. value_of x meant.values text) kinds ∙ value-alone k meant text in
+    ap (λ o. only_if (is_none o) (default_fault gs other path n meant text)) value ∙ no-fault (is_none (value_of k meant.values text)) _ _ none
+default-alone fs gs file other path meant _ _ given same none = absurd (cc)
 
 -- linking leaves the text of a default
 given-kept : (r : Resolution) (f : FieldDescriptorProto) (name : List ℕ) → let g : FieldDescriptorProto = elim name [ [] ↦ f | _ ∷ _ ↦ typed r f ] in g.default_value ≡ f.default_value
@@ -48,10 +65,7 @@ module _ (s t : Setting) (grows : Grows s t) (stay : EnumsStay s t) (d : Shown) 
       let again = found-again s t grows d.file d.full_name d.full_name (text_of f.type_name) AnyType name def below is in
       let record_is = stay name def (looked-named s.names (seen s d.file) AnyType name name def now.0) in
       ap (enum_found t) again ∙ (λ i. record { full_name = name; values = option_map_or (λ x. x.value) (record_is i) [] })
-  found-meant f (invalid_type name def filter) is none = absurd (cc)
-  found-meant f (not_imported name other) is none = absurd (cc)
-  found-meant f (shadowed name other) is none = absurd (cc)
-  found-meant f not_found is none = absurd (cc)
+  found-meant f _ is none = absurd (cc)
 
   meant-by-name : (f : FieldDescriptorProto) (name : List ℕ) → text_of f.type_name ≡ name
       → let faults : List DescriptorErrorKind = elim name [
@@ -70,6 +84,6 @@ module _ (s t : Setting) (grows : Grows s t) (stay : EnumsStay s t) (d : Shown) 
       let given = given-kept (resolve_type s d f) f (text_of f.type_name) in
       record {
         faults = (λ i. option_map_or (λ k. default_faults t.files d.file d.path k (meant i) (given i)) (kind i) [])
-            ∙ no-default-fault s.files t.files d.file d.file d.path (type_enum s d f) (field_kind s d f) f.default_value none;
+            ∙ default-alone s.files t.files d.file d.file d.path (type_enum s d f) (field_kind s d f) (field_kind s d f) f.default_value refl none;
         value_is = λ i. default_by (kind i) (meant i) (given i);
       }

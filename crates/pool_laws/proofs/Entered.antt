@@ -21,10 +21,10 @@ use Rattle.record_walk.specs.Declarations.{enum_walk, enums_walk, file_walk, in_
 use Rattle.record_walk.specs.Protos.{Proto, of_enum, of_extension, of_field, of_message, of_method, of_oneof, of_service, of_value, name_of}
 use Rattle.record_walk.specs.Shown.{Shown, Surrounding, beside, file_shown, inside, parts, row, shown}
 use Rattle.record_walk.specs.Walking.{within_file}
-use Rattle.pool_laws.proofs.Still.{all-front, all-rest}
 use Rattle.name_pass.specs.Entered.{entries, entries_of, own_entry, package_entry, packages}
 use Rattle.descriptor_pool.proofs.Resolved.{all-append}
-use Rattle.pool_laws.specs.Laws.{HasScope, IsPlainName, PrefixesEntered}
+use Rattle.pool_laws.specs.Laws.{HasScope, IsPlainName, PrefixesEntered, is_scope}
+use Rattle.pool_laws.proofs.AllOf.{all-front, all-rest}
 
 -- before the dots of a name behind a scope and a dot stand the texts before the dots of the scope, and the scope
 fronts-behind : (scope name : List ℕ) → fronts name ≡ [] → fronts (scope ++ 46 ∷ name) ≡ fronts scope ++ scope ∷ []
@@ -67,17 +67,11 @@ module _ (es : List Entry) where
       subst (All (HasScope es)) (sym (packages-inside scope name plain))
       (All-append (HasScope es) (packages scope) (join scope name ∷ []) opened (All-cons (HasScope es) (join scope name) [] own (All-nil (HasScope es))))
 
-  message-opens : (here : Surrounding) (tag : ℤ) (i n : ℕ) (m : DescriptorProto) → Open here.scope → Given (shown here tag i n (of_message m))
-      → Open (shown here tag i n (of_message m)).full_name
-  message-opens here tag i n m opened given =
-      let d = shown here tag i n (of_message m) in
-      opens here.scope (name_of (of_message m)) opened given.0 ((own_entry d).1, All-head (Contains es) (own_entry d) [] given.1, refl)
-
-  service-opens : (here : Surrounding) (tag : ℤ) (i n : ℕ) (v : ServiceDescriptorProto) → Open here.scope → Given (shown here tag i n (of_service v))
-      → Open (shown here tag i n (of_service v)).full_name
-  service-opens here tag i n v opened given =
-      let d = shown here tag i n (of_service v) in
-      opens here.scope (name_of (of_service v)) opened given.0 ((own_entry d).1, All-head (Contains es) (own_entry d) [] given.1, refl)
+  own-opens : (here : Surrounding) (tag : ℤ) (i n : ℕ) (p : Proto) → let d = shown here tag i n p in entries_of d ≡ own_entry d ∷ [] → is_scope (own_entry d).1.kind ≡ true
+      → Open here.scope → Given d → Open d.full_name
+  own-opens here tag i n p one scope opened given =
+      let d = shown here tag i n p in
+      opens here.scope (name_of p) opened given.0 ((own_entry d).1, All-head (Contains es) (own_entry d) [] (subst (All (Contains es)) one given.1), scope)
 
   row-fine : {X : Type 0} (of : X → Proto) (here : Surrounding) → Open here.scope → (tag : ℤ) (i n : ℕ) (xs : List X)
       → AllByRecursion Given (row of here tag i n xs) → AllByRecursion Fine (row of here tag i n xs)
@@ -105,7 +99,7 @@ module _ (es : List Entry) where
       let rest = services_walk here (suc i) (suc n) xs in
       let own = all-front Given first rest given in
       all-append Fine first rest
-      (one-fine here file.SERVICE i n (of_service v) opened own.0, row-fine of_method (inside d) (service-opens here file.SERVICE i n v opened own.0) service.METHOD 0 0 v.method own.1)
+      (one-fine here file.SERVICE i n (of_service v) opened own.0, row-fine of_method (inside d) (own-opens here file.SERVICE i n (of_service v) refl refl opened own.0) service.METHOD 0 0 v.method own.1)
       (services-fine here opened (suc i) (suc n) xs (all-rest Given first rest given))
 
   mutual
@@ -121,7 +115,7 @@ module _ (es : List Entry) where
         let deeper = nested_walk (inside d) 0 first nested in
         let after = counted first deeper in
         let behind = message_end (inside d) after enums extensions in
-        let within : Open d.full_name = message-opens here tag i base.messages m opened given.0 in
+        let within : Open d.full_name = own-opens here tag i base.messages (of_message m) refl refl opened given.0 in
         let upper = all-front Given (front ++ deeper) behind given.1 in
         let lower = all-rest Given (front ++ deeper) behind given.1 in
         let fronts_given = all-front Given front deeper upper in

@@ -1,6 +1,6 @@
 -- The values of an enum that break nothing break nothing where it stands elsewhere, and other files are cited.
-use Rattle.std.proofs.Common.{◌≡◌, ℕ, ℤ, suc, Bool, true, false, if◌then◌else◌, List, [], ◌∷◌, ◌++◌, take, refl}
-use Rattle.std.specs.List.{find, enumerate_from, flat_map}
+use Rattle.std.proofs.Common.{◌≡◌, ℕ, ℤ, Bool, true, false, if◌then◌else◌, List, [], ◌++◌, take, refl}
+use Rattle.std.specs.List.{find, enumerate_from}
 use Rattle.std.specs.Ordering.{int_eq}
 use Rattle.proto_types.specs.declared.records.enumeration.EnumDescriptorProto.{EnumDescriptorProto}
 use Rattle.proto_types.specs.declared.records.enumeration.EnumReservedRange.{EnumReservedRange}
@@ -8,29 +8,21 @@ use Rattle.proto_types.specs.declared.records.enumeration.EnumValueDescriptorPro
 use Rattle.proto_types.specs.Readers.{number_of}
 use Rattle.proto_types.specs.declared.file.FileDescriptorProto.{FileDescriptorProto}
 use Rattle.record_walk.specs.Shown.{Shown}
-use Rattle.plain_data.specs.Each.{map_enumerated}
 use Rattle.field_rules.specs.EnumItems.{allows_alias}
 use Rattle.field_rules.specs.EnumRanges.{reserves}
 use Rattle.field_rules.specs.EnumValues.{duplicate_faults, reserved_fault, reserved_faults, value_faults, values_faults}
-use Rattle.reference_pass.specs.SecondPass.{Faults}
 use Rattle.reference_pass.proofs.Unbroken.{both-empty}
-use Rattle.pool_laws.proofs.Numbered.{none-listed}
+use Rattle.pool_laws.proofs.Told.{listed-still, told, told-still}
 use Rattle.pool_laws.proofs.Typed.{no-fault}
 
 module _ (fs gs : List FileDescriptorProto) (d g : Shown) (e : EnumDescriptorProto) where
-  reserved-still : (position : ℕ) (n : ℤ) (k : ℕ) (ranges : List EnumReservedRange)
-      → flat_map (λ (faults : Faults). faults) (map_enumerated (reserved_fault fs d position n) k ranges) ≡ []
-      → flat_map (λ (faults : Faults). faults) (map_enumerated (reserved_fault gs g position n) k ranges) ≡ []
-  reserved-still position n k [] none = refl
-  reserved-still position n k (range ∷ ranges) none =
-      let parts = both-empty (reserved_fault fs d position n k range) (flat_map (λ (faults : Faults). faults) (map_enumerated (reserved_fault fs d position n) (suc k) ranges)) none in
-      let here : reserved_fault gs g position n k range ≡ [] = no-fault (reserves n range) _ _ parts.0 in
-      λ i. here i ++ reserved-still position n (suc k) ranges parts.1 i
+  reserved-still : (position : ℕ) (n : ℤ) (k : ℕ) (ranges : List EnumReservedRange) → told (reserved_fault fs d position n) k ranges ≡ [] → told (reserved_fault gs g position n) k ranges ≡ []
+  reserved-still position n = told-still (reserved_fault fs d position n) (reserved_fault gs g position n) (λ k range. no-fault (reserves n range) _ _)
 
   unless-alias : (alias : Bool) (position : ℕ) (n : ℤ) (earlier : List EnumValueDescriptorProto)
       → (if alias then [] else duplicate_faults fs d position n earlier) ≡ [] → (if alias then [] else duplicate_faults gs g position n earlier) ≡ []
   unless-alias true position n earlier none = refl
-  unless-alias false position n earlier none = none-listed (find (λ x. int_eq (number_of x.1.number) n) (enumerate_from 0 earlier)) _ _ none
+  unless-alias false position n earlier none = listed-still (find (λ x. int_eq (number_of x.1.number) n) (enumerate_from 0 earlier)) _ _ none
 
   value-still : (position : ℕ) (v : EnumValueDescriptorProto) → value_faults fs d e position v ≡ [] → value_faults gs g e position v ≡ []
   value-still position v none =
@@ -39,12 +31,5 @@ module _ (fs gs : List FileDescriptorProto) (d g : Shown) (e : EnumDescriptorPro
       let parts = both-empty (reserved_faults fs d position n e.reserved_range) (if allows_alias e.options then [] else duplicate_faults fs d position n earlier) none in
       λ i. reserved-still position n 0 e.reserved_range parts.0 i ++ unless-alias (allows_alias e.options) position n earlier parts.1 i
 
-  each-still : (k : ℕ) (vs : List EnumValueDescriptorProto) → flat_map (λ (faults : Faults). faults) (map_enumerated (value_faults fs d e) k vs) ≡ []
-      → flat_map (λ (faults : Faults). faults) (map_enumerated (value_faults gs g e) k vs) ≡ []
-  each-still k [] none = refl
-  each-still k (v ∷ vs) none =
-      let parts = both-empty (value_faults fs d e k v) (flat_map (λ (faults : Faults). faults) (map_enumerated (value_faults fs d e) (suc k) vs)) none in
-      λ i. value-still k v parts.0 i ++ each-still (suc k) vs parts.1 i
-
   pub values-still : values_faults fs d e ≡ [] → values_faults gs g e ≡ []
-  values-still = each-still 0 e.value
+  values-still = told-still (value_faults fs d e) (value_faults gs g e) value-still 0 e.value

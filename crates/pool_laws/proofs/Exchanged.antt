@@ -1,43 +1,40 @@
 -- The first pass finds nothing where two parts of the declarations change places, and each name is held alike.
-use Rattle.std.proofs.Common.{◌≡◌, ℕ, ℤ, Bool, true, false, not, ◌&&◌, if◌then◌else◌, Option, None, Some, pos, List, [], ◌∷◌, ◌++◌, map, find, refl, ap, subst, sym, ◌∙◌, append-nil, append_assoc}
+use Rattle.std.proofs.Common.{◌≡◌, ℕ, ℤ, Bool, true, false, ◌&&◌, if◌then◌else◌, Option, None, Some, List, [], ◌∷◌, ◌++◌, map, refl, ap, subst, sym, ◌∙◌, append-nil, append_assoc}
 use Rattle.std.proofs.lemmas.Grind.{flat_map-append}
+use Rattle.std.proofs.lemmas.List.{map-id}
 use Rattle.std.specs.FinMap as finite
-use Rattle.std.specs.List.{AllByRecursion, enumerate_from}
+use Rattle.std.specs.List.{AllByRecursion}
 use Rattle.std.specs.Option.{option_map}
-use Rattle.std.specs.Ordering.{int_eq}
-use Rattle.std.specs.Str.{bytes_eq}
-use Rattle.proto_types.specs.Readers.{number_of, text_of}
+use Rattle.proto_types.specs.Readers.{text_of}
 use Rattle.proto_types.specs.declared.file.FileDescriptorProto.{FileDescriptorProto}
 use Rattle.proto_types.specs.declared.message.DescriptorProto.{DescriptorProto, out-DescriptorProto}
-use Rattle.proto_types.specs.declared.records.enumeration.EnumValueDescriptorProto.{EnumValueDescriptorProto}
 use Rattle.proto_types.specs.declared.tag.file.TheConstants.{SYNTAX}
 use Rattle.proto_types.specs.declared.tag.message.TheConstants as message
-use Rattle.plain_data.specs.Lists.{after_each, listed, only_if}
+use Rattle.plain_data.specs.Lists.{after_each}
 use Rattle.pool_types.specs.Contents.{ByText, Contents}
 use Rattle.pool_types.specs.declared.contents.definition.Definition.{Definition}
 use Rattle.pool_types.specs.declared.contents.definition.DefinitionKind.{DefinitionKind}
 use Rattle.pool_types.specs.declared.contents.definition.DefinitionKind.TheVariants as definition
-use Rattle.pool_types.specs.declared.kinds.Syntax.{Syntax}
 use Rattle.pool_faults.specs.Labels.{label_in}
 use Rattle.pool_faults.specs.declared.fault.DescriptorErrorKind.{DescriptorErrorKind}
-use Rattle.pool_faults.specs.declared.fault.DescriptorErrorKind.TheVariants.{DuplicateName, EmptyEnum, InvalidProto3EnumDefault, UnknownSyntax}
+use Rattle.pool_faults.specs.declared.fault.DescriptorErrorKind.TheVariants.{DuplicateName, UnknownSyntax}
 use Rattle.name_tables.specs.Entries.{Entry}
 use Rattle.record_walk.specs.Protos.{Proto, of_file, of_message, of_enum}
 use Rattle.record_walk.specs.Shown.{Shown}
 use Rattle.name_resolution.specs.Kinds.{is_package}
-use Rattle.name_pass.specs.CamelCase.{Placed, camel_case_fault, camel_case_faults, key_at, message_own_faults, shared_key_faults}
-use Rattle.name_pass.specs.Enumeration.{first_number_path}
+use Rattle.name_pass.specs.CamelCase.{camel_case_faults, message_own_faults}
 use Rattle.name_pass.specs.Syntaxes.{is_proto3, known_syntax, syntax_at, syntax_faults}
 use Rattle.name_pass.specs.Entered.{entries, entries_of, file_entries, file_entries_of, package_entry, packages}
 use Rattle.name_pass.specs.FirstPass.{clashes, file_faults, file_name_faults, first_faults, holder, holder_faults, shape_faults}
 use Rattle.descriptor_pool.proofs.Declared.{entries-append}
 use Rattle.reference_pass.proofs.Unbroken.{both-empty}
-use Rattle.pool_laws.proofs.Typed.{no-fault}
+use Rattle.pool_laws.proofs.FirstPass.{begins-still, camel-still, in-proto3, known-still}
 use Rattle.pool_laws.specs.Order.{kind_alone}
 use Rattle.pool_laws.proofs.Moved.{Alike, AllMoved, BothAlike, Moved, StandsAlike}
-use Rattle.pool_laws.proofs.MovedWalk.{moved-append}
 use Rattle.pool_laws.proofs.Sharing.{Apart, Clear, MayEnter, apart-clear, clear-apart}
-use Rattle.pool_laws.proofs.NamedAlike.{BothLike, EntriesLike, all-exchanged, apart-exchanged, entries-like-append, holder-exchanged}
+use Rattle.pool_laws.proofs.NamedAlike.{BothLike, EntriesLike, apart-exchanged, holder-exchanged, EntryLike}
+use Rattle.pool_laws.proofs.Paired.{paired-four, paired-flat}
+use Rattle.pool_laws.proofs.AllOf.{all-exchanged, made-of-four}
 
 -- of definitions, packages alone may share a name
 abbrev pub IsPackage : Definition → Type 0
@@ -171,51 +168,15 @@ module _ (fs : List FileDescriptorProto) (p : Contents) where
       λ i. (file i ++ clash i ++ own.1 i) ++ rest i
 
 -- a moved declaration breaks nothing by itself if the declaration breaks nothing by itself
-listed-again : {X Y : Type 0} (o : Option X) (f g : X → Y) → listed (option_map f o) ≡ [] → listed (option_map g o) ≡ []
-listed-again None f g none = refl
-listed-again (Some x) f g none = absurd (cc)
-
-known-again : (k : Option Syntax) (x y : DescriptorErrorKind) → let f : List DescriptorErrorKind = elim k [ Some _ ↦ [] | None ↦ x ∷ [] ] in
-    let g : List DescriptorErrorKind = elim k [ Some _ ↦ [] | None ↦ y ∷ [] ] in f ≡ [] → g ≡ []
-known-again (Some k) x y none = refl
-known-again None x y none = absurd (cc)
-
-if-again : (b : Bool) (xs ys : List DescriptorErrorKind) → (xs ≡ [] → ys ≡ []) → (if b then xs else []) ≡ [] → (if b then ys else []) ≡ []
-if-again true xs ys again none = again none
-if-again false xs ys again none = refl
-
 module _ (fs gs : List FileDescriptorProto) (m n : ℕ) (path other : List ℤ) where
-  keys-again : (before fields : List Placed) → after_each (shared_key_faults fs m path) before fields ≡ [] → after_each (shared_key_faults gs n other) before fields ≡ []
-  keys-again before [] none = refl
-  keys-again before (f ∷ fields) none =
-      let parts = both-empty (shared_key_faults fs m path before f) (after_each (shared_key_faults fs m path) (before ++ f ∷ []) fields) none in
-      let first = find (λ first. bytes_eq (key_at f) (key_at first)) before in
-      let here : shared_key_faults gs n other before f ≡ [] =
-      listed-again first (λ first. camel_case_fault fs m path first f) (λ first. camel_case_fault gs n other first f) parts.0 in
-      λ i. here i ++ keys-again (before ++ f ∷ []) fields parts.1 i
-
   module _ (syntax : syntax_at gs n ≡ syntax_at fs m) where
     message-again : (d : DescriptorProto) → message_own_faults fs m path d ≡ [] → message_own_faults gs n other d ≡ []
     message-again d none =
         let fields = (out-DescriptorProto d).field in
+        let still : camel_case_faults fs m path fields ≡ [] → camel_case_faults gs n other fields ≡ [] =
+        λ none. ap (camel_case_faults gs n other) (sym (map-id fields)) ∙ camel-still fs gs m n path other (λ f. f) (λ f. refl) fields none in
         (λ i. if is_proto3 (syntax i) then camel_case_faults gs n other fields else [])
-        ∙ if-again (is_proto3 (syntax_at fs m)) (camel_case_faults fs m path fields) (camel_case_faults gs n other fields) (keys-again [] (enumerate_from 0 fields)) none
-
-    begins-again : (vs : List EnumValueDescriptorProto)
-        → let f : List DescriptorErrorKind = elim vs [
-          | [] ↦ EmptyEnum (label_in fs m path) ∷ []
-          | first ∷ _ ↦ only_if (is_proto3 (syntax_at fs m) && not (int_eq (number_of first.number) (pos 0))) (InvalidProto3EnumDefault (label_in fs m (first_number_path path)))
-        ] in
-        let g : List DescriptorErrorKind = elim vs [
-          | [] ↦ EmptyEnum (label_in gs n other) ∷ []
-          | first ∷ _ ↦ only_if (is_proto3 (syntax_at gs n) && not (int_eq (number_of first.number) (pos 0))) (InvalidProto3EnumDefault (label_in gs n (first_number_path other)))
-        ] in
-        f ≡ [] → g ≡ []
-    begins-again [] none = absurd (cc)
-    begins-again (v ∷ vs) none =
-        let wrong = not (int_eq (number_of v.number) (pos 0)) in
-        let told = InvalidProto3EnumDefault (label_in gs n (first_number_path other)) in
-        (λ i. only_if (is_proto3 (syntax i) && wrong) told) ∙ no-fault (is_proto3 (syntax_at fs m) && wrong) _ told none
+        ∙ in-proto3 (is_proto3 (syntax_at fs m)) (camel_case_faults fs m path fields) (camel_case_faults gs n other fields) still none
 
     module _ (parent parent2 : Option ℕ) (index index2 : ℕ) (full_name full_name2 : List ℕ) where
       abbrev here : Proto → Shown
@@ -228,10 +189,10 @@ module _ (fs gs : List FileDescriptorProto) (m n : ℕ) (path other : List ℤ) 
       own-again (of_file f) none =
           let parts = both-empty (syntax_faults fs m f) [] none in
           let told = UnknownSyntax (text_of f.syntax) in
-          let known : syntax_faults gs n f ≡ [] = known-again (known_syntax f.syntax) (told (label_in fs m (SYNTAX ∷ []))) (told (label_in gs n (SYNTAX ∷ []))) parts.0 in
+          let known : syntax_faults gs n f ≡ [] = known-still (known_syntax f.syntax) (told (label_in fs m (SYNTAX ∷ []))) (told (label_in gs n (SYNTAX ∷ []))) parts.0 in
           λ i. known i ++ []
       own-again (of_message d) none = message-again d none
-      own-again (of_enum e) none = begins-again e.value none
+      own-again (of_enum e) none = begins-still fs gs m n path other (ap is_proto3 syntax) e.value none
       own-again _ none = refl
 
 module _ (number : ℕ → ℕ) (fs gs : List FileDescriptorProto) where
@@ -248,9 +209,8 @@ module _ (number : ℕ → ℕ) (fs gs : List FileDescriptorProto) where
   -- so it is with declarations, one after another
   pub all-own-moved : (ds es : List Shown) → AllMoved number ds es → AllByRecursion SyntaxMoves ds → AllByRecursion (λ d. own_faults fs d ≡ []) ds → AllByRecursion (λ e. own_faults gs e ≡ []) es
   all-own-moved [] [] moved syntax none = tt
-  all-own-moved [] (e ∷ es) moved syntax none = absurd moved
-  all-own-moved (d ∷ ds) [] moved syntax none = absurd moved
   all-own-moved (d ∷ ds) (e ∷ es) moved syntax none = (own-moved d e moved.0 syntax.0 none.0, all-own-moved ds es moved.1 syntax.1 none.1)
+  all-own-moved _ _ moved syntax none = absurd moved
 
 -- packages are alike, and what is like a package is one
 package-alone : (k : DefinitionKind) → is_package k ≡ true → kind_alone k ≡ None
@@ -280,9 +240,8 @@ module _ (number : ℕ → ℕ) where
 
   both-alike : (a b : Option Definition) → BothLike (Alike number) a b → BothAlike number a b
   both-alike None None both = tt
-  both-alike None (Some e) both = absurd both
-  both-alike (Some d) None both = absurd both
   both-alike (Some d) (Some e) both = both
+  both-alike _ _ both = absurd both
 
   -- a number is the one given for another
   abbrev pub Numbered : ℕ → ℕ → Type 0
@@ -290,9 +249,8 @@ module _ (number : ℕ → ℕ) where
 
   both-numbered : (a b : Option ℕ) → BothLike Numbered a b → b ≡ option_map number a
   both-numbered None None both = refl
-  both-numbered None (Some n) both = absurd both
-  both-numbered (Some m) None both = absurd both
   both-numbered (Some m) (Some n) both = ap Some both
+  both-numbered _ _ both = absurd both
 
   -- the names that a moved declaration enters
   packages-moved : (m n : ℕ) (names : List (List ℕ)) → EntriesLike (Alike number) (map (package_entry m) names) (map (package_entry n) names)
@@ -327,31 +285,35 @@ module _ (number : ℕ → ℕ) where
 
   -- moved declarations enter the same names, and alike
   pub entries-moved : (ds es : List Shown) → AllMoved number ds es → EntriesLike (Alike number) (entries ds) (entries es)
-  entries-moved [] [] moved = tt
-  entries-moved [] (e ∷ es) moved = absurd moved
-  entries-moved (d ∷ ds) [] moved = absurd moved
-  entries-moved (d ∷ ds) (e ∷ es) moved =
-      entries-like-append (Alike number) (entries_of d) (entries_of e) (entries ds) (entries es) (entries-of-moved d e moved.0) (entries-moved ds es moved.1)
+  entries-moved = paired-flat (Moved number) (EntryLike (Alike number)) entries_of entries_of entries-of-moved
 
   -- and moved files the same file names
   pub file-entries-moved : (ds es : List Shown) → AllMoved number ds es → EntriesLike Numbered (file_entries ds) (file_entries es)
-  file-entries-moved [] [] moved = tt
-  file-entries-moved [] (e ∷ es) moved = absurd moved
-  file-entries-moved (d ∷ ds) [] moved = absurd moved
-  file-entries-moved (d ∷ ds) (e ∷ es) moved =
-      entries-like-append Numbered (file_entries_of d) (file_entries_of e) (file_entries ds) (file_entries es) (file-entries-of-moved d e moved.0) (file-entries-moved ds es moved.1)
+  file-entries-moved = paired-flat (Moved number) (EntryLike Numbered) file_entries_of file_entries_of file-entries-of-moved
 
--- the entries of four parts
-four-names : (ws xs ys zs : List Shown) → entries (ws ++ xs ++ ys ++ zs) ≡ entries ws ++ entries xs ++ entries ys ++ entries zs
-four-names ws xs ys zs =
-    entries-append (ws ++ xs ++ ys) zs ∙ ap (λ es. es ++ entries zs) (entries-append (ws ++ xs) ys ∙ ap (λ es. es ++ entries ys) (entries-append ws xs))
+-- what declarations in four parts enter, each of them moved, where no entry clashes
+module _ {X : Type 0} (number : ℕ → ℕ) (Like : X → X → Type 0) (P : X → Type 0) (keep : (x y : X) → Like x y → P x → P y) (known : ByText X)
+    (made : List Shown → List (List ℕ × X)) (append : (ds es : List Shown) → made (ds ++ es) ≡ made ds ++ made es) (moved : (ds es : List Shown) → AllMoved number ds es → EntriesLike Like (made ds) (made es))
+    (ws xs ys zs ws2 xs2 ys2 zs2 : List Shown) (first : AllMoved number ws ws2) (second : AllMoved number xs xs2) (third : AllMoved number ys ys2) (last : AllMoved number zs zs2)
+    (clear : Clear P known [] (made (ws ++ xs ++ ys ++ zs))) where
+  apart : Apart P known (made ws ++ made xs ++ made ys ++ made zs)
+  apart = subst (Apart P known) (made-of-four made append ws xs ys zs) (clear-apart P known [] (made (ws ++ xs ++ ys ++ zs)) (record { behind = tt; among = tt }) clear)
 
-file-entries-append : (ds es : List Shown) → file_entries (ds ++ es) ≡ file_entries ds ++ file_entries es
-file-entries-append ds es = flat_map-append file_entries_of ds es
+  -- none clashes where the middle two have changed places
+  clear-exchanged : Clear P known [] (made (ws2 ++ ys2 ++ xs2 ++ zs2))
+  clear-exchanged = apart-clear P known [] (made (ws2 ++ ys2 ++ xs2 ++ zs2))
+      (subst (Apart P known) (sym (made-of-four made append ws2 ys2 xs2 zs2))
+      (apart-exchanged Like P keep known (made ws) (made xs) (made ys) (made zs) (made ws2) (made xs2) (made ys2) (made zs2)
+      (moved ws ws2 first) (moved xs xs2 second) (moved ys ys2 third) (moved zs zs2 last) apart))
 
-four-files : (ws xs ys zs : List Shown) → file_entries (ws ++ xs ++ ys ++ zs) ≡ file_entries ws ++ file_entries xs ++ file_entries ys ++ file_entries zs
-four-files ws xs ys zs =
-    file-entries-append (ws ++ xs ++ ys) zs ∙ ap (λ es. es ++ file_entries zs) (file-entries-append (ws ++ xs) ys ∙ ap (λ es. es ++ file_entries ys) (file-entries-append ws xs))
+  -- and each name means what is alike
+  held-exchanged : ((x y : X) → P x → P y → Like x y) → (name : List ℕ) → ((x : X) → finite.get known name ≡ Some x → Like x x)
+      → BothLike Like (holder known (made (ws ++ xs ++ ys ++ zs)) name) (holder known (made (ws2 ++ ys2 ++ xs2 ++ zs2)) name)
+  held-exchanged alike name same =
+      let both = holder-exchanged Like P keep alike known (made ws) (made xs) (made ys) (made zs) (made ws2) (made xs2) (made ys2) (made zs2)
+      (moved ws ws2 first) (moved xs xs2 second) (moved ys ys2 third) (moved zs zs2 last) apart.among name same in
+      subst (λ es. BothLike Like (holder known es name) (holder known (made (ws2 ++ ys2 ++ xs2 ++ zs2)) name)) (sym (made-of-four made append ws xs ys zs))
+      (subst (λ es. BothLike Like (holder known (made ws ++ made xs ++ made ys ++ made zs) name) (holder known es name)) (sym (made-of-four made append ws2 ys2 xs2 zs2)) both)
 
 -- declarations in four parts that break nothing in the first pass, and each of them moved
 module _ (number : ℕ → ℕ) (fs : List FileDescriptorProto) (p : Contents) (front first second rest front' first' second' rest' : List Shown)
@@ -360,67 +322,41 @@ module _ (number : ℕ → ℕ) (fs : List FileDescriptorProto) (p : Contents) (
   parts : FindsNothing fs p [] (front ++ first ++ second ++ rest)
   parts = first-parts fs p [] (front ++ first ++ second ++ rest) none
 
-  names-apart : Apart IsPackage p.names (entries front ++ entries first ++ entries second ++ entries rest)
-  names-apart = subst (Apart IsPackage p.names) (four-names front first second rest)
-      (clear-apart IsPackage p.names [] (entries (front ++ first ++ second ++ rest)) (record { behind = tt; among = tt }) parts.names)
-
-  files-apart : Apart IsNone p.file_names (file_entries front ++ file_entries first ++ file_entries second ++ file_entries rest)
-  files-apart = subst (Apart IsNone p.file_names) (four-files front first second rest)
-      (clear-apart IsNone p.file_names [] (file_entries (front ++ first ++ second ++ rest)) (record { behind = tt; among = tt }) parts.files)
-
   names-clear : Clear IsPackage p.names [] (entries (front' ++ second' ++ first' ++ rest'))
-  names-clear = apart-clear IsPackage p.names [] (entries (front' ++ second' ++ first' ++ rest'))
-      (subst (Apart IsPackage p.names) (sym (four-names front' second' first' rest'))
-      (apart-exchanged (Alike number) IsPackage (package-stays number) p.names (entries front) (entries first) (entries second) (entries rest)
-      (entries front') (entries first') (entries second') (entries rest')
-      (entries-moved number front front' front_moved) (entries-moved number first first' first_moved) (entries-moved number second second' second_moved) (entries-moved number rest rest' rest_moved)
-      names-apart))
+  names-clear =
+      clear-exchanged number (Alike number) IsPackage (package-stays number) p.names entries entries-append (entries-moved number)
+      front first second rest front' first' second' rest' front_moved first_moved second_moved rest_moved parts.names
 
   files-clear : Clear IsNone p.file_names [] (file_entries (front' ++ second' ++ first' ++ rest'))
-  files-clear = apart-clear IsNone p.file_names [] (file_entries (front' ++ second' ++ first' ++ rest'))
-      (subst (Apart IsNone p.file_names) (sym (four-files front' second' first' rest'))
-      (apart-exchanged (Numbered number) IsNone (λ _ _ _ never. never) p.file_names (file_entries front) (file_entries first) (file_entries second) (file_entries rest)
-      (file_entries front') (file_entries first') (file_entries second') (file_entries rest')
-      (file-entries-moved number front front' front_moved) (file-entries-moved number first first' first_moved)
-      (file-entries-moved number second second' second_moved) (file-entries-moved number rest rest' rest_moved)
-      files-apart))
+  files-clear =
+      clear-exchanged number (Numbered number) IsNone (λ _ _ _ never. never) p.file_names file_entries (flat_map-append file_entries_of) (file-entries-moved number)
+      front first second rest front' first' second' rest' front_moved first_moved second_moved rest_moved parts.files
 
   own-clear : (gs : List FileDescriptorProto) → AllByRecursion (SyntaxMoves number fs gs) (front ++ first ++ second ++ rest)
       → AllByRecursion (λ e. own_faults gs e ≡ []) (front' ++ second' ++ first' ++ rest')
   own-clear gs syntax =
       all-exchanged (λ e. own_faults gs e ≡ []) front' first' second' rest'
       (all-own-moved number fs gs (front ++ first ++ second ++ rest) (front' ++ first' ++ second' ++ rest')
-      (moved-append number (front ++ first ++ second) (front' ++ first' ++ second') rest rest'
-      (moved-append number (front ++ first) (front' ++ first') second second' (moved-append number front front' first first' front_moved first_moved) second_moved) rest_moved)
+      (paired-four (Moved number) front first second rest front' first' second' rest' front_moved first_moved second_moved rest_moved)
       syntax parts.own)
 
   -- what each name means where the middle two parts have changed places: a definition that is alike, where those of the pool keep their files' numbers
   pub names-exchanged : ((name : List ℕ) (def : Definition) → finite.get p.names name ≡ Some def → number def.file ≡ def.file) → (name : List ℕ)
       → BothAlike number (holder p.names (entries (front ++ first ++ second ++ rest)) name) (holder p.names (entries (front' ++ second' ++ first' ++ rest')) name)
   names-exchanged kept name =
-      let known = finite.get p.names name in
-      let both = holder-exchanged (Alike number) IsPackage (package-stays number) (packages-alike number) p.names (entries front) (entries first) (entries second) (entries rest)
-      (entries front') (entries first') (entries second') (entries rest')
-      (entries-moved number front front' front_moved) (entries-moved number first first' first_moved) (entries-moved number second second' second_moved) (entries-moved number rest rest' rest_moved)
-      names-apart.among name (λ def is. alike-itself number def (kept name def is)) in
       both-alike number (holder p.names (entries (front ++ first ++ second ++ rest)) name) (holder p.names (entries (front' ++ second' ++ first' ++ rest')) name)
-      (subst (λ es. BothLike (Alike number) (holder p.names es name) (holder p.names (entries (front' ++ second' ++ first' ++ rest')) name)) (sym (four-names front first second rest))
-      (subst (λ es. BothLike (Alike number) (holder p.names (entries front ++ entries first ++ entries second ++ entries rest) name) (holder p.names es name)) (sym (four-names front' second' first' rest')) both))
+      (held-exchanged number (Alike number) IsPackage (package-stays number) p.names entries entries-append (entries-moved number)
+      front first second rest front' first' second' rest' front_moved first_moved second_moved rest_moved parts.names
+      (packages-alike number) name (λ def is. alike-itself number def (kept name def is)))
 
   -- which file has each file name: the one that has the number given, where those of the pool keep theirs
   pub file-names-exchanged : ((name : List ℕ) (n : ℕ) → finite.get p.file_names name ≡ Some n → number n ≡ n) → (name : List ℕ)
       → holder p.file_names (file_entries (front' ++ second' ++ first' ++ rest')) name ≡ option_map number (holder p.file_names (file_entries (front ++ first ++ second ++ rest)) name)
   file-names-exchanged kept name =
-      let both = holder-exchanged (Numbered number) IsNone (λ _ _ _ never. never) (λ _ _ never _. absurd never) p.file_names
-      (file_entries front) (file_entries first) (file_entries second) (file_entries rest)
-      (file_entries front') (file_entries first') (file_entries second') (file_entries rest')
-      (file-entries-moved number front front' front_moved) (file-entries-moved number first first' first_moved)
-      (file-entries-moved number second second' second_moved) (file-entries-moved number rest rest' rest_moved)
-      files-apart.among name (λ n is. sym (kept name n is)) in
       both-numbered number (holder p.file_names (file_entries (front ++ first ++ second ++ rest)) name) (holder p.file_names (file_entries (front' ++ second' ++ first' ++ rest')) name)
-      (subst (λ es. BothLike (Numbered number) (holder p.file_names es name) (holder p.file_names (file_entries (front' ++ second' ++ first' ++ rest')) name)) (sym (four-files front first second rest))
-      (subst (λ es. BothLike (Numbered number) (holder p.file_names (file_entries front ++ file_entries first ++ file_entries second ++ file_entries rest) name) (holder p.file_names es name))
-      (sym (four-files front' second' first' rest')) both))
+      (held-exchanged number (Numbered number) IsNone (λ _ _ _ never. never) p.file_names file_entries (flat_map-append file_entries_of) (file-entries-moved number)
+      front first second rest front' first' second' rest' front_moved first_moved second_moved rest_moved parts.files
+      (λ _ _ never _. absurd never) name (λ n is. sym (kept name n is)))
 
 -- the first pass finds nothing where the middle two of four parts have changed places, and what is declared is moved
 pub first-exchanged : (number : ℕ → ℕ) (fs gs : List FileDescriptorProto) (p : Contents) (front first second rest front' first' second' rest' : List Shown)

@@ -1,8 +1,9 @@
 -- The number of each file where two parts of the files that stand next to each other are exchanged.
-use Rattle.std.proofs.Common.{◌≡◌, ◌≤◌, ◌<◌, ◌+◌, ◌-◌, ◌⊎◌, inl, inr, ℕ, suc, ltb, List, [], ◌∷◌, ◌++◌, length, slice_get, if◌then◌else◌, lt-ltb, le-ltb, ap, sym, subst, ◌∙◌, arith}
+use Rattle.std.proofs.Common.{◌≡◌, ◌≤◌, ◌<◌, ◌+◌, ◌-◌, ◌⊎◌, inl, inr, ℕ, ltb, List, ◌++◌, length, slice_get, if◌then◌else◌, lt-ltb, le-ltb, ap, sym, ◌∙◌, arith}
 use Rattle.std.proofs.lemmas.Bool.{cases_lt}
 use Rattle.std.proofs.lemmas.List.{length-append}
 use Rattle.pool_laws.proofs.Relinks.{slice-front}
+use Rattle.pool_laws.proofs.Behind.{slice-rest}
 
 -- with so many files in front, so many in the first part, and so many in the second
 abbrev pub exchanged : ℕ → ℕ → ℕ → ℕ → ℕ
@@ -80,37 +81,23 @@ exchanged-cases x a b n = elim (cases_lt n x) [
   ])
 ]
 
-one-moved : (x a b m n k : ℕ) → Moved x a b m k → Moved x a b n k → m ≡ n
-one-moved x a b m n k (inl s) (inl t) = omega (arith, s.is, t.is)
-one-moved x a b m n k (inl s) (inr (inl t)) = omega (arith, s.below, s.is, t.from, t.is)
-one-moved x a b m n k (inl s) (inr (inr (inl t))) = omega (arith, s.below, s.is, t.from, t.is)
-one-moved x a b m n k (inl s) (inr (inr (inr t))) = omega (arith, s.is, t.is)
-one-moved x a b m n k (inr (inl s)) (inl t) = omega (arith, s.from, s.is, t.below, t.is)
-one-moved x a b m n k (inr (inl s)) (inr (inl t)) = omega (arith, s.is, t.is)
-one-moved x a b m n k (inr (inl s)) (inr (inr (inl t))) = omega (arith, s.from, s.is, t.below, t.is)
-one-moved x a b m n k (inr (inl s)) (inr (inr (inr t))) = omega (arith, s.below, s.is, t.from, t.is)
-one-moved x a b m n k (inr (inr (inl s))) (inl t) = omega (arith, s.from, s.is, t.below, t.is)
-one-moved x a b m n k (inr (inr (inl s))) (inr (inl t)) = omega (arith, s.below, s.is, t.from, t.is)
-one-moved x a b m n k (inr (inr (inl s))) (inr (inr (inl t))) = omega (arith, s.is, t.is)
-one-moved x a b m n k (inr (inr (inl s))) (inr (inr (inr t))) = omega (arith, s.below, s.is, t.from, t.is)
-one-moved x a b m n k (inr (inr (inr s))) (inl t) = omega (arith, s.is, t.is)
-one-moved x a b m n k (inr (inr (inr s))) (inr (inl t)) = omega (arith, s.from, s.is, t.below, t.is)
-one-moved x a b m n k (inr (inr (inr s))) (inr (inr (inl t))) = omega (arith, s.from, s.is, t.below, t.is)
-one-moved x a b m n k (inr (inr (inr s))) (inr (inr (inr t))) = omega (arith, s.is, t.is)
+-- the parts exchanged once more, and each number is what it was
+moved-back : (x a b n m : ℕ) → Moved x a b n m → exchanged x b a m ≡ n
+moved-back x a b n m (inl s) = let is = exchanged-front x b a m (omega (arith, s.below, s.is)) in omega (arith, is, s.is)
+moved-back x a b n m (inr (inl s)) = let is = within-second x b a m (omega (arith, s.from, s.is)) (omega (arith, s.below, s.is)) in omega (arith, is, s.is)
+moved-back x a b n m (inr (inr (inl s))) = let is = within-first x b a m (omega (arith, s.from, s.is)) (omega (arith, s.below, s.is)) in omega (arith, is, s.is)
+moved-back x a b n m (inr (inr (inr s))) = let is = behind-both x b a m (omega (arith, s.from, s.is)) in omega (arith, is, s.is)
 
 -- two numbers are not moved to one
 pub exchanged-one : (x a b m n : ℕ) → exchanged x a b m ≡ exchanged x a b n → m ≡ n
-exchanged-one x a b m n same = one-moved x a b m n (exchanged x a b n) (subst (Moved x a b m) same (exchanged-cases x a b m)) (exchanged-cases x a b n)
+exchanged-one x a b m n same =
+    sym (moved-back x a b m (exchanged x a b m) (exchanged-cases x a b m)) ∙ ap (exchanged x b a) same ∙ moved-back x a b n (exchanged x a b n) (exchanged-cases x a b n)
 
 within-moved : (x a b rest n m : ℕ) → Moved x a b n m → n < x + a + b + rest → m < x + a + b + rest
 within-moved x a b rest n m (inl s) below = omega (arith, s.is, below)
 within-moved x a b rest n m (inr (inl s)) below = omega (arith, s.below, s.is)
 within-moved x a b rest n m (inr (inr (inl s))) below = omega (arith, s.is, below)
 within-moved x a b rest n m (inr (inr (inr s))) below = omega (arith, s.is, below)
-
-slice-rest : {X : Type 0} (xs ys : List X) (n : ℕ) → slice_get (xs ++ ys) (length xs + n) ≡ slice_get ys n
-slice-rest [] ys n = let same : 0 + n ≡ n = omega arith in ap (slice_get ys) same
-slice-rest (x ∷ xs) ys n = let same : suc (length xs) + n ≡ suc (length xs + n) = omega arith in ap (slice_get (x ∷ (xs ++ ys))) same ∙ slice-rest xs ys n
 
 -- lists of four parts
 module _ {X : Type 0} (front first second rest : List X) where

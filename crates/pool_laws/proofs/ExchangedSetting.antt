@@ -1,23 +1,19 @@
 -- New files of which two parts that stand next to each other are exchanged: what they declare, what they break in the first pass, and what they are read against.
-use Rattle.std.proofs.Common.{◌≡◌, ◌≤◌, ◌<◌, ◌+◌, inl, inr, ℕ, Bool, true, false, Option, None, Some, List, [], ◌++◌, length, map, slice_get, unwrap_or, is_some, append_assoc, refl, ap, subst, sym, ◌∙◌, arith}
+use Rattle.std.proofs.Common.{◌≡◌, ◌≤◌, ◌<◌, ◌+◌, inl, inr, ℕ, Bool, true, false, Option, None, Some, List, [], ◌++◌, length, slice_get, unwrap_or, is_some, append_assoc, refl, ap, subst, sym, ◌∙◌, arith}
 use Rattle.std.proofs.lemmas.Bool.{cases_lt}
-use Rattle.std.proofs.lemmas.List.{length-append, length-map}
-use Rattle.std.specs.BTreeSet.{BTreeSet, contains_by}
+use Rattle.std.specs.BTreeSet.{contains_by}
 use Rattle.std.specs.FinMap as finite
 use Rattle.std.specs.List.{AllByRecursion}
 use Rattle.std.specs.Option.{IfSome, option_map, option_or}
 use Rattle.std.specs.Ordering.{nat_cmp}
 use Rattle.proto_types.specs.EmptyFile.{no_file}
 use Rattle.proto_types.specs.declared.file.FileDescriptorProto.{FileDescriptorProto}
-use Rattle.plain_data.specs.Each.{map_enumerated}
 use Rattle.plain_data.specs.Lists.{after_each}
 use Rattle.pool_types.specs.Contents.{Contents, files_of}
 use Rattle.pool_types.specs.declared.contents.definition.Definition.{Definition}
 use Rattle.name_tables.specs.Entries.{first_of}
-use Rattle.name_tables.specs.NameTables.{FileNamesBefore}
 use Rattle.name_tables.proofs.Entries.{get-with}
 use Rattle.name_tables.proofs.Names.{get-lookup}
-use Rattle.name_resolution.specs.Visibility.{seen_from}
 use Rattle.record_walk.specs.declared.counts.Counts.{Counts}
 use Rattle.record_walk.specs.Counts.{counted, counts_in}
 use Rattle.record_walk.specs.Declarations.{declarations}
@@ -30,19 +26,18 @@ use Rattle.name_pass.specs.Syntaxes.{syntax_of}
 use Rattle.reference_pass.specs.Setting.{Setting, seen_by}
 use Rattle.descriptor_pool.specs.Linking.{declared_with, name_faults, setting_with}
 use Rattle.descriptor_pool.specs.Pool.{Made}
-use Rattle.descriptor_pool.proofs.Files.{counted-files, lie-between, names-before, names-behind-before}
+use Rattle.descriptor_pool.proofs.Files.{counted-files, lie-between, names-before}
 use Rattle.descriptor_pool.proofs.Sound.{Known, made-sound}
-use Rattle.pool_laws.specs.SettingLaws.{NamesFiles}
 use Rattle.pool_laws.proofs.Exchanged.{SyntaxMoves, file-names-exchanged, first-exchanged, names-exchanged}
 use Rattle.pool_laws.proofs.ExchangedFiles.{exchanged, exchanged-at, exchanged-first, exchanged-front, exchanged-long, exchanged-one, exchanged-rest, exchanged-second, exchanged-within}
 use Rattle.pool_laws.proofs.Moved.{AllMoved, BothAlike}
 use Rattle.pool_laws.proofs.MovedWalk.{declarations-moved}
-use Rattle.pool_laws.proofs.Parts.{position-behind, seen-within, slice-rest}
-use Rattle.pool_laws.proofs.Relinked.{Relinked, made-relinked, seen-kept}
-use Rattle.pool_laws.proofs.Relinks.{names-mean-files, names-mean-within, seen-at, seen_in, sees-is, slice-front}
+use Rattle.pool_laws.proofs.Behind.{mean-with, new-sees, old-sees, seen-within}
+use Rattle.pool_laws.proofs.Relinked.{made-relinked}
+use Rattle.pool_laws.proofs.Relinks.{long-pool, long-with, names-mean-files, names-mean-within, seen_in}
 use Rattle.pool_laws.proofs.Renamed.{Renames}
 use Rattle.pool_laws.proofs.SeenMoved.{seen-moved}
-use Rattle.pool_laws.proofs.Sharing.{all-weaker}
+use Rattle.pool_laws.proofs.AllOf.{all-weaker}
 
 -- what files declare behind files whose declarations are known
 declared-behind : (base c : Counts) (fs gs : List FileDescriptorProto) (ds : List Shown) → declarations base fs ≡ ds → counted base ds ≡ c
@@ -91,10 +86,6 @@ some-moved : {X Y : Type 0} (f : X → Y) (found : Option X) → is_some (option
 some-moved f None = refl
 some-moved f (Some x) = refl
 
-if-some : {X : Type 0} (P : X → Type 0) (found : Option X) → ((x : X) → found ≡ Some x → P x) → IfSome found P
-if-some P None holds = tt
-if-some P (Some x) holds = holds x refl
-
 -- what is found first or second lies where both do
 either-lies : (end : ℕ) (found other : Option Definition) → ((def : Definition) → found ≡ Some def → def.file < end) → IfSome other (λ def. def.file < end)
     → (def : Definition) → option_or found other ≡ Some def → def.file < end
@@ -104,52 +95,6 @@ either-lies end (Some d) other first second def is = first def is
 never-true : (b : Bool) → (b ≡ true → ⊥) → b ≡ false
 never-true true never = absurd (never refl)
 never-true false never = refl
-
--- what files see behind those of a pool
-module _ (p : Contents) (new : List FileDescriptorProto) where
-  long-pool : length (files_of p) ≡ length p.files
-  long-pool = length-map p.files (λ f. f.raw)
-
-  long-with : length (files_of p ++ new) ≡ length p.files + length new
-  long-with = let sum = length-append (files_of p) new in let pool = long-pool in omega (arith, sum, pool)
-
-  abbrev old_seen : List (BTreeSet ℕ)
-  old_seen = map (λ f. f.transitive_dependencies) p.files
-
-  abbrev keys : ℕ → BTreeSet ℕ
-  keys n = record { keys = seen_from (files_of p ++ new) (finite.get (setting_with p new).file_names) n }
-
-  -- a file of the pool sees what it saw
-  old-sees : Relinked p → (n : ℕ) → n < length p.files → seen_by (setting_with p new) n ≡ seen_in p n
-  old-sees again n below =
-      let none : BTreeSet ℕ = record { keys = [] } in
-      let old : length old_seen ≡ length p.files = length-map p.files (λ f. f.transitive_dependencies) in
-      let pool = long-pool in
-      ap (λ o. unwrap_or o none) (slice-front old_seen (map_enumerated (λ k _. keys k) (length p.files) new) n (omega (arith, below, old)))
-      ∙ ap (λ sets. unwrap_or (slice_get sets n) none) (seen-kept p again) ∙ sees-is p n (omega (arith, below, pool))
-
-  -- a new file what its imports lead to
-  new-sees : (n : ℕ) → length p.files ≤ n → n < length p.files + length new → seen_by (setting_with p new) n ≡ keys n
-  new-sees n from below =
-      let none : BTreeSet ℕ = record { keys = [] } in
-      let old : length old_seen ≡ length p.files = length-map p.files (λ f. f.transitive_dependencies) in
-      let position = position-behind n (length old_seen) (omega (arith, from, old)) in
-      let place = position.1 in
-      let here : length p.files + position.0 ≡ n = omega (arith, place, old) in
-      ap (λ k. unwrap_or (slice_get (setting_with p new).seen k) none) place
-      ∙ ap (λ o. unwrap_or o none) (slice-rest old_seen (map_enumerated (λ k _. keys k) (length p.files) new) position.0)
-      ∙ seen-at keys none (length p.files) new position.0 (omega (arith, below, place, old)) ∙ ap keys here
-
-  -- names of files mean files
-  mean-with : Known p → NamesFiles (files_of p ++ new) (finite.get (setting_with p new).file_names)
-  mean-with known name n is =
-      let end = length p.files + length new in
-      let pool = long-pool in
-      let many = long-with in
-      let old : FileNamesBefore (length p.files) p.file_names = λ name.
-      if-some (λ file. file < length p.files) (finite.get p.file_names name) (λ file found. let below = names-mean-files p known name file found in omega (arith, below, pool)) in
-      let below : n < end = subst (λ o. IfSome o (λ file. file < end)) is (names-behind-before (counts_in p) new p.file_names old name) in
-      omega (arith, below, many)
 
 -- new files behind those of a pool, in four parts of which the middle two are exchanged
 module _ (p : Contents) (front first second rest : List FileDescriptorProto) where
@@ -201,46 +146,32 @@ module _ (p : Contents) (front first second rest : List FileDescriptorProto) whe
   declared-are = declared-four (counts_in p) front second first rest
 
   -- each part is moved
+  part-moved : (b c : Counts) (fs : List FileDescriptorProto) (x y : ℕ) → b.files ≡ x → c.files ≡ y → ((i : ℕ) → i < length fs → number (x + i) ≡ y + i) → AllMoved number (declarations b fs) (declarations c fs)
+  part-moved b c fs x y was is moves = declarations-moved number b c fs (λ i below. (λ j. is j + i) ∙ sym (moves i below) ∙ (λ j. number (sym was j + i)))
+
   pub front-moved : AllMoved number was_front is_front
   front-moved =
-      declarations-moved number (counts_in p) (counts_in p) front
-      (λ i below. sym (exchanged-front (length p.files + length front) (length first) (length second) (length p.files + i) (omega (arith, below))))
+      part-moved (counts_in p) (counts_in p) front (length p.files) (length p.files) refl refl
+      (λ i below. exchanged-front (length p.files + length front) (length first) (length second) (length p.files + i) (omega (arith, below)))
 
   pub first-moved : AllMoved number was_first is_first
   first-moved =
       let x = length p.files + length front in
-      let b = first_counts (counts_in p) front first second rest in
-      let c = second_counts (counts_in p) front second first rest in
-      let before = many-first (counts_in p) front first second rest in
-      let after = many-second (counts_in p) front second first rest in
-      declarations-moved number b c first (λ i below.
-      let from : x + i ≡ b.files + i = omega (arith, before) in
-      let to : c.files + i ≡ x + length second + i = omega (arith, after) in
-      to ∙ sym (exchanged-first x (length first) (length second) i below) ∙ ap number from)
+      part-moved (first_counts (counts_in p) front first second rest) (second_counts (counts_in p) front second first rest) first x (x + length second)
+      (many-first (counts_in p) front first second rest) (many-second (counts_in p) front second first rest) (exchanged-first x (length first) (length second))
 
   pub second-moved : AllMoved number was_second is_second
   second-moved =
       let x = length p.files + length front in
-      let b = second_counts (counts_in p) front first second rest in
-      let c = first_counts (counts_in p) front second first rest in
-      let before = many-second (counts_in p) front first second rest in
-      let after = many-first (counts_in p) front second first rest in
-      declarations-moved number b c second (λ i below.
-      let from : x + length first + i ≡ b.files + i = omega (arith, before) in
-      let to : c.files + i ≡ x + i = omega (arith, after) in
-      to ∙ sym (exchanged-second x (length first) (length second) i below) ∙ ap number from)
+      part-moved (second_counts (counts_in p) front first second rest) (first_counts (counts_in p) front second first rest) second (x + length first) x
+      (many-second (counts_in p) front first second rest) (many-first (counts_in p) front second first rest) (exchanged-second x (length first) (length second))
 
   pub rest-moved : AllMoved number was_rest is_rest
   rest-moved =
       let x = length p.files + length front in
-      let b = rest_counts (counts_in p) front first second rest in
-      let c = rest_counts (counts_in p) front second first rest in
-      let before = many-rest (counts_in p) front first second rest in
-      let after = many-rest (counts_in p) front second first rest in
-      declarations-moved number b c rest (λ i below.
-      let from : x + length first + length second + i ≡ b.files + i = omega (arith, before) in
-      let to : c.files + i ≡ x + length first + length second + i = omega (arith, after) in
-      to ∙ sym (exchanged-rest x (length first) (length second) i) ∙ ap number from)
+      let turned : x + length second + length first ≡ x + length first + length second = omega arith in
+      part-moved (rest_counts (counts_in p) front first second rest) (rest_counts (counts_in p) front second first rest) rest (x + length first + length second) (x + length first + length second)
+      (many-rest (counts_in p) front first second rest) (many-rest (counts_in p) front second first rest ∙ turned) (λ i below. exchanged-rest x (length first) (length second) i)
 
   -- each declaration lies in one of the files
   pub lie-were : AllByRecursion (λ d. d.file < many) (declared_with p were)
@@ -332,7 +263,7 @@ module _ (p : Contents) (front first second rest : List FileDescriptorProto) whe
     -- a name of a file means the file that has the number given
     pub file-names-moved : (name : List ℕ) → finite.get after.file_names name ≡ option_map number (finite.get before.file_names name)
     file-names-moved name =
-        let pool = long-pool p were in
+        let pool = long-pool p in
         file-names-held are (is_front ++ is_second ++ is_first ++ is_rest) declared-are name
         ∙ file-names-exchanged number before.files p was_front was_first was_second was_rest is_front is_first is_second is_rest
         front-moved first-moved second-moved rest-moved none-four
@@ -342,7 +273,7 @@ module _ (p : Contents) (front first second rest : List FileDescriptorProto) whe
     -- a name means a definition that is alike
     pub names-alike : (name : List ℕ) → BothAlike number (finite.get before.names name) (finite.get after.names name)
     names-alike name =
-        let pool = long-pool p were in
+        let pool = long-pool p in
         let was = was_front ++ was_first ++ was_second ++ was_rest in
         let is = is_front ++ is_second ++ is_first ++ is_rest in
         subst (λ o. BothAlike number o (finite.get after.names name)) (sym (names-held were was declared-were name))
@@ -353,7 +284,7 @@ module _ (p : Contents) (front first second rest : List FileDescriptorProto) whe
 
     names-lie : (name : List ℕ) (def : Definition) → finite.get before.names name ≡ Some def → def.file < many
     names-lie name def is =
-        let pool = long-pool p were in
+        let pool = long-pool p in
         let es = entries (declared_with p were) in
         either-lies many (finite.get p.names name) (first_of es name)
         (λ d found. let below = names-mean-within p known name d found in omega (arith, below, pool))
@@ -363,7 +294,7 @@ module _ (p : Contents) (front first second rest : List FileDescriptorProto) whe
     -- a file of the pool sees none behind the pool
     old-unseen : (n m : ℕ) → length p.files ≤ m → contains_by (nat_cmp m) (seen_in p n) ≡ false
     old-unseen n m from = never-true (contains_by (nat_cmp m) (seen_in p n)) (λ is.
-        let pool = long-pool p were in
+        let pool = long-pool p in
         let below = seen-within (files_of p) (finite.get p.file_names) n m is in
         omega (arith, from, below, pool))
 

@@ -11,14 +11,11 @@ use Rattle.pool_types.specs.declared.contents.definition.Definition.{Definition}
 use Rattle.name_resolution.specs.declared.filter.ResolveNameFilter.{ResolveNameFilter}
 use Rattle.name_resolution.specs.Kinds.{is_match}
 use Rattle.name_resolution.specs.Parents.{outer}
-use Rattle.name_resolution.specs.Resolution.{Resolution, found, invalid_type, not_imported, shadowed, not_found, is_found, is_not_found, or_shadowed, has_dot, look, simple, holds_first, dotted, relative, resolution}
+use Rattle.name_resolution.specs.Resolution.{Resolution, found, invalid_type, not_imported, not_found, is_found, is_not_found, or_shadowed, has_dot, look, simple, holds_first, dotted, relative, resolution}
 use Rattle.name_resolution.proofs.Outward.{answers}
 use Rattle.pool_laws.specs.SettingLaws.{SeenAmong}
 use Rattle.pool_laws.proofs.Looked.{answer, look-again, looked-named}
-
-pub all-mapped : {X Y : Type 0} (P : Y → Type 0) (f : X → Y) (xs : List X) → AllByRecursion P (map f xs) → AllByRecursion (λ x. P (f x)) xs
-all-mapped P f [] all = tt
-all-mapped P f (x ∷ xs) all = (all.0, all-mapped P f xs all.1)
+use Rattle.pool_laws.proofs.AllOf.{all-mapped}
 
 -- what holds of the texts before the dots of a text holds of those that end in its second part
 ends-hold : (P : List ℕ → Type 0) (xs ys : List ℕ) → AllByRecursion P (fronts (xs ++ ys)) → AllByRecursion (λ front. P (xs ++ front)) (fronts ys)
@@ -54,10 +51,7 @@ first-inside P (c ∷ cs) name dot all =
 -- it found nothing, or something
 pub decided : (r : Resolution) → (is_found r ≡ false) ⊎ ((name : List ℕ) × (def : Definition) × (r ≡ found name def))
 decided (found name def) = inr (name, def, refl)
-decided (invalid_type name def filter) = inl refl
-decided (not_imported name file) = inl refl
-decided (shadowed name other) = inl refl
-decided not_found = inl refl
+decided _ = inl refl
 
 -- where no answer found something, neither did the first that isn't nothing
 pub none-later : (rs : List Resolution) → find is_found rs ≡ None → is_found (unwrap_or (find (λ r. not (is_not_found r)) rs) not_found) ≡ false
@@ -83,10 +77,7 @@ best-found rs name def =
 
 unshadowed : (written full : List ℕ) (r : Resolution) (name : List ℕ) (def : Definition) → or_shadowed written full r ≡ found name def → r ≡ found name def
 unshadowed written full (found x d) name def is = is
-unshadowed written full (invalid_type x d filter) name def is = absurd (cc)
-unshadowed written full (not_imported x file) name def is = absurd (cc)
-unshadowed written full (shadowed x other) name def is = absurd (cc)
-unshadowed written full not_found name def is = absurd (cc)
+unshadowed written full _ name def is = absurd (cc)
 
 module _ (names more : ByText Definition) (seen : ℕ → Bool) (among : SeenAmong names more seen) (filter : ResolveNameFilter) where
   -- what is found is seen

@@ -1,6 +1,6 @@
 -- The fields of a message that is carried to another setting: they break nothing.
-use Rattle.std.proofs.Common.{◌≡◌, ◌<◌, ℕ, suc, not, is_some, List, [], ◌∷◌, ◌++◌, map, take, refl, ap, ◌∙◌}
-use Rattle.std.specs.List.{flat_map, take-map}
+use Rattle.std.proofs.Common.{◌≡◌, ◌<◌, ℕ, not, is_some, List, [], ◌++◌, map, take, ap, ◌∙◌}
+use Rattle.std.specs.List.{take-map}
 use Rattle.std.specs.Option.{option_map_or}
 use Rattle.proto_types.specs.declared.records.field.FieldDescriptorProto.{FieldDescriptorProto}
 use Rattle.plain_data.specs.Lists.{at, only_if}
@@ -10,7 +10,6 @@ use Rattle.proto_types.specs.declared.message.DescriptorProto.{DescriptorProto, 
 use Rattle.pool_faults.specs.declared.fault.DescriptorErrorKind.TheVariants.{InvalidOneofIndex}
 use Rattle.record_walk.specs.Changed.{Changes}
 use Rattle.record_walk.specs.Shown.{Shown, inside}
-use Rattle.plain_data.specs.Each.{map_enumerated}
 use Rattle.field_rules.specs.Places.{field_at}
 use Rattle.field_rules.specs.Numbers.{field_number_faults}
 use Rattle.field_rules.specs.Duplicates.{duplicate_faults}
@@ -24,6 +23,7 @@ use Rattle.pool_laws.proofs.SettingRelinks.{again-still}
 use Rattle.pool_laws.proofs.Carries.{Carries}
 use Rattle.reference_pass.proofs.Unbroken.{both-empty}
 use Rattle.pool_laws.proofs.Numbered.{field-numbered}
+use Rattle.pool_laws.proofs.Told.{told, told-changed}
 
 -- a field that breaks nothing: nothing of its own, by its number, its type, its default value and its oneof
 pub record BreaksNothing (s : Setting) (owner : Owner) (d : Shown) (f : FieldDescriptorProto) : Type 0 where
@@ -43,6 +43,10 @@ breaks-nothing s owner d f none =
     let two = both-empty (number ++ typed) default three.0 in
     let one = both-empty number typed two.0 in
     record { number = one.0; typed = one.1; default = two.1; oneof = three.1; other = parts.1 }
+
+-- and the other way round
+pub nothing-broken : (s : Setting) (owner : Owner) (d : Shown) (f : FieldDescriptorProto) → BreaksNothing s owner d f → field_faults s owner d f ≡ []
+nothing-broken s owner d f parts = λ j. (parts.number j ++ parts.typed j ++ parts.default j ++ parts.oneof j) ++ parts.other j
 
 module _ {s t : Setting} {c : Changes} {many : ℕ} (carries : Carries s t c many) (d : Shown) (below : d.file < many) where
   -- a field of the message as it is carried
@@ -66,31 +70,19 @@ module _ {s t : Setting} {c : Changes} {many : ℕ} (carries : Carries s t c man
         let parts = breaks-nothing s (d, m) here f none in
         let name = ap (λ (x : FieldDescriptorProto). text_of x.name) (kept f) in
         let index = ap (λ (x : FieldDescriptorProto). x.oneof_index) (kept f) in
-        let numbered : field_number_faults t.files d k again (carried f) ≡ [] =
-        field-numbered s.files t.files d d here again m k f (carried f) ranges (ap (λ (x : FieldDescriptorProto). x.number) (kept f)) (ap (λ (x : FieldDescriptorProto). x.extendee) (kept f)) parts.number in
-        let typed_still : type_faults t again (carried f) ≡ [] =
-        (λ j. type_faults t (renamed i f (name j)) (carried f)) ∙ (carries.typed here below f parts.typed).faults in
-        let default_still : field_default_faults t again (carried f) ≡ [] =
-        (λ j. field_default_faults t (renamed i f (name j)) (carried f)) ∙ (carries.defaulted here below f parts.typed parts.default).faults in
-        let oneof_still : oneof_faults (out-DescriptorProto k).oneof_decl (carried f) ≡ [] =
-        (λ j. option_map_or (λ n. only_if (not (is_some (at (oneofs j) n))) InvalidOneofIndex) (index j) []) ∙ parts.oneof in
-        let no_other : duplicate_faults t.files d.file d.path (take i (out-DescriptorProto k).field) i (carried f) ≡ [] =
-        ap (λ earlier. duplicate_faults t.files d.file d.path earlier i (carried f)) (ap (take i) fields ∙ take-map carried i fs)
-        ∙ again-still s.files t.files d.file d.file d.path carried (λ x. ap (λ (y : FieldDescriptorProto). y.number) (kept x)) (λ x. ap (λ (y : FieldDescriptorProto). y.json_name) (kept x)) (take i fs) i f parts.other in
-        λ j. (numbered j ++ typed_still j ++ default_still j ++ oneof_still j) ++ no_other j
-
-    each-again : (i : ℕ) (fs : List FieldDescriptorProto)
-        → flat_map (λ (faults : Faults). faults) (map_enumerated (λ i f. field_faults s (d, m) (field_at (inside d) i f) f) i fs) ≡ []
-        → flat_map (λ (faults : Faults). faults) (map_enumerated (λ i f. field_faults t (d, k) (field_at (inside d) i f) f) i (map carried fs)) ≡ []
-    each-again i [] none = refl
-    each-again i (f ∷ fs) none =
-        let parts = both-empty (field_faults s (d, m) (field_at (inside d) i f) f)
-        (flat_map (λ (faults : Faults). faults) (map_enumerated (λ i f. field_faults s (d, m) (field_at (inside d) i f) f) (suc i) fs)) none in
-        λ j. field-again i f parts.0 j ++ each-again (suc i) fs parts.1 j
+        nothing-broken t (d, k) again (carried f) (record {
+          number = field-numbered s.files t.files d d here again m k f (carried f) ranges (ap (λ (x : FieldDescriptorProto). x.number) (kept f)) (ap (λ (x : FieldDescriptorProto). x.extendee) (kept f)) parts.number;
+          typed = (λ j. type_faults t (renamed i f (name j)) (carried f)) ∙ (carries.typed here below f parts.typed).faults;
+          default = (λ j. field_default_faults t (renamed i f (name j)) (carried f)) ∙ (carries.defaulted here below f parts.typed parts.default).faults;
+          oneof = (λ j. option_map_or (λ n. only_if (not (is_some (at (oneofs j) n))) InvalidOneofIndex) (index j) []) ∙ parts.oneof;
+          other =
+              ap (λ earlier. duplicate_faults t.files d.file d.path earlier i (carried f)) (ap (take i) fields ∙ take-map carried i fs)
+              ∙ again-still s.files t.files d.file d.file d.path carried (λ x. ap (λ (y : FieldDescriptorProto). y.number) (kept x)) (λ x. ap (λ (y : FieldDescriptorProto). y.json_name) (kept x)) (take i fs) i f parts.other;
+        })
 
     -- what the fields of the message break, where the carried ones are read
-    pub fields-again : flat_map (λ (faults : Faults). faults) (map_enumerated (λ i f. field_faults s (d, m) (field_at (inside d) i f) f) 0 (out-DescriptorProto m).field) ≡ []
-        → flat_map (λ (faults : Faults). faults) (map_enumerated (λ i f. field_faults t (d, k) (field_at (inside d) i f) f) 0 (out-DescriptorProto k).field) ≡ []
+    pub fields-again : told (λ i f. field_faults s (d, m) (field_at (inside d) i f) f) 0 (out-DescriptorProto m).field ≡ []
+        → told (λ i f. field_faults t (d, k) (field_at (inside d) i f) f) 0 (out-DescriptorProto k).field ≡ []
     fields-again none =
-        ap (λ fs. flat_map (λ (faults : Faults). faults) (map_enumerated (λ i f. field_faults t (d, k) (field_at (inside d) i f) f) 0 fs)) fields
-        ∙ each-again 0 (out-DescriptorProto m).field none
+        let broken : ℕ → FieldDescriptorProto → Faults = λ i f. field_faults t (d, k) (field_at (inside d) i f) f in
+        ap (told broken 0) fields ∙ told-changed (λ i f. field_faults s (d, m) (field_at (inside d) i f) f) broken carried field-again 0 (out-DescriptorProto m).field none

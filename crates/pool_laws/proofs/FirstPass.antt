@@ -2,14 +2,14 @@
 use Rattle.std.proofs.Common.{◌≡◌, ℕ, ◌+◌, ℤ, Bool, true, false, not, cond, ◌||◌, ◌&&◌, is_some, if◌then◌else◌, Option, None, Some, pos, List, [], ◌∷◌, ◌++◌, map, find, refl, ap, sym, ◌∙◌}
 use Rattle.std.specs.FinMap as finite
 use Rattle.std.specs.List.{enumerate_from}
-use Rattle.std.specs.Option.{option_map, option_or}
+use Rattle.std.specs.Option.{option_or}
 use Rattle.std.specs.Ordering.{int_eq}
 use Rattle.std.specs.Str.{bytes_eq}
 use Rattle.std.proofs.lemmas.List.{map-append}
 use Rattle.proto_types.specs.declared.records.enumeration.EnumValueDescriptorProto.{EnumValueDescriptorProto}
 use Rattle.proto_types.specs.declared.records.field.FieldDescriptorProto.{FieldDescriptorProto}
 use Rattle.proto_types.specs.declared.tag.file.TheConstants.{SYNTAX}
-use Rattle.plain_data.specs.Lists.{after_each, listed, only_if}
+use Rattle.plain_data.specs.Lists.{after_each, only_if}
 use Rattle.proto_types.specs.Names.{join}
 use Rattle.proto_types.specs.Readers.{number_of, text_of}
 use Rattle.proto_types.specs.declared.file.FileDescriptorProto.{FileDescriptorProto}
@@ -23,7 +23,7 @@ use Rattle.pool_types.specs.declared.kinds.Syntax.{Syntax}
 use Rattle.name_tables.specs.Entries.{Entry, first_of}
 use Rattle.name_tables.proofs.Entries.{first-append}
 use Rattle.record_walk.specs.Changed.{Changes, KeepNames, changed, changed_message}
-use Rattle.record_walk.specs.Protos.{Proto, of_file, of_message, of_field, of_oneof, of_service, of_method, of_enum, of_value, of_extension}
+use Rattle.record_walk.specs.Protos.{Proto, of_file, of_message, of_enum}
 use Rattle.record_walk.specs.Shown.{Shown}
 use Rattle.name_resolution.specs.Kinds.{is_package}
 use Rattle.name_pass.specs.CamelCase.{Placed, camel_case_faults, camel_case_key, key_at, message_own_faults, shared_key_faults}
@@ -32,10 +32,11 @@ use Rattle.name_pass.specs.Syntaxes.{is_proto3, known_syntax, syntax_at, syntax_
 use Rattle.name_pass.specs.Entered.{entries, entries_of, file_entries}
 use Rattle.name_pass.specs.FirstPass.{clashes, file_faults, file_name_faults, first_faults, holder, holder_faults, shape_faults}
 use Rattle.pool_laws.proofs.Messages.{parts-of}
+use Rattle.pool_laws.proofs.Told.{lists-nothing, nothing-of}
 use Rattle.reference_pass.proofs.Unbroken.{both-empty}
 use Rattle.pool_laws.proofs.Typed.{no-fault}
 
-or-or : {X : Type 0} (a b c : Option X) → option_or a (option_or b c) ≡ option_or (option_or a b) c
+pub or-or : {X : Type 0} (a b c : Option X) → option_or a (option_or b c) ≡ option_or (option_or a b) c
 or-or None b c = refl
 or-or (Some x) b c = refl
 
@@ -63,11 +64,11 @@ module _ (fs gs : List FileDescriptorProto) where
       holder-more other new (e ∷ []) name ∙ ap (λ h. option_or h (first_of (e ∷ []) name)) (same name) ∙ sym (holder-more known old (e ∷ []) name) in
       λ i. here i ++ clashes-still known other (old ++ e ∷ []) (new ++ e ∷ []) more es parts.1 i
 
-  -- a syntax that is known
-  known-still : (k : Option Syntax) (x y : DescriptorErrorKind) → let f : List DescriptorErrorKind = elim k [ Some _ ↦ [] | None ↦ x ∷ [] ] in
-      let g : List DescriptorErrorKind = elim k [ Some _ ↦ [] | None ↦ y ∷ [] ] in f ≡ [] → g ≡ []
-  known-still (Some k) x y none = refl
-  known-still None x y none = absurd (cc)
+-- a syntax that is known
+pub known-still : (k : Option Syntax) (x y : DescriptorErrorKind) → let f : List DescriptorErrorKind = elim k [ Some _ ↦ [] | None ↦ x ∷ [] ] in
+    let g : List DescriptorErrorKind = elim k [ Some _ ↦ [] | None ↦ y ∷ [] ] in f ≡ [] → g ≡ []
+known-still (Some k) x y none = refl
+known-still None x y none = absurd (cc)
 
 -- whether one of some entries meets a test
 some-cond : {X : Type 0} (b : Bool) (x : X) (r : Option X) → is_some (cond b (Some x) r) ≡ (b || is_some r)
@@ -82,16 +83,8 @@ found-changed change test other same (x ∷ xs) =
     ∙ (λ i. same x i || found-changed change test other same xs i)
     ∙ sym (some-cond (test x) x (find test xs))
 
-nothing-of : {X Y : Type 0} (o : Option X) (f : X → Y) → listed (option_map f o) ≡ [] → is_some o ≡ false
-nothing-of None f none = refl
-nothing-of (Some x) f none = absurd (cc)
-
-lists-nothing : {X Y : Type 0} (o : Option X) (f : X → Y) → is_some o ≡ false → listed (option_map f o) ≡ []
-lists-nothing None f none = refl
-lists-nothing (Some x) f none = absurd (cc)
-
 -- fields whose names have keys of their own
-module _ (fs gs : List FileDescriptorProto) (file : ℕ) (path : List ℤ) (change : FieldDescriptorProto → FieldDescriptorProto)
+module _ (fs gs : List FileDescriptorProto) (file other : ℕ) (path place : List ℤ) (change : FieldDescriptorProto → FieldDescriptorProto)
     (names : (f : FieldDescriptorProto) → text_of (change f).name ≡ text_of f.name) where
   abbrev placed : Placed → Placed
   placed e = (e.0, change e.1)
@@ -99,47 +92,47 @@ module _ (fs gs : List FileDescriptorProto) (file : ℕ) (path : List ℤ) (chan
   key-is : (e : Placed) → key_at (placed e) ≡ key_at e
   key-is e = ap camel_case_key (names e.1)
 
-  key-still : (before : List Placed) (e : Placed) → shared_key_faults fs file path before e ≡ [] → shared_key_faults gs file path (map placed before) (placed e) ≡ []
+  key-still : (before : List Placed) (e : Placed) → shared_key_faults fs file path before e ≡ [] → shared_key_faults gs other place (map placed before) (placed e) ≡ []
   key-still before e none =
       let test : Placed → Bool = λ first. bytes_eq (key_at e) (key_at first) in
-      let other : Placed → Bool = λ first. bytes_eq (key_at (placed e)) (key_at first) in
-      lists-nothing (find other (map placed before)) _
-      (found-changed placed test other (λ x i. bytes_eq (key-is e i) (key-is x i)) before ∙ nothing-of (find test before) _ none)
+      let moved : Placed → Bool = λ first. bytes_eq (key_at (placed e)) (key_at first) in
+      lists-nothing (find moved (map placed before)) _
+      (found-changed placed test moved (λ x i. bytes_eq (key-is e i) (key-is x i)) before ∙ nothing-of (find test before) _ none)
 
   keys-still : (before : List Placed) (n : ℕ) (fields : List FieldDescriptorProto) → after_each (shared_key_faults fs file path) before (enumerate_from n fields) ≡ []
-      → after_each (shared_key_faults gs file path) (map placed before) (enumerate_from n (map change fields)) ≡ []
+      → after_each (shared_key_faults gs other place) (map placed before) (enumerate_from n (map change fields)) ≡ []
   keys-still before n [] none = refl
   keys-still before n (f ∷ fields) none =
       let e : Placed = (n, f) in
       let parts = both-empty (shared_key_faults fs file path before e) (after_each (shared_key_faults fs file path) (before ++ e ∷ []) (enumerate_from (n + 1) fields)) none in
-      let rest = ap (λ bs. after_each (shared_key_faults gs file path) bs (enumerate_from (n + 1) (map change fields))) (sym (map-append placed before (e ∷ [])))
+      let rest = ap (λ bs. after_each (shared_key_faults gs other place) bs (enumerate_from (n + 1) (map change fields))) (sym (map-append placed before (e ∷ [])))
       ∙ keys-still (before ++ e ∷ []) (n + 1) fields parts.1 in
       λ i. key-still before e parts.0 i ++ rest i
 
-  pub camel-still : (fields : List FieldDescriptorProto) → camel_case_faults fs file path fields ≡ [] → camel_case_faults gs file path (map change fields) ≡ []
+  pub camel-still : (fields : List FieldDescriptorProto) → camel_case_faults fs file path fields ≡ [] → camel_case_faults gs other place (map change fields) ≡ []
   camel-still = keys-still [] 0
 
 -- what is told in proto3 alone
-in-proto3 : (b : Bool) (xs ys : List DescriptorErrorKind) → (xs ≡ [] → ys ≡ []) → (if b then xs else []) ≡ [] → (if b then ys else []) ≡ []
+pub in-proto3 : (b : Bool) (xs ys : List DescriptorErrorKind) → (xs ≡ [] → ys ≡ []) → (if b then xs else []) ≡ [] → (if b then ys else []) ≡ []
 in-proto3 true xs ys still none = still none
 in-proto3 false xs ys still none = refl
 
-module _ (fs gs : List FileDescriptorProto) (file : ℕ) (path : List ℤ) (proto3 : is_proto3 (syntax_at gs file) ≡ is_proto3 (syntax_at fs file)) where
-  begins-still : (vs : List EnumValueDescriptorProto)
+module _ (fs gs : List FileDescriptorProto) (file other : ℕ) (path place : List ℤ) (proto3 : is_proto3 (syntax_at gs other) ≡ is_proto3 (syntax_at fs file)) where
+  pub begins-still : (vs : List EnumValueDescriptorProto)
       → let f : List DescriptorErrorKind = elim vs [
         | [] ↦ EmptyEnum (label_in fs file path) ∷ []
         | first ∷ _ ↦ only_if (is_proto3 (syntax_at fs file) && not (int_eq (number_of first.number) (pos 0))) (InvalidProto3EnumDefault (label_in fs file (first_number_path path)))
       ] in
       let g : List DescriptorErrorKind = elim vs [
-        | [] ↦ EmptyEnum (label_in gs file path) ∷ []
-        | first ∷ _ ↦ only_if (is_proto3 (syntax_at gs file) && not (int_eq (number_of first.number) (pos 0))) (InvalidProto3EnumDefault (label_in gs file (first_number_path path)))
+        | [] ↦ EmptyEnum (label_in gs other place) ∷ []
+        | first ∷ _ ↦ only_if (is_proto3 (syntax_at gs other) && not (int_eq (number_of first.number) (pos 0))) (InvalidProto3EnumDefault (label_in gs other (first_number_path place)))
       ] in
       f ≡ [] → g ≡ []
   begins-still [] none = absurd (cc)
   begins-still (v ∷ vs) none =
       let wrong = not (int_eq (number_of v.number) (pos 0)) in
-      let other = InvalidProto3EnumDefault (label_in gs file (first_number_path path)) in
-      (λ i. only_if (proto3 i && wrong) other) ∙ no-fault (is_proto3 (syntax_at fs file) && wrong) _ other none
+      let told = InvalidProto3EnumDefault (label_in gs other (first_number_path place)) in
+      (λ i. only_if (proto3 i && wrong) told) ∙ no-fault (is_proto3 (syntax_at fs file) && wrong) _ told none
 
 module _ (c : Changes) (keep : KeepNames c) (fs gs : List FileDescriptorProto) (p q : Contents) (earlier before : List Shown)
     (names : (name : List ℕ) → holder q.names (entries before) name ≡ holder p.names (entries earlier) name)
@@ -166,27 +159,22 @@ module _ (c : Changes) (keep : KeepNames c) (fs gs : List FileDescriptorProto) (
         let name = text_of f.name in
         let parts = both-empty (syntax_faults fs file f) (file_name_faults (holder p.file_names (file_entries earlier) name) name) none in
         let known : syntax_faults gs file f ≡ [] =
-        known-still fs gs (known_syntax f.syntax) (UnknownSyntax (text_of f.syntax) (label_in fs file (SYNTAX ∷ []))) (UnknownSyntax (text_of f.syntax) (label_in gs file (SYNTAX ∷ []))) parts.0 in
+        known-still (known_syntax f.syntax) (UnknownSyntax (text_of f.syntax) (label_in fs file (SYNTAX ∷ []))) (UnknownSyntax (text_of f.syntax) (label_in gs file (SYNTAX ∷ []))) parts.0 in
         λ i. known i ++ (ap (λ h. file_name_faults h name) (files name) ∙ parts.1) i
 
     message-own : (m : DescriptorProto) → message_own_faults fs file path m ≡ [] → message_own_faults gs file path (changed_message c file full_name m) ≡ []
     message-own m none =
         let change : FieldDescriptorProto → FieldDescriptorProto = λ f. c.field file (join full_name (text_of f.name)) f in
         let fields = (out-DescriptorProto m).field in
-        let still = camel-still fs gs file path change (λ f. keep.fields file (join full_name (text_of f.name)) f) fields in
+        let still = camel-still fs gs file file path path change (λ f. keep.fields file (join full_name (text_of f.name)) f) fields in
         (λ i. if is_proto3 (syntax i) then camel_case_faults gs file path ((parts-of c file full_name m).fields i) else [])
         ∙ in-proto3 (is_proto3 (syntax_at fs file)) (camel_case_faults fs file path fields) (camel_case_faults gs file path (map change fields)) still none
 
     first-by : (r : Proto) → first_faults fs p earlier (at r) ≡ [] → first_faults gs q before (changed c (at r)) ≡ []
     first-by (of_file f) = by-parts (at (of_file f)) (changed c (at (of_file f))) refl (file-again f) (λ none. refl)
     first-by (of_message m) = by-parts (at (of_message m)) (changed c (at (of_message m))) refl (λ none. refl) (message-own m)
-    first-by (of_field f) = by-parts (at (of_field f)) (changed c (at (of_field f))) refl (λ none. refl) (λ none. refl)
-    first-by (of_oneof o) = by-parts (at (of_oneof o)) (changed c (at (of_oneof o))) refl (λ none. refl) (λ none. refl)
-    first-by (of_service v) = by-parts (at (of_service v)) (changed c (at (of_service v))) refl (λ none. refl) (λ none. refl)
-    first-by (of_method m) = by-parts (at (of_method m)) (changed c (at (of_method m))) refl (λ none. refl) (λ none. refl)
-    first-by (of_enum e) = by-parts (at (of_enum e)) (changed c (at (of_enum e))) refl (λ none. refl) (begins-still fs gs file path (ap is_proto3 syntax) e.value)
-    first-by (of_value v) = by-parts (at (of_value v)) (changed c (at (of_value v))) refl (λ none. refl) (λ none. refl)
-    first-by (of_extension x) = by-parts (at (of_extension x)) (changed c (at (of_extension x))) refl (λ none. refl) (λ none. refl)
+    first-by (of_enum e) = by-parts (at (of_enum e)) (changed c (at (of_enum e))) refl (λ none. refl) (begins-still fs gs file file path path (ap is_proto3 syntax) e.value)
+    first-by r = by-parts (at r) (changed c (at r)) refl (λ none. refl) (λ none. refl)
 
   pub first-again : (d : Shown) → syntax_at gs d.file ≡ syntax_at fs d.file → first_faults fs p earlier d ≡ [] → first_faults gs q before (changed c d) ≡ []
   first-again d syntax = first-by d.file d.parent d.index d.path d.full_name syntax d.proto

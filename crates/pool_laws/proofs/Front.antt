@@ -49,12 +49,13 @@ use Rattle.descriptor_pool.proofs.Files.{lie-between}
 use Rattle.descriptor_pool.proofs.Resolved.{all-append}
 use Rattle.descriptor_pool.proofs.Sound.{Known}
 use Rattle.pool_laws.specs.Laws.{ArePlain}
-use Rattle.pool_laws.proofs.Relinks.{first-kept, slice-front}
-use Rattle.pool_laws.proofs.Parts.{AllKnown, declared-both, earlier, known-stays, later, many-files, new-both, part, sees-same, sees-within, unbroken-both, whole}
+use Rattle.pool_laws.proofs.Relinks.{first-kept, long-with, slice-front}
+use Rattle.pool_laws.proofs.Parts.{AllKnown, declared-both, earlier, known-stays, later, new-both, part, sees-same, sees-within, unbroken-both, whole}
 use Rattle.pool_laws.proofs.Passes.{after-parts, pass-again, unbroken-carried}
 use Rattle.pool_laws.proofs.Records.{ranges-itself}
 use Rattle.pool_laws.proofs.Relinked.{Relinked, syntaxes-of}
 use Rattle.pool_laws.proofs.Unseen.{found-second, seen-stand}
+use Rattle.pool_laws.proofs.AllOf.{all-weaker}
 
 pub plain-front : (base : Counts) (fs gs : List FileDescriptorProto) → ArePlain base (fs ++ gs) → ArePlain base fs
 plain-front base [] gs plain = tt
@@ -88,8 +89,7 @@ module _ (p : Contents) (entered : Known p) (again : Relinked p) (front back : L
   inside-mean _ inside = tt
 
   all-inside : (ds : List Shown) → AllByRecursion (λ d. IsInside d.proto) ds → AllByRecursion (λ d. ImportsMean was now d.proto) ds
-  all-inside [] inside = tt
-  all-inside (d ∷ ds) inside = (inside-mean d.proto inside.0, all-inside ds inside.1)
+  all-inside = all-weaker (λ d. IsInside d.proto) (λ d. ImportsMean was now d.proto) (λ d. inside-mean d.proto)
 
   imports-mean : (base : Counts) (fs : List FileDescriptorProto) → AllKnown fs (finite.get now.file_names) → AllByRecursion (λ d. ImportsMean was now d.proto) (declarations base fs)
   imports-mean base [] known = tt
@@ -107,7 +107,7 @@ module _ (p : Contents) (entered : Known p) (again : Relinked p) (front back : L
 
   file-same : (n : ℕ) → n < many → slice_get now.files n ≡ slice_get was.files n
   file-same n below =
-      let long = many-files p entered again front back closed front in
+      let long = long-with p front in
       sym (ap (λ fs. slice_get fs n) (sym (append_assoc (files_of p) front back)) ∙ slice-front (files_of p ++ front) back n (omega (arith, below, long)))
 
   pub lie : AllByRecursion (λ d. d.file < many) first

@@ -18,8 +18,6 @@ use Rattle.reference_pass.proofs.Steps.{made-append}
 use Rattle.pool_laws.specs.SettingLaws.{unchanged}
 use Rattle.pool_laws.proofs.AsGiven.{given-carried}
 use Rattle.pool_laws.proofs.Carries.{Carries}
-use Rattle.pool_laws.proofs.Imports.{all-stay}
-use Rattle.pool_laws.proofs.Still.{all-rest}
 use Rattle.pool_laws.proofs.Unchanged.{declarations-unchanged, files-unchanged}
 use Rattle.pool_contents.specs.Extended.{extended_by}
 use Rattle.pool_contents.proofs.Each.{each-append, length-each}
@@ -33,9 +31,9 @@ use Rattle.pool_laws.proofs.Front.{all-names-stay, front-stands, lie, references
 use Rattle.pool_laws.proofs.Items.{SameItem, all-fine, files-again, kind-again, same-enum, same-extension, same-message, same-service}
 use Rattle.pool_laws.proofs.Lists.{in-two-steps}
 use Rattle.pool_laws.proofs.Parts.{AllKnown, declared-both, earlier, later, part, unbroken-both}
-use Rattle.pool_laws.proofs.Passes.{all-of}
 use Rattle.pool_laws.proofs.Relinked.{Relinked}
 use Rattle.pool_laws.proofs.Rest.{at_once, behind, declared-second, file-names-same, grown, lie-second, many, names-same, rest-stands, same-file-names, start}
+use Rattle.pool_laws.proofs.AllOf.{all-of, all-rest}
 
 module _ (p : Contents) (entered : Known p) (again : Relinked p) (front back : List FileDescriptorProto)
     (closed : AllKnown front (finite.get (with_names p (declared_with p front)).file_names)) (plain : ArePlain no_counts (files_of p ++ front))
@@ -87,7 +85,7 @@ module _ (p : Contents) (entered : Known p) (again : Relinked p) (front back : L
       let base = counted (counts_in p) first in
       let unbroken = unbroken-both p entered again front back closed none in
       let many_files = counted-files (counts_in p) front in
-      let stay = all-of (λ f. all-stay s t (same-file-names p entered again front back closed) f.dependency) back in
+      let stay = all-of (λ f. all-of (same-file-names p entered again front back closed) f.dependency) back in
       let one = ap (map_enumerated (file_item u) (length p.files)) (sym (files-unchanged (length p.files) front))
       ∙ files-again front-carried (counts_in p) front (omega arith) (all-names-stay p entered again front back closed front closed) unbroken.0 in
       let two = ap (map_enumerated (file_item t) base.files) (sym (files-unchanged base.files back)) ∙ files-again rest-carried base back (omega arith) stay unbroken.1 in

@@ -1,3 +1,6 @@
+pub mod AllOf
+pub mod Paired
+pub mod Told
 pub mod SeenStays
 pub mod SeenMoved
 pub mod Looked
@@ -41,6 +44,7 @@ pub mod ExchangedBatch
 pub mod Passes
 pub mod Items
 pub mod Relinked
+pub mod Behind
 pub mod Parts
 pub mod ExchangedSetting
 pub mod Entered

@@ -1,27 +1,23 @@
 -- Names that mean the same message are one name, and each extension of a pool extends a message that a name means.
-use Rattle.std.proofs.Common.{◌≡◌, ℕ, ℤ, true, false, cond, Option, None, Some, List, [], ◌∷◌, ◌++◌, length, map, append_assoc, refl, ap, subst, sym, ◌∙◌, arith}
+use Rattle.std.proofs.Common.{◌≡◌, ℕ, ℤ, Option, None, Some, List, [], ◌∷◌, ◌++◌, length, append_assoc, refl, ap, subst, sym, ◌∙◌, arith}
 use Rattle.std.proofs.lemmas.List.{length-map}
-use Rattle.std.proofs.lemmas.Grind.{flat_map-append}
-use Rattle.std.proofs.lemmas.Slice.Eq.{bytes_eq-Decides}
 use Rattle.std.specs.FinMap as finite
 use Rattle.std.specs.List.{AllByRecursion, flat_map, slice_get}
 use Rattle.std.specs.Option.{IfSome, IsSomeAnd}
-use Rattle.std.specs.Str.{bytes_eq}
 use Rattle.proto_types.specs.Readers.{text_of}
 use Rattle.proto_types.specs.declared.file.FileDescriptorProto.{FileDescriptorProto}
 use Rattle.pool_types.specs.Contents.{Contents, files_of}
 use Rattle.pool_types.specs.declared.contents.definition.Definition.{Definition}
 use Rattle.pool_types.specs.declared.contents.definition.DefinitionKind.TheVariants as definition
 use Rattle.pool_types.specs.declared.contents.extension.ExtensionDescriptorInner.{ExtensionDescriptorInner}
-use Rattle.name_tables.specs.Entries.{first_of, names, names_with}
-use Rattle.name_tables.proofs.Entries.{with-names}
+use Rattle.name_tables.specs.Entries.{names}
 use Rattle.name_tables.proofs.Names.{get-lookup}
 use Rattle.name_pass.specs.Entered.{entries, entries_of, package_entry, packages}
 use Rattle.record_walk.specs.declared.counts.Counts.{Counts}
 use Rattle.record_walk.specs.Counts.{counted, no_counts}
 use Rattle.record_walk.specs.Declarations.{declarations}
 use Rattle.record_walk.specs.Indexes.{HasIndex}
-use Rattle.record_walk.specs.Protos.{Proto, of_file, of_message, of_field, of_oneof, of_service, of_method, of_enum, of_value, of_extension, as_message}
+use Rattle.record_walk.specs.Protos.{Proto, of_file, of_message, of_extension, as_message}
 use Rattle.record_walk.specs.Shown.{Shown, of_kind}
 use Rattle.record_walk.proofs.Indexes.{indexes-count-on}
 use Rattle.reference_pass.specs.Items.{extension_item, extension_items, made_of}
@@ -31,12 +27,14 @@ use Rattle.reference_pass.proofs.Steps.{made-append}
 use Rattle.reference_pass.proofs.Unbroken.{both-empty}
 use Rattle.descriptor_pool.specs.Linking.{declared_with, setting_with}
 use Rattle.descriptor_pool.specs.Pool.{Made}
-use Rattle.descriptor_pool.proofs.Declared.{counted-many, declared-behind, known_names}
+use Rattle.descriptor_pool.proofs.Declared.{counted-many}
 use Rattle.descriptor_pool.proofs.Definitions.{extension-named}
 use Rattle.descriptor_pool.proofs.Resolved.{all-append}
 use Rattle.descriptor_pool.proofs.Sound.{made-sound}
 use Rattle.pool_laws.proofs.Relinked.{made-relinked}
 use Rattle.pool_laws.proofs.Relinks.{reread, stays-known}
+use Rattle.pool_laws.proofs.AllOf.{all-map, all-of}
+use Rattle.pool_laws.proofs.Unseen.{first-stands, names-whole}
 
 -- what a name means in a pool it means with new files
 pub old-stays : (p : Contents) (new : List FileDescriptorProto) (name : List ℕ) (def : Definition) → finite.get p.names name ≡ Some def
@@ -57,18 +55,11 @@ module _ (p : Contents) where
   one-extendee : (file : ℕ) (parent : Option ℕ) (index : ℕ) (path : List ℤ) (full_name : List ℕ) (proto : Proto) (ds : List Shown)
       → let d : Shown = record { file = file; parent = parent; index = index; path = path; full_name = full_name; proto = proto } in
       owner_faults (reread p) [] d ≡ [] → AllByRecursion (NamesExtendee p) (extension_items (reread p) ds) → AllByRecursion (NamesExtendee p) (extension_items (reread p) (d ∷ ds))
-  one-extendee file parent index path full_name (of_file f) ds none rest = rest
-  one-extendee file parent index path full_name (of_message m) ds none rest = rest
-  one-extendee file parent index path full_name (of_field f) ds none rest = rest
-  one-extendee file parent index path full_name (of_oneof o) ds none rest = rest
-  one-extendee file parent index path full_name (of_service v) ds none rest = rest
-  one-extendee file parent index path full_name (of_method m) ds none rest = rest
-  one-extendee file parent index path full_name (of_enum e) ds none rest = rest
-  one-extendee file parent index path full_name (of_value v) ds none rest = rest
   one-extendee file parent index path full_name (of_extension x) ds none rest =
       let d : Shown = record { file = file; parent = parent; index = index; path = path; full_name = full_name; proto = of_extension x } in
       let named = (extension-named (reread p) d x none).extendee in
       (meaning (extension_item (reread p) d x) named.0 (finite.get p.names named.0) refl named.2, rest)
+  one-extendee file parent index path full_name _ ds none rest = rest
 
   all-extendees : (ds : List Shown) → flat_map (owner_faults (reread p) []) ds ≡ [] → AllByRecursion (NamesExtendee p) (extension_items (reread p) ds)
   all-extendees [] none = tt
@@ -101,10 +92,6 @@ module _ (fs : List FileDescriptorProto) where
   abbrev Stands : List ℕ → Definition → Type 0
   Stands name def = IfSome (message_index def.kind) (λ m. slice_get (message_names ds) m ≡ Some name)
 
-  packages-stand : (file : ℕ) (texts : List (List ℕ)) → AllByRecursion (λ e. Stands e.0 e.1) (map (package_entry file) texts)
-  packages-stand file [] = tt
-  packages-stand file (text ∷ texts) = (tt, packages-stand file texts)
-
   one-stands : (front rest : List Shown) (file : ℕ) (parent : Option ℕ) (index : ℕ) (path : List ℤ) (full_name : List ℕ) (proto : Proto)
       → let d : Shown = record { file = file; parent = parent; index = index; path = path; full_name = full_name; proto = proto } in
       ds ≡ front ++ d ∷ rest → HasIndex (counted no_counts front) d proto → AllByRecursion (λ e. Stands e.0 e.1) (entries_of d)
@@ -115,14 +102,8 @@ module _ (fs : List FileDescriptorProto) where
       let long = length-map (of_kind as_message front) (λ e. e.0.full_name) in
       let here : index ≡ length (message_names front) = omega (arith, has, counted_ones, long) in
       ((λ j. slice_get (all j) (here j)) ∙ get-behind (message_names front) full_name (message_names rest), tt)
-  one-stands front rest file parent index path full_name (of_file f) parted has = packages-stand file (packages (text_of f.«package»))
-  one-stands front rest file parent index path full_name (of_field f) parted has = (tt, tt)
-  one-stands front rest file parent index path full_name (of_oneof o) parted has = (tt, tt)
-  one-stands front rest file parent index path full_name (of_service v) parted has = (tt, tt)
-  one-stands front rest file parent index path full_name (of_method m) parted has = (tt, tt)
-  one-stands front rest file parent index path full_name (of_enum e) parted has = (tt, tt)
-  one-stands front rest file parent index path full_name (of_value v) parted has = (tt, tt)
-  one-stands front rest file parent index path full_name (of_extension x) parted has = (tt, tt)
+  one-stands front rest file parent index path full_name (of_file f) parted has = let names = packages (text_of f.«package») in all-map (λ e. Stands e.0 e.1) (package_entry file) names (all-of (λ _. tt) names)
+  one-stands front rest file parent index path full_name _ parted has = (tt, tt)
 
   stand-from : (front rest : List Shown) → ds ≡ front ++ rest → AllByRecursion (λ e. Stands e.0 e.1) (entries rest)
   stand-from front [] parted = tt
@@ -132,23 +113,8 @@ module _ (fs : List FileDescriptorProto) where
       (stand-from (front ++ d ∷ []) rest (parted ∙ sym (append_assoc front (d ∷ []) rest)))
 
   -- and so does what a name means
-  name-stands : (es : List (List ℕ × Definition)) → AllByRecursion (λ e. Stands e.0 e.1) es → (name : List ℕ) → IfSome (first_of es name) (Stands name)
-  name-stands [] all name = tt
-  name-stands (e ∷ es) all name =
-      elim (bytes_eq name e.0) as (λ b. bytes_eq name e.0 ≡ b → IfSome (cond b (Some e.1) (first_of es name)) (Stands name))
-      [ true ↦ λ same. subst (λ text. Stands text e.1) (sym ((bytes_eq-Decides name e.0).0 same)) all.0 | false ↦ λ other. name-stands es all.1 name ] refl
-
   names-stand : (name : List ℕ) → IfSome (finite.get (names (entries ds)) name) (Stands name)
-  names-stand name = subst (λ got. IfSome got (Stands name)) (sym (get-lookup (entries ds) name)) (name-stands (entries ds) (stand-from [] ds refl) name)
-
--- the names of new files behind a pool are those of all files, declared from nothing
-names-whole : (p : Contents) → Made p → (new : List FileDescriptorProto) → (setting_with p new).names ≡ names (entries (declarations no_counts (files_of p ++ new)))
-names-whole p made new =
-    let known = (made-sound p made).known in
-    let more = entries (declared_with p new) in
-    ap (λ held. names_with held more) known.names_are ∙ with-names (known_names p) more
-    ∙ ap names (sym (flat_map-append entries_of (declarations no_counts (files_of p)) (declared_with p new))
-    ∙ sym (ap entries (declared-behind p new known.counts_are new)))
+  names-stand name = subst (λ got. IfSome got (Stands name)) (sym (get-lookup (entries ds) name)) (first-stands Stands (entries ds) (stand-from [] ds refl) name)
 
 -- names that mean messages with one index are one name
 pub messages-apart : (p : Contents) → Made p → (new : List FileDescriptorProto) → (x y : List ℕ) (d e : Definition) (m : ℕ)
@@ -164,6 +130,6 @@ messages-apart p made new x y d e m at-x at-y of-x of-y =
         → slice_get (message_names (declarations no_counts (files_of p ++ new))) m ≡ Some name
     stands name def is of =
         let fs = files_of p ++ new in
-        let got : finite.get (names (entries (declarations no_counts fs))) name ≡ Some def = sym (ap (λ held. finite.get held name) (names-whole p made new)) ∙ is in
+        let got : finite.get (names (entries (declarations no_counts fs))) name ≡ Some def = sym (ap (λ held. finite.get held name) (names-whole p (made-sound p made).known new)) ∙ is in
         subst (λ got. IfSome got (λ m. slice_get (message_names (declarations no_counts fs)) m ≡ Some name)) of
         (subst (λ got. IfSome got (Stands fs name)) got (names-stand fs name))

@@ -1,9 +1,10 @@
 -- Declarations and definitions that are one but for numbers: each file has another number, and so has what it declares.
-use Rattle.std.proofs.Common.{◌≡◌, ℕ, Option, Some, None, List, [], ◌∷◌}
+use Rattle.std.proofs.Common.{◌≡◌, ℕ, Option, Some, None, List}
 use Rattle.pool_types.specs.declared.contents.definition.Definition.{Definition}
 use Rattle.record_walk.specs.declared.declaration.DeclarationKind.{DeclarationKind}
 use Rattle.record_walk.specs.Shown.{Shown}
 use Rattle.pool_laws.specs.Order.{kind_alone}
+use Rattle.pool_laws.proofs.Paired.{Paired}
 
 -- a definition has the kind of another, numbers aside, and stands at the same path of the file that has the number given; of packages nothing more is asked
 abbrev pub StandsAlike : (ℕ → ℕ) → Option DeclarationKind → Definition → Definition → Type 0
@@ -28,6 +29,4 @@ pub record Moved (number : ℕ → ℕ) (d e : Shown) : Type 0 where
 
 -- so it is with declarations, one after another
 abbrev pub AllMoved : (ℕ → ℕ) → List Shown → List Shown → Type 0
-AllMoved number [] [] = Unit {0}
-AllMoved number (d ∷ ds) (e ∷ es) = Moved number d e × AllMoved number ds es
-AllMoved number _ _ = ⊥
+AllMoved number = Paired (Moved number)

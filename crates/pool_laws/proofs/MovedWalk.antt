@@ -19,15 +19,9 @@ use Rattle.record_walk.specs.Protos.{Proto, of_message, of_field, of_oneof, of_s
 use Rattle.record_walk.specs.Shown.{Shown, Surrounding, shown, step, row, parts, inside, beside}
 use Rattle.record_walk.proofs.Paths.{one-file}
 use Rattle.pool_laws.proofs.Moved.{Moved, AllMoved}
+use Rattle.pool_laws.proofs.Paired.{paired-append, paired-four}
 
 module _ (number : ℕ → ℕ) where
-  -- two moved lists, one behind the other
-  pub moved-append : (ds es xs ys : List Shown) → AllMoved number ds es → AllMoved number xs ys → AllMoved number (ds ++ xs) (es ++ ys)
-  moved-append [] [] xs ys first second = second
-  moved-append [] (e ∷ es) xs ys first second = absurd first
-  moved-append (d ∷ ds) [] xs ys first second = absurd first
-  moved-append (d ∷ ds) (e ∷ es) xs ys first second = (first.0, moved-append ds es xs ys first.1 second)
-
   -- what declarations stand in is another, but for the file's number and the parent
   record Around (here there : Surrounding) : Type 0 where
     file : there.file ≡ number here.file
@@ -66,7 +60,7 @@ module _ (number : ℕ → ℕ) where
       → AllMoved number (enums_walk here tag position i es) (enums_walk there tag position j es)
   enums-moved here there around tag position i j [] = tt
   enums-moved here there around tag position i j (e ∷ es) =
-      moved-append (enum_walk here tag position i e) (enum_walk there tag position j e)
+      paired-append (Moved number) (enum_walk here tag position i e) (enum_walk there tag position j e)
       (enums_walk here tag (suc position) (suc i) es) (enums_walk there tag (suc position) (suc j) es)
       (enum-moved here there around tag position i j e) (enums-moved here there around tag (suc position) (suc i) (suc j) es)
 
@@ -82,21 +76,21 @@ module _ (number : ℕ → ℕ) where
       → AllMoved number (services_walk here position i vs) (services_walk there position j vs)
   services-moved here there around position i j [] = tt
   services-moved here there around position i j (v ∷ vs) =
-      moved-append (service_walk here position i v) (service_walk there position j v)
+      paired-append (Moved number) (service_walk here position i v) (service_walk there position j v)
       (services_walk here (suc position) (suc i) vs) (services_walk there (suc position) (suc j) vs)
       (service-moved here there around position i j v) (services-moved here there around (suc position) (suc i) (suc j) vs)
 
   front-moved : (here there : Surrounding) → Around here there → (oneofs : List OneofDescriptorProto) (fields : List FieldDescriptorProto)
       → AllMoved number (message_front here oneofs fields) (message_front there oneofs fields)
   front-moved here there around oneofs fields =
-      moved-append (parts of_oneof here message.ONEOF_DECL oneofs) (parts of_oneof there message.ONEOF_DECL oneofs)
+      paired-append (Moved number) (parts of_oneof here message.ONEOF_DECL oneofs) (parts of_oneof there message.ONEOF_DECL oneofs)
       (parts of_field here message.FIELD fields) (parts of_field there message.FIELD fields)
       (row-moved of_oneof here there around message.ONEOF_DECL 0 0 0 oneofs) (row-moved of_field here there around message.FIELD 0 0 0 fields)
 
   end-moved : (here there : Surrounding) → Around here there → (b c : Counts) (enums : List EnumDescriptorProto) (extensions : List FieldDescriptorProto)
       → AllMoved number (message_end here b enums extensions) (message_end there c enums extensions)
   end-moved here there around b c enums extensions =
-      moved-append (enums_walk here message.ENUM_TYPE 0 b.enums enums) (enums_walk there message.ENUM_TYPE 0 c.enums enums)
+      paired-append (Moved number) (enums_walk here message.ENUM_TYPE 0 b.enums enums) (enums_walk there message.ENUM_TYPE 0 c.enums enums)
       (row of_extension here message.EXTENSION 0 b.extensions extensions) (row of_extension there message.EXTENSION 0 c.extensions extensions)
       (enums-moved here there around message.ENUM_TYPE 0 b.enums c.enums enums) (row-moved of_extension here there around message.EXTENSION 0 b.extensions c.extensions extensions)
 
@@ -118,9 +112,9 @@ module _ (number : ℕ → ℕ) where
         let deeper = nested_walk (inside d) 0 first nested in
         let deeper2 = nested_walk (inside d2) 0 first2 nested in (
           moved,
-          moved-append (front ++ deeper) (front2 ++ deeper2)
+          paired-append (Moved number) (front ++ deeper) (front2 ++ deeper2)
               (message_end (inside d) (counted first deeper) enums extensions) (message_end (inside d2) (counted first2 deeper2) enums extensions)
-              (moved-append front front2 deeper deeper2 (front-moved (inside d) (inside d2) within oneofs fields) (nested-moved (inside d) (inside d2) within 0 first first2 nested))
+              (paired-append (Moved number) front front2 deeper deeper2 (front-moved (inside d) (inside d2) within oneofs fields) (nested-moved (inside d) (inside d2) within 0 first first2 nested))
               (end-moved (inside d) (inside d2) within (counted first deeper) (counted first2 deeper2) enums extensions),
         )
 
@@ -130,7 +124,7 @@ module _ (number : ℕ → ℕ) where
     nested-moved here there around position b c (more_of-DescriptorProto m rest) =
         let first = message_walk here message.NESTED_TYPE position b m in
         let first2 = message_walk there message.NESTED_TYPE position c m in
-        moved-append first first2 (nested_walk here (suc position) (counted b first) rest) (nested_walk there (suc position) (counted c first2) rest)
+        paired-append (Moved number) first first2 (nested_walk here (suc position) (counted b first) rest) (nested_walk there (suc position) (counted c first2) rest)
         (message-moved here there around message.NESTED_TYPE position b c m) (nested-moved here there around (suc position) (counted b first) (counted c first2) rest)
 
   messages-moved : (here there : Surrounding) → Around here there → (tag : ℤ) (position : ℕ) (b c : Counts) (ms : List DescriptorProto)
@@ -139,7 +133,7 @@ module _ (number : ℕ → ℕ) where
   messages-moved here there around tag position b c (m ∷ ms) =
       let first = message_walk here tag position b m in
       let first2 = message_walk there tag position c m in
-      moved-append first first2 (messages_walk here tag (suc position) (counted b first) ms) (messages_walk there tag (suc position) (counted c first2) ms)
+      paired-append (Moved number) first first2 (messages_walk here tag (suc position) (counted b first) ms) (messages_walk there tag (suc position) (counted c first2) ms)
       (message-moved here there around tag position b c m) (messages-moved here there around tag (suc position) (counted b first) (counted c first2) ms)
 
   -- what a file declares, whatever the counts before it are
@@ -159,12 +153,10 @@ module _ (number : ℕ → ℕ) where
       let extensions = row of_extension here file.EXTENSION 0 after.extensions f.extension in
       let extensions2 = row of_extension there file.EXTENSION 0 after2.extensions f.extension in (
         record { file = is; path = refl; full_name = refl; proto = refl },
-        moved-append (messages ++ enums ++ services) (messages2 ++ enums2 ++ services2) extensions extensions2
-            (moved-append (messages ++ enums) (messages2 ++ enums2) services services2
-            (moved-append messages messages2 enums enums2
+        paired-four (Moved number) messages enums services extensions messages2 enums2 services2 extensions2
             (messages-moved here there around file.MESSAGE_TYPE 0 b c f.message_type)
-            (enums-moved here there around file.ENUM_TYPE 0 after.enums after2.enums f.enum_type))
-            (services-moved here there around 0 after.services after2.services f.service))
+            (enums-moved here there around file.ENUM_TYPE 0 after.enums after2.enums f.enum_type)
+            (services-moved here there around 0 after.services after2.services f.service)
             (row-moved of_extension here there around file.EXTENSION 0 after.extensions after2.extensions f.extension),
       )
 
@@ -183,4 +175,4 @@ module _ (number : ℕ → ℕ) where
       let left : next2.files + i ≡ c.files + suc i = omega (arith, one-file c f) in
       let right : b.files + suc i ≡ next.files + i = omega (arith, one-file b f) in
       left ∙ are (suc i) (omega (arith, below)) ∙ ap number right in
-      moved-append first first2 (declarations next fs) (declarations next2 fs) (file-moved b c f here) (declarations-moved next next2 fs later)
+      paired-append (Moved number) first first2 (declarations next fs) (declarations next2 fs) (file-moved b c f here) (declarations-moved next next2 fs later)

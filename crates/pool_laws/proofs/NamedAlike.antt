@@ -9,16 +9,10 @@ use Rattle.pool_types.specs.Contents.{ByText}
 use Rattle.name_tables.specs.Entries.{first_of}
 use Rattle.name_tables.proofs.Entries.{first-append}
 use Rattle.name_pass.specs.FirstPass.{holder}
-use Rattle.descriptor_pool.proofs.Resolved.{all-append}
-use Rattle.pool_laws.proofs.Sharing.{Across, Apart, MayEnter, MayEnterBehind, MayShare, Pairwise, across-middle, all-split, pairwise-exchanged, share-turned}
-
--- what holds of all holds of all where two parts change places
-pub all-exchanged : {X : Type 0} (P : X → Type 0) (ws xs ys zs : List X) → AllByRecursion P (ws ++ xs ++ ys ++ zs) → AllByRecursion P (ws ++ ys ++ xs ++ zs)
-all-exchanged P ws xs ys zs all =
-    let three = all-split P (ws ++ xs ++ ys) zs all in
-    let two = all-split P (ws ++ xs) ys three.0 in
-    let one = all-split P ws xs two.0 in
-    all-append P (ws ++ ys ++ xs) zs (all-append P (ws ++ ys) xs (all-append P ws ys one.0 two.1) one.1) three.1
+use Rattle.pool_laws.proofs.Sharing.{Across, Apart, MayEnter, MayEnterBehind, MayShare, Pairwise, across-middle, pairwise-exchanged, share-turned}
+use Rattle.pool_laws.proofs.AllOf.{all-exchanged}
+use Rattle.pool_laws.proofs.Paired.{Paired, paired-all, paired-four, paired-pairwise}
+use Rattle.pool_laws.proofs.FirstPass.{or-or}
 
 module _ {X : Type 0} (Like : X → X → Type 0) where
   -- two look-ups find values that are alike, or both nothing
@@ -33,16 +27,7 @@ module _ {X : Type 0} (Like : X → X → Type 0) where
 
   -- so it is with entries, one after another
   abbrev pub EntriesLike : List (List ℕ × X) → List (List ℕ × X) → Type 0
-  EntriesLike [] [] = Unit {0}
-  EntriesLike (e ∷ es) (f ∷ fs) = EntryLike e f × EntriesLike es fs
-  EntriesLike _ _ = ⊥
-
-  -- two such lists, one behind the other
-  pub entries-like-append : (ds es xs ys : List (List ℕ × X)) → EntriesLike ds es → EntriesLike xs ys → EntriesLike (ds ++ xs) (es ++ ys)
-  entries-like-append [] [] xs ys first second = second
-  entries-like-append [] (e ∷ es) xs ys first second = absurd first
-  entries-like-append (d ∷ ds) [] xs ys first second = absurd first
-  entries-like-append (d ∷ ds) (e ∷ es) xs ys first second = (first.0, entries-like-append ds es xs ys first.1 second)
+  EntriesLike = Paired EntryLike
 
   -- what the first entries of a name say
   either-like : (b c : Bool) → c ≡ b → (x y : X) (o p : Option X) → Like x y → BothLike o p → BothLike (cond b (Some x) o) (cond c (Some y) p)
@@ -54,58 +39,39 @@ module _ {X : Type 0} (Like : X → X → Type 0) where
   -- what the first entry of a name says in each list
   pub first-like : (es fs : List (List ℕ × X)) → EntriesLike es fs → (name : List ℕ) → BothLike (first_of es name) (first_of fs name)
   first-like [] [] all name = tt
-  first-like [] (f ∷ fs) all name = absurd all
-  first-like (e ∷ es) [] all name = absurd all
   first-like (e ∷ es) (f ∷ fs) all name =
       either-like (bytes_eq name e.0) (bytes_eq name f.0) (ap (bytes_eq name) all.0.0) e.1 f.1 (first_of es name) (first_of fs name) all.0.1 (first-like es fs all.1 name)
+  first-like _ _ all name = absurd all
 
   or-like : (a b c d : Option X) → BothLike a b → BothLike c d → BothLike (option_or a c) (option_or b d)
   or-like None None c d first second = second
-  or-like None (Some y) c d first second = absurd first
-  or-like (Some x) None c d first second = absurd first
   or-like (Some x) (Some y) c d first second = first
+  or-like _ _ c d first second = absurd first
 
   or-known : (known o p : Option X) → ((x : X) → known ≡ Some x → Like x x) → BothLike o p → BothLike (option_or known o) (option_or known p)
   or-known None o p same both = both
   or-known (Some x) o p same both = same x refl
 
-  or-assoc : (a b c : Option X) → option_or (option_or a b) c ≡ option_or a (option_or b c)
-  or-assoc None b c = refl
-  or-assoc (Some x) b c = refl
-
   -- entries of which those with a property may share a name, and are alike
   module _ (P : X → Type 0) (keep : (x y : X) → Like x y → P x → P y) where
-    row-like : (e f : List ℕ × X) (es fs : List (List ℕ × X)) → EntryLike e f → EntriesLike es fs → AllByRecursion (MayShare P e) es → AllByRecursion (MayShare P f) fs
-    row-like e f [] [] like all share = tt
-    row-like e f [] (y ∷ ys) like all share = absurd all
-    row-like e f (x ∷ xs) [] like all share = absurd all
-    row-like e f (x ∷ xs) (y ∷ ys) like all share = (
-      (λ same. let both = share.0 (sym like.0 ∙ same ∙ all.0.0) in (keep e.1 f.1 like.1 both.0, keep x.1 y.1 all.0.1 both.1)),
-      row-like e f xs ys like all.1 share.1,
-    )
-
-    pairwise-like : (es fs : List (List ℕ × X)) → EntriesLike es fs → Pairwise (MayShare P) es → Pairwise (MayShare P) fs
-    pairwise-like [] [] all share = tt
-    pairwise-like [] (f ∷ fs) all share = absurd all
-    pairwise-like (e ∷ es) [] all share = absurd all
-    pairwise-like (e ∷ es) (f ∷ fs) all share = (row-like e f es fs all.0 all.1 share.0, pairwise-like es fs all.1 share.1)
+    -- two entries that may share a name, and others alike
+    share-like : (e f x y : List ℕ × X) → EntryLike e f → EntryLike x y → MayShare P e x → MayShare P f y
+    share-like e f x y first second share same = let both = share (sym first.0 ∙ same ∙ second.0) in (keep e.1 f.1 first.1 both.0, keep x.1 y.1 second.1 both.1)
 
     enter-like : (found : Option X) (e f : List ℕ × X) → EntryLike e f → MayEnter P found e → MayEnter P found f
     enter-like None e f like enter = tt
     enter-like (Some held) e f like enter = (enter.0, keep e.1 f.1 like.1 enter.1)
 
-    behind-like : (known : ByText X) (es fs : List (List ℕ × X)) → EntriesLike es fs → AllByRecursion (MayEnterBehind P known) es → AllByRecursion (MayEnterBehind P known) fs
-    behind-like known [] [] all enter = tt
-    behind-like known [] (f ∷ fs) all enter = absurd all
-    behind-like known (e ∷ es) [] all enter = absurd all
-    behind-like known (e ∷ es) (f ∷ fs) all enter = (
-      subst (λ found. MayEnter P found f) (ap (finite.get known) (sym all.0.0)) (enter-like (finite.get known e.0) e f all.0 enter.0),
-      behind-like known es fs all.1 enter.1,
-    )
+    -- and one behind known names
+    behind-like : (known : ByText X) (e f : List ℕ × X) → EntryLike e f → MayEnterBehind P known e → MayEnterBehind P known f
+    behind-like known e f like enter = subst (λ found. MayEnter P found f) (ap (finite.get known) (sym like.0)) (enter-like (finite.get known e.0) e f like enter)
 
     -- entries that clash with none, and others alike
     pub apart-like : (known : ByText X) (es fs : List (List ℕ × X)) → EntriesLike es fs → Apart P known es → Apart P known fs
-    apart-like known es fs all apart = record { behind = behind-like known es fs all apart.behind; among = pairwise-like es fs all apart.among }
+    apart-like known es fs all apart = record {
+      behind = paired-all EntryLike (MayEnterBehind P known) (MayEnterBehind P known) (behind-like known) es fs all apart.behind;
+      among = paired-pairwise EntryLike (MayShare P) (MayShare P) share-like es fs all apart.among;
+    }
 
   -- values of which any two with the property are alike
   module _ (P : X → Type 0) (keep : (x y : X) → Like x y → P x → P y) (alike : (x y : X) → P x → P y → Like x y) where
@@ -134,9 +100,8 @@ module _ {X : Type 0} (Like : X → X → Type 0) where
 
     or-nothing : (a b : Option X) → BothLike a b → BothLike a (option_or b None)
     or-nothing None None both = tt
-    or-nothing None (Some y) both = absurd both
-    or-nothing (Some x) None both = absurd both
     or-nothing (Some x) (Some y) both = both
+    or-nothing _ _ both = absurd both
 
     or-turned : (a b c d : Option X) → BothLike a b → BothLike c d → BothMay a c → BothLike (option_or a c) (option_or d b)
     or-turned None None c d first second may = or-nothing c d second
@@ -150,7 +115,7 @@ module _ {X : Type 0} (Like : X → X → Type 0) where
     four : (ws xs ys zs : List (List ℕ × X)) (name : List ℕ)
         → option_or (option_or (first_of ws name) (option_or (first_of xs name) (first_of ys name))) (first_of zs name) ≡ first_of (ws ++ xs ++ ys ++ zs) name
     four ws xs ys zs name =
-        ap (λ o. option_or o (first_of zs name)) (sym (or-assoc (first_of ws name) (first_of xs name) (first_of ys name))
+        ap (λ o. option_or o (first_of zs name)) (or-or (first_of ws name) (first_of xs name) (first_of ys name)
         ∙ ap (λ o. option_or o (first_of ys name)) (sym (first-append ws xs name)) ∙ sym (first-append (ws ++ xs) ys name))
         ∙ sym (first-append (ws ++ xs ++ ys) zs name)
 
@@ -173,7 +138,7 @@ module _ {X : Type 0} (Like : X → X → Type 0) where
   pub apart-exchanged : (P : X → Type 0) (keep : (x y : X) → Like x y → P x → P y) (known : ByText X) (ws xs ys zs ws2 xs2 ys2 zs2 : List (List ℕ × X))
       → EntriesLike ws ws2 → EntriesLike xs xs2 → EntriesLike ys ys2 → EntriesLike zs zs2 → Apart P known (ws ++ xs ++ ys ++ zs) → Apart P known (ws2 ++ ys2 ++ xs2 ++ zs2)
   apart-exchanged P keep known ws xs ys zs ws2 xs2 ys2 zs2 one two three last apart =
-      let all = entries-like-append (ws ++ xs ++ ys) (ws2 ++ xs2 ++ ys2) zs zs2 (entries-like-append (ws ++ xs) (ws2 ++ xs2) ys ys2 (entries-like-append ws ws2 xs xs2 one two) three) last in
+      let all = paired-four EntryLike ws xs ys zs ws2 xs2 ys2 zs2 one two three last in
       let now = apart-like P keep known (ws ++ xs ++ ys ++ zs) (ws2 ++ xs2 ++ ys2 ++ zs2) all apart in
       record {
         behind = all-exchanged (MayEnterBehind P known) ws2 xs2 ys2 zs2 now.behind;

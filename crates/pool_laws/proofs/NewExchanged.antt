@@ -11,12 +11,12 @@ use Rattle.pool_types.specs.declared.contents.definition.Definition.{Definition}
 use Rattle.pool_types.specs.declared.contents.definition.DefinitionKind.{DefinitionKind}
 use Rattle.pool_types.specs.declared.contents.definition.DefinitionKind.TheVariants as definition
 use Rattle.pool_types.specs.declared.contents.extension.ExtensionDescriptorInner.{ExtensionDescriptorInner}
-use Rattle.record_walk.specs.Protos.{Proto, of_file, of_message, of_field, of_oneof, of_service, of_method, of_enum, of_value, of_extension, as_extension}
+use Rattle.record_walk.specs.Protos.{Proto, of_extension, as_extension}
 use Rattle.record_walk.specs.Shown.{Shown}
 use Rattle.name_resolution.specs.declared.filter.ResolveNameFilter.TheVariants.{Message}
 use Rattle.name_resolution.specs.Kinds.{is_match}
 use Rattle.name_resolution.specs.References.{reference_fault}
-use Rattle.name_resolution.specs.Resolution.{Resolution, found, invalid_type, not_imported, shadowed, not_found}
+use Rattle.name_resolution.specs.Resolution.{Resolution, found}
 use Rattle.pool_contents.specs.Extended.{has_number}
 use Rattle.descriptor_pool.proofs.Resolved.{all-append}
 use Rattle.reference_pass.specs.Items.{extension_item, extension_items}
@@ -26,12 +26,12 @@ use Rattle.reference_pass.specs.Setting.{Setting, resolve}
 use Rattle.reference_pass.proofs.Steps.{made-append}
 use Rattle.reference_pass.proofs.Unbroken.{AllNew, IsNew, both-empty, extension-parts}
 use Rattle.pool_laws.proofs.Looked.{IsLooked, looked-named, resolution-looked}
-use Rattle.pool_laws.proofs.Moved.{AllMoved}
-use Rattle.pool_laws.proofs.MovedWalk.{moved-append}
-use Rattle.pool_laws.proofs.NamedAlike.{all-exchanged}
+use Rattle.pool_laws.proofs.Moved.{AllMoved, Moved}
 use Rattle.pool_laws.proofs.Renamed.{Renames, SameFound, resolve-renamed}
-use Rattle.pool_laws.proofs.Sharing.{Across, Pairwise, across-turned, all-split, pairwise-exchanged}
+use Rattle.pool_laws.proofs.Sharing.{Across, Pairwise, across-turned, pairwise-exchanged}
 use Rattle.pool_laws.proofs.Typed.{seen}
+use Rattle.pool_laws.proofs.AllOf.{all-split, made-of-four, all-exchanged}
+use Rattle.pool_laws.proofs.Paired.{paired-four, Paired, paired-across, paired-append, paired-pairwise}
 
 -- two extensions don't have one message and one number
 abbrev pub Differ : ExtensionDescriptorInner → ExtensionDescriptorInner → Type 0
@@ -122,15 +122,8 @@ record OneMessage (s t : Setting) (i j : ℕ) : Type 0 where
 
 -- what is wanted as a message has an index
 matched-index : (kind : DefinitionKind) → is_match Message kind ≡ true → message_index kind ≡ Some (index_or_max (message_index kind))
-matched-index definition.Package wanted = absurd (cc)
 matched-index (definition.Message m) wanted = refl
-matched-index (definition.Field i) wanted = absurd (cc)
-matched-index (definition.Oneof i) wanted = absurd (cc)
-matched-index (definition.Service i) wanted = absurd (cc)
-matched-index (definition.Method i) wanted = absurd (cc)
-matched-index (definition.Enum i) wanted = absurd (cc)
-matched-index (definition.EnumValue i) wanted = absurd (cc)
-matched-index (definition.Extension i) wanted = absurd (cc)
+matched-index _ wanted = absurd (cc)
 
 module _ (s t : Setting) where
   -- an extension has the number of another, and extends the message that its name means there
@@ -139,15 +132,7 @@ module _ (s t : Setting) where
 
   -- so it is with extensions, one after another
   abbrev AllExtend : List ExtensionDescriptorInner → List ExtensionDescriptorInner → Type 0
-  AllExtend [] [] = Unit {0}
-  AllExtend (x ∷ xs) (y ∷ ys) = Extends x y × AllExtend xs ys
-  AllExtend _ _ = ⊥
-
-  extend-append : (vs ws xs ys : List ExtensionDescriptorInner) → AllExtend vs ws → AllExtend xs ys → AllExtend (vs ++ xs) (ws ++ ys)
-  extend-append [] [] xs ys first second = second
-  extend-append [] (w ∷ ws) xs ys first second = absurd first
-  extend-append (v ∷ vs) [] xs ys first second = absurd first
-  extend-append (v ∷ vs) (w ∷ ws) xs ys first second = (first.0, extend-append vs ws xs ys first.1 second)
+  AllExtend = Paired Extends
 
   -- known ones are as they were
   known-extend : (xs : List ExtensionDescriptorInner) → AllByRecursion (ExtendsKnown s t) xs → AllExtend xs xs
@@ -170,28 +155,10 @@ module _ (s t : Setting) where
     differ-there v w x y first second differ extendee number =
         differ (same-index v.extendee w.extendee x.extendee y.extendee first.1 second.1 extendee) (sym first.0 ∙ number ∙ second.0)
 
-    row-there : (v w : ExtensionDescriptorInner) → Extends v w → (xs ys : List ExtensionDescriptorInner) → AllExtend xs ys → AllByRecursion (Differ v) xs → AllByRecursion (Differ w) ys
-    row-there v w first [] [] all differ = tt
-    row-there v w first [] (y ∷ ys) all differ = absurd all
-    row-there v w first (x ∷ xs) [] all differ = absurd all
-    row-there v w first (x ∷ xs) (y ∷ ys) all differ = (differ-there v w x y first all.0 differ.0, row-there v w first xs ys all.1 differ.1)
-
-    across-there : (old : List ExtensionDescriptorInner) → AllExtend old old → (xs ys : List ExtensionDescriptorInner) → AllExtend xs ys → Across Differ xs old → Across Differ ys old
-    across-there old olds [] [] all differ = tt
-    across-there old olds [] (y ∷ ys) all differ = absurd all
-    across-there old olds (x ∷ xs) [] all differ = absurd all
-    across-there old olds (x ∷ xs) (y ∷ ys) all differ = (row-there x y all.0 old old olds differ.0, across-there old olds xs ys all.1 differ.1)
-
-    pairwise-there : (xs ys : List ExtensionDescriptorInner) → AllExtend xs ys → Pairwise Differ xs → Pairwise Differ ys
-    pairwise-there [] [] all differ = tt
-    pairwise-there [] (y ∷ ys) all differ = absurd all
-    pairwise-there (x ∷ xs) [] all differ = absurd all
-    pairwise-there (x ∷ xs) (y ∷ ys) all differ = (row-there x y all.0 xs ys all.1 differ.0, pairwise-there xs ys all.1 differ.1)
-
     new-there : (old : List ExtensionDescriptorInner) → AllExtend old old → (xs ys : List ExtensionDescriptorInner) → AllExtend xs ys → AllNew old xs → AllNew old ys
     new-there old olds xs ys all new =
         let differ = new-differ old xs new in
-        differ-new old ys (record { behind = across-there old olds xs ys all differ.behind; among = pairwise-there xs ys all differ.among })
+        differ-new old ys (record { behind = paired-across Extends Differ Differ differ-there xs ys old old all olds differ.behind; among = paired-pairwise Extends Differ Differ differ-there xs ys all differ.among })
 
   module _ (many : ℕ) (number : ℕ → ℕ) (renames : Renames s t many number) where
     -- what is found here is found there under the same name
@@ -207,14 +174,8 @@ module _ (s t : Setting) where
       index_here = matched-index def.kind here.1;
       index_there = matched-index other.kind there.1;
     }
-    found-both d e x (found name def) (invalid_type _ _ _) here there same none = absurd same
-    found-both d e x (found name def) (not_imported _ _) here there same none = absurd same
-    found-both d e x (found name def) (shadowed _ _) here there same none = absurd same
-    found-both d e x (found name def) not_found here there same none = absurd same
-    found-both d e x (invalid_type name def filter) q here there same none = absurd (cc)
-    found-both d e x (not_imported name other) q here there same none = absurd (cc)
-    found-both d e x (shadowed name other) q here there same none = absurd (cc)
-    found-both d e x not_found q here there same none = absurd (cc)
+    found-both d e x (found name def) _ here there same none = absurd same
+    found-both d e x _ q here there same none = absurd (cc)
 
     -- an extension that breaks nothing extends the message of its extendee's name in both
     extension-extends : (d e : Shown) (x : FieldDescriptorProto) → e.file ≡ number d.file → e.full_name ≡ d.full_name → d.file < many
@@ -237,22 +198,13 @@ module _ (s t : Setting) where
     -- so with each declaration
     owner-extends : (d e : Shown) (p : Proto) → e.file ≡ number d.file → e.full_name ≡ d.full_name → d.file < many → owner_faults s [] (record d { proto = p }) ≡ []
         → AllExtend (extension_items s (record d { proto = p } ∷ [])) (extension_items t (record e { proto = p } ∷ []))
-    owner-extends d e (of_file f) file full_name below none = tt
-    owner-extends d e (of_message m) file full_name below none = tt
-    owner-extends d e (of_field f) file full_name below none = tt
-    owner-extends d e (of_oneof o) file full_name below none = tt
-    owner-extends d e (of_service v) file full_name below none = tt
-    owner-extends d e (of_method m) file full_name below none = tt
-    owner-extends d e (of_enum f) file full_name below none = tt
-    owner-extends d e (of_value v) file full_name below none = tt
     owner-extends d e (of_extension x) file full_name below none = (extension-extends d e x file full_name below none, tt)
+    owner-extends d e _ file full_name below none = tt
 
     -- and with all
     owners-extend : (ds es : List Shown) → AllMoved number ds es → AllByRecursion (λ d. d.file < many) ds → flat_map (owner_faults s []) ds ≡ []
         → AllExtend (extension_items s ds) (extension_items t es)
     owners-extend [] [] moved below none = tt
-    owners-extend [] (e ∷ es) moved below none = absurd moved
-    owners-extend (d ∷ ds) [] moved below none = absurd moved
     owners-extend (d ∷ ds) (e ∷ es) moved below none =
         let it = moved.0 in
         let parts = both-empty (owner_faults s [] d) (flat_map (owner_faults s []) ds) none in
@@ -260,7 +212,8 @@ module _ (s t : Setting) where
         (owner-extends d e d.proto it.file it.full_name below.0 parts.0) in
         subst (λ xs. AllExtend xs (extension_items t (e ∷ es))) (sym (made-append as_extension (extension_item s) (d ∷ []) ds))
         (subst (AllExtend (extension_items s (d ∷ []) ++ extension_items s ds)) (sym (made-append as_extension (extension_item t) (e ∷ []) es))
-        (extend-append (extension_items s (d ∷ [])) (extension_items t (e ∷ [])) (extension_items s ds) (extension_items t es) first (owners-extend ds es moved.1 below.1 parts.1)))
+        (paired-append Extends (extension_items s (d ∷ [])) (extension_items t (e ∷ [])) (extension_items s ds) (extension_items t es) first (owners-extend ds es moved.1 below.1 parts.1)))
+    owners-extend _ _ moved below none = absurd moved
 
     -- numbers that are new here are new there
     pub new-moved : OneName t → (old : List ExtensionDescriptorInner) → AllByRecursion (ExtendsKnown s t) old → (ds es : List Shown) → AllMoved number ds es
@@ -270,10 +223,7 @@ module _ (s t : Setting) where
 
 -- the extensions of declarations in four parts
 four-items : (s : Setting) (ws xs ys zs : List Shown) → extension_items s (ws ++ xs ++ ys ++ zs) ≡ extension_items s ws ++ extension_items s xs ++ extension_items s ys ++ extension_items s zs
-four-items s ws xs ys zs =
-    made-append as_extension (extension_item s) (ws ++ xs ++ ys) zs
-    ∙ ap (λ is. is ++ extension_items s zs) (made-append as_extension (extension_item s) (ws ++ xs) ys
-    ∙ ap (λ is. is ++ extension_items s ys) (made-append as_extension (extension_item s) ws xs))
+four-items s = made-of-four (extension_items s) (made-append as_extension (extension_item s))
 
 -- and where two parts of the declarations change places
 pub new-exchanged : (s t : Setting) (many : ℕ) (number : ℕ → ℕ) → Renames s t many number → OneName t → (old : List ExtensionDescriptorInner) → AllByRecursion (ExtendsKnown s t) old
@@ -281,7 +231,7 @@ pub new-exchanged : (s t : Setting) (many : ℕ) (number : ℕ → ℕ) → Rena
     → AllByRecursion (λ d. d.file < many) (ws ++ xs ++ ys ++ zs) → flat_map (owner_faults s []) (ws ++ xs ++ ys ++ zs) ≡ []
     → AllNew old (extension_items s (ws ++ xs ++ ys ++ zs)) → AllNew old (extension_items t (ws2 ++ ys2 ++ xs2 ++ zs2))
 new-exchanged s t many number renames one old olds ws xs ys zs ws2 xs2 ys2 zs2 first second third last below none new =
-    let moved = moved-append number (ws ++ xs ++ ys) (ws2 ++ xs2 ++ ys2) zs zs2 (moved-append number (ws ++ xs) (ws2 ++ xs2) ys ys2 (moved-append number ws ws2 xs xs2 first second) third) last in
+    let moved = paired-four (Moved number) ws xs ys zs ws2 xs2 ys2 zs2 first second third last in
     let there = new-moved s t many number renames one old olds (ws ++ xs ++ ys ++ zs) (ws2 ++ xs2 ++ ys2 ++ zs2) moved below none new in
     subst (AllNew old) (sym (four-items t ws2 ys2 xs2 zs2))
     (new-turned old (extension_items t ws2) (extension_items t xs2) (extension_items t ys2) (extension_items t zs2) (subst (AllNew old) (four-items t ws2 xs2 ys2 zs2) there))

@@ -1,9 +1,8 @@
 -- The number of a field or an extension that breaks nothing breaks nothing where it stands elsewhere, and other files are cited.
-use Rattle.std.proofs.Common.{◌≡◌, ℕ, ℤ, suc, Bool, true, false, not, is_some, if◌then◌else◌, Option, None, Some, List, [], ◌∷◌, ◌++◌, refl, ◌∙◌}
-use Rattle.std.specs.List.{find, enumerate_from, flat_map, list_any}
-use Rattle.std.specs.Option.{option_map, option_map_or}
+use Rattle.std.proofs.Common.{◌≡◌, ℕ, ℤ, Bool, true, false, not, is_some, if◌then◌else◌, Option, None, Some, List, [], ◌++◌, refl, ◌∙◌}
+use Rattle.std.specs.List.{find, enumerate_from, list_any}
+use Rattle.std.specs.Option.{option_map_or}
 use Rattle.proto_types.specs.declared.records.field.FieldDescriptorProto.{FieldDescriptorProto}
-use Rattle.plain_data.specs.Lists.{listed}
 use Rattle.proto_types.specs.Readers.{number_of}
 use Rattle.proto_types.specs.declared.file.FileDescriptorProto.{FileDescriptorProto}
 use Rattle.proto_types.specs.declared.message.DescriptorProto.{DescriptorProto, out-DescriptorProto}
@@ -12,37 +11,27 @@ use Rattle.proto_types.specs.declared.message.ReservedRange.{ReservedRange}
 use Rattle.pool_types.specs.declared.contents.definition.Definition.{Definition}
 use Rattle.record_walk.specs.Shown.{Shown, Surrounding, inside}
 use Rattle.field_rules.specs.FieldNumbers.{is_valid_number}
-use Rattle.plain_data.specs.Each.{map_enumerated}
 use Rattle.field_rules.specs.Numbers.{by_extendee, extension_number_faults, extension_range_faults, field_number_faults, invalid_faults, outside_faults, reserved_fault, reserved_faults}
 use Rattle.field_rules.specs.Ranges.{extends, reserves}
 use Rattle.reference_pass.specs.Extensions.{defined_at}
 use Rattle.reference_pass.proofs.Unbroken.{both-empty}
 use Rattle.reference_pass.specs.Setting.{Setting}
 use Rattle.pool_laws.specs.SettingLaws.{RangesStay, SameRanges}
+use Rattle.pool_laws.proofs.Told.{listed-still, told-still}
 use Rattle.pool_laws.proofs.Typed.{no-fault}
-
--- what is listed of nothing
-pub none-listed : {X Y : Type 0} (o : Option X) (f g : X → Y) → listed (option_map f o) ≡ [] → listed (option_map g o) ≡ []
-none-listed None f g none = refl
-none-listed (Some x) f g none = absurd (cc)
 
 module _ (fs gs : List FileDescriptorProto) (owner other : Surrounding) (d e : Shown) (n : ℤ) where
   invalid-again : invalid_faults fs d.file d.path n ≡ [] → invalid_faults gs e.file e.path n ≡ []
   invalid-again none = no-fault (not (is_valid_number n)) _ _ none
 
-  each-reserved : (k : ℕ) (ranges : List ReservedRange) → flat_map (λ faults. faults) (map_enumerated (reserved_fault fs d.file d.path n owner) k ranges) ≡ []
-      → flat_map (λ faults. faults) (map_enumerated (reserved_fault gs e.file e.path n other) k ranges) ≡ []
-  each-reserved k [] none = refl
-  each-reserved k (range ∷ ranges) none =
-      let parts = both-empty (reserved_fault fs d.file d.path n owner k range) (flat_map (λ faults. faults) (map_enumerated (reserved_fault fs d.file d.path n owner) (suc k) ranges)) none in
-      let here : reserved_fault gs e.file e.path n other k range ≡ [] = no-fault (reserves n range) _ _ parts.0 in
-      λ i. here i ++ each-reserved (suc k) ranges parts.1 i
+  reserved-again : (ranges : List ReservedRange) → reserved_faults fs d.file d.path n owner ranges ≡ [] → reserved_faults gs e.file e.path n other ranges ≡ []
+  reserved-again = told-still (reserved_fault fs d.file d.path n owner) (reserved_fault gs e.file e.path n other) (λ k range. no-fault (reserves n range) _ _) 0
 
   outside-again : (ranges : List ExtensionRange) → outside_faults fs d.file d.path n owner ranges ≡ [] → outside_faults gs e.file e.path n other ranges ≡ []
   outside-again ranges none = no-fault (not (list_any (extends n) ranges)) _ _ none
 
   within-again : (ranges : List ExtensionRange) → extension_range_faults fs d.file d.path n owner ranges ≡ [] → extension_range_faults gs e.file e.path n other ranges ≡ []
-  within-again ranges none = none-listed (find (λ x. extends n x.1) (enumerate_from 0 ranges)) _ _ none
+  within-again ranges none = listed-still (find (λ x. extends n x.1) (enumerate_from 0 ranges)) _ _ none
 
   by-kind : (extended : Bool) (ranges : List ExtensionRange)
       → (if extended then outside_faults fs d.file d.path n owner ranges else extension_range_faults fs d.file d.path n owner ranges) ≡ []
@@ -59,7 +48,7 @@ module _ (fs gs : List FileDescriptorProto) (owner other : Surrounding) (d e : S
       let last = if extended then outside_faults fs d.file d.path n owner ranges else extension_range_faults fs d.file d.path n owner ranges in
       let first = both-empty (invalid_faults fs d.file d.path n ++ reserved_faults fs d.file d.path n owner reserved) last none in
       let rest = both-empty (invalid_faults fs d.file d.path n) (reserved_faults fs d.file d.path n owner reserved) first.0 in
-      λ i. invalid-again rest.0 i ++ each-reserved 0 reserved rest.1 i ++ by-kind extended ranges first.1 i
+      λ i. invalid-again rest.0 i ++ reserved-again reserved rest.1 i ++ by-kind extended ranges first.1 i
 
   pub by-extendee-again : (m k : DescriptorProto) → SameRanges m k → by_extendee fs d.file d.path n owner m ≡ [] → by_extendee gs e.file e.path n other k ≡ []
   by-extendee-again m k same none =
@@ -86,7 +75,6 @@ module _ (s t : Setting) (d e : Shown) (x y : FieldDescriptorProto) (number : y.
       → option_map_or (λ m. extension_number_faults s.files (defined_at name def m) m d x) old [] ≡ []
       → option_map_or (λ m. extension_number_faults t.files (defined_at other to m) m e y) now [] ≡ []
   numbered-by name other def to None None stay none = refl
-  numbered-by name other def to None (Some m) stay none = absurd stay
-  numbered-by name other def to (Some m) None stay none = absurd stay
   numbered-by name other def to (Some m) (Some k) stay none =
       extension-numbered s.files t.files (defined_at name def m) (defined_at other to k) d e m k x y stay number none
+  numbered-by name other def to _ _ stay none = absurd stay

@@ -1,23 +1,19 @@
 -- New files in two parts, of which the first imports nothing of the second: what the first reads alone is what it reads with the second behind it.
-use Rattle.std.proofs.Common.{Greater, ◌≡◌, ◌≤◌, ◌<◌, ◌+◌, ◌||◌, inl, inr, ℕ, zero, suc, Bool, true, false, cond, IsSome, Option, Some, List, [], ◌∷◌, ◌++◌, length, map, slice_get, unwrap_or, append_assoc, refl, ap, subst, sym, ◌∙◌, arith}
+use Rattle.std.proofs.Common.{◌≡◌, ◌<◌, ◌+◌, inl, inr, ℕ, true, IsSome, Option, List, [], ◌++◌, length, slice_get, unwrap_or, append_assoc, ap, subst, sym, ◌∙◌, arith}
 use Rattle.std.proofs.lemmas.Bool.{cases_lt}
 use Rattle.std.proofs.lemmas.Grind.{flat_map-append}
 use Rattle.std.proofs.lemmas.List.{length-append, length-map}
-use Rattle.std.specs.BTreeMap.{is_at}
 use Rattle.std.specs.BTreeSet.{BTreeSet, contains_by}
-use Rattle.std.specs.Cmp.{nat_cmp_is}
 use Rattle.std.specs.FinMap as finite
-use Rattle.std.specs.List.{Contains, filter, flat_map, list_any, range_with_len}
-use Rattle.std.specs.Option.{IfSome}
-use Rattle.std.specs.Ordering.{is_eq, nat_cmp}
+use Rattle.std.specs.List.{Contains, flat_map}
+use Rattle.std.specs.Ordering.{nat_cmp}
 use Rattle.proto_types.specs.EmptyFile.{no_file}
 use Rattle.proto_types.specs.declared.file.FileDescriptorProto.{FileDescriptorProto}
 use Rattle.pool_types.specs.Contents.{Contents, files_of}
 use Rattle.name_tables.specs.Entries.{first_of, names_with}
-use Rattle.name_tables.specs.NameTables.{FileNamesBefore}
 use Rattle.name_tables.proofs.Entries.{get-with, with-more}
-use Rattle.name_resolution.specs.Visibility.{file_at, seen_from, sees}
-use Rattle.record_walk.specs.Counts.{counted, counts_in, no_counts}
+use Rattle.name_resolution.specs.Visibility.{file_at, seen_from}
+use Rattle.record_walk.specs.Counts.{counted, counts_in}
 use Rattle.record_walk.specs.Declarations.{declarations}
 use Rattle.record_walk.specs.Shown.{Shown}
 use Rattle.record_walk.proofs.Appended.{declarations-append}
@@ -34,38 +30,10 @@ use Rattle.pool_laws.proofs.SeenStays.{seen-stays}
 use Rattle.pool_contents.proofs.Each.{each-append, each-same, length-each}
 use Rattle.name_pass.specs.Entered.{file_entries, file_entries_of}
 use Rattle.descriptor_pool.specs.Linking.{declared_with, reference_faults, setting_with, with_names}
-use Rattle.descriptor_pool.proofs.Files.{file-names-before, names-behind-before}
 use Rattle.descriptor_pool.proofs.Sound.{Known}
-use Rattle.pool_laws.proofs.Relinks.{first-kept, known-imports, seen-at, seen_in, sees-is, slice-front}
-use Rattle.pool_laws.proofs.Relinked.{Relinked, seen-kept}
-
--- what is found among the indexes from one on lies among these
-within-range : (test : ℕ → Bool) (i k n : ℕ) → list_any (is_at (nat_cmp n)) (filter test (range_with_len i k)) ≡ true → n < i + k
-within-range test i zero n = λ is. absurd (cc)
-within-range test i (suc k) n =
-    let rest = filter test (range_with_len (i + 1) k) in
-    let deeper : list_any (is_at (nat_cmp n)) rest ≡ true → n < i + suc k = λ is. (let below = within-range test (i + 1) k n is in omega (arith, below)) in
-    elim (test i) as (λ b. list_any (is_at (nat_cmp n)) (cond b (i ∷ rest) rest) ≡ true → n < i + suc k) [
-      | true ↦ elim (is_at (nat_cmp n) i) as (λ a. is_at (nat_cmp n) i ≡ a → (a || list_any (is_at (nat_cmp n)) rest) ≡ true → n < i + suc k) [
-        | true ↦ λ at _. here at
-        | false ↦ λ _ is. deeper is
-      ] refl
-      | false ↦ deeper
-    ]
-  where
-    here : is_at (nat_cmp n) i ≡ true → n < i + suc k
-    here at = elim (cases_lt n (i + suc k)) [
-      | inl less ↦ less
-      | inr more ↦
-          let past : i < n = omega (arith, more) in
-          let other : is_eq (nat_cmp n i) ≡ false = ap is_eq (sym (nat_cmp_is n i Greater past)) in
-          absurd (cc)
-    ]
-
--- the files of a list that one sees are files of the list
-pub seen-within : (files : List FileDescriptorProto) (naming : List ℕ → Option ℕ) (a n : ℕ)
-    → contains_by (nat_cmp n) (record { keys = seen_from files naming a }) ≡ true → n < length files
-seen-within files naming a n is = let below = within-range (sees files naming a) 0 (length files) n is in omega (arith, below)
+use Rattle.pool_laws.proofs.Relinks.{first-kept, known-imports, long-pool, long-with, old_seen, slice-front}
+use Rattle.pool_laws.proofs.Behind.{keys, mean-with, new-sees, old-sees, position-behind, seen-within, slice-rest}
+use Rattle.pool_laws.proofs.Relinked.{Relinked}
 
 -- each file of a list imports files that are known
 abbrev pub AllKnown : List FileDescriptorProto → (List ℕ → Option ℕ) → Type 0
@@ -73,16 +41,6 @@ AllKnown files naming = (n : ℕ) → n < length files → (name : List ℕ) →
 
 file-front : (fs gs : List FileDescriptorProto) (n : ℕ) → n < length fs → file_at (fs ++ gs) n ≡ file_at fs n
 file-front fs gs n below = ap (λ o. unwrap_or o no_file) (slice-front fs gs n below)
-
-pub slice-rest : {X : Type 0} (xs ys : List X) (n : ℕ) → slice_get (xs ++ ys) (length xs + n) ≡ slice_get ys n
-slice-rest [] ys n = let same : 0 + n ≡ n = omega arith in ap (slice_get ys) same
-slice-rest (x ∷ xs) ys n = let same : suc (length xs) + n ≡ suc (length xs + n) = omega arith in ap (slice_get (x ∷ (xs ++ ys))) same ∙ slice-rest xs ys n
-
--- a position that isn't before a length comes so many behind it
-pub position-behind : (n k : ℕ) → k ≤ n → (m : ℕ) × (n ≡ k + m)
-position-behind n zero le = (n, omega arith)
-position-behind zero (suc k) le = absurd (omega (arith, le))
-position-behind (suc n) (suc k) le = let less = position-behind n k (omega (arith, le)) in (less.0, (let is = less.1 in omega (arith, is)))
 
 known-both : (fs gs : List FileDescriptorProto) (naming : List ℕ → Option ℕ) → AllKnown fs naming → AllKnown gs naming → AllKnown (fs ++ gs) naming
 known-both fs gs naming first second n below name found = elim (cases_lt n (length fs)) [
@@ -137,57 +95,32 @@ module _ (p : Contents) (entered : Known p) (again : Relinked p) (front back : L
   imports-stay : ImportsStay (files_of p ++ front) (finite.get part.file_names) (finite.get whole.file_names)
   imports-stay n below name found = known-stays name (all-known n below name found)
 
-  -- names of files mean files
-  mean-files : (new : List FileDescriptorProto) (name : List ℕ) (n : ℕ) → finite.get (with_names p (declared_with p new)).file_names name ≡ Some n
-      → n < length p.files + length new
-  mean-files new name n is =
-      let end = length p.files + length new in
-      subst (λ o. IfSome o (λ file. file < end)) is (names-behind-before (counts_in p) new p.file_names old name)
-    where
-      old : FileNamesBefore (length p.files) p.file_names
-      old name =
-          let many : 0 + length (files_of p) ≡ length p.files = let long = length-map p.files (λ f. f.raw) in omega (arith, long) in
-          subst (λ n. IfSome (finite.get p.file_names name) (λ file. file < n)) many
-          (subst (λ names. IfSome (finite.get names name) (λ file. file < 0 + length (files_of p))) (sym entered.file_names_are) (file-names-before no_counts (files_of p) name))
-
-  pub many-files : (new : List FileDescriptorProto) → length (files_of p ++ new) ≡ length p.files + length new
-  many-files new = length-append (files_of p) new ∙ ap (λ n. n + length new) (length-map p.files (λ f. f.raw))
-
-  part-names : NamesFiles (files_of p ++ front) (finite.get part.file_names)
-  part-names name n is = let below = mean-files front name n is in let many = many-files front in omega (arith, below, many)
-
   whole-names : NamesFiles ((files_of p ++ front) ++ back) (finite.get whole.file_names)
-  whole-names name n is =
-      let below = mean-files (front ++ back) name n is in
-      let many = ap length (append_assoc (files_of p) front back) ∙ many-files (front ++ back) in
-      omega (arith, below, many)
+  whole-names = subst (λ fs. NamesFiles fs (finite.get whole.file_names)) (sym (append_assoc (files_of p) front back)) (mean-with p (front ++ back) entered)
 
   -- a file of the first part sees the same files
   same-keys : (n : ℕ) → n < length p.files + length front
       → seen_from (files_of p ++ (front ++ back)) (finite.get whole.file_names) n ≡ seen_from (files_of p ++ front) (finite.get part.file_names) n
   same-keys n below =
-      let many = many-files front in
+      let many = long-with p front in
       ap (λ fs. seen_from fs (finite.get whole.file_names) n) (sym (append_assoc (files_of p) front back))
-      ∙ seen-stays (files_of p ++ front) back (finite.get part.file_names) (finite.get whole.file_names) part-names whole-names imports-stay n (omega (arith, below, many))
-
-  abbrev pub old_seen : List (BTreeSet ℕ)
-  old_seen = map (λ f. f.transitive_dependencies) p.files
+      ∙ seen-stays (files_of p ++ front) back (finite.get part.file_names) (finite.get whole.file_names) (mean-with p front entered) whole-names imports-stay n (omega (arith, below, many))
 
   abbrev pub keys_part : ℕ → FileDescriptorProto → BTreeSet ℕ
-  keys_part n _ = record { keys = seen_from (files_of p ++ front) (finite.get part.file_names) n }
+  keys_part n _ = keys p front n
 
   abbrev pub keys_whole : ℕ → FileDescriptorProto → BTreeSet ℕ
-  keys_whole n _ = record { keys = seen_from (files_of p ++ (front ++ back)) (finite.get whole.file_names) n }
+  keys_whole n _ = keys p (front ++ back) n
 
   pub seen-more : whole.seen ≡ part.seen ++ map_enumerated keys_whole (length p.files + length front) back
   seen-more =
       let first = each-same keys_whole keys_part (length p.files) front (λ n _ _ to. λ i. record { keys = same-keys n to i }) in
-      ap (λ sets. old_seen ++ sets) (each-append keys_whole (length p.files) front back ∙ ap (λ sets. sets ++ map_enumerated keys_whole (length p.files + length front) back) first)
-      ∙ sym (append_assoc old_seen (map_enumerated keys_part (length p.files) front) (map_enumerated keys_whole (length p.files + length front) back))
+      ap (λ sets. old_seen p ++ sets) (each-append keys_whole (length p.files) front back ∙ ap (λ sets. sets ++ map_enumerated keys_whole (length p.files + length front) back) first)
+      ∙ sym (append_assoc (old_seen p) (map_enumerated keys_part (length p.files) front) (map_enumerated keys_whole (length p.files + length front) back))
 
   long-seen : length part.seen ≡ length p.files + length front
   long-seen =
-      length-append old_seen (map_enumerated keys_part (length p.files) front)
+      length-append (old_seen p) (map_enumerated keys_part (length p.files) front)
       ∙ (λ i. length-map p.files (λ f. f.transitive_dependencies) i + length-each keys_part (length p.files) front i)
 
   pub sees-same : (n : ℕ) → n < length p.files + length front → seen_by part n ≡ seen_by whole n
@@ -196,33 +129,16 @@ module _ (p : Contents) (entered : Known p) (again : Relinked p) (front back : L
       sym (ap (λ sets. unwrap_or (slice_get sets n) (record { keys = [] })) seen-more
       ∙ ap (λ o. unwrap_or o (record { keys = [] })) (slice-front part.seen (map_enumerated keys_whole (length p.files + length front) back) n (omega (arith, below, long))))
 
-  -- what a new file of the first part sees, by its imports
-  pub keys-at : (n : ℕ) → length p.files ≤ n → n < length p.files + length front → seen_by part n ≡ keys_part n no_file
-  keys-at n from below =
-      let old : length old_seen ≡ length p.files = length-map p.files (λ f. f.transitive_dependencies) in
-      let position = position-behind n (length old_seen) (omega (arith, from, old)) in
-      let place = position.1 in
-      let none : BTreeSet ℕ = record { keys = [] } in
-      let made : ℕ → BTreeSet ℕ = λ k. keys_part k no_file in
-      let here : length p.files + position.0 ≡ n = omega (arith, place, old) in
-      ap (λ k. unwrap_or (slice_get part.seen k) none) place
-      ∙ ap (λ o. unwrap_or o none) (slice-rest old_seen (map_enumerated keys_part (length p.files) front) position.0)
-      ∙ seen-at made none (length p.files) front position.0 (omega (arith, below, place, old)) ∙ ap made here
-
   -- what it sees lies before the second part
   pub sees-within : (n : ℕ) → n < length p.files + length front → (m : ℕ) → contains_by (nat_cmp m) (seen_by part n) ≡ true → m < length p.files + length front
   sees-within n below m = elim (cases_lt n (length p.files)) [
     | inl less ↦ λ is.
-        let old : length old_seen ≡ length p.files = length-map p.files (λ f. f.transitive_dependencies) in
-        let raw : length (files_of p) ≡ length p.files = length-map p.files (λ f. f.raw) in
-        let keys : seen_by part n ≡ seen_in p n =
-        ap (λ o. unwrap_or o (record { keys = [] })) (slice-front old_seen (map_enumerated keys_part (length p.files) front) n (omega (arith, less, old)))
-        ∙ ap (λ sets. unwrap_or (slice_get sets n) (record { keys = [] })) (seen-kept p again) ∙ sees-is p n (omega (arith, less, raw)) in
-        let within = seen-within (files_of p) (finite.get p.file_names) n m (sym (ap (contains_by (nat_cmp m)) keys) ∙ is) in
-        omega (arith, within, raw)
+        let within = seen-within (files_of p) (finite.get p.file_names) n m (sym (ap (contains_by (nat_cmp m)) (old-sees p front again n less)) ∙ is) in
+        let pool = long-pool p in
+        omega (arith, within, pool)
     | inr more ↦ λ is.
-        let within = seen-within (files_of p ++ front) (finite.get part.file_names) n m (sym (ap (contains_by (nat_cmp m)) (keys-at n more below)) ∙ is) in
-        let many = many-files front in
+        let within = seen-within (files_of p ++ front) (finite.get part.file_names) n m (sym (ap (contains_by (nat_cmp m)) (new-sees p front n more below)) ∙ is) in
+        let many = long-with p front in
         omega (arith, within, many)
   ]
 

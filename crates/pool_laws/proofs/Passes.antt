@@ -23,11 +23,7 @@ use Rattle.name_pass.specs.Entered.{entries, file_entries, file_entries_of}
 use Rattle.name_pass.specs.FirstPass.{first_faults, holder}
 use Rattle.std.proofs.lemmas.Grind.{flat_map-append}
 use Rattle.descriptor_pool.proofs.Declared.{entries-append, entries-changed, file-entries-changed}
-
--- what holds of each holds of all
-pub all-of : {X : Type 0} {P : X → Type 0} → ((x : X) → P x) → (xs : List X) → AllByRecursion P xs
-all-of each [] = tt
-all-of each (x ∷ xs) = (each x, all-of each xs)
+use Rattle.pool_laws.proofs.AllOf.{all-of}
 
 -- nothing for two lists, one behind the other: nothing for each
 pub after-parts : {X Y : Type 0} (f : List X → X → List Y) (before xs ys : List X) → after_each f before (xs ++ ys) ≡ []

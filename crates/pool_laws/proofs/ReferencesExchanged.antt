@@ -13,10 +13,11 @@ use Rattle.descriptor_pool.specs.Linking.{name_faults, reference_faults}
 use Rattle.descriptor_pool.specs.Pool.{Made}
 use Rattle.pool_laws.proofs.ExchangedSetting as exchanged
 use Rattle.pool_laws.proofs.MessagesApart.{NamesExtendee, messages-apart, old-extendees, old-stays}
-use Rattle.pool_laws.proofs.MovedWalk.{moved-append}
 use Rattle.pool_laws.proofs.NewExchanged.{ExtendsKnown, new-exchanged}
 use Rattle.pool_laws.proofs.RenamedFaults.{all-renamed}
-use Rattle.pool_laws.proofs.Sharing.{all-weaker}
+use Rattle.pool_laws.proofs.AllOf.{all-weaker}
+use Rattle.pool_laws.proofs.Paired.{paired-four}
+use Rattle.pool_laws.proofs.Moved.{Moved}
 
 -- what is nothing of four parts is nothing where two of them have changed places
 empty-exchanged : (told : Shown → Faults) (ws xs ys zs : List Shown) → flat_map told (ws ++ xs ++ ys ++ zs) ≡ [] → flat_map told (ws ++ ys ++ xs ++ zs) ≡ []
@@ -76,8 +77,7 @@ module _ (p : Contents) (made : Made p) (front first second rest : List FileDesc
       let told =
       owners-apart s p.extensions was
       (sym (ap (owners_faults s p.extensions) (exchanged.declared-were p front first second rest)) ∙ sym (owners-tell s p.extensions (counts_in p) (exchanged.were p front first second rest)) ∙ none) in
-      let moved =
-      moved-append number (ws ++ xs ++ ys) (ws2 ++ xs2 ++ ys2) zs zs2 (moved-append number (ws ++ xs) (ws2 ++ xs2) ys ys2 (moved-append number ws ws2 xs xs2 one two) three) four in
+      let moved = paired-four (Moved number) ws xs ys zs ws2 xs2 ys2 zs2 one two three four in
       let unbroken = empty-exchanged (owner_faults t []) ws2 xs2 ys2 zs2 (all-renamed s t many number renames was (ws2 ++ xs2 ++ ys2 ++ zs2) moved below told.0) in
       let new = new-exchanged s t many number renames (messages-apart p made (exchanged.are p front first second rest)) p.extensions olds ws xs ys zs ws2 xs2 ys2 zs2 one two three four below told.0 told.1 in
       owners-tell t p.extensions (counts_in p) (exchanged.are p front first second rest)

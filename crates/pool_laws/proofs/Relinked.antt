@@ -1,7 +1,7 @@
 -- The linked files of a pool, linked at once from nothing: they break nothing, and make the pool.
 use Rattle.std.proofs.Common.{◌≡◌, ◌≤◌, ◌<◌, ◌+◌, ℕ, not, cond, is_some, IsOk, Option, None, Some, List, [], ◌∷◌, ◌++◌, length, map, drop, refl, ap, subst, sym, ◌∙◌, arith}
 use Rattle.std.proofs.lemmas.Grind.{flat_map-append}
-use Rattle.std.proofs.lemmas.List.{length-append, length-map, map-append}
+use Rattle.std.proofs.lemmas.List.{length-map, map-append}
 use Rattle.std.specs.Cmp.Lexicographic.{slice_cmp}
 use Rattle.std.specs.FinMap as finite
 use Rattle.std.specs.FinMap.{get-empty}
@@ -36,7 +36,6 @@ use Rattle.reference_pass.proofs.Unbroken.{AllNew, owners-apart, owners-behind}
 use Rattle.pool_laws.specs.SettingLaws.{Rereads}
 use Rattle.pool_laws.proofs.AsLinked.{linked-carried}
 use Rattle.pool_laws.proofs.Carries.{Carries}
-use Rattle.pool_laws.proofs.Imports.{all-stay}
 use Rattle.pool_contents.specs.Extended.{extended_by, with_extended}
 use Rattle.pool_contents.proofs.Each.{each-all, each-append, each-map, each-same}
 use Rattle.name_pass.specs.FirstPass.{first_faults, first_pass, holder}
@@ -49,9 +48,10 @@ use Rattle.descriptor_pool.proofs.Extendees.{each-made, made-whole}
 use Rattle.descriptor_pool.proofs.Files.{lie-between}
 use Rattle.descriptor_pool.proofs.Sound.{Known, fits_again, link-known, made-sound}
 use Rattle.pool_laws.specs.Laws.{Relinks}
-use Rattle.pool_laws.proofs.Relinks.{files-are, new-again, old-again, reread, seen_in, sees-is, setting-again}
+use Rattle.pool_laws.proofs.Relinks.{files-are, long-with, new-again, old-again, reread, seen_in, sees-is, setting-again}
 use Rattle.pool_laws.proofs.Items.{SameItem, all-fine, files-again, kind-again, same-enum, same-extension, same-message, same-service}
-use Rattle.pool_laws.proofs.Passes.{after-both, all-of, pass-again, unbroken-again}
+use Rattle.pool_laws.proofs.Passes.{after-both, pass-again, unbroken-again}
+use Rattle.pool_laws.proofs.AllOf.{all-of, all-weaker}
 
 -- what the files of a pool declare
 abbrev declared : Contents → List Shown
@@ -72,8 +72,7 @@ nothing-relinked = record { first = refl; second = refl; files = refl; messages 
 
 pub syntaxes-of : (many : ℕ) (fs gs : List FileDescriptorProto) → ((n : ℕ) → n < many → syntax_at gs n ≡ syntax_at fs n)
     → (ds : List Shown) → AllByRecursion (λ d. d.file < many) ds → AllByRecursion (λ d. syntax_at gs d.file ≡ syntax_at fs d.file) ds
-syntaxes-of many fs gs same [] lie = tt
-syntaxes-of many fs gs same (d ∷ ds) lie = (same d.file lie.0, syntaxes-of many fs gs same ds lie.1)
+syntaxes-of many fs gs same = all-weaker (λ d. d.file < many) (λ d. syntax_at gs d.file ≡ syntax_at fs d.file) (λ d. same d.file)
 
 bare-made : (s : Setting) (es : List (Shown × DescriptorProto)) → map bare (map (λ e. message_item s e.0 e.1) es) ≡ map (λ e. message_item s e.0 e.1) es
 bare-made s [] = refl
@@ -137,7 +136,7 @@ module _ (q : Contents) (new : List FileDescriptorProto) (before : Known q) (was
   carried-new = linked-carried s t again-new
 
   many-files : length q.files + length new ≡ length (files_of q ++ new)
-  many-files = let sum = length-append (files_of q) new in let old = length-map q.files (λ f. f.raw) in omega (arith, sum, old)
+  many-files = sym (long-with q new)
 
   lie-old : AllByRecursion (λ d. d.file < length (files_of q)) (declared q)
   lie-old = let start : 0 + length (files_of q) ≡ length (files_of q) = omega arith in
@@ -178,8 +177,8 @@ module _ (q : Contents) (new : List FileDescriptorProto) (before : Known q) (was
       let start : 0 + length (files_of q) ≡ length q.files = let old = length-map q.files (λ f. f.raw) in omega (arith, old) in
       let whole : 0 + length (files_of q) ≤ length (files_of q) = omega arith in
       let room : length q.files + length new ≤ length (files_of q ++ new) = let many = many-files in omega (arith, many) in
-      let old = ap (map_enumerated (file_item t) 0) (sym old-still) ∙ files-again carried-old no_counts (files_of q) whole (all-of (λ f. all-stay alone t again-old.file_names f.dependency) (files_of q)) was.second ∙ sym was.files in
-      let made = ap (λ n. map_enumerated (file_item t) n came) start ∙ files-again carried-new (counts_in q) new room (all-of (λ f. all-stay s t again-new.file_names f.dependency) new) unbroken in
+      let old = ap (map_enumerated (file_item t) 0) (sym old-still) ∙ files-again carried-old no_counts (files_of q) whole (all-of (λ f. all-of again-old.file_names f.dependency) (files_of q)) was.second ∙ sym was.files in
+      let made = ap (λ n. map_enumerated (file_item t) n came) start ∙ files-again carried-new (counts_in q) new room (all-of (λ f. all-of again-new.file_names f.dependency) new) unbroken in
       ap (λ fs. q.files ++ fs) (items-of-files (file_item s) (counts_in q) new)
       ∙ (λ i. sym old i ++ sym made i)
       ∙ sym (each-append (file_item t) 0 (files_of q) came) ∙ ap (map_enumerated (file_item t) 0) (sym (files-are q new before after))

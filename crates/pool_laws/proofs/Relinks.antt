@@ -23,11 +23,11 @@ use Rattle.record_walk.specs.Leads.{leads}
 use Rattle.record_walk.specs.Protos.{as_enum, as_message}
 use Rattle.record_walk.specs.Shown.{Shown}
 use Rattle.record_walk.proofs.Paths.{one-file}
-use Rattle.name_pass.specs.Syntaxes.{syntax_at, syntax_of}
+use Rattle.name_pass.specs.Syntaxes.{syntax_of}
 use Rattle.plain_data.specs.Each.{map_enumerated}
-use Rattle.reference_pass.specs.SecondPass.{Faults, owner_faults}
+use Rattle.reference_pass.specs.SecondPass.{owner_faults}
 use Rattle.reference_pass.specs.Definitions.{declaration_path, message_record, record_of}
-use Rattle.reference_pass.specs.Imports.{import_faults, index_fault, missing_file, missing_files}
+use Rattle.reference_pass.specs.Imports.{import_faults, missing_file}
 use Rattle.reference_pass.specs.Linked.{linking}
 use Rattle.reference_pass.specs.Setting.{Setting, seen_by}
 use Rattle.pool_laws.specs.SettingLaws.{ImportsStay, NamesFiles, RangesStay, Rereads}
@@ -38,13 +38,26 @@ use Rattle.descriptor_pool.specs.Linking.{declared_with, linked_with, setting_wi
 use Rattle.descriptor_pool.proofs.Declared.{files-linked, known_file_names, known_names}
 use Rattle.descriptor_pool.proofs.Files.{file-names-before, names-before}
 use Rattle.descriptor_pool.proofs.Sound.{Known}
-use Rattle.pool_laws.proofs.Alike.{SameImports, sees-alike}
-use Rattle.pool_laws.proofs.Batches.{behind-at}
-use Rattle.pool_laws.proofs.Records.{Stays, file-stays, ranges-itself, stays-itself}
+use Rattle.pool_laws.proofs.Alike.{sees-alike}
+use Rattle.pool_laws.proofs.Batches.{behind-at, many-changed, SameRead}
+use Rattle.pool_laws.proofs.Imports.{import-parts}
+use Rattle.pool_laws.proofs.Told.{told, told-parts}
+use Rattle.pool_laws.proofs.Records.{ranges-itself}
 
 -- the files of a pool that a file sees
 abbrev pub seen_in : Contents → ℕ → BTreeSet ℕ
 seen_in p n = record { keys = seen_from (files_of p) (finite.get p.file_names) n }
+
+-- what is kept of this with each file
+abbrev pub old_seen : Contents → List (BTreeSet ℕ)
+old_seen p = map (λ f. f.transitive_dependencies) p.files
+
+-- how many files a pool has, and with new ones
+pub long-pool : (p : Contents) → length (files_of p) ≡ length p.files
+long-pool p = length-map p.files (λ f. f.raw)
+
+pub long-with : (p : Contents) (new : List FileDescriptorProto) → length (files_of p ++ new) ≡ length p.files + length new
+long-with p new = length-append (files_of p) new ∙ ap (λ n. n + length new) (long-pool p)
 
 -- what the files of a pool are read against, once more and alone
 abbrev pub reread : Contents → Setting
@@ -136,14 +149,14 @@ named None fault none = absurd (cc)
 named (Some n) fault none = refl
 
 -- imports that break nothing name files
-imports-known : (s : Setting) (index k : ℕ) (names : List (List ℕ)) → flat_map (λ (faults : Faults). faults) (map_enumerated (missing_file s index) k names) ≡ []
+imports-known : (s : Setting) (index k : ℕ) (names : List (List ℕ)) → told (missing_file s index) k names ≡ []
     → (name : List ℕ) → Contains names name → IsSome (finite.get s.file_names name)
 imports-known s index k [] none name found = absurd (omega (arith, found.1))
 imports-known s index k (here ∷ names) none name (zero, below, same) =
-    let parts = both-empty (missing_file s index k here) (flat_map (λ (faults : Faults). faults) (map_enumerated (missing_file s index) (suc k) names)) none in
+    let parts = told-parts (missing_file s index) k here names none in
     subst (λ x. IsSome (finite.get s.file_names x)) same (named (finite.get s.file_names here) _ parts.0)
 imports-known s index k (here ∷ names) none name (suc m, below, same) =
-    let parts = both-empty (missing_file s index k here) (flat_map (λ (faults : Faults). faults) (map_enumerated (missing_file s index) (suc k) names)) none in
+    let parts = told-parts (missing_file s index) k here names none in
     imports-known s index (suc k) names parts.1 name (m, omega (arith, below), same)
 
 -- a pool that breaks nothing knows the imports of its files
@@ -152,11 +165,7 @@ pub known-imports : (q : Contents) → flat_map (owner_faults (reread q) []) (de
 known-imports q unbroken n below name found =
     let f = file_at (files_of q) n in
     let index = 0 + n in
-    let public = flat_map (index_fault f.dependency) f.public_dependency in
-    let weak = flat_map (index_fault f.dependency) f.weak_dependency in
-    let two = both-empty (missing_files (reread q) index f.dependency ++ public) weak (imports-unbroken (reread q) no_counts (files_of q) unbroken n below) in
-    let one = both-empty (missing_files (reread q) index f.dependency) public two.0 in
-    imports-known (reread q) index 0 f.dependency one.0 name found
+    imports-known (reread q) index 0 f.dependency (import-parts (reread q) index f (imports-unbroken (reread q) no_counts (files_of q) unbroken n below)).0 name found
 
 -- what is known stays where entries come
 pub stays-known : {X : Type 0} (known : ByText X) (more : List (List ℕ × X)) (name : List ℕ) (x : X) → finite.get known name ≡ Some x → finite.get (names_with known more) name ≡ Some x
@@ -223,20 +232,14 @@ module _ (q : Contents) (new : List FileDescriptorProto) (before : Known q) (aft
             let many = ap length files-are ∙ length-append (files_of q) came in
             sees-is p n (omega (arith, many, below)) ∙ sees-as-before n below ∙ sym (sees-is q n below)
 
-    alike : (n : ℕ) → SameImports (file_at (files_of q ++ new) n) (file_at (files_of p) n)
-    alike n =
-        subst (λ fs. SameImports (file_at (files_of q ++ new) n) (file_at fs n)) (sym files-are)
-        (behind-at (linking s) (λ old now. SameImports (unwrap_or old no_file) (unwrap_or now no_file))
-        (record { imports = refl; publics = refl }) (λ f. record { imports = refl; publics = refl }) (λ index f. record { imports = refl; publics = refl })
-        (files_of q) (length q.files) new n)
+    -- of each file is read what is read of it against which the new ones are linked
+    read : (n : ℕ) → SameRead (slice_get (files_of q ++ new) n) (slice_get (files_of p) n)
+    read n = subst (λ fs. SameRead (slice_get (files_of q ++ new) n) (slice_get fs n)) (sym files-are) (behind-at (linking s) (files_of q) (length q.files) new n)
 
-    module _ (kept : map (λ f. f.transitive_dependencies) q.files ≡ (reread q).seen) where
-      abbrev old_seen : List (BTreeSet ℕ)
-      old_seen = map (λ f. f.transitive_dependencies) q.files
-
-      old-at : (n : ℕ) → n < length old_seen → unwrap_or (slice_get old_seen n) (record { keys = [] }) ≡ seen_in p (0 + n)
+    module _ (kept : old_seen q ≡ (reread q).seen) where
+      old-at : (n : ℕ) → n < length (old_seen q) → unwrap_or (slice_get (old_seen q) n) (record { keys = [] }) ≡ seen_in p (0 + n)
       old-at n below =
-          let many : length old_seen ≡ length (files_of q) = length-map q.files (λ f. f.transitive_dependencies) ∙ sym (length-map q.files (λ f. f.raw)) in
+          let many : length (old_seen q) ≡ length (files_of q) = length-map q.files (λ f. f.transitive_dependencies) ∙ sym (length-map q.files (λ f. f.raw)) in
           let here : n < length (files_of q) = omega (arith, many, below) in
           let same : n ≡ 0 + n = omega arith in
           ap (λ seen. unwrap_or (slice_get seen n) (record { keys = [] })) kept ∙ sees-is q n here ∙ sym (sees-as-before n here) ∙ ap (seen_in p) same
@@ -247,41 +250,23 @@ module _ (q : Contents) (new : List FileDescriptorProto) (before : Known q) (aft
           let naming = finite.get p.file_names in
           let many : length (files_of p) ≡ length (files_of q ++ new) = same-length in
           let sum = length-append (files_of q) new in
-          let old : length old_seen ≡ length (files_of q) = length-map q.files (λ f. f.transitive_dependencies) ∙ sym (length-map q.files (λ f. f.raw)) in
-          let start : length q.files ≡ 0 + length old_seen = let long = length-map q.files (λ f. f.transitive_dependencies) in omega (arith, long) in
-          let seen : s.seen ≡ old_seen ++ map_enumerated (λ k _. seen_in p k) (0 + length old_seen) new =
-          λ i. old_seen ++ map_enumerated (λ k _. record { keys = sym (sees-alike (files_of q ++ new) (files_of p) many alike naming k) i }) (start i) new in
+          let old : length (old_seen q) ≡ length (files_of q) = length-map q.files (λ f. f.transitive_dependencies) ∙ sym (length-map q.files (λ f. f.raw)) in
+          let start : length q.files ≡ 0 + length (old_seen q) = let long = length-map q.files (λ f. f.transitive_dependencies) in omega (arith, long) in
+          let seen : s.seen ≡ old_seen q ++ map_enumerated (λ k _. seen_in p k) (0 + length (old_seen q)) new =
+          λ i. old_seen q ++ map_enumerated (λ k _. record { keys = sym (sees-alike (files_of q ++ new) (files_of p) many (λ n. (read n).imports) naming k) i }) (start i) new in
           let same : 0 + n ≡ n = omega arith in
           sees-is p n (omega (arith, many, below))
-          ∙ sym (ap (λ seen. unwrap_or (slice_get seen n) none) seen ∙ seen-behind (seen_in p) none 0 old_seen old-at new n (omega (arith, sum, old, below)) ∙ ap (seen_in p) same)
+          ∙ sym (ap (λ seen. unwrap_or (slice_get seen n) none) seen ∙ seen-behind (seen_in p) none 0 (old_seen q) old-at new n (omega (arith, sum, old, below)) ∙ ap (seen_in p) same)
         where
           same-length : length (files_of p) ≡ length (files_of q ++ new)
-          same-length = ap length files-are ∙ length-append (files_of q) came ∙ ap (λ n. length (files_of q) + n) (many-changed (length q.files) new) ∙ sym (length-append (files_of q) new)
-            where
-              many-changed : (index : ℕ) (fs : List FileDescriptorProto) → length (changed_files (linking s) index fs) ≡ length fs
-              many-changed index [] = refl
-              many-changed index (f ∷ fs) = ap suc (many-changed (suc index) fs)
-
-      record-new : (def : Definition) → Stays (record_of s def) (record_of (reread p) def)
-      record-new def =
-          let path = declaration_path def.path in
-          subst (λ fs. Stays (record_of s def) (option_and_then (λ f. leads f path) (slice_get fs def.file))) (sym files-are)
-          (behind-at (linking s) (λ old now. Stays (option_and_then (λ f. leads f path) old) (option_and_then (λ f. leads f path) now))
-          (stays-itself None) (λ f. stays-itself (leads f path)) (λ index f. file-stays (linking s) path index f)
-          (files_of q) (length q.files) new def.file)
-
-      syntax-new : (n : ℕ) → syntax_at (files_of p) n ≡ syntax_at (files_of q ++ new) n
-      syntax-new n =
-          ap (λ fs. syntax_at fs n) files-are
-          ∙ behind-at (linking s) (λ old now. syntax_of (unwrap_or now no_file) ≡ syntax_of (unwrap_or old no_file)) refl (λ f. refl) (λ index f. refl)
-          (files_of q) (length q.files) new n
+          same-length = ap length files-are ∙ length-append (files_of q) came ∙ ap (λ n. length (files_of q) + n) (many-changed (linking s) (length q.files) new) ∙ sym (length-append (files_of q) new)
 
       -- and so are the linked files that came
       pub new-again : Rereads s (reread p)
       new-again = record {
         grows = record { names = λ name def is. is; sees = new-sees };
         file_names = λ name n is. is;
-        syntaxes = λ n below. syntax-new n;
-        enums = λ name def is. (record-new def).enums;
-        ranges = λ name def is. (record-new def).messages;
+        syntaxes = λ n below. (read n).syntax;
+        enums = λ name def is. ((read def.file).records (declaration_path def.path)).enums;
+        ranges = λ name def is. ((read def.file).records (declaration_path def.path)).messages;
       }

@@ -18,7 +18,7 @@ use Rattle.name_resolution.specs.declared.filter.ResolveNameFilter.{ResolveNameF
 use Rattle.name_resolution.specs.declared.filter.ResolveNameFilter.TheVariants as filter
 use Rattle.name_resolution.specs.Kinds.{is_match}
 use Rattle.name_resolution.specs.Parents.{outer}
-use Rattle.name_resolution.specs.Resolution.{Resolution, found, invalid_type, not_imported, shadowed, not_found, is_found, is_not_found, or_shadowed, has_dot, look, simple, holds_first, dotted, relative, resolution}
+use Rattle.name_resolution.specs.Resolution.{Resolution, found, invalid_type, not_imported, not_found, is_found, is_not_found, or_shadowed, has_dot, look, simple, holds_first, dotted, relative, resolution}
 use Rattle.name_resolution.proofs.Outward.{answers}
 use Rattle.reference_pass.specs.Definitions.{found_as}
 use Rattle.reference_pass.specs.Setting.{Setting, resolve, seen_by}
@@ -37,32 +37,9 @@ alone-match _ _ = false
 
 pub match-alone : (f : ResolveNameFilter) (k : DefinitionKind) → is_match f k ≡ alone-match f (kind_alone k)
 match-alone filter.Message definition.Package = refl
-match-alone filter.Message (definition.Message _) = refl
-match-alone filter.Message (definition.Field _) = refl
-match-alone filter.Message (definition.Oneof _) = refl
-match-alone filter.Message (definition.Service _) = refl
-match-alone filter.Message (definition.Method _) = refl
-match-alone filter.Message (definition.Enum _) = refl
-match-alone filter.Message (definition.EnumValue _) = refl
-match-alone filter.Message (definition.Extension _) = refl
 match-alone filter.Extension definition.Package = refl
-match-alone filter.Extension (definition.Message _) = refl
-match-alone filter.Extension (definition.Field _) = refl
-match-alone filter.Extension (definition.Oneof _) = refl
-match-alone filter.Extension (definition.Service _) = refl
-match-alone filter.Extension (definition.Method _) = refl
-match-alone filter.Extension (definition.Enum _) = refl
-match-alone filter.Extension (definition.EnumValue _) = refl
-match-alone filter.Extension (definition.Extension _) = refl
 match-alone filter.FieldType definition.Package = refl
-match-alone filter.FieldType (definition.Message _) = refl
-match-alone filter.FieldType (definition.Field _) = refl
-match-alone filter.FieldType (definition.Oneof _) = refl
-match-alone filter.FieldType (definition.Service _) = refl
-match-alone filter.FieldType (definition.Method _) = refl
-match-alone filter.FieldType (definition.Enum _) = refl
-match-alone filter.FieldType (definition.EnumValue _) = refl
-match-alone filter.FieldType (definition.Extension _) = refl
+match-alone _ _ = refl
 
 abbrev alone-parent : Option DeclarationKind → Bool
 alone-parent None = true
@@ -73,14 +50,7 @@ alone-parent _ = false
 
 parent-alone : (k : DefinitionKind) → is_parent k ≡ alone-parent (kind_alone k)
 parent-alone definition.Package = refl
-parent-alone (definition.Message _) = refl
-parent-alone (definition.Field _) = refl
-parent-alone (definition.Oneof _) = refl
-parent-alone (definition.Service _) = refl
-parent-alone (definition.Method _) = refl
-parent-alone (definition.Enum _) = refl
-parent-alone (definition.EnumValue _) = refl
-parent-alone (definition.Extension _) = refl
+parent-alone _ = refl
 
 -- no package is wanted
 pub unwanted-package : (f : ResolveNameFilter) (k : Option DeclarationKind) → k ≡ None → alone-match f k ≡ false
@@ -100,44 +70,17 @@ SameFound number r q = BothFound number (found_as r) (found_as q)
 
 pub same-is : (number : ℕ → ℕ) (r q : Resolution) → SameFound number r q → is_found r ≡ is_found q
 same-is number (found _ _) (found _ _) same = refl
-same-is number (found _ _) (invalid_type _ _ _) same = absurd same
-same-is number (found _ _) (not_imported _ _) same = absurd same
-same-is number (found _ _) (shadowed _ _) same = absurd same
-same-is number (found _ _) not_found same = absurd same
-same-is number (invalid_type _ _ _) (found _ _) same = absurd same
-same-is number (invalid_type _ _ _) (invalid_type _ _ _) same = refl
-same-is number (invalid_type _ _ _) (not_imported _ _) same = refl
-same-is number (invalid_type _ _ _) (shadowed _ _) same = refl
-same-is number (invalid_type _ _ _) not_found same = refl
-same-is number (not_imported _ _) (found _ _) same = absurd same
-same-is number (not_imported _ _) (invalid_type _ _ _) same = refl
-same-is number (not_imported _ _) (not_imported _ _) same = refl
-same-is number (not_imported _ _) (shadowed _ _) same = refl
-same-is number (not_imported _ _) not_found same = refl
-same-is number (shadowed _ _) (found _ _) same = absurd same
-same-is number (shadowed _ _) (invalid_type _ _ _) same = refl
-same-is number (shadowed _ _) (not_imported _ _) same = refl
-same-is number (shadowed _ _) (shadowed _ _) same = refl
-same-is number (shadowed _ _) not_found same = refl
-same-is number not_found (found _ _) same = absurd same
-same-is number not_found (invalid_type _ _ _) same = refl
-same-is number not_found (not_imported _ _) same = refl
-same-is number not_found (shadowed _ _) same = refl
-same-is number not_found not_found same = refl
+same-is number (found _ _) _ same = absurd same
+same-is number _ (found _ _) same = absurd same
+same-is number _ _ same = refl
 
 missed-as : (r : Resolution) → is_found r ≡ false → found_as r ≡ None
 missed-as (found _ _) missed = absurd (true≢false missed)
-missed-as (invalid_type _ _ _) missed = refl
-missed-as (not_imported _ _) missed = refl
-missed-as (shadowed _ _) missed = refl
-missed-as not_found missed = refl
+missed-as _ missed = refl
 
 shadowed-as : (written full : List ℕ) (r : Resolution) → found_as (or_shadowed written full r) ≡ found_as r
 shadowed-as written full (found _ _) = refl
-shadowed-as written full (invalid_type _ _ _) = refl
-shadowed-as written full (not_imported _ _) = refl
-shadowed-as written full (shadowed _ _) = refl
-shadowed-as written full not_found = refl
+shadowed-as written full _ = refl
 
 -- the answer of a look-up, by whether its file is seen and its kind is wanted
 chosen : (a b : Bool) (f : ResolveNameFilter) (name : List ℕ) (d : Definition)
@@ -213,14 +156,12 @@ module _ (number : ℕ → ℕ) (ns ms : ByText Definition) (sees shows : ℕ �
           let new = missed-as (other (answers ms shows f name scopes)) (none-later (answers ms shows f name scopes) missed) in
           subst (λ o. BothFound number o (found_as (other (answers ms shows f name scopes)))) (sym old) (subst (BothFound number None) (sym new) tt)
       by (Some r) (Some q) both some same = both
-      by None (Some q) both some same = absurd both
-      by (Some r) None both some same = absurd both
+      by _ _ both some same = absurd both
 
   held : (o q : Option Definition) → BothAlike number o q → option_map_or (λ (def : Definition). is_parent def.kind) q false ≡ option_map_or (λ (def : Definition). is_parent def.kind) o false
   held None None both = refl
   held (Some d) (Some e) both = parent-alone e.kind ∙ ap alone-parent both.0 ∙ sym (parent-alone d.kind)
-  held None (Some e) both = absurd both
-  held (Some d) None both = absurd both
+  held _ _ both = absurd both
 
   holds : (name scope : List ℕ) → holds_first ms shows f name scope ≡ holds_first ns sees f name scope
   holds name scope = let x = join scope (first_part name) in held (finite.get ns x) (finite.get ms x) (alike x)

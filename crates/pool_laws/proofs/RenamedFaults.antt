@@ -1,5 +1,6 @@
 -- What breaks nothing breaks nothing where files and declarations have other numbers.
-use Rattle.std.proofs.Common.{◌≡◌, ◌<◌, ℕ, ℤ, suc, Bool, true, not, is_some, is_none, List, [], ◌∷◌, ◌++◌, map, take, Option, None, Some, refl, ap, subst, sym, ◌∙◌, true≢false}
+use Rattle.std.proofs.Common.{◌≡◌, ◌<◌, ℕ, ℤ, Bool, true, not, is_some, List, [], ◌∷◌, ◌++◌, take, Option, None, Some, refl, ap, subst, sym, ◌∙◌, true≢false}
+use Rattle.std.proofs.lemmas.List.{map-id}
 use Rattle.std.specs.BTreeSet.{contains_by}
 use Rattle.std.specs.FinMap as finite
 use Rattle.std.specs.List.{AllByRecursion, flat_map}
@@ -16,7 +17,6 @@ use Rattle.proto_types.specs.declared.records.service.MethodDescriptorProto.{Met
 use Rattle.proto_types.specs.declared.tag.field.TheConstants as field
 use Rattle.proto_types.specs.declared.tag.method.TheConstants as method
 use Rattle.proto_types.specs.Readers.{text_of, type_of}
-use Rattle.plain_data.specs.Each.{map_enumerated}
 use Rattle.plain_data.specs.Lists.{listed, only_if}
 use Rattle.pool_types.specs.declared.contents.definition.Definition.{Definition}
 use Rattle.pool_types.specs.declared.contents.definition.DefinitionKind.{DefinitionKind}
@@ -29,79 +29,48 @@ use Rattle.pool_faults.specs.Labels.{label_in}
 use Rattle.record_walk.specs.declared.declaration.DeclarationKind.{DeclarationKind}
 use Rattle.record_walk.specs.declared.declaration.DeclarationKind.TheVariants as declaration
 use Rattle.record_walk.specs.Leads.{leads}
-use Rattle.record_walk.specs.Protos.{Proto, as_enum, as_message, of_file, of_message, of_field, of_oneof, of_service, of_method, of_enum, of_value, of_extension}
+use Rattle.record_walk.specs.Protos.{Proto, as_enum, as_message, of_file, of_message, of_service, of_enum, of_extension}
 use Rattle.record_walk.specs.Shown.{Shown, inside}
 use Rattle.name_resolution.specs.declared.filter.ResolveNameFilter.{ResolveNameFilter}
 use Rattle.name_resolution.specs.declared.filter.ResolveNameFilter.TheVariants as filter
 use Rattle.name_resolution.specs.Kinds.{named_kind, simple_kind}
 use Rattle.name_resolution.specs.References.{reference_fault}
-use Rattle.name_resolution.specs.Resolution.{Resolution, found, invalid_type, not_imported, shadowed, not_found, is_found, kind_found}
-use Rattle.field_rules.specs.Defaults.{DefaultEnum, default_fault, default_faults, value_of}
+use Rattle.name_resolution.specs.Resolution.{Resolution, found, is_found, kind_found}
+use Rattle.field_rules.specs.Defaults.{DefaultEnum, default_faults}
 use Rattle.field_rules.specs.Duplicates.{duplicate_faults}
-use Rattle.field_rules.specs.Numbers.{field_number_faults}
 use Rattle.field_rules.specs.Places.{field_at}
 use Rattle.reference_pass.specs.Defaults.{enum_found, no_enum_meant, type_enum, field_default_faults}
 use Rattle.reference_pass.specs.Definitions.{found_as, declaration_path, record_of, message_record}
 use Rattle.reference_pass.specs.Extensions.{number_faults}
 use Rattle.reference_pass.specs.FieldTypes.{field_kind, type_faults, resolve_type}
-use Rattle.reference_pass.specs.Imports.{import_faults, index_fault, missing_file, missing_files}
+use Rattle.reference_pass.specs.Imports.{import_faults, missing_file}
 use Rattle.reference_pass.specs.Messages.{method_at, resolve_message}
 use Rattle.reference_pass.specs.SecondPass.{Faults, extension_faults, field_faults, method_faults, owner_faults}
 use Rattle.reference_pass.specs.Setting.{Setting, resolve, seen_by}
 use Rattle.reference_pass.proofs.Unbroken.{all-parts, both-empty, extension-parts, untaken}
-use Rattle.pool_laws.specs.SettingLaws.{RangesStay, SameRanges}
+use Rattle.pool_laws.specs.SettingLaws.{RangesStay}
 use Rattle.pool_laws.proofs.Enums.{values-still}
-use Rattle.pool_laws.proofs.Fields.{breaks-nothing}
+use Rattle.pool_laws.proofs.Fields.{breaks-nothing, nothing-broken}
+use Rattle.pool_laws.proofs.Imports.{imports-by}
 use Rattle.pool_laws.proofs.Looked.{IsLooked, looked-named, resolution-looked}
 use Rattle.pool_laws.proofs.Moved.{AllMoved, Moved, StandsAlike}
 use Rattle.pool_laws.specs.Order.{kind_alone}
 use Rattle.pool_laws.proofs.Numbered.{field-numbered, numbered-by}
+use Rattle.pool_laws.proofs.Records.{ranges-itself}
 use Rattle.pool_laws.proofs.Renamed.{BothFound, Renames, SameFound, alone-match, match-alone, resolve-renamed, same-is, unwanted-package}
 use Rattle.pool_laws.proofs.SettingRelinks.{again-still}
+use Rattle.pool_laws.proofs.Told.{told, told-still}
 use Rattle.pool_laws.proofs.Typed.{no-fault}
+use Rattle.pool_laws.proofs.Defaulted.{default-alone, index_alone}
 
 -- a reference is at fault exactly where nothing is found
 faultless : (fs : List FileDescriptorProto) (name : List ℕ) (file : ℕ) (path : List ℤ) (r : Resolution) → listed (reference_fault fs name file path r) ≡ [] → is_found r ≡ true
 faultless fs name file path (found _ _) none = refl
-faultless fs name file path (invalid_type _ _ _) none = absurd (cc)
-faultless fs name file path (not_imported _ _) none = absurd (cc)
-faultless fs name file path (shadowed _ _) none = absurd (cc)
-faultless fs name file path not_found none = absurd (cc)
+faultless fs name file path _ none = absurd (cc)
 
 found-faultless : (fs : List FileDescriptorProto) (name : List ℕ) (file : ℕ) (path : List ℤ) (r : Resolution) → is_found r ≡ true → listed (reference_fault fs name file path r) ≡ []
 found-faultless fs name file path (found _ _) is = refl
-found-faultless fs name file path (invalid_type _ _ _) is = absurd (true≢false (sym is))
-found-faultless fs name file path (not_imported _ _) is = absurd (true≢false (sym is))
-found-faultless fs name file path (shadowed _ _) is = absurd (true≢false (sym is))
-found-faultless fs name file path not_found is = absurd (true≢false (sym is))
-
--- a kind of types without its number
-abbrev index_alone : KindIndex → KindIndex
-index_alone (index.Message _) = index.Message 0
-index_alone (index.Enum _) = index.Enum 0
-index_alone (index.Group _) = index.Group 0
-index_alone kind = kind
-
--- a text writes the same value of it
-value-alone : (k : KindIndex) (meant : DefaultEnum) (text : List ℕ) → value_of (index_alone k) meant.values text ≡ value_of k meant.values text
-value-alone index.Double meant text = refl
-value-alone index.Float meant text = refl
-value-alone index.Int32 meant text = refl
-value-alone index.Int64 meant text = refl
-value-alone index.Uint32 meant text = refl
-value-alone index.Uint64 meant text = refl
-value-alone index.Sint32 meant text = refl
-value-alone index.Sint64 meant text = refl
-value-alone index.Fixed32 meant text = refl
-value-alone index.Fixed64 meant text = refl
-value-alone index.Sfixed32 meant text = refl
-value-alone index.Sfixed64 meant text = refl
-value-alone index.Bool meant text = refl
-value-alone index.String meant text = refl
-value-alone index.Bytes meant text = refl
-value-alone (index.Message _) meant text = refl
-value-alone (index.Enum _) meant text = refl
-value-alone (index.Group _) meant text = refl
+found-faultless fs name file path _ is = absurd (true≢false (sym is))
 
 -- the kind of a type that names a definition of a kind without number
 abbrev alone_named : FieldType → Option DeclarationKind → Option KindIndex
@@ -111,42 +80,16 @@ alone_named _ (Some declaration.Enum) = Some (index.Enum 0)
 alone_named _ _ = None
 
 named-alone : (x : FieldType) (k : DefinitionKind) → option_map index_alone (named_kind x k) ≡ alone_named x (kind_alone k)
-named-alone x definition.Package = elim x as (λ x. option_map index_alone (named_kind x definition.Package) ≡ alone_named x None) [ written.Group ↦ refl | _ ↦ refl ]
-named-alone x (definition.Message n) = elim x as (λ x. option_map index_alone (named_kind x (definition.Message n)) ≡ alone_named x (Some declaration.Message)) [ written.Group ↦ refl | _ ↦ refl ]
-named-alone x (definition.Field n) = elim x as (λ x. option_map index_alone (named_kind x (definition.Field n)) ≡ alone_named x (Some declaration.Field)) [ written.Group ↦ refl | _ ↦ refl ]
-named-alone x (definition.Oneof n) = elim x as (λ x. option_map index_alone (named_kind x (definition.Oneof n)) ≡ alone_named x (Some declaration.Oneof)) [ written.Group ↦ refl | _ ↦ refl ]
-named-alone x (definition.Service n) = elim x as (λ x. option_map index_alone (named_kind x (definition.Service n)) ≡ alone_named x (Some declaration.Service)) [ written.Group ↦ refl | _ ↦ refl ]
-named-alone x (definition.Method n) = elim x as (λ x. option_map index_alone (named_kind x (definition.Method n)) ≡ alone_named x (Some declaration.Method)) [ written.Group ↦ refl | _ ↦ refl ]
-named-alone x (definition.Enum n) = elim x as (λ x. option_map index_alone (named_kind x (definition.Enum n)) ≡ alone_named x (Some declaration.Enum)) [ written.Group ↦ refl | _ ↦ refl ]
-named-alone x (definition.EnumValue n) = elim x as (λ x. option_map index_alone (named_kind x (definition.EnumValue n)) ≡ alone_named x (Some declaration.EnumValue)) [ written.Group ↦ refl | _ ↦ refl ]
-named-alone x (definition.Extension n) = elim x as (λ x. option_map index_alone (named_kind x (definition.Extension n)) ≡ alone_named x (Some declaration.Extension)) [ written.Group ↦ refl | _ ↦ refl ]
-
--- a default that breaks nothing breaks nothing where the number of its type is another
-default-alone : (fs gs : List FileDescriptorProto) (file other : ℕ) (path : List ℤ) (meant : DefaultEnum) (kind new : Option KindIndex) (given : Option (List ℕ))
-    → option_map index_alone new ≡ option_map index_alone kind
-    → option_map_or (λ k. default_faults fs file path k meant given) kind [] ≡ [] → option_map_or (λ k. default_faults gs other path k meant given) new [] ≡ []
-default-alone fs gs file other path meant None None given same none = refl
-default-alone fs gs file other path meant None (Some k) given same none = absurd (cc)
-default-alone fs gs file other path meant (Some k) None given same none = absurd (cc)
-default-alone fs gs file other path meant (Some k) (Some n) None same none = refl
-default-alone fs gs file other path meant (Some k) (Some n) (Some text) same none =
-    let kinds : index_alone n ≡ index_alone k = cc in
-    let value = sym (value-alone n meant text) ∙ ap (λ x. value_of x meant.values text) kinds ∙ value-alone k meant text in
-    ap (λ o. only_if (is_none o) (default_fault gs other path n meant text)) value ∙ no-fault (is_none (value_of k meant.values text)) _ _ none
+named-alone written.Group definition.Package = refl
+named-alone written.Group _ = refl
+named-alone _ definition.Package = refl
+named-alone _ _ = refl
 
 -- what is read by a text or, where there is none, without
 by-text : (name : List ℕ) (a b c e : Faults) → (a ≡ [] → c ≡ []) → (b ≡ [] → e ≡ [])
     → let old : Faults = elim name [ [] ↦ a | _ ∷ _ ↦ b ] in let new : Faults = elim name [ [] ↦ c | _ ∷ _ ↦ e ] in old ≡ [] → new ≡ []
 by-text [] a b c e first second none = first none
 by-text (x ∷ xs) a b c e first second none = second none
-
-ranges-same : (o : Option DescriptorProto) → RangesStay o o
-ranges-same None = tt
-ranges-same (Some m) = record { reserved = refl; extensions = refl }
-
-map-id : {X : Type 0} (xs : List X) → map (λ x. x) xs ≡ xs
-map-id [] = refl
-map-id (x ∷ xs) = λ i. x ∷ map-id xs i
 
 module _ (s t : Setting) (many : ℕ) (number : ℕ → ℕ) (renames : Renames s t many number) where
   -- a declaration in the file that has the number, whatever its own number is
@@ -180,14 +123,8 @@ module _ (s t : Setting) (many : ℕ) (number : ℕ → ℕ) (renames : Renames 
           below = renames.lie name d (looked-named s.names sees f name name d looked.0);
         },
       )
-  moved sees f (found name d) (invalid_type _ _ _) looked same = tt
-  moved sees f (found name d) (not_imported _ _) looked same = tt
-  moved sees f (found name d) (shadowed _ _) looked same = tt
-  moved sees f (found name d) not_found looked same = tt
-  moved sees f (invalid_type _ _ _) q looked same = tt
-  moved sees f (not_imported _ _) q looked same = tt
-  moved sees f (shadowed _ _) q looked same = tt
-  moved sees f not_found q looked same = tt
+  moved sees f (found name d) _ looked same = tt
+  moved sees f _ q looked same = tt
 
   module _ (file : ℕ) (below : file < many) (scope text : List ℕ) (f : ResolveNameFilter) where
     abbrev old : Resolution
@@ -216,14 +153,8 @@ module _ (s t : Setting) (many : ℕ) (number : ℕ → ℕ) (renames : Renames 
   found-meant : (r q : Resolution) → is_found r ≡ true → SameFound number r q → BothMoved r q → enum_found t q ≡ enum_found s r
   found-meant (found name d) (found other e) is same both =
       λ i. record { full_name = both.0 i; values = option_map_or (λ (x : EnumDescriptorProto). x.value) (option_and_then as_enum (record-renamed d e both.1 i)) [] }
-  found-meant (found name d) (invalid_type _ _ _) is same both = absurd same
-  found-meant (found name d) (not_imported _ _) is same both = absurd same
-  found-meant (found name d) (shadowed _ _) is same both = absurd same
-  found-meant (found name d) not_found is same both = absurd same
-  found-meant (invalid_type _ _ _) q is same both = absurd (true≢false (sym is))
-  found-meant (not_imported _ _) q is same both = absurd (true≢false (sym is))
-  found-meant (shadowed _ _) q is same both = absurd (true≢false (sym is))
-  found-meant not_found q is same both = absurd (true≢false (sym is))
+  found-meant (found name d) _ is same both = absurd same
+  found-meant _ q is same both = absurd (true≢false (sym is))
 
   kind-of : (f : FieldDescriptorProto) (r q : Resolution) → SameFound number r q
       → option_map index_alone (option_and_then (named_kind (type_of f.type_)) (kind_found q)) ≡ option_map index_alone (option_and_then (named_kind (type_of f.type_)) (kind_found r))
@@ -234,16 +165,12 @@ module _ (s t : Setting) (many : ℕ) (number : ℕ → ℕ) (renames : Renames 
 
       as-found : (r : Resolution) → option_map index_alone (option_and_then (named_kind (type_of f.type_)) (kind_found r)) ≡ alone (found_as r)
       as-found (found _ d) = named-alone (type_of f.type_) d.kind
-      as-found (invalid_type _ _ _) = refl
-      as-found (not_imported _ _) = refl
-      as-found (shadowed _ _) = refl
-      as-found not_found = refl
+      as-found _ = refl
 
       by-both : (o p : Option (List ℕ × Definition)) → BothFound number o p → alone p ≡ alone o
       by-both None None both = refl
-      by-both None (Some e) both = absurd both
-      by-both (Some d) None both = absurd both
       by-both (Some d) (Some e) both = ap (alone_named (type_of f.type_)) both.1.0
+      by-both _ _ both = absurd both
 
   -- a field or an extension, and its type and default value
   module _ (d : Shown) (below : d.file < many) (parent : Option ℕ) (index : ℕ) (f : FieldDescriptorProto) where
@@ -303,22 +230,20 @@ module _ (s t : Setting) (many : ℕ) (number : ℕ → ℕ) (renames : Renames 
         let here = field_at (inside d) i f in
         let moved_field = field_at (inside there) i f in
         let parts = breaks-nothing s (d, m) here f none in
-        let ranges : SameRanges m m = record { reserved = refl; extensions = refl } in
-        let numbered : field_number_faults t.files there m moved_field f ≡ [] = field-numbered s.files t.files d there here moved_field m m f f ranges refl refl parts.number in
-        let type_still : type_faults t moved_field f ≡ [] = typed-renamed here below (Some index) i f parts.typed in
-        let default_still : field_default_faults t moved_field f ≡ [] = defaulted-renamed here below (Some index) i f parts.typed parts.default in
         let earlier = take i (out-DescriptorProto m).field in
-        let no_other : duplicate_faults t.files (number d.file) d.path earlier i f ≡ [] =
-        ap (λ fs. duplicate_faults t.files (number d.file) d.path fs i f) (sym (map-id earlier)) ∙ again-still s.files t.files d.file (number d.file) d.path (λ x. x) (λ x. refl) (λ x. refl) earlier i f parts.other in
-        λ j. (numbered j ++ type_still j ++ default_still j ++ parts.oneof j) ++ no_other j
+        nothing-broken t (there, m) moved_field f (record {
+          number = field-numbered s.files t.files d there here moved_field m m f f (record { reserved = refl; extensions = refl }) refl refl parts.number;
+          typed = typed-renamed here below (Some index) i f parts.typed;
+          default = defaulted-renamed here below (Some index) i f parts.typed parts.default;
+          oneof = parts.oneof;
+          other =
+              ap (λ fs. duplicate_faults t.files (number d.file) d.path fs i f) (sym (map-id earlier))
+              ∙ again-still s.files t.files d.file (number d.file) d.path (λ x. x) (λ x. refl) (λ x. refl) earlier i f parts.other;
+        })
 
-    fields-renamed : (i : ℕ) (fs : List FieldDescriptorProto) → flat_map (λ (faults : Faults). faults) (map_enumerated (λ i f. field_faults s (d, m) (field_at (inside d) i f) f) i fs) ≡ []
-        → flat_map (λ (faults : Faults). faults) (map_enumerated (λ i f. field_faults t (there, m) (field_at (inside there) i f) f) i fs) ≡ []
-    fields-renamed i [] none = refl
-    fields-renamed i (f ∷ fs) none =
-        let parts = both-empty (field_faults s (d, m) (field_at (inside d) i f) f)
-        (flat_map (λ (faults : Faults). faults) (map_enumerated (λ i f. field_faults s (d, m) (field_at (inside d) i f) f) (suc i) fs)) none in
-        λ j. field-renamed i f parts.0 j ++ fields-renamed (suc i) fs parts.1 j
+    fields-renamed : (i : ℕ) (fs : List FieldDescriptorProto) → told (λ i f. field_faults s (d, m) (field_at (inside d) i f) f) i fs ≡ []
+        → told (λ i f. field_faults t (there, m) (field_at (inside there) i f) f) i fs ≡ []
+    fields-renamed = told-still (λ i f. field_faults s (d, m) (field_at (inside d) i f) f) (λ i f. field_faults t (there, m) (field_at (inside there) i f) f) field-renamed
 
   -- the methods of a service
   module _ (d : Shown) (below : d.file < many) (parent : Option ℕ) (index : ℕ) where
@@ -337,31 +262,18 @@ module _ (s t : Setting) (many : ℕ) (number : ℕ → ℕ) (renames : Renames 
         let given = reference-renamed d.file below here.full_name output filter.Message (here.path ++ method.OUTPUT_TYPE ∷ []) parts.1 in
         λ j. taken j ++ given j
 
-    methods-renamed : (i : ℕ) (ms : List MethodDescriptorProto) → flat_map (λ (faults : Faults). faults) (map_enumerated (λ i m. method_faults s (method_at (inside d) i m) m) i ms) ≡ []
-        → flat_map (λ (faults : Faults). faults) (map_enumerated (λ i m. method_faults t (method_at (inside other) i m) m) i ms) ≡ []
-    methods-renamed i [] none = refl
-    methods-renamed i (m ∷ ms) none =
-        let parts = both-empty (method_faults s (method_at (inside d) i m) m)
-        (flat_map (λ (faults : Faults). faults) (map_enumerated (λ i m. method_faults s (method_at (inside d) i m) m) (suc i) ms)) none in
-        λ j. method-renamed i m parts.0 j ++ methods-renamed (suc i) ms parts.1 j
+    methods-renamed : (i : ℕ) (ms : List MethodDescriptorProto) → told (λ i m. method_faults s (method_at (inside d) i m) m) i ms ≡ []
+        → told (λ i m. method_faults t (method_at (inside other) i m) m) i ms ≡ []
+    methods-renamed = told-still (λ i m. method_faults s (method_at (inside d) i m) m) (λ i m. method_faults t (method_at (inside other) i m) m) method-renamed
 
     -- the number of an extension, by the record of the message that was found
     number-renamed : (x : FieldDescriptorProto) (r q : Resolution) → SameFound number r q → BothMoved r q → number_faults s d x r ≡ [] → number_faults t other x q ≡ []
     number-renamed x (found name def) (found full e) same both none =
-        let stay = subst (RangesStay (message_record s def)) (ap (option_and_then as_message) (sym (record-renamed def e both.1))) (ranges-same (message_record s def)) in
+        let stay = subst (RangesStay (message_record s def)) (ap (option_and_then as_message) (sym (record-renamed def e both.1))) (ranges-itself (message_record s def)) in
         numbered-by s t d other x x refl name full def e (message_record s def) (message_record t e) stay none
-    number-renamed x (found name d) (invalid_type _ _ _) same both none = refl
-    number-renamed x (found name d) (not_imported _ _) same both none = refl
-    number-renamed x (found name d) (shadowed _ _) same both none = refl
-    number-renamed x (found name d) not_found same both none = refl
-    number-renamed x (invalid_type _ _ _) (found _ _) same both none = absurd same
-    number-renamed x (not_imported _ _) (found _ _) same both none = absurd same
-    number-renamed x (shadowed _ _) (found _ _) same both none = absurd same
-    number-renamed x not_found (found _ _) same both none = absurd same
-    number-renamed x r (invalid_type _ _ _) same both none = refl
-    number-renamed x r (not_imported _ _) same both none = refl
-    number-renamed x r (shadowed _ _) same both none = refl
-    number-renamed x r not_found same both none = refl
+    number-renamed x (found name d) _ same both none = refl
+    number-renamed x _ (found _ _) same both none = absurd same
+    number-renamed x _ _ same both none = refl
 
     extension-renamed : (x : FieldDescriptorProto) → extension_faults s [] d x ≡ [] → extension_faults t [] other x ≡ []
     extension-renamed x none =
@@ -379,21 +291,10 @@ module _ (s t : Setting) (many : ℕ) (number : ℕ → ℕ) (renames : Renames 
     missing-renamed : (old now : Option ℕ) (a b : DescriptorErrorKind) → is_some now ≡ is_some old → only_if (not (is_some old)) a ≡ [] → only_if (not (is_some now)) b ≡ []
     missing-renamed old now a b same none = ap (λ found. only_if (not found) b) same ∙ no-fault (not (is_some old)) a b none
 
-    files-renamed : (i j k : ℕ) (names : List (List ℕ)) → flat_map (λ (faults : Faults). faults) (map_enumerated (missing_file s i) k names) ≡ []
-        → flat_map (λ (faults : Faults). faults) (map_enumerated (missing_file t j) k names) ≡ []
-    files-renamed i j k [] none = refl
-    files-renamed i j k (name ∷ names) none =
-        let parts = both-empty (missing_file s i k name) (flat_map (λ (faults : Faults). faults) (map_enumerated (missing_file s i) (suc k) names)) none in
-        let here : missing_file t j k name ≡ [] = missing-renamed (finite.get s.file_names name) (finite.get t.file_names name) _ _ (renames.file_names name) parts.0 in
-        λ l. here l ++ files-renamed i j (suc k) names parts.1 l
-
     imports-renamed : (i j : ℕ) (f : FileDescriptorProto) → import_faults s i f ≡ [] → import_faults t j f ≡ []
-    imports-renamed i j f none =
-        let public = flat_map (index_fault f.dependency) f.public_dependency in
-        let weak = flat_map (index_fault f.dependency) f.weak_dependency in
-        let two = both-empty (missing_files s i f.dependency ++ public) weak none in
-        let one = both-empty (missing_files s i f.dependency) public two.0 in
-        λ l. files-renamed i j 0 f.dependency one.0 l ++ one.1 l ++ two.1 l
+    imports-renamed i j f =
+        imports-by s t i j f
+        (told-still (missing_file s i) (missing_file t j) (λ k name. missing-renamed (finite.get s.file_names name) (finite.get t.file_names name) _ _ (renames.file_names name)) 0 f.dependency)
 
   -- a declaration by itself and by its parts
   owner-renamed : (file : ℕ) (below : file < many) (here there : Option ℕ) (i j : ℕ) (path : List ℤ) (full_name : List ℕ) (p : Proto)
@@ -403,17 +304,14 @@ module _ (s t : Setting) (many : ℕ) (number : ℕ → ℕ) (renames : Renames 
       imports-renamed (record { file = file; parent = here; index = i; path = path; full_name = full_name; proto = of_file f }) below there j i j f none
   owner-renamed file below here there i j path full_name (of_message m) none =
       fields-renamed (record { file = file; parent = here; index = i; path = path; full_name = full_name; proto = of_message m }) below there j m 0 (out-DescriptorProto m).field none
-  owner-renamed file below here there i j path full_name (of_field f) none = refl
-  owner-renamed file below here there i j path full_name (of_oneof o) none = refl
   owner-renamed file below here there i j path full_name (of_service v) none =
       methods-renamed (record { file = file; parent = here; index = i; path = path; full_name = full_name; proto = of_service v }) below there j 0 v.method none
-  owner-renamed file below here there i j path full_name (of_method m) none = refl
   owner-renamed file below here there i j path full_name (of_enum e) none =
       let d : Shown = record { file = file; parent = here; index = i; path = path; full_name = full_name; proto = of_enum e } in
       values-still s.files t.files d (to d there j) e none
-  owner-renamed file below here there i j path full_name (of_value v) none = refl
   owner-renamed file below here there i j path full_name (of_extension x) none =
       extension-renamed (record { file = file; parent = here; index = i; path = path; full_name = full_name; proto = of_extension x }) below there j x none
+  owner-renamed file below here there i j path full_name _ none = refl
 
   -- so it is with each, and all
   moved-renamed : (d e : Shown) → Moved number d e → d.file < many → owner_faults s [] d ≡ [] → owner_faults t [] e ≡ []
@@ -423,8 +321,7 @@ module _ (s t : Setting) (many : ℕ) (number : ℕ → ℕ) (renames : Renames 
 
   pub all-renamed : (ds es : List Shown) → AllMoved number ds es → AllByRecursion (λ (d : Shown). d.file < many) ds → flat_map (owner_faults s []) ds ≡ [] → flat_map (owner_faults t []) es ≡ []
   all-renamed [] [] moved below none = refl
-  all-renamed [] (e ∷ es) moved below none = absurd moved
-  all-renamed (d ∷ ds) [] moved below none = absurd moved
   all-renamed (d ∷ ds) (e ∷ es) moved below none =
       let parts = both-empty (owner_faults s [] d) (flat_map (owner_faults s []) ds) none in
       λ i. moved-renamed d e moved.0 below.0 parts.0 i ++ all-renamed ds es moved.1 below.1 parts.1 i
+  all-renamed _ _ moved below none = absurd moved

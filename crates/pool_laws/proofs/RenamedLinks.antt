@@ -1,5 +1,5 @@
 -- A file is linked alike where files and declarations have other numbers.
-use Rattle.std.proofs.Common.{◌≡◌, ◌<◌, ℕ, ℤ, pos, Option, None, Some, List, [], ◌∷◌, map, refl, ap, sym, ◌∙◌}
+use Rattle.std.proofs.Common.{◌≡◌, ◌<◌, ℕ, ℤ, pos, Option, None, Some, List, [], ◌∷◌, refl, ap, sym, ◌∙◌}
 use Rattle.std.specs.Option.{option_map, option_map_or, option_or}
 use Rattle.proto_types.specs.Computed.{literals}
 use Rattle.proto_types.specs.Names.{join}
@@ -18,12 +18,13 @@ use Rattle.record_walk.specs.declared.declaration.DeclarationKind.{DeclarationKi
 use Rattle.record_walk.specs.declared.declaration.DeclarationKind.TheVariants as declaration
 use Rattle.record_walk.specs.Changed.{Changes, changed_fields, changed_file, changed_message, changed_methods, changed_nested, changed_service}
 use Rattle.name_resolution.specs.declared.filter.ResolveNameFilter.TheVariants.{Message, FieldType as AnyType}
-use Rattle.name_resolution.specs.Resolution.{Resolution, found, invalid_type, not_imported, shadowed, not_found, name_found, kind_found}
+use Rattle.name_resolution.specs.Resolution.{Resolution, found, name_found, kind_found}
 use Rattle.reference_pass.specs.Definitions.{found_as}
 use Rattle.reference_pass.specs.Linked.{linked, linked_extension, linked_field, linked_method, linking, resolved, type_number, typed}
 use Rattle.reference_pass.specs.Setting.{Setting, resolve}
 use Rattle.pool_laws.specs.Order.{kind_alone}
 use Rattle.pool_laws.proofs.Renamed.{BothFound, Renames, SameFound, resolve-renamed}
+use Rattle.pool_laws.proofs.AllOf.{map-alike}
 
 -- the number of the type that a definition of a kind without number is
 abbrev alone_number : FieldType → Option DeclarationKind → Option ℤ → Option ℤ
@@ -33,44 +34,31 @@ alone_number _ (Some declaration.Enum) given = Some (pos 14)
 alone_number _ _ given = given
 
 number-alone : (x : FieldType) (k : DefinitionKind) (given : Option ℤ) → type_number x k given ≡ alone_number x (kind_alone k) given
-number-alone x definition.Package given = elim x as (λ x. type_number x definition.Package given ≡ alone_number x None given) [ written.Group ↦ refl | _ ↦ refl ]
-number-alone x (definition.Message n) given = elim x as (λ x. type_number x (definition.Message n) given ≡ alone_number x (Some declaration.Message) given) [ written.Group ↦ refl | _ ↦ refl ]
-number-alone x (definition.Field n) given = elim x as (λ x. type_number x (definition.Field n) given ≡ alone_number x (Some declaration.Field) given) [ written.Group ↦ refl | _ ↦ refl ]
-number-alone x (definition.Oneof n) given = elim x as (λ x. type_number x (definition.Oneof n) given ≡ alone_number x (Some declaration.Oneof) given) [ written.Group ↦ refl | _ ↦ refl ]
-number-alone x (definition.Service n) given = elim x as (λ x. type_number x (definition.Service n) given ≡ alone_number x (Some declaration.Service) given) [ written.Group ↦ refl | _ ↦ refl ]
-number-alone x (definition.Method n) given = elim x as (λ x. type_number x (definition.Method n) given ≡ alone_number x (Some declaration.Method) given) [ written.Group ↦ refl | _ ↦ refl ]
-number-alone x (definition.Enum n) given = elim x as (λ x. type_number x (definition.Enum n) given ≡ alone_number x (Some declaration.Enum) given) [ written.Group ↦ refl | _ ↦ refl ]
-number-alone x (definition.EnumValue n) given = elim x as (λ x. type_number x (definition.EnumValue n) given ≡ alone_number x (Some declaration.EnumValue) given) [ written.Group ↦ refl | _ ↦ refl ]
-number-alone x (definition.Extension n) given = elim x as (λ x. type_number x (definition.Extension n) given ≡ alone_number x (Some declaration.Extension) given) [ written.Group ↦ refl | _ ↦ refl ]
+number-alone written.Group definition.Package given = refl
+number-alone written.Group _ given = refl
+number-alone _ definition.Package given = refl
+number-alone _ _ given = refl
 
 -- the name and the kind of what was found
 name-as : (r : Resolution) → name_found r ≡ option_map (λ d. d.0) (found_as r)
 name-as (found _ _) = refl
-name-as (invalid_type _ _ _) = refl
-name-as (not_imported _ _) = refl
-name-as (shadowed _ _) = refl
-name-as not_found = refl
+name-as _ = refl
 
 kind-as : (r : Resolution) → kind_found r ≡ option_map (λ d. d.1.kind) (found_as r)
 kind-as (found _ _) = refl
-kind-as (invalid_type _ _ _) = refl
-kind-as (not_imported _ _) = refl
-kind-as (shadowed _ _) = refl
-kind-as not_found = refl
+kind-as _ = refl
 
 module _ (number : ℕ → ℕ) where
   one-name : (o q : Option (List ℕ × Definition)) → BothFound number o q → option_map (λ d. d.0) q ≡ option_map (λ d. d.0) o
   one-name None None both = refl
   one-name (Some d) (Some e) both = ap Some both.0
-  one-name None (Some e) both = absurd both
-  one-name (Some d) None both = absurd both
+  one-name _ _ both = absurd both
 
   one-type : (x : FieldType) (given : Option ℤ) (o q : Option (List ℕ × Definition)) → BothFound number o q
       → option_map_or (λ kind. type_number x kind given) (option_map (λ d. d.1.kind) q) given ≡ option_map_or (λ kind. type_number x kind given) (option_map (λ d. d.1.kind) o) given
   one-type x given None None both = refl
   one-type x given (Some d) (Some e) both = number-alone x e.1.kind given ∙ ap (λ k. alone_number x k given) both.1.0 ∙ sym (number-alone x d.1.kind given)
-  one-type x given None (Some e) both = absurd both
-  one-type x given (Some d) None both = absurd both
+  one-type x given _ _ both = absurd both
 
   -- references that find the same are resolved to the same, and make a field of the same type
   resolved-alike : (r q : Resolution) (given : Option (List ℕ)) → SameFound number r q → resolved q given ≡ resolved r given
@@ -88,10 +76,6 @@ record ChangeAlike (b c : Changes) (i j : ℕ) : Type 0 where
   pub fields : (name : List ℕ) (f : FieldDescriptorProto) → c.field j name f ≡ b.field i name f
   pub extensions : (name : List ℕ) (x : FieldDescriptorProto) → c.extension j name x ≡ b.extension i name x
   pub methods : (name : List ℕ) (m : MethodDescriptorProto) → c.method j name m ≡ b.method i name m
-
-map-alike : {X Y : Type 0} (g h : X → Y) → ((x : X) → g x ≡ h x) → (xs : List X) → map g xs ≡ map h xs
-map-alike g h same [] = refl
-map-alike g h same (x ∷ xs) = λ i. same x i ∷ map-alike g h same xs i
 
 module _ (b c : Changes) (i j : ℕ) (alike : ChangeAlike b c i j) where
   fields-alike : (scope : List ℕ) (fs : List FieldDescriptorProto) → changed_fields c.field j scope fs ≡ changed_fields b.field i scope fs

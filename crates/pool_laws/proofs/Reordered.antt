@@ -1,5 +1,5 @@
 -- A batch whose files are handed over in another order fits and is accepted as it was, and makes a pool that is the same but for numbers.
-use Rattle.std.proofs.Common.{◌≡◌, Bool, not, IsOk, List, [], ◌∷◌, ◌++◌, refl, ap, subst, subst₂, sym, ◌∙◌}
+use Rattle.std.proofs.Common.{◌≡◌, not, IsOk, List, [], ◌∷◌, ◌++◌, refl, ap, subst, subst₂, sym, ◌∙◌}
 use Rattle.std.proofs.lemmas.List.Elements.{filter-append}
 use Rattle.proto_types.specs.Readers.{text_of}
 use Rattle.proto_types.specs.declared.file.FileDescriptorProto.{FileDescriptorProto}
@@ -18,6 +18,7 @@ use Rattle.pool_laws.proofs.ExchangedSetting as exchanged
 use Rattle.pool_laws.proofs.ReferencesExchanged.{references-exchanged}
 use Rattle.pool_laws.proofs.SameLinked.{same-linked}
 use Rattle.pool_laws.proofs.Splits.{counts-tally, within-tally}
+use Rattle.pool_laws.proofs.AllOf.{made-of-four}
 
 files-tally-append : (fs gs : List FileDescriptorProto) → files_tally (fs ++ gs) ≡ both (files_tally fs) (files_tally gs)
 files-tally-append [] gs = sym (both-nothing (files_tally gs))
@@ -77,10 +78,7 @@ module _ (p : Contents) where
   fresh = new_files p
 
   fresh-parts : (front first second rest : Batch) → fresh (front ++ first ++ second ++ rest) ≡ fresh front ++ fresh first ++ fresh second ++ fresh rest
-  fresh-parts front first second rest =
-      let test : FileDescriptorProto → Bool = λ f. not (has_file p (text_of f.name)) in
-      filter-append test (front ++ first ++ second) rest
-      ∙ ap (λ fs. fs ++ fresh rest) (filter-append test (front ++ first) second ∙ ap (λ fs. fs ++ fresh second) (filter-append test front first))
+  fresh-parts = made-of-four fresh (filter-append (λ f. not (has_file p (text_of f.name))))
 
   fits-onward : (front first second rest : Batch) → Fits p (front ++ first ++ second ++ rest) → Fits p (front ++ second ++ first ++ rest)
   fits-onward front first second rest =

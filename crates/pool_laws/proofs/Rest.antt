@@ -1,31 +1,26 @@
 -- The second part of new files behind the linked first part: what it reads there is what it reads at once with the first.
-use Rattle.std.proofs.Common.{◌≡◌, ◌<◌, ◌+◌, ℕ, suc, None, Some, List, [], ◌∷◌, ◌++◌, length, map, slice_get, unwrap_or, append_assoc, refl, ap, subst, sym, ◌∙◌}
+use Rattle.std.proofs.Common.{◌≡◌, ◌<◌, ◌+◌, ℕ, Some, List, [], ◌++◌, length, map, slice_get, unwrap_or, append_assoc, ap, subst, sym, ◌∙◌}
 use Rattle.std.proofs.lemmas.List.{length-append, map-append}
 use Rattle.std.specs.BTreeSet.{contains_by}
 use Rattle.std.specs.FinMap as finite
 use Rattle.std.specs.List.{AllByRecursion, flat_map}
-use Rattle.std.specs.Option.{option_and_then}
 use Rattle.std.specs.Ordering.{nat_cmp}
 use Rattle.plain_data.specs.Lists.{after_each}
-use Rattle.proto_types.specs.EmptyFile.{no_file}
 use Rattle.proto_types.specs.declared.file.FileDescriptorProto.{FileDescriptorProto}
 use Rattle.pool_types.specs.Contents.{Contents, files_of}
-use Rattle.pool_types.specs.declared.contents.definition.Definition.{Definition}
 use Rattle.name_tables.specs.Entries.{names_with}
 use Rattle.name_tables.proofs.Entries.{get-with, with-more}
-use Rattle.name_resolution.specs.Visibility.{file_at, seen_from}
+use Rattle.name_resolution.specs.Visibility.{seen_from}
 use Rattle.record_walk.specs.declared.counts.Counts.{Counts}
 use Rattle.record_walk.specs.Changed.{changed_files}
 use Rattle.record_walk.specs.Counts.{counted, counts_in}
 use Rattle.record_walk.specs.Declarations.{declarations}
-use Rattle.record_walk.specs.Leads.{leads}
 use Rattle.record_walk.specs.Protos.{as_extension}
 use Rattle.record_walk.specs.Shown.{Shown}
 use Rattle.name_resolution.specs.Resolution.{resolution}
 use Rattle.plain_data.specs.Each.{map_enumerated}
-use Rattle.name_pass.specs.Syntaxes.{syntax_at, syntax_of}
 use Rattle.reference_pass.specs.SecondPass.{owner_faults, owners_faults}
-use Rattle.reference_pass.specs.Definitions.{declaration_path, record_of}
+use Rattle.reference_pass.specs.Definitions.{declaration_path}
 use Rattle.reference_pass.specs.Items.{extension_item, extension_items, file_item}
 use Rattle.reference_pass.specs.Linked.{linking}
 use Rattle.reference_pass.specs.Setting.{Setting, seen_by}
@@ -43,14 +38,15 @@ use Rattle.descriptor_pool.proofs.Declared.{counts-with, entries-append, items-o
 use Rattle.descriptor_pool.proofs.Files.{counted-files, lie-between}
 use Rattle.descriptor_pool.proofs.Listed.{counts-extended}
 use Rattle.descriptor_pool.proofs.Sound.{Known, link-known}
-use Rattle.pool_laws.proofs.Relinks.{files-are}
-use Rattle.pool_laws.proofs.Alike.{SameImports, sees-alike}
-use Rattle.pool_laws.proofs.Batches.{between-at}
+use Rattle.pool_laws.proofs.Relinks.{files-are, old_seen}
+use Rattle.pool_laws.proofs.Behind.{new-sees}
+use Rattle.pool_laws.proofs.Alike.{sees-alike}
+use Rattle.pool_laws.proofs.Batches.{between-at, many-changed, SameRead}
 use Rattle.pool_laws.proofs.Items.{all-fine, kind-again, same-extension}
-use Rattle.pool_laws.proofs.Parts.{AllKnown, declared-both, earlier, keys-at, keys_part, later, more-file-names, new-both, old_seen, part, seen-more, unbroken-both, whole}
-use Rattle.pool_laws.proofs.Passes.{after-parts, all-of, pass-again, unbroken-carried}
-use Rattle.pool_laws.proofs.Records.{Stays, file-stays, stays-itself}
+use Rattle.pool_laws.proofs.Parts.{AllKnown, declared-both, earlier, keys_part, later, more-file-names, new-both, part, seen-more, unbroken-both, whole}
+use Rattle.pool_laws.proofs.Passes.{after-parts, pass-again, unbroken-carried}
 use Rattle.pool_laws.proofs.Relinked.{Relinked, or-nothing, syntaxes-of}
+use Rattle.pool_laws.proofs.AllOf.{all-of}
 
 module _ (p : Contents) (entered : Known p) (again : Relinked p) (front back : List FileDescriptorProto)
     (closed : AllKnown front (finite.get (with_names p (declared_with p front)).file_names)) where
@@ -95,37 +91,30 @@ module _ (p : Contents) (entered : Known p) (again : Relinked p) (front back : L
   files-same : behind.files ≡ files_of p ++ (came ++ back)
   files-same = ap (λ fs. fs ++ back) (files-are p front entered (link-known p front entered)) ∙ append_assoc (files_of p) came back
 
-  many-changed : (index : ℕ) (fs : List FileDescriptorProto) → length (changed_files (linking alone) index fs) ≡ length fs
-  many-changed index [] = refl
-  many-changed index (f ∷ fs) = ap suc (many-changed (suc index) fs)
-
   same-length : length behind.files ≡ length at_once.files
   same-length =
       ap length files-same ∙ length-append (files_of p) (came ++ back)
-      ∙ ap (λ n. length (files_of p) + n) (length-append came back ∙ ap (λ n. n + length back) (many-changed (length p.files) front) ∙ sym (length-append front back))
+      ∙ ap (λ n. length (files_of p) + n) (length-append came back ∙ ap (λ n. n + length back) (many-changed (linking alone) (length p.files) front) ∙ sym (length-append front back))
       ∙ sym (length-append (files_of p) (front ++ back))
 
-  alike : (n : ℕ) → SameImports (file_at at_once.files n) (file_at behind.files n)
-  alike n =
-      subst (λ fs. SameImports (file_at at_once.files n) (file_at fs n)) (sym files-same)
-      (between-at (linking alone) (λ old now. SameImports (unwrap_or old no_file) (unwrap_or now no_file))
-      (record { imports = refl; publics = refl }) (λ f. record { imports = refl; publics = refl }) (λ index f. record { imports = refl; publics = refl })
-      (files_of p) (length p.files) front back n)
+  -- of each file is read what is read of it at once
+  read : (n : ℕ) → SameRead (slice_get at_once.files n) (slice_get behind.files n)
+  read n = subst (λ fs. SameRead (slice_get at_once.files n) (slice_get fs n)) (sym files-same) (between-at (linking alone) (files_of p) (length p.files) front back n)
 
   -- what files see
   new-keys : (n : ℕ) → seen_from behind.files (finite.get behind.file_names) n ≡ seen_from at_once.files (finite.get at_once.file_names) n
   new-keys n =
       ap (λ names. seen_from behind.files (finite.get names) n) file-names-same
-      ∙ sees-alike at_once.files behind.files same-length alike (finite.get at_once.file_names) n
+      ∙ sees-alike at_once.files behind.files same-length (λ n. (read n).imports) (finite.get at_once.file_names) n
 
   old-seen : map (λ f. f.transitive_dependencies) grown.files ≡ alone.seen
   old-seen =
       let item = file_item alone in
       let made = keys_part p entered again front back closed in
       map-append (λ f. f.transitive_dependencies) p.files _
-      ∙ ap (λ sets. old_seen p entered again front back closed ++ sets)
+      ∙ ap (λ sets. old_seen p ++ sets)
       (ap (map (λ f. f.transitive_dependencies)) (items-of-files item (counts_in p) front) ∙ each-map (λ f. f.transitive_dependencies) item (length p.files) front
-      ∙ each-same (λ n f. (item n f).transitive_dependencies) made (length p.files) front (λ n f from to. keys-at p entered again front back closed n from to))
+      ∙ each-same (λ n f. (item n f).transitive_dependencies) made (length p.files) front (λ n f from to. new-sees p front n from to))
 
   pub start : length grown.files ≡ length p.files + length front
   start = ap (λ (c : Counts). c.files) counts-same ∙ counted-files (counts_in p) front
@@ -137,21 +126,6 @@ module _ (p : Contents) (entered : Known p) (again : Relinked p) (front back : L
   pub sees-same-behind : (n : ℕ) → seen_by behind n ≡ seen_by at_once n
   sees-same-behind n = ap (λ sets. unwrap_or (slice_get sets n) (record { keys = [] })) seen-same
 
-  -- the records of files
-  record-stays : (def : Definition) → Stays (record_of at_once def) (record_of behind def)
-  record-stays def =
-      let path = declaration_path def.path in
-      subst (λ fs. Stays (record_of at_once def) (option_and_then (λ f. leads f path) (slice_get fs def.file))) (sym files-same)
-      (between-at (linking alone) (λ old now. Stays (option_and_then (λ f. leads f path) old) (option_and_then (λ f. leads f path) now))
-      (stays-itself None) (λ f. stays-itself (leads f path)) (λ index f. file-stays (linking alone) path index f)
-      (files_of p) (length p.files) front back def.file)
-
-  syntax-same : (n : ℕ) → syntax_at behind.files n ≡ syntax_at at_once.files n
-  syntax-same n =
-      ap (λ fs. syntax_at fs n) files-same
-      ∙ between-at (linking alone) (λ old now. syntax_of (unwrap_or now no_file) ≡ syntax_of (unwrap_or old no_file)) refl (λ f. refl) (λ index f. refl)
-      (files_of p) (length p.files) front back n
-
   abbrev pub many : ℕ
   many = (counted (counts_in p) first).files + length back
 
@@ -160,10 +134,10 @@ module _ (p : Contents) (entered : Known p) (again : Relinked p) (front back : L
   rest-stands = record {
     references = λ file _ scope written filter name def is. record {
       meaning_is = (λ i. resolution (names-same i) (λ n. contains_by (nat_cmp n) (sees-same-behind file i)) filter scope written) ∙ is;
-      enum_is = (record-stays def).enums;
-      ranges = (record-stays def).messages;
+      enum_is = ((read def.file).records (declaration_path def.path)).enums;
+      ranges = ((read def.file).records (declaration_path def.path)).messages;
     };
-    syntaxes = λ n _. syntax-same n;
+    syntaxes = λ n _. (read n).syntax;
     sees = λ n _. sees-same-behind n;
   }
 

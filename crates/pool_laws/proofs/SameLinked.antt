@@ -1,7 +1,6 @@
 -- New files under other numbers make a pool that is the same but for numbers.
 use Rattle.std.proofs.Common.{◌≡◌, ◌≤◌, ◌<◌, ◌+◌, inl, inr, ℕ, ℤ, zero, suc, Option, None, Some, List, [], ◌∷◌, ◌++◌, length, slice_get, unwrap_or, refl, ap, sym, ◌∙◌, arith}
 use Rattle.std.proofs.lemmas.Bool.{cases_lt}
-use Rattle.std.proofs.lemmas.List.{length-append, length-map}
 use Rattle.std.specs.FinMap as finite
 use Rattle.std.specs.Option.{option_and_then, option_map}
 use Rattle.proto_types.specs.EmptyFile.{no_file}
@@ -19,7 +18,8 @@ use Rattle.descriptor_pool.specs.Pool.{Made}
 use Rattle.descriptor_pool.proofs.Sound.{Known, link-known, made-sound}
 use Rattle.pool_laws.specs.Order.{SameButNumbers, kind_alone, record_named, without_numbers}
 use Rattle.pool_laws.proofs.Moved.{BothAlike, StandsAlike}
-use Rattle.pool_laws.proofs.Relinks.{files-are, names-mean-files, slice-front}
+use Rattle.pool_laws.proofs.Relinks.{files-are, long-pool, long-with, slice-front}
+use Rattle.pool_laws.proofs.Behind.{mean-with}
 use Rattle.pool_laws.proofs.Renamed.{Renames}
 use Rattle.pool_laws.proofs.RenamedLinks.{linked-renamed}
 
@@ -44,10 +44,6 @@ changed-behind c i (f ∷ before) fs (suc n) from =
     ap (λ first. slice_get (before ++ changed_files c first fs) n) start ∙ changed-behind c (suc i) before fs n (omega (arith, from))
     ∙ ap (λ index. option_map (changed_file c index) (slice_get (before ++ fs) n)) there
 
-many-changed : (c : Changes) (i : ℕ) (fs : List FileDescriptorProto) → length (changed_files c i fs) ≡ length fs
-many-changed c i [] = refl
-many-changed c i (f ∷ fs) = ap suc (many-changed c (suc i) fs)
-
 -- the files of a pool with new ones: those that it had, and behind them the new ones linked
 module _ (p : Contents) (before : Known p) (new : List FileDescriptorProto) where
   abbrev after : Known (linked_with p new)
@@ -58,12 +54,12 @@ module _ (p : Contents) (before : Known p) (new : List FileDescriptorProto) wher
 
   old-at : (n : ℕ) → n < length p.files → slice_get (files_of (linked_with p new)) n ≡ slice_get (files_of p) n
   old-at n below =
-      let long : length (files_of p) ≡ length p.files = length-map p.files (λ f. f.raw) in
+      let long = long-pool p in
       ap (λ gs. slice_get gs n) (files-are p new before after) ∙ slice-front (files_of p) (changed_files (linking against) (length p.files) new) n (omega (arith, below, long))
 
   new-at : (n : ℕ) → length p.files ≤ n → slice_get (files_of (linked_with p new)) n ≡ option_map (linked against n) (slice_get against.files n)
   new-at n from =
-      let long : length (files_of p) ≡ length p.files = length-map p.files (λ f. f.raw) in
+      let long = long-pool p in
       let start : length p.files ≡ 0 + length (files_of p) = omega (arith, long) in
       let here : 0 + n ≡ n = omega arith in
       ap (λ gs. slice_get gs n) (files-are p new before after)
@@ -73,13 +69,7 @@ module _ (p : Contents) (before : Known p) (new : List FileDescriptorProto) wher
 
   -- names of files mean these
   mean-these : (name : List ℕ) (n : ℕ) → finite.get against.file_names name ≡ Some n → n < length p.files + length new
-  mean-these name n is =
-      let below = names-mean-files (linked_with p new) after name n is in
-      let came = changed_files (linking against) (length p.files) new in
-      let many = ap length (files-are p new before after) ∙ length-append (files_of p) came in
-      let long = length-map p.files (λ f. f.raw) in
-      let same = many-changed (linking against) (length p.files) new in
-      omega (arith, below, many, long, same)
+  mean-these name n is = let below = mean-with p new before name n is in let long = long-with p new in omega (arith, below, long)
 
 -- new files of a pool, and the same under other numbers
 module _ (p : Contents) (made : Made p) (fs gs : List FileDescriptorProto) (number : ℕ → ℕ)
@@ -146,8 +136,7 @@ module _ (p : Contents) (made : Made p) (fs gs : List FileDescriptorProto) (numb
       by None None both lies = refl
       by (Some d) (Some e) both lies =
           ap Some (stand-same d e (lies d refl) (kind_alone d.kind) both.1 ∙ ap (option_map (placed other e)) (sym both.0))
-      by None (Some e) both lies = absurd both
-      by (Some d) None both lies = absurd both
+      by _ _ both lies = absurd both
 
   pub same-linked : SameButNumbers one other
   same-linked = record { records = records-same; names = names-same }

@@ -1,5 +1,5 @@
 -- Which files a file sees does not depend on how the files are numbered.
-use Rattle.std.proofs.Common.{Equal, Greater, Less, ◌≡◌, ◌≤◌, ◌<◌, ◌+◌, ◌==◌, ◌||◌, inl, inr, ℕ, zero, suc, Bool, true, false, cond, Option, None, Some, List, [], ◌∷◌, length, map, slice_get, unwrap_or, refl, ap, sym, ◌∙◌, arith}
+use Rattle.std.proofs.Common.{◌⊎◌, Equal, Greater, Less, ◌≡◌, ◌≤◌, ◌<◌, ◌+◌, ◌==◌, ◌||◌, inl, inr, ℕ, zero, suc, Bool, true, false, cond, Option, None, Some, List, [], ◌∷◌, length, map, slice_get, unwrap_or, refl, ap, sym, ◌∙◌, arith}
 use Rattle.std.proofs.lemmas.Bool.{cases_eq}
 use Rattle.std.proofs.lemmas.Bool.Decides.{nat_tests}
 use Rattle.std.specs.BTreeMap.{is_at}
@@ -15,17 +15,18 @@ use Rattle.name_resolution.specs.Visibility.{file_at, imports_of, public_imports
 use Rattle.name_resolution.proofs.Chains.{import-within}
 use Rattle.pool_laws.specs.SettingLaws.{NamesFiles}
 
--- among the indexes from one on that pass a test, none before it is found
-none-before : (test : ℕ → Bool) (i k n : ℕ) → n < i → list_any (is_at (nat_cmp n)) (filter test (range_with_len i k)) ≡ false
-none-before test i zero n before = refl
-none-before test i (suc k) n before =
+-- among the indexes from one on that pass a test, none before or behind them is found
+pub none-apart : (test : ℕ → Bool) (i k n : ℕ) → (n < i) ⊎ (i + k ≤ n) → list_any (is_at (nat_cmp n)) (filter test (range_with_len i k)) ≡ false
+none-apart test i zero n apart = refl
+none-apart test i (suc k) n apart =
     let rest = filter test (range_with_len (i + 1) k) in
-    let deeper : list_any (is_at (nat_cmp n)) rest ≡ false = none-before test (i + 1) k n (omega (arith, before)) in
-    let other : is_eq (nat_cmp n i) ≡ false = ap is_eq (sym (nat_cmp_is n i Less before)) in
-    elim (test i) as (λ b. list_any (is_at (nat_cmp n)) (cond b (i ∷ rest) rest) ≡ false) [
-      | true ↦ λ j. other j || deeper j
-      | false ↦ deeper
-    ]
+    let deeper : list_any (is_at (nat_cmp n)) rest ≡ false =
+    none-apart test (i + 1) k n (elim apart [ inl before ↦ inl (omega (arith, before)) | inr past ↦ inr (omega (arith, past)) ]) in
+    elim (test i) as (λ b. list_any (is_at (nat_cmp n)) (cond b (i ∷ rest) rest) ≡ false) [ true ↦ λ j. other apart j || deeper j | false ↦ deeper ]
+  where
+    other : (n < i) ⊎ (i + suc k ≤ n) → is_eq (nat_cmp n i) ≡ false
+    other (inl before) = ap is_eq (sym (nat_cmp_is n i Less before))
+    other (inr past) = let past : i < n = omega (arith, past) in ap is_eq (sym (nat_cmp_is n i Greater past))
 
 -- an index is found among those that pass a test where it passes it
 pub found-among : (test : ℕ → Bool) (i k n : ℕ) → i ≤ n → n < i + k → list_any (is_at (nat_cmp n)) (filter test (range_with_len i k)) ≡ test n
@@ -35,7 +36,7 @@ found-among test i (suc k) n from below =
     elim (cases_eq n i) [
       | inl same ↦
           let found : is_eq (nat_cmp n i) ≡ true = ap is_eq (sym (nat_cmp_is n i Equal same)) in
-          let none : list_any (is_at (nat_cmp n)) rest ≡ false = none-before test (i + 1) k n (omega (arith, same)) in
+          let none : list_any (is_at (nat_cmp n)) rest ≡ false = none-apart test (i + 1) k n (inl (omega (arith, same))) in
           here (test i) found none ∙ ap test (sym same)
       | inr apart ↦
           let past : i < n = omega (arith, from, apart) in

@@ -1,16 +1,14 @@
 -- A service that is carried to another setting: its methods break nothing, and its item and what linking makes of it are what they were.
-use Rattle.std.proofs.Common.{◌≡◌, ◌<◌, ℕ, suc, List, [], ◌∷◌, ◌++◌, map, refl, sym, subst}
-use Rattle.std.specs.List.{flat_map}
+use Rattle.std.proofs.Common.{◌≡◌, ◌<◌, ℕ, [], ◌∷◌, ◌++◌, sym, subst}
 use Rattle.proto_types.specs.declared.records.service.MethodDescriptorProto.{MethodDescriptorProto}
 use Rattle.proto_types.specs.declared.records.service.ServiceDescriptorProto.{ServiceDescriptorProto}
 use Rattle.proto_types.specs.declared.tag.method.TheConstants as method
 use Rattle.plain_data.specs.Lists.{listed}
 use Rattle.proto_types.specs.Names.{join}
 use Rattle.proto_types.specs.Readers.{text_of}
-use Rattle.record_walk.specs.Changed.{Changes, changed_methods, changed_service}
+use Rattle.record_walk.specs.Changed.{Changes, changed_service}
 use Rattle.record_walk.specs.Shown.{Shown, inside}
 use Rattle.name_resolution.specs.References.{reference_fault}
-use Rattle.plain_data.specs.Each.{map_enumerated}
 use Rattle.reference_pass.specs.SecondPass.{Faults, method_faults, service_faults}
 use Rattle.reference_pass.specs.Items.{method_item, service_item}
 use Rattle.reference_pass.specs.Linked.{linked_method, linking}
@@ -18,6 +16,7 @@ use Rattle.reference_pass.specs.Messages.{resolve_message, method_at, index_or_m
 use Rattle.reference_pass.specs.Setting.{Setting}
 use Rattle.pool_laws.specs.SettingLaws.{IsService, service_at_place}
 use Rattle.pool_laws.proofs.Carries.{CarriesMethods}
+use Rattle.pool_laws.proofs.Told.{made-again, mapped-again, told-changed}
 use Rattle.reference_pass.proofs.Unbroken.{both-empty}
 
 module _ {s t : Setting} {c : Changes} {many : ℕ} (carries : CarriesMethods s t c many) (d : Shown) (below : d.file < many) where
@@ -51,37 +50,16 @@ module _ {s t : Setting} {c : Changes} {many : ℕ} (carries : CarriesMethods s 
   abbrev broken : ℕ → MethodDescriptorProto → Faults
   broken i m = method_faults s (method_at (inside d) i m) m
 
-  faults-again : (i : ℕ) (ms : List MethodDescriptorProto) → flat_map (λ (faults : Faults). faults) (map_enumerated broken i ms) ≡ []
-      → flat_map (λ (faults : Faults). faults) (map_enumerated (λ i m. method_faults t (method_at (inside d) i m) m) i (map carried ms)) ≡ []
-  faults-again i [] none = refl
-  faults-again i (m ∷ ms) none =
-      let parts = both-empty (broken i m) (flat_map (λ (faults : Faults). faults) (map_enumerated broken (suc i) ms)) none in
-      let same = method-carried i m parts.0 in
-      λ j. same.faults j ++ faults-again (suc i) ms parts.1 j
-
-  items-again : (i : ℕ) (ms : List MethodDescriptorProto) → flat_map (λ (faults : Faults). faults) (map_enumerated broken i ms) ≡ []
-      → map_enumerated (λ i m. method_item t (method_at (inside d) i m) m) i (map carried ms) ≡ map_enumerated (λ i m. method_item s (method_at (inside d) i m) m) i ms
-  items-again i [] none = refl
-  items-again i (m ∷ ms) none =
-      let parts = both-empty (broken i m) (flat_map (λ (faults : Faults). faults) (map_enumerated broken (suc i) ms)) none in
-      let same = method-carried i m parts.0 in
-      λ j. same.item_is j ∷ items-again (suc i) ms parts.1 j
-
-  methods-linked : (i : ℕ) (ms : List MethodDescriptorProto) → flat_map (λ (faults : Faults). faults) (map_enumerated broken i ms) ≡ []
-      → changed_methods (linked_method t) d.file d.full_name (map carried ms) ≡ changed_methods (linked_method s) d.file d.full_name ms
-  methods-linked i [] none = refl
-  methods-linked i (m ∷ ms) none =
-      let parts = both-empty (broken i m) (flat_map (λ (faults : Faults). faults) (map_enumerated broken (suc i) ms)) none in
-      let same = method-carried i m parts.0 in
-      λ j. same.linked_is j ∷ methods-linked (suc i) ms parts.1 j
-
   pub service-carried : (v : ServiceDescriptorProto) → service_faults s d v ≡ []
       → IsService t d (service_item s (service_at_place d v) v) (changed_service (linking s) d.file d.full_name v) (changed_service c d.file d.full_name v)
   service-carried v none =
-      let items = items-again 0 v.method none in
-      let linked = methods-linked 0 v.method none in
       record {
-        faults = faults-again 0 v.method none;
-        item_is = λ j. record (service_item s (service_at_place d v) v) { methods = items j };
-        linked_is = λ j. record v { method = linked j };
+        faults = told-changed broken (λ i m. method_faults t (method_at (inside d) i m) m) carried (λ i m none. (method-carried i m none).faults) 0 v.method none;
+        item_is = λ j. record (service_item s (service_at_place d v) v) {
+          methods = made-again broken (λ i m. method_item t (method_at (inside d) i m) m) (λ i m. method_item s (method_at (inside d) i m) m) carried (λ i m none. (method-carried i m none).item_is) 0 v.method none j;
+        };
+        linked_is = λ j. record v {
+          method = mapped-again broken (λ m. linked_method t d.file (join d.full_name (text_of m.name)) m) (λ m. linked_method s d.file (join d.full_name (text_of m.name)) m) carried
+              (λ i m none. (method-carried i m none).linked_is) 0 v.method none j;
+        };
       }

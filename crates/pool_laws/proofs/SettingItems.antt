@@ -1,6 +1,6 @@
 -- The items of the fields and oneofs of a message that is carried to another setting: they are what they were.
-use Rattle.std.proofs.Common.{◌≡◌, ◌<◌, ℕ, ◌+◌, suc, pos, false, if◌then◌else◌, Option, None, Some, unwrap_or, List, [], ◌∷◌, map, refl, ap, ◌∙◌}
-use Rattle.std.specs.List.{cons_option, enumerate_from, filter_map, flat_map}
+use Rattle.std.proofs.Common.{◌≡◌, ◌<◌, ℕ, ◌+◌, pos, false, if◌then◌else◌, Option, None, Some, unwrap_or, List, [], ◌∷◌, map, refl, ap, ◌∙◌}
+use Rattle.std.specs.List.{cons_option, enumerate_from, filter_map}
 use Rattle.std.specs.Option.{option_map, option_map_or}
 use Rattle.plain_data.specs.Maps.{inserted}
 use Rattle.std.specs.Ordering.{int_eq}
@@ -32,7 +32,7 @@ use Rattle.reference_pass.specs.Items.{field_item, item_of_kind, oneof_items}
 use Rattle.reference_pass.specs.Setting.{Setting}
 use Rattle.pool_laws.proofs.Carries.{Carries}
 use Rattle.pool_laws.proofs.Fields.{carried, kept, renamed, breaks-nothing}
-use Rattle.reference_pass.proofs.Unbroken.{both-empty}
+use Rattle.pool_laws.proofs.Told.{made-again, told}
 
 -- entries that are read off changed fields, where the change leaves what is read
 module _ {X : Type 0} (change : FieldDescriptorProto → FieldDescriptorProto) (entry : ℕ × FieldDescriptorProto → Option X)
@@ -99,10 +99,8 @@ module _ {s t : Setting} {c : Changes} {many : ℕ} (carries : Carries s t c man
       abbrev broken : ℕ → FieldDescriptorProto → Faults
       broken i f = field_faults s (d, m) (field_at (inside d) i f) f
 
-      pub items-again : (i : ℕ) (fs : List FieldDescriptorProto) → flat_map (λ (faults : Faults). faults) (map_enumerated broken i fs) ≡ []
+      pub items-again : (i : ℕ) (fs : List FieldDescriptorProto) → told broken i fs ≡ []
           → map_enumerated (λ i f. field_item t oneofs (field_at (inside d) i f) f) i (map new fs) ≡ map_enumerated (λ i f. field_item s oneofs (field_at (inside d) i f) f) i fs
-      items-again i [] none = refl
-      items-again i (f ∷ fs) none =
-          let parts = both-empty (broken i f) (flat_map (λ (faults : Faults). faults) (map_enumerated broken (suc i) fs)) none in
-          let own = breaks-nothing s (d, m) (field_at (inside d) i f) f parts.0 in
-          λ j. item-again i f own.typed own.default j ∷ items-again (suc i) fs parts.1 j
+      items-again =
+          made-again broken (λ i f. field_item t oneofs (field_at (inside d) i f) f) (λ i f. field_item s oneofs (field_at (inside d) i f) f) new
+          (λ i f none. let own = breaks-nothing s (d, m) (field_at (inside d) i f) f none in item-again i f own.typed own.default)

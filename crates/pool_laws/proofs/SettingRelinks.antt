@@ -13,20 +13,12 @@ use Rattle.proto_types.specs.declared.file.FileDescriptorProto.{FileDescriptorPr
 use Rattle.pool_faults.specs.declared.fault.DescriptorErrorKind.TheVariants as fault
 use Rattle.field_rules.specs.Duplicates.{duplicate_faults, json_name_duplicate, latest, name_label, number_duplicate}
 use Rattle.reference_pass.proofs.Unbroken.{both-empty}
+use Rattle.pool_laws.proofs.Told.{lists-nothing, nothing-of}
 
 or-some : {X : Type 0} (a : Option X) (b : Bool) (e : X) → is_some (option_or a (cond b (Some e) None)) ≡ (is_some a || b)
 or-some None true e = refl
 or-some None false e = refl
 or-some (Some x) b e = refl
-
--- what is listed of nothing, and what nothing lists
-nothing-of : {X Y : Type 0} (o : Option X) (f : X → Y) → listed (option_map f o) ≡ [] → is_some o ≡ false
-nothing-of None f none = refl
-nothing-of (Some x) f none = absurd (cc)
-
-lists-nothing : {X Y : Type 0} (o : Option X) (f : X → Y) → is_some o ≡ false → listed (option_map f o) ≡ []
-lists-nothing None f none = refl
-lists-nothing (Some x) f none = absurd (cc)
 
 -- the last entry that meets a test
 abbrev last_that : {X : Type 0} → (X → Bool) → ℕ → List X → Option (ℕ × X)

@@ -9,16 +9,7 @@ use Rattle.pool_types.specs.Contents.{ByText}
 use Rattle.name_tables.specs.Entries.{first_of}
 use Rattle.name_pass.specs.FirstPass.{holder}
 use Rattle.descriptor_pool.proofs.Resolved.{all-append}
-
--- what holds of all of two lists holds of all of each
-pub all-split : {X : Type 0} (P : X → Type 0) (xs ys : List X) → AllByRecursion P (xs ++ ys) → AllByRecursion P xs × AllByRecursion P ys
-all-split P [] ys all = (tt, all)
-all-split P (x ∷ xs) ys all = let rest = all-split P xs ys all.1 in ((all.0, rest.0), rest.1)
-
--- and so does what follows from it
-pub all-weaker : {X : Type 0} (P Q : X → Type 0) → ((x : X) → P x → Q x) → (xs : List X) → AllByRecursion P xs → AllByRecursion Q xs
-all-weaker P Q weaker [] all = tt
-all-weaker P Q weaker (x ∷ xs) all = (weaker x all.0, all-weaker P Q weaker xs all.1)
+use Rattle.pool_laws.proofs.AllOf.{all-split, all-weaker}
 
 -- elements that go together
 module _ {X : Type 0} (R : X → X → Type 0) where

@@ -16,7 +16,6 @@ use Rattle.record_walk.specs.Counts.{counted, counting}
 use Rattle.record_walk.specs.Declarations.{enums_walk, file_walk, in_file, message_end, message_front, message_walk, messages_walk, nested_walk, service_walk, services_walk}
 use Rattle.record_walk.specs.Protos.{of_extension, of_message, of_service}
 use Rattle.record_walk.specs.Shown.{Shown, Surrounding, inside, row, shown}
-use Rattle.plain_data.specs.Each.{map_enumerated}
 use Rattle.field_rules.specs.Places.{field_at}
 use Rattle.reference_pass.specs.SecondPass.{Faults, field_faults, owner_faults}
 use Rattle.reference_pass.specs.Linked.{linked, linked_extension, linked_field, linking}
@@ -27,15 +26,8 @@ use Rattle.pool_laws.proofs.Fields.{carried, kept, breaks-nothing}
 use Rattle.pool_laws.proofs.Messages.{parts-of}
 use Rattle.reference_pass.proofs.Unbroken.{both-empty}
 use Rattle.pool_laws.proofs.Services.{service-carried}
-
--- what is true of two lists, one behind the other
-pub all-front : {X : Type 0} (P : X → Type 0) (xs ys : List X) → AllByRecursion P (xs ++ ys) → AllByRecursion P xs
-all-front P [] ys all = tt
-all-front P (x ∷ xs) ys all = (all.0, all-front P xs ys all.1)
-
-pub all-rest : {X : Type 0} (P : X → Type 0) (xs ys : List X) → AllByRecursion P (xs ++ ys) → AllByRecursion P ys
-all-rest P [] ys all = all
-all-rest P (x ∷ xs) ys all = all-rest P xs ys all.1
+use Rattle.pool_laws.proofs.Told.{mapped-again, told}
+use Rattle.pool_laws.proofs.AllOf.{all-front, all-rest}
 
 -- it breaks nothing in the second pass
 abbrev pub Unbroken : Setting → Shown → Type 0
@@ -61,12 +53,9 @@ module _ {s t : Setting} {c : Changes} {many : ℕ} (carries : Carries s t c man
         let name = ap (λ (x : FieldDescriptorProto). text_of x.name) (kept carries d below f) in
         (λ j. linked_field t d.file (join d.full_name (name j)) (new f)) ∙ (carries.typed here below f (breaks-nothing s (d, m) here f none).typed).linked_is
 
-    fields-linked : (i : ℕ) (fs : List FieldDescriptorProto) → flat_map (λ (faults : Faults). faults) (map_enumerated broken i fs) ≡ []
+    fields-linked : (i : ℕ) (fs : List FieldDescriptorProto) → told broken i fs ≡ []
         → changed_fields (linked_field t) d.file d.full_name (map new fs) ≡ changed_fields (linked_field s) d.file d.full_name fs
-    fields-linked i [] none = refl
-    fields-linked i (f ∷ fs) none =
-        let parts = both-empty (broken i f) (flat_map (λ (faults : Faults). faults) (map_enumerated broken (suc i) fs)) none in
-        λ j. field-linked i f parts.0 j ∷ fields-linked (suc i) fs parts.1 j
+    fields-linked = mapped-again broken (λ f. linked_field t d.file (join d.full_name (text_of f.name)) f) (λ f. linked_field s d.file (join d.full_name (text_of f.name)) f) new field-linked
 
   -- extensions in surroundings
   extensions-linked : (here : Surrounding) → here.file < many → (tag : ℤ) (i n : ℕ) (xs : List FieldDescriptorProto) → AllByRecursion (Unbroken s) (row of_extension here tag i n xs)

@@ -20,7 +20,7 @@ use Rattle.name_resolution.specs.declared.filter.ResolveNameFilter.{ResolveNameF
 use Rattle.name_resolution.specs.declared.filter.ResolveNameFilter.TheVariants.{FieldType as AnyType}
 use Rattle.name_resolution.specs.Kinds.{is_match, named_kind, simple_kind}
 use Rattle.name_resolution.specs.References.{reference_fault}
-use Rattle.name_resolution.specs.Resolution.{Resolution, found, invalid_type, not_imported, shadowed, not_found, kind_found, look}
+use Rattle.name_resolution.specs.Resolution.{Resolution, found, kind_found, look}
 use Rattle.reference_pass.specs.FieldTypes.{field_kind, type_faults, resolve_type}
 use Rattle.reference_pass.specs.Linked.{linked_field, type_number, typed}
 use Rattle.reference_pass.specs.Setting.{Setting, resolve, seen_by}
@@ -42,25 +42,10 @@ module _ (s t : Setting) (grows : Grows s t) where
 -- the kind of a definition by a type that it gave stays, and so does that type
 kind-again : (x : FieldType) (given : Option ℤ) (kind : DefinitionKind) → type_of given ≡ x → is_match AnyType kind ≡ true
     → (named_kind (type_of (type_number x kind given)) kind ≡ named_kind x kind) × (type_number (type_of (type_number x kind given)) kind (type_number x kind given) ≡ type_number x kind given)
-kind-again x given (definition.Message m) is wanted =
-    elim x as (λ x. type_of given ≡ x → (named_kind (type_of (type_number x (definition.Message m) given)) (definition.Message m) ≡ named_kind x (definition.Message m))
-    × (type_number (type_of (type_number x (definition.Message m) given)) (definition.Message m) (type_number x (definition.Message m) given) ≡ type_number x (definition.Message m) given)) [
-      | written.Group ↦ λ is. (ap (λ y. named_kind y (definition.Message m)) is, ap (λ y. type_number y (definition.Message m) given) is)
-      | _ ↦ λ is. (refl, refl)
-    ] is
-kind-again x given (definition.Enum e) is wanted =
-    elim x as (λ x. type_of given ≡ x → (named_kind (type_of (type_number x (definition.Enum e) given)) (definition.Enum e) ≡ named_kind x (definition.Enum e))
-    × (type_number (type_of (type_number x (definition.Enum e) given)) (definition.Enum e) (type_number x (definition.Enum e) given) ≡ type_number x (definition.Enum e) given)) [
-      | written.Group ↦ λ is. (ap (λ y. named_kind y (definition.Enum e)) is, ap (λ y. type_number y (definition.Enum e) given) is)
-      | _ ↦ λ is. (refl, refl)
-    ] is
-kind-again x given definition.Package is wanted = absurd (cc)
-kind-again x given (definition.Field i) is wanted = absurd (cc)
-kind-again x given (definition.Oneof i) is wanted = absurd (cc)
-kind-again x given (definition.Service i) is wanted = absurd (cc)
-kind-again x given (definition.Method i) is wanted = absurd (cc)
-kind-again x given (definition.EnumValue i) is wanted = absurd (cc)
-kind-again x given (definition.Extension i) is wanted = absurd (cc)
+kind-again written.Group given kind is wanted = (ap (λ y. named_kind y kind) is, ap (λ y. type_number y kind given) is)
+kind-again _ given (definition.Message m) is wanted = (refl, refl)
+kind-again _ given (definition.Enum e) is wanted = (refl, refl)
+kind-again _ given _ is wanted = absurd (cc)
 
 -- a test without a fault has none of another text
 pub no-fault : (b : Bool) (a c : DescriptorErrorKind) → only_if b a ≡ [] → only_if b c ≡ []
@@ -82,10 +67,7 @@ module _ (s t : Setting) (grows : Grows s t) (d : Shown) (below : d.file < lengt
         kind_is = ap (λ r. option_and_then (named_kind (type_of (typed (found name def) f).type_)) (kind_found r)) again ∙ kinds.0;
         linked_is = ap (λ r. typed r (typed (found name def) f)) again ∙ (λ i. record (typed (found name def) f) { type_ = kinds.1 i });
       }
-  found-typed f (invalid_type name def filter) is none = absurd (cc)
-  found-typed f (not_imported name other) is none = absurd (cc)
-  found-typed f (shadowed name other) is none = absurd (cc)
-  found-typed f not_found is none = absurd (cc)
+  found-typed f _ is none = absurd (cc)
 
   by-name : (f : FieldDescriptorProto) (name : List ℕ) → text_of f.type_name ≡ name
       → let faults : List DescriptorErrorKind = elim name [

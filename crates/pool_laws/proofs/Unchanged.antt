@@ -1,5 +1,6 @@
 -- What is left as it is: messages, services and files.
-use Rattle.std.proofs.Common.{◌≡◌, ℕ, ℤ, suc, Option, List, [], ◌∷◌, map, refl}
+use Rattle.std.proofs.Common.{◌≡◌, ℕ, ℤ, suc, Option, List, [], ◌∷◌, map, refl, ◌∙◌}
+use Rattle.std.proofs.lemmas.List.{map-id}
 use Rattle.proto_types.specs.Names.{join}
 use Rattle.proto_types.specs.Readers.{text_of}
 use Rattle.proto_types.specs.declared.records.service.ServiceDescriptorProto.{ServiceDescriptorProto}
@@ -7,21 +8,21 @@ use Rattle.proto_types.specs.Computed.{literals}
 use Rattle.proto_types.specs.declared.file.FileDescriptorProto.{FileDescriptorProto}
 use Rattle.proto_types.specs.declared.message.DescriptorProto.{DescriptorProto, DescriptorProto', out-DescriptorProto, Row_of-DescriptorProto, end_of-DescriptorProto, more_of-DescriptorProto}
 use Rattle.record_walk.specs.Changed.{KeepNames, changed, changed_file, changed_files, changed_message, changed_nested, changed_service}
-use Rattle.record_walk.specs.Protos.{Proto, of_file, of_message, of_field, of_oneof, of_service, of_method, of_enum, of_value, of_extension}
+use Rattle.record_walk.specs.Protos.{Proto, of_file, of_message, of_service}
 use Rattle.record_walk.specs.Shown.{Shown}
 use Rattle.pool_laws.specs.SettingLaws.{unchanged}
+use Rattle.pool_laws.proofs.AllOf.{map-alike}
 
 map-same : {X : Type 0} (change : X → X) → ((x : X) → change x ≡ x) → (xs : List X) → map change xs ≡ xs
-map-same change same [] = refl
-map-same change same (x ∷ xs) = λ i. same x i ∷ map-same change same xs i
+map-same change same xs = map-alike change (λ x. x) same xs ∙ map-id xs
 
 mutual
   unfolding literals
 
   pub message-unchanged : (file : ℕ) (full_name : List ℕ) (m : DescriptorProto) → changed_message unchanged file full_name m ≡ m
   message-unchanged file full_name (DescriptorProto' name fields n nested enums ranges extensions options oneofs reserved reserved_names) =
-      λ j. DescriptorProto' name (map-same (λ f. f) (λ f. refl) fields j) n (nested-unchanged file full_name nested j) enums ranges
-      (map-same (λ x. x) (λ x. refl) extensions j) options oneofs reserved reserved_names
+      λ j. DescriptorProto' name (map-id fields j) n (nested-unchanged file full_name nested j) enums ranges
+      (map-id extensions j) options oneofs reserved reserved_names
 
   nested-unchanged : {n : _} (file : ℕ) (scope : List ℕ) (nested : Row_of-DescriptorProto n) → changed_nested unchanged file scope nested ≡ nested
   nested-unchanged file scope end_of-DescriptorProto = refl
@@ -30,13 +31,13 @@ mutual
       λ j. more_of-DescriptorProto (first j) (nested-unchanged file scope rest j)
 
 pub service-unchanged : (file : ℕ) (full_name : List ℕ) (v : ServiceDescriptorProto) → changed_service unchanged file full_name v ≡ v
-service-unchanged file full_name v = λ j. record v { method = map-same (λ m. m) (λ m. refl) v.method j }
+service-unchanged file full_name v = λ j. record v { method = map-id v.method j }
 
 pub file-unchanged : (index : ℕ) (f : FileDescriptorProto) → changed_file unchanged index f ≡ f
 file-unchanged index f =
     let messages = map-same (λ m. changed_message unchanged index (join (text_of f.«package») (text_of (out-DescriptorProto m).name)) m) (λ m. message-unchanged index (join (text_of f.«package») (text_of (out-DescriptorProto m).name)) m) f.message_type in
     let services = map-same (λ v. changed_service unchanged index (join (text_of f.«package») (text_of v.name)) v) (λ v. service-unchanged index (join (text_of f.«package») (text_of v.name)) v) f.service in
-    λ j. record f { message_type = messages j; service = services j; extension = map-same (λ x. x) (λ x. refl) f.extension j }
+    λ j. record f { message_type = messages j; service = services j; extension = map-id f.extension j }
 
 module _ (file : ℕ) (parent : Option ℕ) (index : ℕ) (path : List ℤ) (full_name : List ℕ) where
   abbrev shown : Proto → Shown
@@ -46,12 +47,7 @@ module _ (file : ℕ) (parent : Option ℕ) (index : ℕ) (path : List ℤ) (ful
   unchanged-by (of_file f) = λ j. shown (of_file (file-unchanged file f j))
   unchanged-by (of_message m) = λ j. shown (of_message (message-unchanged file full_name m j))
   unchanged-by (of_service v) = λ j. shown (of_service (service-unchanged file full_name v j))
-  unchanged-by (of_field f) = refl
-  unchanged-by (of_oneof o) = refl
-  unchanged-by (of_method m) = refl
-  unchanged-by (of_enum e) = refl
-  unchanged-by (of_value v) = refl
-  unchanged-by (of_extension x) = refl
+  unchanged-by _ = refl
 
 pub declaration-unchanged : (d : Shown) → changed unchanged d ≡ d
 declaration-unchanged d = unchanged-by d.file d.parent d.index d.path d.full_name d.proto

@@ -24,8 +24,6 @@ use Rattle.record_walk.specs.Walking.{within_file}
 use Rattle.record_walk.proofs.Appended.{declarations-append}
 use Rattle.record_walk.proofs.Walks.{IsInside, within-all}
 use Rattle.pool_laws.specs.SettingLaws.{SeenAmong}
-use Rattle.pool_laws.proofs.Fewer.{all-mapped}
-use Rattle.pool_laws.proofs.Still.{all-front}
 use Rattle.name_pass.specs.Entered.{entries, entries_of, package_entry, packages}
 use Rattle.descriptor_pool.specs.Linking.{declared_with}
 use Rattle.descriptor_pool.specs.Invariant.{IsPool}
@@ -36,14 +34,7 @@ use Rattle.descriptor_pool.proofs.Sound.{Known, made-sound}
 use Rattle.pool_laws.specs.Laws.{ArePlain, HasScope, IsPlain, SeenNamesStand}
 use Rattle.pool_laws.proofs.Relinks.{stays-known}
 use Rattle.pool_laws.proofs.Entered.{entries-held, packages-held, prefixes_entered}
-
-all-alike : {X : Type 0} (P Q : X → Type 0) → ((x : X) → P x → Q x) → (xs : List X) → AllByRecursion P xs → AllByRecursion Q xs
-all-alike P Q same [] all = tt
-all-alike P Q same (x ∷ xs) all = (same x all.0, all-alike P Q same xs all.1)
-
-all-map : {X Y : Type 0} (P : Y → Type 0) (f : X → Y) (xs : List X) → AllByRecursion (λ x. P (f x)) xs → AllByRecursion P (map f xs)
-all-map P f [] all = tt
-all-map P f (x ∷ xs) all = (all.0, all-map P f xs all.1)
+use Rattle.pool_laws.proofs.AllOf.{all-front, all-mapped, all-weaker, all-map, all-of}
 
 -- the texts before the dots of a text whose first character is a dot or not
 abbrev behind_first : ℕ → Bool → List ℕ → List (List ℕ)
@@ -60,10 +51,10 @@ module _ (P : List ℕ → Type 0) (c : ℕ) (cs : List ℕ) where
   each-behind : (b : Bool) → AllByRecursion P (behind_first c b cs) → AllByRecursion (λ y. AllByRecursion Longer (fronts y)) (fronts cs)
       → AllByRecursion (λ y. AllByRecursion P (behind_first c b y)) (fronts cs)
   each-behind true all deeper =
-      all-alike (λ y. AllByRecursion Longer (fronts y)) (λ y. AllByRecursion P (behind_first c true y))
+      all-weaker (λ y. AllByRecursion Longer (fronts y)) (λ y. AllByRecursion P (behind_first c true y))
       (λ y fine. (all.0, all-map P (λ front. c ∷ front) (fronts y) fine)) (fronts cs) deeper
   each-behind false all deeper =
-      all-alike (λ y. AllByRecursion Longer (fronts y)) (λ y. AllByRecursion P (behind_first c false y))
+      all-weaker (λ y. AllByRecursion Longer (fronts y)) (λ y. AllByRecursion P (behind_first c false y))
       (λ y fine. all-map P (λ front. c ∷ front) (fronts y) fine) (fronts cs) deeper
 
   with-first : (Q : List ℕ → Type 0) (b : Bool) → Q [] → AllByRecursion (λ y. Q (c ∷ y)) (fronts cs) → AllByRecursion Q (behind_first c b cs)
@@ -100,14 +91,19 @@ entry-found (e ∷ es) name def there =
 scope-found : (es : List Entry) (name : List ℕ) → HasScope es name → IsSome (first_of es name)
 scope-found es name has = entry-found es name has.0 has.1
 
--- what is found among entries has what holds of the name of each
-named-has : (Q : List ℕ → Type 0) (es : List Entry) (name : List ℕ) (def : Definition) → AllByRecursion (λ e. Q e.0) es → first_of es name ≡ Some def → Q name
-named-has Q [] name def all = λ is. absurd (cc)
-named-has Q (e ∷ es) name def all =
-    elim (bytes_eq name e.0) as (λ b. bytes_eq name e.0 ≡ b → cond b (Some e.1) (first_of es name) ≡ Some def → Q name) [
-      | true ↦ λ same _. subst Q (sym ((bytes_decides name e.0).0 same)) all.0
-      | false ↦ λ _ is. named-has Q es name def all.1 is
-    ] refl
+-- what a name means among entries has what holds of each entry
+pub first-stands : {X : Type 0} (R : List ℕ → X → Type 0) (es : List (List ℕ × X)) → AllByRecursion (λ e. R e.0 e.1) es → (name : List ℕ) → IfSome (first_of es name) (R name)
+first-stands R [] all name = tt
+first-stands R (e ∷ es) all name =
+    elim (bytes_eq name e.0) as (λ b. bytes_eq name e.0 ≡ b → IfSome (cond b (Some e.1) (first_of es name)) (R name))
+    [ true ↦ λ same. subst (λ text. R text e.1) (sym ((bytes_decides name e.0).0 same)) all.0 | false ↦ λ _. first-stands R es all.1 name ] refl
+
+-- the names of new files behind a pool are those of all files, declared from nothing
+pub names-whole : (p : Contents) → Known p → (new : List FileDescriptorProto) → names_with p.names (entries (declared_with p new)) ≡ names (entries (declarations no_counts (files_of p ++ new)))
+names-whole p known new =
+    let more = entries (declared_with p new) in
+    ap (λ held. names_with held more) known.names_are ∙ with-names (known_names p) more
+    ∙ ap names (sym (ap entries (declared-behind p new known.counts_are new) ∙ entries-append (declarations no_counts (files_of p)) (declared_with p new)))
 
 -- each text before a dot of a name is found
 abbrev Rooted : List Entry → List ℕ → Type 0
@@ -123,18 +119,13 @@ found-second (Some x) b some = refl
 
 rooted-first : (xs ys : List Entry) (name : List ℕ) → Rooted xs name → Rooted (xs ++ ys) name
 rooted-first xs ys name =
-    all-alike (λ front. IsSome (first_of xs front)) (λ front. IsSome (first_of (xs ++ ys) front))
+    all-weaker (λ front. IsSome (first_of xs front)) (λ front. IsSome (first_of (xs ++ ys) front))
     (λ front some. subst IsSome (sym (first-append xs ys front)) (found-first (first_of xs front) (first_of ys front) some)) (fronts name)
 
 rooted-second : (xs ys : List Entry) (name : List ℕ) → Rooted ys name → Rooted (xs ++ ys) name
 rooted-second xs ys name =
-    all-alike (λ front. IsSome (first_of ys front)) (λ front. IsSome (first_of (xs ++ ys) front))
+    all-weaker (λ front. IsSome (first_of ys front)) (λ front. IsSome (first_of (xs ++ ys) front))
     (λ front some. subst IsSome (sym (first-append xs ys front)) (found-second (first_of xs front) (first_of ys front) some)) (fronts name)
-
--- the packages of a file
-packages-rooted : (es : List Entry) (n : ℕ) (names : List (List ℕ)) → AllByRecursion (Rooted es) names → AllByRecursion (λ e. Rooted es e.0) (map (package_entry n) names)
-packages-rooted es n [] rooted = tt
-packages-rooted es n (name ∷ names) rooted = (rooted.0, packages-rooted es n names rooted.1)
 
 -- a declaration that isn't a file enters its full name
 own-rooted : (es : List Entry) (file : ℕ) (parent : Option ℕ) (index : ℕ) (path : List ℤ) (full_name : List ℕ) (p : Proto) → IsInside p → Rooted es full_name
@@ -160,13 +151,13 @@ file-rooted base f plain =
     let Held = λ (e : Shown). All (Contains es) (entries_of e) in
     let held = packages-held es base.files own (All-head Held first inner (entries-held (file_walk base f))) in
     let Found = λ (name : List ℕ). IsSome (first_of es name) in
-    let found = all-alike (HasScope es) Found (scope-found es) own (recursion_from_All (HasScope es) own held) in
+    let found = all-weaker (HasScope es) Found (scope-found es) own (recursion_from_All (HasScope es) own held) in
     let inside = within-all (λ d. IsInside d.proto) (λ _. Unit {0}) (λ here tag position index proto is _. is) (λ here tag position index proto _. tt) (λ here tag position index proto _. tt) base f tt in
     let scoped = recursion_from_All (λ d. All (HasScope es) (fronts d.full_name)) inner (prefixes_entered f base plain) in
-    let rooted = all-alike (λ d. All (HasScope es) (fronts d.full_name)) (λ d. Rooted es d.full_name)
-    (λ d all. all-alike (HasScope es) Found (scope-found es) (fronts d.full_name) (recursion_from_All (HasScope es) (fronts d.full_name) all)) inner scoped in
+    let rooted = all-weaker (λ d. All (HasScope es) (fronts d.full_name)) (λ d. Rooted es d.full_name)
+    (λ d all. all-weaker (HasScope es) Found (scope-found es) (fronts d.full_name) (recursion_from_All (HasScope es) (fronts d.full_name) all)) inner scoped in
     all-append (λ e. Rooted es e.0) (map (package_entry base.files) own) (entries inner)
-    (packages-rooted es base.files own (packages-within Found (text_of f.«package») found))
+    (all-map (λ e. Rooted es e.0) (package_entry base.files) own (packages-within Found (text_of f.«package») found))
     (inner-rooted es inner inside rooted)
 
 -- files, one after another
@@ -177,20 +168,16 @@ files-rooted base (f ∷ fs) plain =
     let next = counted base walk in
     let first = entries walk in
     let rest = entries (declarations next fs) in
-    let own = all-alike (λ e. Rooted first e.0) (λ e. Rooted (first ++ rest) e.0) (λ e is. rooted-first first rest e.0 is) first (file-rooted base f plain.0) in
-    let others = all-alike (λ e. Rooted rest e.0) (λ e. Rooted (first ++ rest) e.0) (λ e is. rooted-second first rest e.0 is) rest (files-rooted next fs plain.1) in
+    let own = all-weaker (λ e. Rooted first e.0) (λ e. Rooted (first ++ rest) e.0) (λ e is. rooted-first first rest e.0 is) first (file-rooted base f plain.0) in
+    let others = all-weaker (λ e. Rooted rest e.0) (λ e. Rooted (first ++ rest) e.0) (λ e is. rooted-second first rest e.0 is) rest (files-rooted next fs plain.1) in
     subst (λ es. AllByRecursion (λ e. Rooted es e.0) es) (sym (entries-append walk (declarations next fs)))
     (all-append (λ e. Rooted (first ++ rest) e.0) first rest own others)
 
 -- entries lie where declarations lie
 module _ (Lies : ℕ → Type 0) where
-  packages-lie : (n : ℕ) → Lies n → (names : List (List ℕ)) → AllByRecursion (λ e. Lies e.1.file) (map (package_entry n) names)
-  packages-lie n lies [] = tt
-  packages-lie n lies (name ∷ names) = (lies, packages-lie n lies names)
-
   own-lies : (file : ℕ) (parent : Option ℕ) (index : ℕ) (path : List ℤ) (full_name : List ℕ) (p : Proto) → Lies file
       → let d : Shown = record { file = file; parent = parent; index = index; path = path; full_name = full_name; proto = p } in AllByRecursion (λ e. Lies e.1.file) (entries_of d)
-  own-lies file parent index path full_name (of_file f) lies = packages-lie file lies (packages (text_of f.«package»))
+  own-lies file parent index path full_name (of_file f) lies = let names = packages (text_of f.«package») in all-map (λ e. Lies e.1.file) (package_entry file) names (all-of (λ _. lies) names)
   own-lies file parent index path full_name _ lies = (lies, tt)
 
   entries-lie : (ds : List Shown) → AllByRecursion (λ d. Lies d.file) ds → AllByRecursion (λ e. Lies e.1.file) (entries ds)
@@ -217,9 +204,7 @@ module _ (p : Contents) (entered : Known p) (front back : List FileDescriptorPro
   all = entries (declarations no_counts (files_of p ++ front))
 
   known-are : known ≡ names all
-  known-are =
-      ap (λ held. names_with held (entries fewer)) entered.names_are ∙ with-names (known_names p) (entries fewer)
-      ∙ ap names (sym (ap entries (declared-behind p front entered.counts_are front) ∙ entries-append (declarations no_counts (files_of p)) fewer))
+  known-are = names-whole p entered front
 
   all-are : names_with p.names (entries (declared_with p (front ++ back))) ≡ names_with known (entries later)
   all-are =
@@ -245,9 +230,9 @@ module _ (p : Contents) (entered : Known p) (front back : List FileDescriptorPro
   known-rooted : (name : List ℕ) (def : Definition) → finite.get known name ≡ Some def → All (λ y. IsSome (finite.get known y)) (fronts name)
   known-rooted name def is =
       let first = sym (ap (λ held. finite.get held name) known-are ∙ get-lookup all name) ∙ is in
-      let rooted = named-has (Rooted all) all name def (files-rooted no_counts (files_of p ++ front) plain) first in
+      let rooted = subst (λ o. IfSome o (λ _. Rooted all name)) first (first-stands (λ name _. Rooted all name) all (files-rooted no_counts (files_of p ++ front) plain) name) in
       All-from_recursion (λ y. IsSome (finite.get known y)) (fronts name)
-      (all-alike (λ y. IsSome (first_of all y)) (λ y. IsSome (finite.get known y))
+      (all-weaker (λ y. IsSome (first_of all y)) (λ y. IsSome (finite.get known y))
       (λ y some. subst IsSome (sym (ap (λ held. finite.get held y) known-are ∙ get-lookup all y)) some) (fronts name) rooted)
 
   pub seen-stand : SeenAmong known (names_with p.names (entries (declared_with p (front ++ back)))) seen
