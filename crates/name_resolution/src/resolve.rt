@@ -1,9 +1,9 @@
-ghost use Rattle.std.specs.Prelude.{◌≡◌, IfOk, false, if◌then◌else◌, map, string_bytes};
+ghost use Rattle.std.specs.Prelude.{◌≡◌, IfOk, OnOk, false, if◌then◌else◌, map, string_bytes};
 ghost use Rattle.std.specs.BTreeSet.{contains_by};
 ghost use Rattle.std.specs.FinMap as finite;
 ghost use Rattle.std.specs.Option.{option_map_or};
 ghost use Rattle.std.specs.Ordering.{nat_cmp};
-ghost use Rattle.proto_types.specs.Names.{first_part};
+ghost use Rattle.proto_types.specs.Names.{first_part, join};
 ghost use Rattle.pool_faults.specs.declared.fault.DescriptorErrorKind.TheVariants.{InvalidType, NameNotFound, NameShadowed};
 ghost use Rattle.pool_types.specs.DefinitionKinds.{is_parent};
 ghost use Rattle.name_resolution.specs.Kinds.{filter_text};
@@ -18,7 +18,6 @@ use name_tables::NameTable;
 use plain_data::Text;
 use pool_faults::{DescriptorErrorKind, Label, Labels};
 use pool_types::{Definition, FileDescriptorInner};
-use proto_types::join;
 use std::alloc::{AllocError, Global};
 use std::collections::BTreeSet;
 
@@ -97,8 +96,9 @@ fn resolve_simple<'a, N: NameTable>(
         (outer scope.now) name.now) }
 {
     let mut best = ResolveNameResult::NotFound;
+    let mut full_name = String::with_capacity(alloc, scope.len() + 1 + name.len())?;
     for parent in CandidateParents::new(scope) {
-        let full_name = join(alloc, parent, name)?;
+        write_joined(&mut full_name, parent, name)?;
         let answer = look_up(alloc, visible, names, full_name.as_str(), filter)?;
         if answer.is_found() {
             return Ok(answer);
@@ -122,15 +122,31 @@ fn resolve_dotted<'a, N: NameTable>(
         (outer scope.now) name.now) }
 {
     let first = first_part(name);
+    let mut full_name = String::with_capacity(alloc, scope.len() + 1 + name.len())?;
     for parent in CandidateParents::new(scope) {
-        let nearest = join(alloc, parent, first)?;
-        if is_parent(names, nearest.as_str()) {
-            let full_name = join(alloc, parent, name)?;
+        write_joined(&mut full_name, parent, first)?;
+        if is_parent(names, full_name.as_str()) {
+            write_joined(&mut full_name, parent, name)?;
             let answer = look_up(alloc, visible, names, full_name.as_str(), filter)?;
             return answer.or_shadowed(alloc, name, full_name);
         }
     }
     Ok(ResolveNameResult::NotFound)
+}
+
+/// Makes a text the full name of a name inside a scope, in the room that it has.
+///
+/// # Errors
+/// `AllocError` where memory was refused.
+fn write_joined(full_name: &mut String, scope: &str, name: &str) -> Result<(), AllocError>
+    ensures { OnOk result (string_bytes full_name.new ≡ join scope.now name.now) }
+{
+    full_name.clear();
+    if !scope.is_empty() {
+        full_name.push_str(scope)?;
+        full_name.push('.')?;
+    }
+    full_name.push_str(name)
 }
 
 /// The text before the first dot of a name, or the whole name.
