@@ -85,18 +85,16 @@ fn trial(alloc: Global, name: &str) -> Result<Option<Told>, AllocError> {
 
 /// The same of the trials over tables of names.
 fn trial_of_names(alloc: Global, name: &str) -> Result<Option<Told>, AllocError> {
-    let (hashed, same) = (names::hashed(alloc)?, names::hashed(alloc)?);
-    let (tree, alike) = (names::in_parts(alloc)?, names::in_parts(alloc)?);
     let told = match name {
-        "table" => names::copy(alloc, &hashed, &same)?,
-        "tree" => names::copy(alloc, &tree, &alike)?,
-        "insert" => names::insert(alloc, hashed, &same, names::hashed(alloc)?)?,
-        "grow" => names::insert(alloc, tree, &alike, names::in_parts(alloc)?)?,
-        "joined" => names::joined(alloc, &hashed, &same)?,
-        "descend" => names::joined(alloc, &tree, &alike)?,
-        "resolve" => names::resolve(alloc, &hashed, &same)?,
-        "resolve_over_tree" => names::resolve(alloc, &tree, &alike)?,
-        "resolve_in_parts" => names::resolve_as_tree(alloc, &tree, &alike)?,
+        "table" => names::copy_hashed(alloc)?,
+        "tree" => names::copy_tree(alloc)?,
+        "insert" => names::insert_hashed(alloc)?,
+        "grow" => names::insert_tree(alloc)?,
+        "joined" => names::joined_hashed(alloc)?,
+        "descend" => names::joined_tree(alloc)?,
+        "resolve" => names::resolve_hashed(alloc)?,
+        "resolve_over_tree" => names::resolve_tree(alloc)?,
+        "resolve_in_parts" => names::resolve_as_tree(alloc)?,
         _ => return Ok(None),
     };
     Ok(Some(told))

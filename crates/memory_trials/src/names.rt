@@ -16,14 +16,14 @@ const NAMES: [&str; 7] = [
 const ADDED: &str = "p.other.package.Other";
 
 /// A table of names, by hashes.
-pub(crate) fn hashed(alloc: Global) -> Result<HashedNames, AllocError> {
+fn hashed(alloc: Global) -> Result<HashedNames, AllocError> {
     let mut names = HashedNames::new(alloc);
     fill(alloc, &mut names)?;
     Ok(names)
 }
 
 /// The same as a tree.
-pub(crate) fn in_parts(alloc: Global) -> Result<PartNames, AllocError> {
+fn in_parts(alloc: Global) -> Result<PartNames, AllocError> {
     let mut names = PartNames::new(alloc);
     fill(alloc, &mut names)?;
     Ok(names)
@@ -52,8 +52,44 @@ fn definition(alloc: Global) -> Result<Definition, AllocError> {
     })
 }
 
+pub(crate) fn copy_hashed(alloc: Global) -> Result<Told, AllocError> {
+    copy(alloc, &hashed(alloc)?, &hashed(alloc)?)
+}
+
+pub(crate) fn copy_tree(alloc: Global) -> Result<Told, AllocError> {
+    copy(alloc, &in_parts(alloc)?, &in_parts(alloc)?)
+}
+
+pub(crate) fn insert_hashed(alloc: Global) -> Result<Told, AllocError> {
+    insert(alloc, hashed(alloc)?, &hashed(alloc)?, hashed(alloc)?)
+}
+
+pub(crate) fn insert_tree(alloc: Global) -> Result<Told, AllocError> {
+    insert(alloc, in_parts(alloc)?, &in_parts(alloc)?, in_parts(alloc)?)
+}
+
+pub(crate) fn joined_hashed(alloc: Global) -> Result<Told, AllocError> {
+    joined(alloc, &hashed(alloc)?, &hashed(alloc)?)
+}
+
+pub(crate) fn joined_tree(alloc: Global) -> Result<Told, AllocError> {
+    joined(alloc, &in_parts(alloc)?, &in_parts(alloc)?)
+}
+
+pub(crate) fn resolve_hashed(alloc: Global) -> Result<Told, AllocError> {
+    resolve(alloc, &hashed(alloc)?, &hashed(alloc)?)
+}
+
+pub(crate) fn resolve_tree(alloc: Global) -> Result<Told, AllocError> {
+    resolve(alloc, &in_parts(alloc)?, &in_parts(alloc)?)
+}
+
+pub(crate) fn resolve_as_tree(alloc: Global) -> Result<Told, AllocError> {
+    resolve_down(alloc, &in_parts(alloc)?, &in_parts(alloc)?)
+}
+
 /// Copies a table, which is equal to another.
-pub(crate) fn copy<N: NameTable>(alloc: Global, names: &N, before: &N) -> Result<Told, AllocError> {
+fn copy<N: NameTable>(alloc: Global, names: &N, before: &N) -> Result<Told, AllocError> {
     let opened = mark(alloc)?;
     let copy = names.clone();
     let closed = mark(alloc)?;
@@ -69,7 +105,7 @@ pub(crate) fn copy<N: NameTable>(alloc: Global, names: &N, before: &N) -> Result
 
 /// Adds a name to a table, which is equal to two others. The table should then be one to which it
 /// was added before, and after a refusal what it was.
-pub(crate) fn insert<N: NameTable>(
+fn insert<N: NameTable>(
     alloc: Global,
     mut names: N,
     before: &N,
@@ -86,11 +122,7 @@ pub(crate) fn insert<N: NameTable>(
 }
 
 /// Looks up a name inside a scope.
-pub(crate) fn joined<N: NameTable>(
-    alloc: Global,
-    names: &N,
-    before: &N,
-) -> Result<Told, AllocError> {
+fn joined<N: NameTable>(alloc: Global, names: &N, before: &N) -> Result<Told, AllocError> {
     let opened = mark(alloc)?;
     let ending = names.get_joined(alloc, "p", "M.text");
     let closed = mark(alloc)?;
@@ -103,11 +135,7 @@ pub(crate) fn joined<N: NameTable>(
 }
 
 /// Looks for the meaning of a name.
-pub(crate) fn resolve<N: NameTable>(
-    alloc: Global,
-    names: &N,
-    before: &N,
-) -> Result<Told, AllocError> {
+fn resolve<N: NameTable>(alloc: Global, names: &N, before: &N) -> Result<Told, AllocError> {
     let visible = first_file(alloc)?;
     let filter = ResolveNameFilter::FieldType;
     let opened = mark(alloc)?;
@@ -118,11 +146,7 @@ pub(crate) fn resolve<N: NameTable>(
 }
 
 /// Looks for the meaning of a name by going down a tree.
-pub(crate) fn resolve_as_tree(
-    alloc: Global,
-    names: &PartNames,
-    before: &PartNames,
-) -> Result<Told, AllocError> {
+fn resolve_down(alloc: Global, names: &PartNames, before: &PartNames) -> Result<Told, AllocError> {
     let visible = first_file(alloc)?;
     let filter = ResolveNameFilter::FieldType;
     let opened = mark(alloc)?;
