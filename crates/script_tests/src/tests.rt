@@ -12,5 +12,6 @@ mod refusals;
 mod runs;
 mod statements;
 mod streams;
+mod too_many;
 mod walks;
 mod whole_scripts;
