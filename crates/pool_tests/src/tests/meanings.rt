@@ -1,8 +1,9 @@
 //! What labels and references tell among the files and the names of a pool.
 
 use super::files_of;
+use super::names::enter;
 use name_resolution::{CandidateParents, ResolveNameFilter, ResolveNameResult, resolve_name};
-use name_tables::{HashedNames, NameTable};
+use name_tables::HashedNames;
 use plain_data::Items;
 use pool_faults::{Label, Labelled, Labels, label_at};
 use pool_types::{Definition, DefinitionKind, FileDescriptorInner, Syntax};
@@ -20,25 +21,12 @@ fn definition(alloc: Global, kind: DefinitionKind) -> Result<Definition, AllocEr
     })
 }
 
-/// Enters a name of the first file, unless the table has it.
-fn enter(
-    alloc: Global,
-    names: &mut HashedNames,
-    name: &str,
-    kind: DefinitionKind,
-) -> Result<(), AllocError> {
-    if names.get(name).is_some() {
-        return Ok(());
-    }
-    names.insert(name, definition(alloc, kind)?)
-}
-
 /// The names of the first file: a package, and a message.
 fn names(alloc: Global) -> Result<HashedNames, AllocError> {
     let mut names = HashedNames::new(alloc);
     let (package, message) = (DefinitionKind::Package, DefinitionKind::Message(0));
-    enter(alloc, &mut names, "p", package)?;
-    enter(alloc, &mut names, "p.M", message)?;
+    enter(&mut names, "p", definition(alloc, package)?)?;
+    enter(&mut names, "p.M", definition(alloc, message)?)?;
     Ok(names)
 }
 

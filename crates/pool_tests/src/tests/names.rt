@@ -16,7 +16,7 @@ fn package_of(alloc: Global, file: u32) -> Definition {
 }
 
 /// Enters a name where the table lacks it, and tells whether it did.
-fn enter<N: NameTable>(
+pub(super) fn enter<N: NameTable>(
     table: &mut N,
     name: &str,
     definition: Definition,

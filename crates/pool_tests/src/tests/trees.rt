@@ -1,6 +1,7 @@
 //! Odd names in both tables of names, and references that are resolved over both.
 
 use super::meanings::meaning;
+use super::names::enter;
 use name_resolution::{ResolveNameFilter, ResolveNameResult, resolve_in_parts, resolve_name};
 use name_tables::{HashedNames, NameTable, PartNames, Parts};
 use plain_data::Items;
@@ -26,12 +27,10 @@ fn message_of(alloc: Global, file: u32) -> Definition {
 }
 
 /// Enters names by the files 0, 1, and so on, unless the table has them.
-fn enter<N: NameTable>(alloc: Global, table: &mut N, names: &[&str]) -> Result<(), AllocError> {
+fn enter_all<N: NameTable>(alloc: Global, table: &mut N, names: &[&str]) -> Result<(), AllocError> {
     let mut file = 0;
     for name in names {
-        if table.get(name).is_none() {
-            table.insert(name, message_of(alloc, file))?;
-        }
+        enter(table, name, message_of(alloc, file))?;
         file = 1u32.saturating_add(file);
     }
     Ok(())
@@ -48,7 +47,7 @@ fn check_odd_names<N: NameTable>(
     table: &mut N,
     two: &mut N,
 ) -> Result<(), AllocError> {
-    enter(alloc, table, &ODD)?;
+    enter_all(alloc, table, &ODD)?;
     for (file, name) in ODD.iter().enumerate() {
         assert!(rt;
             file_of(table, name).is_some_and(|found| found as usize == file),
@@ -62,7 +61,7 @@ fn check_odd_names<N: NameTable>(
     for (file, name) in ODD.iter().enumerate() {
         assert!(rt; file_of(table, name).is_some() == (file < 2), "{name}");
     }
-    enter(alloc, two, &["a", "a.b"])?;
+    enter_all(alloc, two, &["a", "a.b"])?;
     assert!(rt; table.same(two));
     Ok(())
 }
@@ -102,7 +101,7 @@ fn check_joined<N: NameTable>(
     alloc: Global,
     table: &mut N,
 ) -> Result<(), AllocError> {
-    enter(alloc, table, &MORE)?;
+    enter_all(alloc, table, &MORE)?;
     for (scope, name, wanted) in JOINED {
         let found = table.get_joined(alloc, scope, name)?;
         assert!(rt;
@@ -149,7 +148,7 @@ fn parts_stand_between_dots(rt: HostRuntime) -> Result<(), Fail> {
 #[test]
 fn scopes_stand_around_one_another(rt: HostRuntime) -> Result<(), Fail> {
     let mut table = PartNames::new(rt.alloc());
-    enter(rt.alloc(), &mut table, &["p", "p.M", ".x"])?;
+    enter_all(rt.alloc(), &mut table, &["p", "p.M", ".x"])?;
     let scope = table.scope("p.M");
     assert!(rt; scope.text() == "p.M" && scope.find("x").is_none());
     let scope = scope.around().expect(&rt, "p is around p.M");
@@ -182,7 +181,7 @@ fn names_may_have_many_parts(rt: HostRuntime) -> Result<(), Fail> {
             deep_name(rt.alloc(), parts)?,
             deep_name(rt.alloc(), 1u32.saturating_add(parts))?,
         );
-        enter(rt.alloc(), &mut table, &[name.as_str(), longer.as_str()])?;
+        enter_all(rt.alloc(), &mut table, &[name.as_str(), longer.as_str()])?;
         assert!(rt; file_of(&table, name.as_str()) == Some(0));
         assert!(rt; file_of(&table, longer.as_str()) == Some(1));
         assert!(rt; table.get("a").is_none());
@@ -241,8 +240,8 @@ fn references_mean_the_same_over_both_tables(rt: HostRuntime) -> Result<(), Fail
     let filter = ResolveNameFilter::FieldType;
     for (names, scope, name, wanted) in MEANINGS {
         let (mut hashed, mut tree) = (HashedNames::new(alloc), PartNames::new(alloc));
-        enter(alloc, &mut hashed, names)?;
-        enter(alloc, &mut tree, names)?;
+        enter_all(alloc, &mut hashed, names)?;
+        enter_all(alloc, &mut tree, names)?;
         let resolved = resolve_name(alloc, &visible, &hashed, scope, name, filter)?;
         check_meaning(&rt, alloc, &resolved, wanted)?;
         let resolved = resolve_name(alloc, &visible, &tree, scope, name, filter)?;
