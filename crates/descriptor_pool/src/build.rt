@@ -25,7 +25,7 @@ ghost use Rattle.descriptor_pool.specs.Pool.{Made};
 use crate::error::BuildError;
 use field_rules::Faults;
 use name_pass::NameVisitor;
-use name_tables::{FileNames, HashedNames};
+use name_tables::{FileNames, PoolNames};
 use pool_contents::{DescriptorPoolInner, GrowingPool};
 use pool_faults::{DescriptorError, DescriptorErrorKind};
 use proto_types::FileDescriptorProto;
@@ -122,7 +122,7 @@ fn enter_names(alloc: Global, pool: &mut GrowingPool) -> Result<(), BuildError>
 fn show_names(
     alloc: Global,
     base: Counts,
-    names: &mut HashedNames,
+    names: &mut PoolNames,
     file_names: &mut FileNames,
     faults: &mut Faults,
 ) -> Result<(), AllocError>

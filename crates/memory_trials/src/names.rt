@@ -38,10 +38,8 @@ fn fill<N: NameTable>(alloc: Global, names: &mut N) -> Result<(), AllocError> {
 
 /// Adds a name, unless it is there.
 fn add<N: NameTable>(names: &mut N, name: &str, definition: Definition) -> Result<(), AllocError> {
-    if names.get(name).is_some() {
-        return Ok(());
-    }
-    names.insert(name, definition)
+    names.insert(name, definition)?;
+    Ok(())
 }
 
 fn definition(alloc: Global) -> Result<Definition, AllocError> {

@@ -1,22 +1,42 @@
 -- One more name comes to the first pass.
-use Rattle.std.proofs.Common.{◌≡◌, ℕ, List, [], ◌∷◌, ◌++◌, Option, Some, None, is_some, true, false, Result, OnOk, refl, rules, append-nil}
+use Rattle.std.proofs.Common.{◌≡◌, ℕ, List, [], ◌∷◌, ◌++◌, Option, Some, None, is_some, true, false, Result, OnOk, refl, sym, ap, rules, append-nil}
 use Rattle.std.specs.FinMap as finite
 use Rattle.pool_types.specs.Contents.{ByText}
 use Rattle.proto_types.specs.declared.file.FileDescriptorProto.{FileDescriptorProto}
 use Rattle.pool_types.specs.declared.contents.definition.Definition.{Definition}
 use Rattle.name_tables.specs.Entries.{Entry}
 use Rattle.name_tables.proofs.Entries.{with-absent, with-present}
+use Rattle.std.specs.Option.{option_map_or}
+use Rattle.std.proofs.lemmas.Option.{none-some, same_Some}
+use Rattle.name_tables.specs.NameTables.{inserted}
 use Rattle.std.proofs.lemmas.Result.{on_ok_weaker}
 use Rattle.pool_faults.specs.declared.fault.DescriptorErrorKind.TheVariants.{DuplicateFileName}
 use Rattle.pool_faults.specs.declared.fault.DescriptorErrorKind.{DescriptorErrorKind}
 use Rattle.name_pass.specs.FirstPass.{holder_faults}
 use Rattle.name_pass.specs.Steps.{NameState, entered, file_named}
 
+module _ (names : ByText Definition) (name : List ℕ) (d : Definition) (new : ByText Definition) where
+  -- nothing came back: the name was a new one
+  pub came-in : ◌≡◌ {A = ByText Definition × Option Definition} (new, None) (inserted names name d) → (finite.get names name ≡ None) × (new ≡ finite.insert names name d)
+  came-in = elim (finite.get names name) as (λ found. ◌≡◌ {A = ByText Definition × Option Definition} (new, None) (option_map_or (λ _. (names, Some d)) found (finite.insert names name d, None))
+      → (found ≡ None) × (new ≡ finite.insert names name d)) [
+        | None ↦ λ is. (refl, ap (λ p. p.0) is)
+        | Some holder ↦ λ is. absurd (none-some d (ap (λ p. p.1) is))
+      ]
+
+  -- the definition came back: the name had a holder
+  pub was-there : (back : Definition) → ◌≡◌ {A = ByText Definition × Option Definition} (new, Some back) (inserted names name d)
+      → (holder : Definition) × (finite.get names name ≡ Some holder) × (new ≡ names) × (back ≡ d)
+  was-there back = elim (finite.get names name) as (λ found. ◌≡◌ {A = ByText Definition × Option Definition} (new, Some back) (option_map_or (λ _. (names, Some d)) found (finite.insert names name d, None))
+      → (holder : Definition) × (found ≡ Some holder) × (new ≡ names) × (back ≡ d)) [
+        | None ↦ λ is. absurd (none-some back (sym (ap (λ p. p.1) is)))
+        | Some holder ↦ λ is. (holder, refl, ap (λ p. p.0) is, same_Some back d (ap (λ p. p.1) is))
+      ]
+
 module _ (files : List FileDescriptorProto) (state : NameState) (e : Entry) where
   -- which no name before it is
-  pub new-name : {U E : Type 0} (r : Result U E) (names : ByText Definition) → finite.get state.names e.0 ≡ None
-      → OnOk r (names ≡ finite.insert state.names e.0 e.1) → OnOk r (record state { names = names } ≡ entered files state (e ∷ []))
-  new-name r names absent inserted = on_ok_weaker r (λ is. simp (with-absent state.names e.0 e.1 absent, absent, append-nil) (λ i. record state { names = is i })) inserted
+  pub new-name : (names : ByText Definition) → finite.get state.names e.0 ≡ None → names ≡ finite.insert state.names e.0 e.1 → record state { names = names } ≡ entered files state (e ∷ [])
+  new-name names absent is = simp (with-absent state.names e.0 e.1 absent, absent, append-nil) (λ i. record state { names = is i })
 
   -- which has a holder
   pub held-name : (holder : Definition) (faults : List DescriptorErrorKind) → finite.get state.names e.0 ≡ Some holder

@@ -4,7 +4,8 @@ use Rattle.std.proofs.lemmas.Result.{on_ok_weaker}
 use Rattle.std.specs.List.{fold}
 use Rattle.pool_faults.specs.declared.fault.DescriptorErrorKind.{DescriptorErrorKind}
 use Rattle.field_rules.specs.declared.findings.Faults.{Faults}
-use Rattle.pool_types.specs.Contents.{Contents}
+use Rattle.pool_types.specs.Contents.{ByText, Contents}
+use Rattle.pool_types.specs.declared.contents.definition.Definition.{Definition}
 use Rattle.record_walk.specs.Progress.{HasSeen}
 use Rattle.proto_types.specs.declared.file.FileDescriptorProto.{FileDescriptorProto}
 use Rattle.name_tables.specs.Entries.{names_with}
@@ -30,6 +31,15 @@ pub stays-told : (v : NameVisitor) (faults : Faults) → faults.labels ≡ v.fau
 stays-told v faults same = record {
   files = same;
   kept = λ i. kept_of (record v { faults = re_v (record faults { labels = same i }) v.faults });
+  borrows = refl;
+}
+
+-- what stays where a name comes to nothing, and faults come
+pub stays-held : (v : NameVisitor) (names : ByText Definition) (faults : Faults) → names ≡ v.names.now → faults.labels ≡ v.faults.now.labels
+    → Stays v (record v { names = re_v names (re_v names v.names); faults = re_v faults v.faults })
+stays-held v names faults same labels = record {
+  files = labels;
+  kept = λ i. kept_of (record v { names = re_v (same i) v.names; faults = re_v (record faults { labels = labels i }) v.faults });
   borrows = refl;
 }
 

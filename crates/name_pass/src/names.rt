@@ -1,4 +1,5 @@
-ghost use Rattle.std.specs.Prelude.{◌≡◌, ◌≤◌, ◌∷◌, ◌++◌, [], IfOk, OnOk, Some, map};
+ghost use Rattle.std.specs.Prelude.{◌≡◌, ◌≤◌, ◌∷◌, ◌++◌, [], OnOk, map};
+ghost use Rattle.std.specs.Option.{option_copied};
 ghost use Rattle.proto_types.specs.declared.tag.message.TheConstants.{NAME};
 ghost use Rattle.name_resolution.specs.Kinds.{is_package};
 ghost use Rattle.name_pass.specs.Entered.{packages, package_entry};
@@ -6,7 +7,7 @@ ghost use Rattle.name_pass.specs.FirstPass.{holder_faults};
 
 use crate::checks::{check_camel_case_names, check_enum_values, check_syntax};
 use field_rules::Faults;
-use name_tables::{FileNames, HashedNames, NameTable};
+use name_tables::{FileNames, NameTable, PoolNames};
 use plain_data::{Items, Text};
 use pool_faults::DescriptorErrorKind;
 use pool_types::{Definition, DefinitionKind};
@@ -25,7 +26,7 @@ pub struct NameVisitor<'a, 'f> {
     pub alloc: Global,
     /// The index of the first file of the batch.
     pub first: u32,
-    pub names: &'a mut HashedNames,
+    pub names: &'a mut PoolNames,
     pub file_names: &'a mut FileNames,
     pub faults: &'a mut Faults<'f>,
 }
@@ -50,9 +51,10 @@ impl NameVisitor<'_, '_> {
         ensures stays { Stays self.old self.new }
     {
         let definition = Definition { file, path, kind };
-        let Some(holder) = self.names.get(name) else {
-            return self.names.insert(name, definition);
+        let Some(definition) = self.names.insert(name, definition)? else {
+            return Ok(());
         };
+        let holder = self.names.get(name);
         check_clash(self.alloc, self.faults, name, holder, &definition)
     }
 
@@ -248,20 +250,23 @@ impl Visitor for NameVisitor<'_, '_> {
     }
 }
 
-/// Appends to `faults` that of a name that is defined already; a package may be entered again as a
+/// Appends to `faults` that of a name that has a holder; a package may be entered again as a
 /// package.
 fn check_clash(
     alloc: Global,
     faults: &mut Faults,
     name: &str,
-    holder: &Definition,
+    holder: Option<&Definition>,
     new: &Definition,
 ) -> Result<(), AllocError>
     ensures told { OnOk result (faults.new.found.items ≡ faults.old.found.items
-        ++ holder_faults (map (λ f. f.raw) faults.old.labels) (Some holder.now)
+        ++ holder_faults (map (λ f. f.raw) faults.old.labels) (option_copied holder.entry)
         (name.now, new.now)) }
     ensures labels { faults.new.labels ≡ faults.old.labels }
 {
+    let Some(holder) = holder else {
+        return Ok(());
+    };
     if is_package(holder.kind) && is_package(new.kind) {
         return Ok(());
     }

@@ -1,4 +1,4 @@
-ghost use Rattle.std.specs.Prelude.{◌≡◌, ℕ, Bool, false, IfOk, IfSome, IsOk, None, Some};
+ghost use Rattle.std.specs.Prelude.{◌≡◌, ◌∷◌, [], ℕ, Bool, false, IfOk, IfSome, IsOk, None, Some};
 ghost use Rattle.std.specs.BTreeSet.{contains_by};
 ghost use Rattle.std.specs.FinMap as finite;
 ghost use Rattle.std.specs.List.{find};
@@ -6,6 +6,7 @@ ghost use Rattle.std.specs.Option.{option_map_or};
 ghost use Rattle.std.specs.Ordering.{nat_cmp};
 ghost use Rattle.proto_types.specs.Names.{join};
 ghost use Rattle.pool_types.specs.DefinitionKinds.{is_parent};
+ghost use Rattle.name_tables.specs.Parts.{parts};
 ghost use Rattle.name_resolution.specs.declared.filter.ResolveNameFilter.{ResolveNameFilter};
 ghost use Rattle.name_resolution.specs.Parents.{outer};
 ghost use Rattle.name_resolution.specs.Resolution.{resolution, resolution_in, not_found, look, simple, dotted, holds_first};
@@ -76,6 +77,7 @@ fn look_outwards<'a>(
     scope: Scope<'a, '_>,
     name: &str,
 ) -> Result<ResolveNameResult<'a>, AllocError>
+    requires { parts name.now ≡ name.now ∷ [] }
     ensures answer { IfOk result (λ r. resolution_in r
         ≡ simple scope.entry.0 (λ n. contains_by (nat_cmp n) wanted.entry.visible.now)
         wanted.entry.filter (outer scope.entry.1) name.now) }
@@ -98,6 +100,7 @@ fn innermost<'a, 't>(
     scope: Scope<'a, 't>,
     name: &str,
 ) -> Option<(Scope<'a, 't>, &'a Definition)>
+    requires { parts name.now ≡ name.now ∷ [] }
     ensures found { IfSome result (λ p.
         finite.get scope.entry.0 (join p.0.1 name.now) ≡ Some p.1.now) }
     ensures settles { IfSome result (λ p.
@@ -113,7 +116,7 @@ fn innermost<'a, 't>(
     let mut next = Some(scope);
     while let Some(scope) = next {
         next = scope.around();
-        if let Some(def) = scope.find(name) {
+        if let Some(def) = scope.find_part(name) {
             if wanted.is_wanted(def) {
                 return Some((scope, def));
             }
@@ -169,10 +172,13 @@ fn holder<'a, 't>(scope: Scope<'a, 't>, name: &str) -> Option<Scope<'a, 't>>
     None
 }
 
-/// Whether a name in a scope means something that other declarations may stand in.
+/// Whether a name without a dot means something in a scope that other declarations may stand in.
 fn has_parent(scope: &Scope, name: &str) -> bool
+    requires { parts name.now ≡ name.now ∷ [] }
     ensures { result ≡ option_map_or (λ def. is_parent def.kind)
         (finite.get scope.now.0 (join scope.now.1 name.now)) false }
 {
-    scope.find(name).is_some_and(|def| def.kind.is_parent())
+    scope
+        .find_part(name)
+        .is_some_and(|def| def.kind.is_parent())
 }

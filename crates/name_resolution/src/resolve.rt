@@ -1,4 +1,4 @@
-ghost use Rattle.std.specs.Prelude.{◌≡◌, IfOk, OnOk, false, if◌then◌else◌, map, string_bytes};
+ghost use Rattle.std.specs.Prelude.{◌≡◌, ◌∷◌, [], IfOk, OnOk, false, if◌then◌else◌, map, string_bytes};
 ghost use Rattle.std.specs.BTreeSet.{contains_by};
 ghost use Rattle.std.specs.FinMap as finite;
 ghost use Rattle.std.specs.Option.{option_map_or};
@@ -6,6 +6,7 @@ ghost use Rattle.std.specs.Ordering.{nat_cmp};
 ghost use Rattle.proto_types.specs.Names.{first_part, join};
 ghost use Rattle.pool_faults.specs.declared.fault.DescriptorErrorKind.TheVariants.{InvalidType, NameNotFound, NameShadowed};
 ghost use Rattle.pool_types.specs.DefinitionKinds.{is_parent};
+ghost use Rattle.name_tables.specs.Parts.{parts};
 ghost use Rattle.name_resolution.specs.Kinds.{filter_text};
 ghost use Rattle.name_resolution.specs.Parents.{outer};
 ghost use Rattle.name_resolution.specs.Resolution.{resolution, resolution_in, look, simple, dotted, or_shadowed, is_found, is_not_found};
@@ -151,7 +152,8 @@ fn write_joined(full_name: &mut String, scope: &str, name: &str) -> Result<(), A
 
 /// The text before the first dot of a name, or the whole name.
 pub(crate) fn first_part(name: &str) -> &str
-    ensures { result.now ≡ first_part name.now }
+    ensures text { result.now ≡ first_part name.now }
+    ensures one { parts result.now ≡ result.now ∷ [] }
 {
     match name.split_once('.') {
         Some((first, _)) => first,

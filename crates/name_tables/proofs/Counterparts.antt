@@ -1,9 +1,9 @@
 -- Branches with the same names in two trees.
-use Rattle.std.proofs.Common.{◌≡◌, ◌≢◌, ◌<◌, ℕ, zero, suc, List, [], ◌∷◌, ◌++◌, Option, Some, refl, sym, ap, ◌∙◌, subst, IfSome}
+use Rattle.std.proofs.Common.{◌≡◌, ◌≢◌, ◌<◌, ℕ, zero, suc, List, [], ◌∷◌, ◌++◌, length, Option, Some, refl, sym, ap, ◌∙◌, subst, IfSome, append_assoc, arith}
 use Rattle.std.specs.List.{slice_get}
 use Rattle.std.proofs.lemmas.Option.{IfSome_then, same_Some}
 use Rattle.name_tables.specs.Branches.{Branch, IsBelow, IsTree, Leads, path}
-use Rattle.name_tables.proofs.Tree.{leads-append, leads-one, leads-split, path-step}
+use Rattle.name_tables.proofs.Tree.{below-inside, leads-append, leads-one, leads-split, path-step}
 
 module _ (branches : List Branch) (tree : IsTree branches) where
   -- the name of any branch but the root is that of what it hangs below, and its part
@@ -36,6 +36,47 @@ module _ (others : List Branch) (tree : IsTree others) (front whole : List (List
       let way = leads-split others front (part ∷ []) 0 k (subst (λ ps. Leads others 0 ps k) is all) in
       none way.2.0 (subst (λ j. IsBelow others j part way.2.0) (leads-one others tree front 0 way.0 from way.1 led) way.2.1)
 
-  -- the parts before it have no branch
-  pub none-before : ((k : ℕ) → Leads others 0 front k → ⊥) → (k : ℕ) → Leads others 0 whole k → ⊥
-  none-before none k all = let way = leads-split others front (part ∷ []) 0 k (subst (λ ps. Leads others 0 ps k) is all) in none way.0 way.1
+module _ (branches others : List Branch) (tree : IsTree branches) (at other : ℕ) (some : at ≢ 0) (led : Leads others 0 (path branches at) other) where
+  -- the name of a branch leads by that of what it hangs below, and then by its part
+  last-step : (b : Branch) → slice_get branches at ≡ Some b → (j : ℕ) × Leads others 0 (path branches b.parent) j × Leads others j (b.part ∷ []) other
+  last-step b is =
+      leads-split others (path branches b.parent) (b.part ∷ []) 0 other (subst (λ ps. Leads others 0 ps other) (hung-path branches tree at b some is) led)
+
+  -- where the name of a branch leads, a branch stands
+  pub pair-inside : (parent : ℕ) → (b : Branch) × (slice_get branches at ≡ Some b) × (b.parent ≡ parent) → other < length others
+  pair-inside parent hung =
+      let way = last-step hung.0 hung.1 in
+      subst (λ k. k < length others) way.2.2 (below-inside others way.0 hung.0.part way.2.0 way.2.1)
+
+  -- the two that a pair of branches hangs below are a pair
+  pub pair-parents : (parent above : ℕ) → (b : Branch) × (slice_get branches at ≡ Some b) × (b.parent ≡ parent) → (b : Branch) × (slice_get others other ≡ Some b) × (b.parent ≡ above)
+      → Leads others 0 (path branches parent) above
+  pair-parents parent above hung there =
+      let way = last-step hung.0 hung.1 in
+      let below = way.2.1 in
+      let same = same_Some below.1 there.0 (sym below.2 ∙ ap (slice_get others) way.2.2 ∙ there.1) in
+      let is : way.0 ≡ above = sym below.3 ∙ ap (λ b. b.parent) same ∙ there.2 in
+      subst (λ j. Leads others 0 (path branches parent) j) is (subst (λ k. Leads others 0 (path branches k) way.0) hung.2 way.1)
+
+-- where no branch has some parts, none has more
+pub none-behind : (others : List Branch) (front rest whole : List (List ℕ)) → whole ≡ front ++ rest → ((k : ℕ) → Leads others 0 front k → ⊥) → (k : ℕ) → Leads others 0 whole k → ⊥
+none-behind others front rest whole is none k all =
+    let way = leads-split others front rest 0 k (subst (λ ps. Leads others 0 ps k) is all) in none way.0 way.1
+
+-- a branch that stands on the way from another to the root
+abbrev pub IsOver : List Branch → ℕ → ℕ → Type 0
+IsOver branches k at = (k < at) × (rest : List (List ℕ)) × (path branches at ≡ path branches k ++ rest)
+
+module _ (branches : List Branch) (tree : IsTree branches) where
+  -- so does what a branch hangs below
+  pub over-next : (at parent : ℕ) → at ≢ 0 → (b : Branch) × (slice_get branches at ≡ Some b) × (b.parent ≡ parent) → IsOver branches parent at
+  over-next at parent some hung =
+      (hung-before branches tree at parent some hung, hung.0.part ∷ [], read-path branches tree at parent hung.0.part some hung (hung.0, hung.1, refl))
+
+  -- what a branch on the way hangs below stands there as well
+  pub over-more : (at end parent : ℕ) → end ≢ 0 → IsOver branches end at → (b : Branch) × (slice_get branches end ≡ Some b) × (b.parent ≡ parent) → IsOver branches parent at
+  over-more at end parent some over hung =
+      let next = over-next end parent some hung in
+      let before : parent < end = next.0 in
+      let is = over.2 ∙ ap (λ ps. ps ++ over.1) next.2 ∙ append_assoc (path branches parent) next.1 over.1 in
+      (omega (arith, over.0), next.1 ++ over.1, is)

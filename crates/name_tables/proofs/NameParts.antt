@@ -1,5 +1,5 @@
 -- A name is its parts with a dot between each two, and its parts have no dots.
-use Rattle.std.proofs.Common.{◌≡◌, ◌≢◌, ◌<◌, arith, ℕ, suc, Bool, true, false, cond, eqb, Option, None, Some, List, [], ◌∷◌, ◌++◌, length, get_or, Bor, refl, ap, sym, subst, ◌∙◌}
+use Rattle.std.proofs.Common.{◌≡◌, ◌≢◌, ◌<◌, arith, ℕ, suc, Bool, true, false, cond, eqb, Option, None, Some, List, [], ◌∷◌, ◌++◌, length, get_or, Bor, append_assoc, refl, ap, sym, subst, ◌∙◌}
 use Rattle.std.specs.List.{All, onto_first}
 use Rattle.std.proofs.lemmas.List.Elements.{All-nil, All-cons, All-head, All-tail}
 use Rattle.std.proofs.lemmas.List.Splits.{length-slice_split, slice_split_at, slice_split_none, slice_split-cons_yes, slice_split-cons_no, join_with_byte-slice_split}
@@ -69,6 +69,13 @@ parts-name_of (p ∷ []) some whole = All-head IsPart p [] whole
 parts-name_of (p ∷ q ∷ ps) some whole =
     parts-dot p (name_of (q ∷ ps))
     ∙ (λ i. All-head IsPart p (q ∷ ps) whole i ++ parts-name_of (q ∷ ps) (λ none. cc) (All-tail IsPart p (q ∷ ps) whole) i)
+
+-- the name of parts with one more behind them
+pub name_of-last : (ps : List (List ℕ)) (last : List ℕ) → ps ≢ [] → name_of (ps ++ last ∷ []) ≡ name_of ps ++ 46 ∷ last
+name_of-last [] last some = absurd (some refl)
+name_of-last (p ∷ []) last some = refl
+name_of-last (p ∷ q ∷ ps) last some =
+    ap (λ rest. p ++ 46 ∷ rest) (name_of-last (q ∷ ps) last (λ none. cc)) ∙ sym (append_assoc p (46 ∷ name_of (q ∷ ps)) (46 ∷ last))
 
 -- a first part stays one part behind a byte that is no dot
 All-onto_first : (c : ℕ) (ps : List (List ℕ)) → is_dot c ≡ false → ps ≢ [] → All IsPart ps → All IsPart (onto_first c ps)

@@ -1,16 +1,15 @@
 -- Nodes of which one gets another link.
-use Rattle.std.proofs.Common.{◌≡◌, ◌≢◌, ◌<◌, arith, ℕ, zero, suc, List, [], ◌∷◌, Option, Some, length, slice_index_or, slice_set, refl, ap, sym, subst, ◌∙◌}
+use Rattle.std.proofs.Common.{◌≡◌, ◌≢◌, ◌<◌, ◌⊎◌, inl, inr, arith, ℕ, zero, suc, List, [], ◌∷◌, Option, Some, length, slice_index, slice_index_or, slice_set, refl, ap, sym, ◌∙◌, subst, get_or-set_same, get_or-set_other}
 use Rattle.std.specs.List.{slice_get}
 use Rattle.std.specs.Option.{option_and_then}
 use Rattle.std.proofs.Math.Seq.{map-set_same}
+use Rattle.std.proofs.lemmas.Bool.{cases_eq}
 use Rattle.std.proofs.lemmas.Option.{slice_get-map}
-use Rattle.name_tables.specs.Branches.{defined}
-use Rattle.name_tables.specs.Siblings.{shown, shown_node, linked, owner, Relinked}
+use Rattle.name_tables.specs.Index.{Row, row, rows, shown_node, linked, branch_of, next_of, key_of, Relinked}
+use Rattle.name_tables.proofs.Rows.{length-rows, row-some, next-row, set-next}
 use Rattle.name_tables.proofs.Woven.{and_then-through}
 use Rattle.name_tables.specs.declared.branches.Node.{Node}
 use Rattle.name_tables.specs.declared.branches.Link.{Link}
-use Rattle.name_tables.specs.declared.branches.Link.TheVariants.{Below, Low, High}
-use Rattle.pool_types.specs.declared.contents.definition.Definition.{Definition}
 
 module _ {X : Type 0} where
   -- an element that was set
@@ -35,64 +34,71 @@ module _ {X : Type 0} where
       ∙ ap (option_and_then (λ found. found)) (sym (slice_get-map f (slice_set xs k x) j) ∙ ap (λ all. slice_get all j) (map-set_same f xs k x d same) ∙ slice_get-map f xs j)
       ∙ and_then-through f (λ found. found) (slice_get xs j)
 
--- a node with another branch at a link of its own
-abbrev pub with_link : Node → Link → Option ℕ → Node
-with_link node (Below owner) at = record node { below = at }
-with_link node (Low owner) at = record node { low = at }
-with_link node (High owner) at = record node { high = at }
+-- any number but 0 stands for a branch
+pub branch-some : (k : ℕ) → 0 < k → branch_of k ≡ Some k
+branch-some zero above = absurd (omega arith)
+branch-some (suc k) above = refl
 
-module _ (nodes : List Node) (at : Option ℕ) (d : Node) where
-  -- nodes of which the owner of a link has another branch there
-  abbrev pub with_branch : Link → List Node
-  with_branch link = slice_set nodes (owner link) (with_link (slice_index_or nodes (owner link) d) link at)
+-- the branch at a link is the one that the node there has
+pub linked-row : (parts : List (List ℕ)) (nodes : List Node) (link : Link) (node : Node) → link.at < length nodes → node ≡ slice_index_or nodes link.at node
+    → linked (rows parts nodes) link ≡ branch_of (slice_index (slice_index_or nodes link.at node).next link.digit)
+linked-row parts nodes link node inside is =
+    ap (option_and_then (next_of link.digit)) (row-some parts nodes link.at node inside is).1
+    ∙ ap (λ (n : Node). branch_of (slice_index n.next link.digit)) is
 
-  -- the owner of the link shows the same
-  shows-with : (link : Link) → shown_node (with_link (slice_index_or nodes (owner link) d) link at) ≡ shown_node (slice_index_or nodes (owner link) d)
-  shows-with (Below k) = refl
-  shows-with (Low k) = refl
-  shows-with (High k) = refl
+-- two links are one, or they differ
+pub links_eq : (link other : Link) → (link ≡ other) ⊎ (link ≢ other)
+links_eq link other =
+    elim (cases_eq link.at other.at) [
+      | inr apart ↦ inr (λ same. apart (ap (λ (l : Link). l.at) same))
+      | inl at ↦ elim (cases_eq link.digit other.digit) [
+        | inr apart ↦ inr (λ same. apart (ap (λ (l : Link). l.digit) same))
+        | inl digit ↦ inl (λ i. record { at = at i; digit = digit i })
+      ]
+    ]
 
-  -- and has the same digest
-  digest-with : (link : Link) → (with_link (slice_index_or nodes (owner link) d) link at).digest ≡ (slice_index_or nodes (owner link) d).digest
-  digest-with (Below k) = refl
-  digest-with (Low k) = refl
-  digest-with (High k) = refl
+module _ (nodes : List Row) (at : ℕ) (d : Row) (link : Link) (inside : link.at < length nodes) (side : link.digit < 16) (size : length (slice_index_or nodes link.at d).next ≡ 16) where
+  -- the owner of the link with the branch there
+  abbrev pub with_next : Row
+  with_next = record (slice_index_or nodes link.at d) { next = slice_set (slice_index_or nodes link.at d).next link.digit at }
+
+  abbrev pub with_branch : List Row
+  with_branch = slice_set nodes link.at with_next
 
   -- the link leads to the branch
-  here-with : (link : Link) → owner link < length nodes → linked (with_branch link) link ≡ at
-  here-with (Below k) inside = ap (option_and_then (λ (node : Node). node.below)) (slice_get-set_same nodes k _ inside)
-  here-with (Low k) inside = ap (option_and_then (λ (node : Node). node.low)) (slice_get-set_same nodes k _ inside)
-  here-with (High k) inside = ap (option_and_then (λ (node : Node). node.high)) (slice_get-set_same nodes k _ inside)
+  here-with : linked with_branch link ≡ branch_of at
+  here-with =
+      ap (option_and_then (next_of link.digit)) (slice_get-set_same nodes link.at with_next inside)
+      ∙ ap branch_of (get_or-set_same (slice_index_or nodes link.at d).next link.digit at 0 (omega arith))
 
-  -- the other links lead where they led
-  others-with : (link other : Link) → other ≢ link → linked (with_branch link) other ≡ linked nodes other
-  others-with (Below k) (Below j) differ = ap (option_and_then (λ (node : Node). node.below)) (slice_get-set_other nodes k j _ (λ same. differ (ap Below same)))
-  others-with (Below k) (Low j) differ = read-set_same (λ node. node.low) nodes k _ d refl j
-  others-with (Below k) (High j) differ = read-set_same (λ node. node.high) nodes k _ d refl j
-  others-with (Low k) (Below j) differ = read-set_same (λ node. node.below) nodes k _ d refl j
-  others-with (Low k) (Low j) differ = ap (option_and_then (λ (node : Node). node.low)) (slice_get-set_other nodes k j _ (λ same. differ (ap Low same)))
-  others-with (Low k) (High j) differ = read-set_same (λ node. node.high) nodes k _ d refl j
-  others-with (High k) (Below j) differ = read-set_same (λ node. node.below) nodes k _ d refl j
-  others-with (High k) (Low j) differ = read-set_same (λ node. node.low) nodes k _ d refl j
-  others-with (High k) (High j) differ = ap (option_and_then (λ (node : Node). node.high)) (slice_get-set_other nodes k j _ (λ same. differ (ap High same)))
+  -- another side of the owner leads where it led
+  side-with : (digit : ℕ) → digit ≢ link.digit → next_of digit with_next ≡ next_of digit (slice_index_or nodes link.at d)
+  side-with digit apart = ap branch_of (get_or-set_other (slice_index_or nodes link.at d).next link.digit digit at 0 apart)
+
+  -- and so do those of other nodes
+  others-with : (other : Link) → other ≢ link → linked with_branch other ≡ linked nodes other
+  others-with other differ = elim (cases_eq other.at link.at) [
+    | inr apart ↦ ap (option_and_then (next_of other.digit)) (slice_get-set_other nodes link.at other.at with_next apart)
+    | inl same ↦ read-set_same (next_of other.digit) nodes link.at with_next d
+        (side-with other.digit (λ digit. differ (λ i. record { at = same i; digit = digit i }))) other.at
+  ]
 
   -- nothing else of the nodes changes
-  relinks : (link : Link) → owner link < length nodes → Relinked nodes (with_branch link) link at
-  relinks link inside = record {
-    shows = map-set_same shown_node nodes (owner link) _ d (shows-with link);
-    digests = map-set_same (λ (node : Node). node.digest) nodes (owner link) _ d (digest-with link);
-    here = here-with link inside;
-    others = others-with link;
+  pub relinks : Relinked nodes with_branch link (branch_of at)
+  relinks = record {
+    shows = map-set_same shown_node nodes link.at with_next d refl;
+    keys = map-set_same key_of nodes link.at with_next d refl;
+    here = here-with;
+    others = others-with;
   }
 
-  -- the same where the link is known by an equation
-  pub relinked : (link known : Link) → link ≡ known → owner link < length nodes → Relinked nodes (with_branch known) link at
-  relinked link known is inside =
-      subst (λ l. Relinked nodes (with_branch known) l at) (sym is) (relinks known (subst (λ l. owner l < length nodes) is inside))
-
--- what nodes show where one of them means something else, or nothing
-pub shown-set : (nodes : List Node) (k : ℕ) (meaning : Option Definition) (node : Node) → node ≡ slice_index_or nodes k node
-    → shown (slice_set nodes k (record node { definition = meaning })) ≡ defined (shown nodes) k meaning
-shown-set [] k meaning node is = refl
-shown-set (n ∷ ns) zero meaning node is = ap (λ (b : Node). record (shown_node b) { definition = meaning } ∷ shown ns) is
-shown-set (n ∷ ns) (suc k) meaning node is = ap (λ bs. shown_node n ∷ bs) (shown-set ns k meaning node is)
+-- and so it is with nodes and their parts
+pub row-relinks : (parts : List (List ℕ)) (nodes : List Node) (at : ℕ) (d : Node) (link : Link) → link.at < length nodes → link.digit < 16 → length (slice_index_or nodes link.at d).next ≡ 16
+    → Relinked (rows parts nodes) (rows parts (slice_set nodes link.at (record (slice_index_or nodes link.at d) { next = slice_set (slice_index_or nodes link.at d).next link.digit at }))) link (branch_of at)
+row-relinks parts nodes at d link inside side size =
+    let all : List Row = rows parts nodes in
+    let nexts : (slice_index_or all link.at (row [] d)).next ≡ (slice_index_or nodes link.at d).next = next-row d [] parts nodes link.at in
+    let hung : List ℕ → List Row = λ next. slice_set all link.at (record (slice_index_or all link.at (row [] d)) { next = next }) in
+    subst (λ new. Relinked all new link (branch_of at))
+    (ap (λ next. hung (slice_set next link.digit at)) nexts ∙ sym (set-next d [] (slice_set (slice_index_or nodes link.at d).next link.digit at) parts nodes link.at))
+    (relinks all at (row [] d) link (subst (λ n. link.at < n) (sym (length-rows parts nodes)) inside) side (ap length nexts ∙ size))

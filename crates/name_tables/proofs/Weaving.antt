@@ -1,86 +1,39 @@
 -- Branches stay woven where one is added behind all others, and where the last one is taken away.
-use Rattle.std.proofs.Common.{◌≡◌, ◌≢◌, ◌<◌, ◌-◌, ℕ, zero, suc, List, [], ◌∷◌, ◌++◌, Option, None, Some, map, length, refl, ap, sym, ◌∙◌, subst, inl, inr, ◌⊎◌, string_bytes, arith}
+use Rattle.std.proofs.Common.{◌≡◌, ◌≢◌, ◌<◌, ◌-◌, ℕ, zero, suc, List, [], ◌∷◌, ◌++◌, Option, None, Some, length, refl, ap, sym, ◌∙◌, subst, inl, inr, ◌⊎◌, get_or, arith}
 use Rattle.std.specs.List.{slice_get}
 use Rattle.std.specs.Option.{option_map, option_and_then, option_map_or}
 use Rattle.std.proofs.lemmas.Bool.{cases_eq}
 use Rattle.std.proofs.lemmas.List.{length-map, length_push, map_push, nil_from_length}
 use Rattle.std.proofs.lemmas.Option.{none-some, same_Some, slice_get-map, slice_get_within, option_and_then_some}
 use Rattle.name_tables.specs.Branches.{Branch}
-use Rattle.name_tables.specs.Siblings.{shown, shown_node, owner, linked, part_at, parent_at, parent_of, turns, turn, digest_of, Reaches, IsBare, Extends, Relinked, IsWoven, IsPlace}
-use Rattle.name_tables.specs.declared.branches.Node.{Node}
+use Rattle.name_tables.specs.Index.{Row, row, rows, shown, shown_node, linked, branch_of, next_of, Key, key, key_of, key_at, key_below, digest_below, turn, Way, here, past, Reaches, IsBare, Extends, Relinked, IsWoven, IsPlace}
 use Rattle.name_tables.specs.declared.branches.Link.{Link}
-use Rattle.name_tables.specs.declared.branches.Link.TheVariants.{Below, Low, High}
-use Rattle.name_tables.proofs.Siblings.{Way, here, past, way, reaches, way-some, way-more, part-shown, parent-shown, node_at, part-of, parent-of, owner-side, place-at}
+use Rattle.name_tables.specs.declared.branches.Node.{Node}
+use Rattle.name_tables.proofs.Relinks.{links_eq}
+use Rattle.name_tables.proofs.Rows.{get-some, length-rows, row-read}
+use Rattle.name_tables.proofs.Ways.{way-some, way-more, key-of, place-at}
+use Rattle.name_tables.proofs.Woven.{key-keys, digested-same, below-same}
 
--- two links of one kind are one where their owners are
-kind_eq : (make : ℕ → Link) (a b : ℕ) → (make a ≡ make b → a ≡ b) → (a ≡ b) ⊎ (a ≡ b → ⊥) → (make a ≡ make b) ⊎ (make a ≢ make b)
-kind_eq make a b back (inl same) = inl (ap make same)
-kind_eq make a b back (inr other) = inr (λ same. other (back same))
+-- only nodes have branches next to them
+linked-inside : (nodes : List Row) (link : Link) (k : ℕ) → linked nodes link ≡ Some k → link.at < length nodes
+linked-inside nodes link k is = option_and_then_some (next_of link.digit) (slice_get nodes link.at) k is (λ node there stands. slice_get_within nodes link.at node there)
 
--- two links are one, or they differ
-links_eq : (link other : Link) → (link ≡ other) ⊎ (link ≢ other)
-links_eq (Below a) (Below b) = kind_eq (λ at. Below at) a b (λ same. cc) (cases_eq a b)
-links_eq (Below a) (Low b) = inr (λ same. cc)
-links_eq (Below a) (High b) = inr (λ same. cc)
-links_eq (Low a) (Below b) = inr (λ same. cc)
-links_eq (Low a) (Low b) = kind_eq (λ at. Low at) a b (λ same. cc) (cases_eq a b)
-links_eq (Low a) (High b) = inr (λ same. cc)
-links_eq (High a) (Below b) = inr (λ same. cc)
-links_eq (High a) (Low b) = inr (λ same. cc)
-links_eq (High a) (High b) = kind_eq (λ at. High at) a b (λ same. cc) (cases_eq a b)
-
--- only nodes have branches at their links
-linked-inside : (nodes : List Node) (link : Link) (k : ℕ) → linked nodes link ≡ Some k → owner link < length nodes
-linked-inside nodes (Below at) k is = option_and_then_some (λ node. node.below) (slice_get nodes at) k is (λ node there stands. slice_get_within nodes at node there)
-linked-inside nodes (Low at) k is = option_and_then_some (λ node. node.low) (slice_get nodes at) k is (λ node there stands. slice_get_within nodes at node there)
-linked-inside nodes (High at) k is = option_and_then_some (λ node. node.high) (slice_get nodes at) k is (λ node there stands. slice_get_within nodes at node there)
-
-module _ (xs ys : List Node) where
+module _ (xs ys : List Row) where
   -- what is the same where one node is
-  linked-same : (link : Link) → slice_get xs (owner link) ≡ slice_get ys (owner link) → linked xs link ≡ linked ys link
-  linked-same (Below at) same = ap (option_and_then (λ (node : Node). node.below)) same
-  linked-same (Low at) same = ap (option_and_then (λ (node : Node). node.low)) same
-  linked-same (High at) same = ap (option_and_then (λ (node : Node). node.high)) same
+  linked-same : (link : Link) → slice_get xs link.at ≡ slice_get ys link.at → linked xs link ≡ linked ys link
+  linked-same link same = ap (option_and_then (next_of link.digit)) same
 
-  -- and so has it the part
-  part-same : (k : ℕ) → slice_get xs k ≡ slice_get ys k → part_at xs k ≡ part_at ys k
-  part-same k same = ap (λ o. option_map_or (λ (node : Node). string_bytes node.part) o []) same
+  -- and so has it the key
+  key-same : (k : ℕ) → slice_get xs k ≡ slice_get ys k → key_at xs k ≡ key_at ys k
+  key-same k same = ap (λ found. option_map_or key_of found (key 0 0 [])) same
 
-  -- and the parent
-  parent-same : (k : ℕ) → slice_get xs k ≡ slice_get ys k → parent_at xs k ≡ parent_at ys k
-  parent-same k same = ap (λ o. option_map_or (λ (node : Node). node.parent) o 0) same
-
-  -- what hangs at a link hangs below the same
-  parent_of-same : (link : Link) → parent_at xs (owner link) ≡ parent_at ys (owner link) → parent_of xs link ≡ parent_of ys link
-  parent_of-same (Below at) same = refl
-  parent_of-same (Low at) same = same
-  parent_of-same (High at) same = same
-
-  -- what is the same where all that is shown is
+  -- there are as many where all that is shown is the same
   pub length-shows : shown xs ≡ shown ys → length xs ≡ length ys
   length-shows shows = sym (length-map xs shown_node) ∙ ap length shows ∙ length-map ys shown_node
 
-  -- each node has the same part
-  part-shows : shown xs ≡ shown ys → (k : ℕ) → part_at xs k ≡ part_at ys k
-  part-shows shows k = sym (part-shown xs k) ∙ ap (λ bs. option_map_or (λ (b : Branch). b.part) (slice_get bs k) []) shows ∙ part-shown ys k
-
-  -- and hangs below the same
-  parent-shows : shown xs ≡ shown ys → (k : ℕ) → parent_at xs k ≡ parent_at ys k
-  parent-shows shows k = sym (parent-shown xs k) ∙ ap (λ bs. option_map_or (λ (b : Branch). b.parent) (slice_get bs k) 0) shows ∙ parent-shown ys k
-
--- each node has the digest of its part
-abbrev IsDigested : List Node → Type 0
-IsDigested nodes = (k : ℕ) (node : Node) → slice_get nodes k ≡ Some node → node.digest ≡ digest_of (string_bytes node.part)
-
--- nodes that show the same and have the same digests
-digested-same : (xs ys : List Node) → shown xs ≡ shown ys → map (λ node. node.digest) xs ≡ map (λ node. node.digest) ys → IsDigested ys → IsDigested xs
-digested-same xs ys shows digests digested k node is =
-    let digest : Node → ℕ = λ node. node.digest in
-    let other : (other : Node) × (slice_get ys k ≡ Some other) = node_at ys k (subst (λ n. k < n) (length-shows xs ys shows) (slice_get_within xs k node is)) in
-    let named : string_bytes other.0.part ≡ string_bytes node.part = sym (part-of ys k other.0 other.1) ∙ sym (part-shows xs ys shows k) ∙ part-of xs k node is in
-    same_Some node.digest other.0.digest
-    (sym (slice_get-map digest xs k ∙ ap (option_map digest) is) ∙ ap (λ ds. slice_get ds k) digests ∙ slice_get-map digest ys k ∙ ap (option_map digest) other.1)
-    ∙ digested k other.0 other.1 ∙ ap digest_of named
+-- there are as many nodes where all that is shown with their parts is the same
+pub length-nodes : (parts : List (List ℕ)) (xs ys : List Node) → shown (rows parts xs) ≡ shown (rows parts ys) → length xs ≡ length ys
+length-nodes parts xs ys shows = sym (length-rows parts xs) ∙ length-shows (rows parts xs) (rows parts ys) shows ∙ length-rows parts ys
 
 module _ {X : Type 0} where
   -- the elements before one that is behind all, and that one
@@ -93,57 +46,42 @@ module _ {X : Type 0} where
   get-last [] x = refl
   get-last (y ∷ xs) x = get-last xs x
 
--- one more node with the digest of its part
-digested-more : (nodes : List Node) (node : Node) → IsDigested nodes → node.digest ≡ digest_of (string_bytes node.part) → IsDigested (nodes ++ node ∷ [])
-digested-more [] node each of_part zero x is = subst (λ (n : Node). n.digest ≡ digest_of (string_bytes n.part)) (same_Some node x is) of_part
-digested-more [] node each of_part (suc k) x is = absurd (none-some x is)
-digested-more (n ∷ nodes) node each of_part zero x is = each 0 x is
-digested-more (n ∷ nodes) node each of_part (suc k) x is = digested-more nodes node (λ k. each (suc k)) of_part k x is
-
 -- a node without links adds none
-get-bare : (link_of : Node → Option ℕ) (node : Node) → link_of node ≡ None → (nodes : List Node) (k : ℕ) → option_and_then link_of (slice_get (nodes ++ node ∷ []) k) ≡ option_and_then link_of (slice_get nodes k)
+get-bare : (link_of : Row → Option ℕ) (node : Row) → link_of node ≡ None → (nodes : List Row) (k : ℕ) → option_and_then link_of (slice_get (nodes ++ node ∷ []) k) ≡ option_and_then link_of (slice_get nodes k)
 get-bare link_of node none [] zero = none
 get-bare link_of node none [] (suc k) = refl
 get-bare link_of node none (n ∷ nodes) zero = refl
 get-bare link_of node none (n ∷ nodes) (suc k) = get-bare link_of node none nodes k
 
 -- nor does one that is bare
-linked-bare : (nodes : List Node) (node : Node) (parent : ℕ) (part : List ℕ) → IsBare node parent part → (link : Link) → linked (nodes ++ node ∷ []) link ≡ linked nodes link
-linked-bare nodes node parent part bare (Below at) = get-bare (λ node. node.below) node bare.below nodes at
-linked-bare nodes node parent part bare (Low at) = get-bare (λ node. node.low) node bare.low nodes at
-linked-bare nodes node parent part bare (High at) = get-bare (λ node. node.high) node bare.high nodes at
+linked-bare : (nodes : List Row) (node : Row) (number parent : ℕ) (part : List ℕ) → IsBare node number parent part → (link : Link) → linked (nodes ++ node ∷ []) link ≡ linked nodes link
+linked-bare nodes node number parent part bare link = get-bare (next_of link.digit) node (ap branch_of (bare.next link.digit)) nodes link.at
 
 -- a node is added behind all others, and hung where its part would be found
-module _ (old new : List Node) (node : Node) (parent : ℕ) (part : List ℕ) (link : Link) (woven : IsWoven old) (is_bare : IsBare node parent part) (place : IsPlace old parent part link)
+module _ (old new : List Row) (node : Row) (parent : ℕ) (part : List ℕ) (link : Link) (woven : IsWoven old) (is_bare : IsBare node (digest_below old parent part) parent part) (place : IsPlace old parent part link)
     (free : linked old link ≡ None) (relinked : Relinked (old ++ node ∷ []) new link (Some (length old))) where
   -- there is one more
   length-added : length new ≡ suc (length old)
   length-added = let pushed = length_push old node in let same = length-shows new (old ++ node ∷ []) relinked.shows in omega arith
 
-  -- the others have the parts that they had
-  part-old : (k : ℕ) → k < length old → part_at new k ≡ part_at old k
-  part-old k inside = part-shows new (old ++ node ∷ []) relinked.shows k ∙ part-same (old ++ node ∷ []) old k (get-before old node k inside)
+  -- the others have the keys that they had
+  key-old : (k : ℕ) → k < length old → key_at new k ≡ key_at old k
+  key-old k inside = key-keys new (old ++ node ∷ []) relinked.keys k ∙ key-same (old ++ node ∷ []) old k (get-before old node k inside)
 
-  -- and hang below what they hung below
-  parent-old : (k : ℕ) → k < length old → parent_at new k ≡ parent_at old k
-  parent-old k inside = parent-shows new (old ++ node ∷ []) relinked.shows k ∙ parent-same (old ++ node ∷ []) old k (get-before old node k inside)
-
-  -- the new one has the part
-  part-added : part_at new (length old) ≡ part
-  part-added = part-shows new (old ++ node ∷ []) relinked.shows (length old) ∙ part-of (old ++ node ∷ []) (length old) node (get-last old node) ∙ ap (λ (b : Branch). b.part) is_bare.shows
-
-  -- and hangs below the parent
-  parent-added : parent_at new (length old) ≡ parent
-  parent-added = parent-shows new (old ++ node ∷ []) relinked.shows (length old) ∙ parent-of (old ++ node ∷ []) (length old) node (get-last old node) ∙ ap (λ (b : Branch). b.parent) is_bare.shows
+  -- the new one has that of the part below the parent
+  key-added : key_at new (length old) ≡ key_below old parent part
+  key-added =
+      key-keys new (old ++ node ∷ []) relinked.keys (length old) ∙ key-of (old ++ node ∷ []) (length old) node (get-last old node)
+      ∙ (λ i. key (is_bare.digest i) (is_bare.shows i).parent (is_bare.shows i).part)
 
   -- the other links are as they were
   linked-old : (other : Link) → other ≢ link → linked new other ≡ linked old other
-  linked-old other apart = relinked.others other apart ∙ linked-bare old node parent part is_bare other
+  linked-old other apart = relinked.others other apart ∙ linked-bare old node (digest_below old parent part) parent part is_bare other
 
   -- so the nodes extend those that there were
   extends-added : Extends old new
   extends-added = record {
-    parts = part-old;
+    keys = key-old;
     links = λ other k is. linked-old other (λ same. none-some k (sym free ∙ subst (λ l. linked old l ≡ Some k) same is)) ∙ is;
   }
 
@@ -153,25 +91,18 @@ module _ (old new : List Node) (node : Node) (parent : ℕ) (part : List ℕ) (l
   stands other k is (inr apart) = inr (sym (linked-old other apart) ∙ is)
 
   -- each link leads on
-  rises : (other : Link) (k : ℕ) → ((other ≡ link) × (k ≡ length old)) ⊎ (linked old other ≡ Some k) → (owner other < k) × (k < length new) × (parent_at new k ≡ parent_of new other)
+  rises : (other : Link) (k : ℕ) → ((other ≡ link) × (k ≡ length old)) ⊎ (linked old other ≡ Some k) → (other.at < k) × (k < length new)
   rises other k (inl added) =
-      let same : owner other ≡ owner link = ap owner added.0 in
+      let same : other.at ≡ link.at = ap (λ (l : Link). l.at) added.0 in
       let last : k ≡ length old = added.1 in
-      let inside : owner link < length old = place.inside in
-      let longer : length new ≡ suc (length old) = length-added in (
-        omega arith,
-        omega arith,
-        ap (parent_at new) last ∙ parent-added ∙ sym place.same_parent ∙ sym (parent_of-same new old link (parent-old (owner link) inside)) ∙ sym (ap (parent_of new) added.0),
-      )
+      let inside : link.at < length old = place.inside in
+      let longer : length new ≡ suc (length old) = length-added in
+      (omega arith, omega arith)
   rises other k (inr was) =
-      let up : owner other < k = (woven.rising other k was).0 in
+      let up : other.at < k = (woven.rising other k was).0 in
       let inside : k < length old = (woven.rising other k was).1 in
       let longer : length new ≡ suc (length old) = length-added in
-      (up, omega arith, parent-old k inside ∙ (woven.rising other k was).2 ∙ sym (parent_of-same new old other (parent-old (owner other) (omega arith))))
-
-  -- the same of each that has a branch
-  rising-added : (other : Link) (k : ℕ) → linked new other ≡ Some k → (owner other < k) × (k < length new) × (parent_at new k ≡ parent_of new other)
-  rising-added other k is = rises other k (stands other k is (links_eq other link))
+      (up, omega arith)
 
   -- no two links lead to one branch
   one_link : (one other : Link) (k : ℕ) → ((one ≡ link) × (k ≡ length old)) ⊎ (linked old one ≡ Some k) → ((other ≡ link) × (k ≡ length old)) ⊎ (linked old other ≡ Some k) → one ≡ other
@@ -180,51 +111,46 @@ module _ (old new : List Node) (node : Node) (parent : ℕ) (part : List ℕ) (l
   one_link one other k (inr was) (inl added) = absurd (let inside : k < length old = (woven.rising one k was).1 in let last : k ≡ length old = added.1 in omega arith)
   one_link one other k (inr was) (inr also) = woven.alone one other k was also
 
-  -- the new one is found
-  reached-added : (parent_at new (length old) < length old) × Reaches new (Below (parent_at new (length old))) 0 (part_at new (length old)) (length old)
-  reached-added =
-      let reached : Reaches new (Below parent) 0 part (length old) = place.reached new extends-added (length old) relinked.here part-added in
-      let first : (at : ℕ) × (linked new (Below parent) ≡ Some at) = way-some new part (length old) (Below parent) 0 (way new part (length old) (Below parent) 0 reached) in
-      let up : parent < first.0 = (rising-added (Below parent) first.0 first.1).0 in
-      let inside : first.0 < length new = (rising-added (Below parent) first.0 first.1).1 in
-      let longer : length new ≡ suc (length old) = length-added in
-      let hangs : parent_at new (length old) ≡ parent = parent-added in (
-        omega arith,
-        subst (λ p. Reaches new (Below p) 0 (part_at new (length old)) (length old)) (sym parent-added)
-            (subst (λ q. Reaches new (Below parent) 0 q (length old)) (sym part-added) reached),
-      )
+  -- what holds of the new one and of the others holds of each
+  each : (P : ℕ → Type 0) → P (length old) → ((k : ℕ) → 0 < k → k < length old → P k) → (k : ℕ) → 0 < k → k < length new → P k
+  each P last others k above inside = elim (cases_eq k (length old)) [
+    | inl same ↦ subst P (sym same) last
+    | inr before ↦ others k above (let longer : length new ≡ suc (length old) = length-added in omega arith)
+  ]
 
-  -- and so are the others
-  reached-old : (k : ℕ) → 0 < k → k < length old → (parent_at new k < k) × Reaches new (Below (parent_at new k)) 0 (part_at new k) k
-  reached-old k above inside =
-      let reached : (parent_at old k < k) × Reaches old (Below (parent_at old k)) 0 (part_at old k) k = woven.reached k above inside in
-      let more : Reaches new (Below (parent_at old k)) 0 (part_at old k) k =
-      reaches new (part_at old k) k (Below (parent_at old k)) 0 (way-more old (part_at old k) new k woven extends-added (Below (parent_at old k)) 0 (way old (part_at old k) k (Below (parent_at old k)) 0 reached.1)) in (
-        subst (λ p. p < k) (sym (parent-old k inside)) reached.0,
-        subst (λ p. Reaches new (Below p) 0 (part_at new k) k) (sym (parent-old k inside)) (subst (λ q. Reaches new (Below (parent_at old k)) 0 q k) (sym (part-old k inside)) more),
-      )
+  -- each hangs below one before it
+  hung-added : (k : ℕ) → 0 < k → k < length new → (key_at new k).parent < k
+  hung-added = each (λ k. (key_at new k).parent < k)
+      (subst (λ (key : Key). key.parent < length old) (sym key-added) place.parent_inside)
+      (λ k above inside. subst (λ (key : Key). key.parent < k) (sym (key-old k inside)) (woven.hung k above inside))
 
-  -- each is one or the other
-  reached-each : (k : ℕ) → 0 < k → k < length new → (k ≡ length old) ⊎ (k ≡ length old → ⊥) → (parent_at new k < k) × Reaches new (Below (parent_at new k)) 0 (part_at new k) k
-  reached-each k above inside (inl last) = subst (λ k. (parent_at new k < k) × Reaches new (Below (parent_at new k)) 0 (part_at new k) k) (sym last) reached-added
-  reached-each k above inside (inr before) = reached-old k above (let longer : length new ≡ suc (length old) = length-added in omega arith)
+  -- each has the digest of its name
+  digested-added : (k : ℕ) → 0 < k → k < length new → (key_at new k).digest ≡ digest_below new (key_at new k).parent (key_at new k).part
+  digested-added = each (λ k. (key_at new k).digest ≡ digest_below new (key_at new k).parent (key_at new k).part)
+      (let IsDigested : Key → Type 0 = λ key. key.digest ≡ digest_below new key.parent key.part in
+      subst IsDigested (sym key-added) (sym (below-same new old parent part (key-old parent place.parent_inside))))
+      (λ k above inside. digested-same new old k (key-old k inside) (key-old (key_at old k).parent (let up = woven.hung k above inside in omega arith)) (woven.digested k above inside))
 
-  -- each has the digest of its part
-  digested-added : IsDigested new
-  digested-added = digested-same new (old ++ node ∷ []) relinked.shows relinked.digests
-      (digested-more old node woven.digested (is_bare.digest ∙ ap (λ (b : Branch). digest_of b.part) (sym is_bare.shows)))
+  -- each is found
+  reached-added : (k : ℕ) → 0 < k → k < length new → Reaches new (key_at new k) k
+  reached-added = each (λ k. Reaches new (key_at new k) k)
+      (subst (λ key. Reaches new key (length old)) (sym key-added) (place.reached new extends-added (length old) relinked.here key-added))
+      (λ k above inside.
+      let by : Key = key_at old k in
+      subst (λ key. Reaches new key k) (sym (key-old k inside)) (way-more old by new k woven extends-added (turn by 0 0) 0 (woven.reached k above inside)))
 
   -- all is woven
   pub woven-added : IsWoven new
   woven-added = record {
-    rising = rising-added;
+    rising = λ other k is. rises other k (stands other k is (links_eq other link));
     alone = λ one other k is also. one_link one other k (stands one k is (links_eq one link)) (stands other k also (links_eq other link));
-    reached = λ k above inside. reached-each k above inside (cases_eq k (length old));
+    hung = hung-added;
     digested = digested-added;
+    reached = reached-added;
   }
 
 -- the last node is taken away, with the link to it
-module _ (old mid new : List Node) (last : Node) (link : Link) (woven : IsWoven old) (stood : linked old link ≡ Some (length new)) (relinked : Relinked old mid link None) (popped : mid ≡ new ++ last ∷ []) where
+module _ (old mid new : List Row) (last : Row) (link : Link) (woven : IsWoven old) (stood : linked old link ≡ Some (length new)) (relinked : Relinked old mid link None) (popped : mid ≡ new ++ last ∷ []) where
   -- there was one more
   length-popped : length old ≡ suc (length new)
   length-popped = let pushed = length_push new last in let same = length-shows mid old relinked.shows in let is : length mid ≡ length (new ++ last ∷ []) = ap length popped in omega arith
@@ -233,17 +159,13 @@ module _ (old mid new : List Node) (last : Node) (link : Link) (woven : IsWoven 
   get-left : (k : ℕ) → k < length new → slice_get mid k ≡ slice_get new k
   get-left k inside = ap (λ nodes. slice_get nodes k) popped ∙ get-before new last k inside
 
-  -- they have the parts that they had
-  part-left : (k : ℕ) → k < length new → part_at new k ≡ part_at old k
-  part-left k inside = sym (part-same mid new k (get-left k inside)) ∙ part-shows mid old relinked.shows k
-
-  -- and hang below what they hung below
-  parent-left : (k : ℕ) → k < length new → parent_at new k ≡ parent_at old k
-  parent-left k inside = sym (parent-same mid new k (get-left k inside)) ∙ parent-shows mid old relinked.shows k
+  -- they have the keys that they had
+  key-left : (k : ℕ) → k < length new → key_at new k ≡ key_at old k
+  key-left k inside = sym (key-same mid new k (get-left k inside)) ∙ key-keys mid old relinked.keys k
 
   -- what stands at a link stood there before the last was taken away
   linked-mid : (other : Link) (k : ℕ) → linked new other ≡ Some k → linked mid other ≡ Some k
-  linked-mid other k is = linked-same mid new other (get-left (owner other) (linked-inside new other k is)) ∙ is
+  linked-mid other k is = linked-same mid new other (get-left other.at (linked-inside new other k is)) ∙ is
 
   -- it is another link than that to the last
   linked-apart : (other : Link) (k : ℕ) → linked new other ≡ Some k → other ≢ link
@@ -264,51 +186,36 @@ module _ (old mid new : List Node) (last : Node) (link : Link) (woven : IsWoven 
   -- and the other way round
   linked-left : (other : Link) (k : ℕ) → linked old other ≡ Some k → k < length new → linked new other ≡ Some k
   linked-left other k is inside =
-      let up : owner other < k = (woven.rising other k is).0 in
+      let up : other.at < k = (woven.rising other k is).0 in
       let apart : other ≢ link = λ same. (let gone : k ≡ length new = same_Some k (length new) (sym (subst (λ l. linked old l ≡ Some k) same is) ∙ stood) in omega arith) in
-      sym (linked-same mid new other (get-left (owner other) (omega arith))) ∙ relinked.others other apart ∙ is
+      sym (linked-same mid new other (get-left other.at (omega arith))) ∙ relinked.others other apart ∙ is
 
   -- the way to another does not pass the last
-  way-left : (part : List ℕ) (k : ℕ) → k < length new → (other : Link) (level : ℕ) → Way old part k other level → Way new part k other level
-  way-left part k inside other level (here is same) = here (linked-left other k is inside) (part-left k inside ∙ same)
-  way-left part k inside other level (past at is apart rest) =
-      let next : (j : ℕ) × (linked old (turn part level at) ≡ Some j) = way-some old part k (turn part level at) (suc level) rest in
-      let up : owner (turn part level at) < next.0 = (woven.rising (turn part level at) next.0 next.1).0 in
-      let within : next.0 < length old = (woven.rising (turn part level at) next.0 next.1).1 in
-      let from : owner (turn part level at) ≡ at = owner-side at (turns (digest_of part) part level) in
+  way-left : (key : Key) (k : ℕ) → k < length new → (other : Link) (level : ℕ) → Way old key k other level → Way new key k other level
+  way-left key k inside other level (here is same) = here (linked-left other k is inside) (key-left k inside ∙ same)
+  way-left key k inside other level (past at is apart rest) =
+      let next : (j : ℕ) × (linked old (turn key (suc level) at) ≡ Some j) = way-some old key k (turn key (suc level) at) (suc level) rest in
+      let up : at < next.0 = (woven.rising (turn key (suc level) at) next.0 next.1).0 in
+      let within : next.0 < length old = (woven.rising (turn key (suc level) at) next.0 next.1).1 in
       let longer : length old ≡ suc (length new) = length-popped in
       let before : at < length new = omega arith in
-      past at (linked-left other at is before) (λ same. apart (sym (part-left at before) ∙ same)) (way-left part k inside (turn part level at) (suc level) rest)
+      past at (linked-left other at is before) (λ same. apart (sym (key-left at before) ∙ same)) (way-left key k inside (turn key (suc level) at) (suc level) rest)
 
-  -- each is found
-  reached-left : (k : ℕ) → 0 < k → k < length new → (parent_at new k < k) × Reaches new (Below (parent_at new k)) 0 (part_at new k) k
-  reached-left k above inside =
-      let longer : length old ≡ suc (length new) = length-popped in
-      let reached : (parent_at old k < k) × Reaches old (Below (parent_at old k)) 0 (part_at old k) k = woven.reached k above (omega arith) in
-      let left : Reaches new (Below (parent_at old k)) 0 (part_at old k) k =
-      reaches new (part_at old k) k (Below (parent_at old k)) 0 (way-left (part_at old k) k inside (Below (parent_at old k)) 0 (way old (part_at old k) k (Below (parent_at old k)) 0 reached.1)) in (
-        subst (λ p. p < k) (sym (parent-left k inside)) reached.0,
-        subst (λ p. Reaches new (Below p) 0 (part_at new k) k) (sym (parent-left k inside)) (subst (λ q. Reaches new (Below (parent_at old k)) 0 q k) (sym (part-left k inside)) left),
-      )
-
-  -- each link leads on
-  rising-left : (other : Link) (k : ℕ) → linked new other ≡ Some k → (owner other < k) × (k < length new) × (parent_at new k ≡ parent_of new other)
-  rising-left other k is =
-      let inside : k < length new = inside-left other k is in
-      let rises : (owner other < k) × (k < length old) × (parent_at old k ≡ parent_of old other) = woven.rising other k (linked-was other k is) in
-      (rises.0, inside, parent-left k inside ∙ rises.2 ∙ sym (parent_of-same new old other (parent-left (owner other) (linked-inside new other k is))))
-
-  -- each has the digest of its part
-  digested-left : IsDigested new
-  digested-left k node is = digested-same mid old relinked.shows relinked.digests woven.digested k node (get-left k (slice_get_within new k node is) ∙ is)
+  -- what was inside is so still
+  inside-old : (k : ℕ) → k < length new → k < length old
+  inside-old k inside = let longer : length old ≡ suc (length new) = length-popped in omega arith
 
   -- all is woven
   woven-left : IsWoven new
   woven-left = record {
-    rising = rising-left;
+    rising = λ other k is. ((woven.rising other k (linked-was other k is)).0, inside-left other k is);
     alone = λ one other k is also. woven.alone one other k (linked-was one k is) (linked-was other k also);
-    reached = reached-left;
-    digested = digested-left;
+    hung = λ k above inside. subst (λ (key : Key). key.parent < k) (sym (key-left k inside)) (woven.hung k above (inside-old k inside));
+    digested = λ k above inside.
+        digested-same new old k (key-left k inside) (key-left (key_at old k).parent (let up = woven.hung k above (inside-old k inside) in omega arith)) (woven.digested k above (inside-old k inside));
+    reached = λ k above inside.
+        subst (λ key. Reaches new key k) (sym (key-left k inside))
+        (way-left (key_at old k) k inside (turn (key_at old k) 0 0) 0 (woven.reached k above (inside-old k inside)));
   }
 
 -- no nodes are woven
@@ -316,30 +223,56 @@ woven-none : IsWoven []
 woven-none = record {
   rising = λ link k is. absurd (nothing link k is);
   alone = λ link other k is also. absurd (nothing link k is);
+  hung = λ k above inside. absurd (omega arith);
+  digested = λ k above inside. absurd (omega arith);
   reached = λ k above inside. absurd (omega arith);
-  digested = λ k node is. absurd (none-some node is);
 }
   where
     nothing : (link : Link) (k : ℕ) → linked [] link ≡ Some k → ⊥
     nothing link k is = let inside = linked-inside [] link k is in omega arith
 
 -- nodes as they were, of which there is one, or without the link to the last
-abbrev pub IsLoose : List Node → List Node → Type 0
+abbrev pub IsLoose : List Row → List Row → Type 0
 IsLoose old mid = ((mid ≡ old) × (length old ≡ 1)) ⊎ ((link : Link) × (linked old link ≡ Some (length old - 1)) × Relinked old mid link None)
 
 -- there are as many
-pub loose-length : (old mid : List Node) → IsLoose old mid → length mid ≡ length old
+pub loose-length : (old mid : List Row) → IsLoose old mid → length mid ≡ length old
 loose-length old mid (inl one) = ap length one.0
 loose-length old mid (inr loose) = length-shows mid old loose.2.shows
 
--- the last branch stands where it is found
-pub loose-found : (old mid : List Node) (last : Node) (link : Link) → IsWoven old → 1 < length old → slice_get old (length old - 1) ≡ Some last
-    → IsPlace old last.parent (string_bytes last.part) link → Relinked old mid link None → IsLoose old mid
-loose-found old mid last link woven more is place relinked =
-    let shows : slice_get (shown old) (length old - 1) ≡ Some (shown_node last) = slice_get-map shown_node old (length old - 1) ∙ ap (option_map shown_node) is in
-    inr (link, place-at old last.parent (string_bytes last.part) link woven place (length old - 1) (omega arith, shown_node last, shows, refl, refl), relinked)
+-- the last branch
+module _ (parts : List (List ℕ)) (nodes : List Node) (last : Node) (part : List ℕ) (woven : IsWoven (rows parts nodes)) (more : 1 < length nodes)
+    (read : last ≡ get_or nodes (length nodes - 1) last) (has : slice_get parts (length nodes - 1) ≡ Some part) where
+  -- it is read with its part
+  last-row : slice_get (rows parts nodes) (length nodes - 1) ≡ Some (row part last)
+  last-row = row-read parts nodes (length nodes - 1) last (omega arith) read part has
 
-module _ (old mid new : List Node) (last : Node) (popped : mid ≡ new ++ last ∷ []) where
+  -- so its key is known
+  last-key : key_at (rows parts nodes) (length nodes - 1) ≡ key last.digest last.parent part
+  last-key = key-of (rows parts nodes) (length nodes - 1) (row part last) last-row
+
+  last-inside : length nodes - 1 < length (rows parts nodes)
+  last-inside = let counted : length (rows parts nodes) ≡ length nodes = length-rows parts nodes in omega arith
+
+  -- it hangs below one before it
+  pub last-hung : last.parent < length nodes
+  last-hung =
+      let up : last.parent < length nodes - 1 = subst (λ (key : Key). key.parent < length nodes - 1) last-key (woven.hung (length nodes - 1) (omega arith) last-inside) in
+      omega arith
+
+  -- and has the digest of its name
+  pub last-digested : last.digest ≡ digest_below (rows parts nodes) last.parent part
+  last-digested = subst (λ (key : Key). key.digest ≡ digest_below (rows parts nodes) key.parent key.part) last-key (woven.digested (length nodes - 1) (omega arith) last-inside)
+
+  -- it stands where it is found
+  pub last-loose : (mid : List Row) (link : Link) → IsPlace (rows parts nodes) last.parent part link → Relinked (rows parts nodes) mid link None → IsLoose (rows parts nodes) mid
+  last-loose mid link place relinked =
+      let all : List Row = rows parts nodes in
+      let shows : slice_get (shown all) (length nodes - 1) ≡ Some (shown_node (row part last)) = slice_get-map shown_node all (length nodes - 1) ∙ ap (option_map shown_node) last-row in
+      let stands : linked all link ≡ Some (length nodes - 1) = place-at all last.parent part link woven place (length nodes - 1) (omega arith, shown_node (row part last), shows, refl, refl) in
+      inr (link, subst (λ n. linked all link ≡ Some (n - 1)) (sym (length-rows parts nodes)) stands, relinked)
+
+module _ (old mid new : List Row) (last : Row) (popped : mid ≡ new ++ last ∷ []) where
   -- the branches before it
   pub woven-popped : IsWoven old → IsLoose old mid → IsWoven new
   woven-popped woven (inl one) =
@@ -361,12 +294,15 @@ module _ (old mid new : List Node) (last : Node) (popped : mid ≡ new ++ last �
   shown-popped (inr loose) = sym loose.2.shows ∙ ap shown popped ∙ map_push shown_node new last
 
 -- what is shown behind all others is the last node
-pub last-shown : (nodes : List Node) (before : List Branch) (b : Branch) (last : Node) → shown nodes ≡ before ++ b ∷ [] → slice_get nodes (length nodes - 1) ≡ Some last → b ≡ shown_node last
-last-shown nodes before b last shows is =
+pub last-shown : (parts : List (List ℕ)) (nodes : List Node) (before : List Branch) (b : Branch) (last : Node) → shown (rows parts nodes) ≡ before ++ b ∷ [] → slice_get nodes (length nodes - 1) ≡ Some last
+    → b.definition ≡ last.definition
+last-shown parts nodes before b last shows is =
     let pushed = length_push before b in
-    let same : length (shown nodes) ≡ length (before ++ b ∷ []) = ap length shows in
-    let counted : length (shown nodes) ≡ length nodes = length-map nodes shown_node in
+    let same : length (shown (rows parts nodes)) ≡ length (before ++ b ∷ []) = ap length shows in
+    let counted : length (shown (rows parts nodes)) ≡ length nodes = length-map (rows parts nodes) shown_node ∙ length-rows parts nodes in
     let at : length before ≡ length nodes - 1 = omega arith in
-    same_Some b (shown_node last)
-    (sym (get-last before b) ∙ sym (ap (λ bs. slice_get bs (length before)) shows) ∙ ap (slice_get (shown nodes)) at
-    ∙ slice_get-map shown_node nodes (length nodes - 1) ∙ ap (option_map shown_node) is)
+    let some = get-some parts nodes (length nodes - 1) last is in
+    ap (λ (b : Branch). b.definition)
+    (same_Some b (shown_node (row some.0 last))
+    (sym (get-last before b) ∙ sym (ap (λ bs. slice_get bs (length before)) shows) ∙ ap (slice_get (shown (rows parts nodes))) at
+    ∙ slice_get-map shown_node (rows parts nodes) (length nodes - 1) ∙ ap (option_map shown_node) some.1))

@@ -1,8 +1,11 @@
 pub mod Branches
 pub mod Entries
 pub mod HashedNames
+pub mod Index
+pub mod Latest
 pub mod NameTables
+pub mod Pairs
 pub mod PartNames
+pub mod PartTexts
 pub mod Parts
 pub mod Scopes
-pub mod Siblings

@@ -1,9 +1,15 @@
--- What is left of names where files are taken away.
-use Rattle.std.specs.Prelude.{◌≡◌, ◌<◌, ◌≤◌, ℕ, List, None, IfSome, false, nat_lt}
+-- What becomes of names where one comes, and what is left of them where files are taken away.
+use Rattle.std.specs.Prelude.{◌≡◌, ◌<◌, ◌≤◌, ℕ, List, None, Some, IfSome, false, nat_lt}
 use Rattle.std.specs.Option.{option_map_or}
+use Rattle.std.specs.declared.option.Option.{Option}
 use Rattle.std.specs.FinMap as map
 use Rattle.pool_types.specs.Contents.{ByText}
 use Rattle.pool_types.specs.declared.contents.definition.Definition.{Definition}
+
+-- names with one more, and nothing; or where they have it the same names, and what it was to mean
+abbrev pub inserted : ByText Definition → List ℕ → Definition → ByText Definition × Option Definition
+inserted names name d =
+    option_map_or (λ _. (names, Some d)) (map.get names name) (map.insert names name d, None)
 
 -- of what lies in files, the map of what lies in a file before n
 abbrev pub kept_before : {X : Type 0} → (X → ℕ) → ℕ → ByText X → ByText X

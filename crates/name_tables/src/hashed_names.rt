@@ -1,4 +1,4 @@
-ghost use Rattle.std.specs.Prelude.{◌≡◌};
+ghost use Rattle.std.specs.Prelude.{◌≡◌, OnOk, OnErr, None};
 ghost use Rattle.std.specs.FinMap as map;
 
 use crate::name_table::NameTable;
@@ -40,6 +40,17 @@ impl HashedNames {
             table: HashMap::new(alloc),
         }
     }
+
+    /// Adds a name that the table lacks.
+    fn add(&mut self, name: &str, definition: Definition) -> Result<(), AllocError>
+        requires { map.get self.old name.now ≡ None }
+        ensures ok { OnOk result (self.new ≡ map.insert self.old name.now definition) }
+        ensures err { OnErr result (self.new ≡ self.old) }
+    {
+        let key = String::from_str(self.alloc, name)?;
+        self.table.insert(key, definition)?;
+        Ok(())
+    }
 }
 
 impl NameTable for HashedNames {
@@ -59,10 +70,16 @@ impl NameTable for HashedNames {
         Ok(self.get(full_name.as_str()))
     }
 
-    fn insert(&mut self, name: &str, definition: Definition) -> Result<(), AllocError> {
-        let key = String::from_str(self.alloc, name)?;
-        self.table.insert(key, definition)?;
-        Ok(())
+    fn insert(
+        &mut self,
+        name: &str,
+        definition: Definition,
+    ) -> Result<Option<Definition>, AllocError> {
+        if self.table.contains_key(name) {
+            return Ok(Some(definition));
+        }
+        self.add(name, definition)?;
+        Ok(None)
     }
 
     fn remove_from(&mut self, file: u32) {
@@ -72,7 +89,7 @@ impl NameTable for HashedNames {
     fn clone(&self) -> Result<HashedNames, AllocError> {
         let mut copy = HashedNames::new(self.alloc);
         for (name, definition) in self.table.iter() {
-            copy.insert(name.as_str(), definition.clone(self.alloc)?)?;
+            copy.add(name.as_str(), definition.clone(self.alloc)?)?;
         }
         Ok(copy)
     }

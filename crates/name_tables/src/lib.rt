@@ -5,11 +5,14 @@
 mod branches;
 mod file_names;
 mod hashed_names;
+mod latest;
 mod laws;
 mod name_table;
 mod part_names;
+mod part_texts;
 mod parts;
 mod scope;
+mod within;
 
 pub use file_names::FileNames;
 pub use hashed_names::HashedNames;
@@ -18,3 +21,6 @@ pub use name_table::NameTable;
 pub use part_names::PartNames;
 pub use parts::Parts;
 pub use scope::Scope;
+
+/// The table of names that a pool has.
+pub type PoolNames = PartNames;

@@ -1,9 +1,9 @@
-ghost use Rattle.std.specs.Prelude.{◌≡◌, ◌↔◌, IsTrue, IfOk, OnOk, OnErr};
+ghost use Rattle.std.specs.Prelude.{◌≡◌, ◌↔◌, IsTrue, IfOk, OnErr};
 ghost use Rattle.std.specs.Option.{option_copied};
 ghost use Rattle.std.specs.FinMap as map;
 ghost use Rattle.pool_types.specs.Contents.{ByText};
 ghost use Rattle.pool_types.specs.declared.contents.definition.Definition.{Definition};
-ghost use Rattle.name_tables.specs.NameTables.{without_files_from};
+ghost use Rattle.name_tables.specs.NameTables.{inserted, without_files_from};
 ghost use Rattle.proto_types.specs.Names.{join};
 
 use pool_types::Definition;
@@ -33,14 +33,18 @@ pub trait NameTable: Drop {
         ensures { IfOk result (λ found. option_copied found
             ≡ map.get (names self.now) (join scope.now name.now)) };
 
-    /// Adds a name that the table lacks.
+    /// Adds a name that the table lacks. Where it has the name, that means what it did, and the
+    /// definition comes back.
     ///
     /// # Errors
     /// `AllocError` where memory was refused. The table is then what it was.
-    fn insert(&mut self, name: &str, definition: Definition) -> Result<(), AllocError>
-        requires { map.get (names self.old) name.now ≡ None }
-        ensures ok { OnOk result
-            (names self.new ≡ map.insert (names self.old) name.now definition) }
+    fn insert(
+        &mut self,
+        name: &str,
+        definition: Definition,
+    ) -> Result<Option<Definition>, AllocError>
+        ensures ok { IfOk result (λ back. (names self.new, back)
+            ≡ inserted (names self.old) name.now definition) }
         ensures err { OnErr result (names self.new ≡ names self.old) };
 
     /// Takes away each name whose definition lies in the file with this number or in a later one.

@@ -1,15 +1,18 @@
-ghost use Rattle.std.specs.Prelude.{◌≡◌, ◌≤◌, ◌<◌, ◌↔◌, ℕ, [], ◌∷◌, ◌++◌, List, length, IfOk, IfSome, OnOk, OnErr, IsTrue, None, Some};
+ghost use Rattle.std.specs.Prelude.{◌≡◌, ◌≤◌, ◌<◌, ℕ, [], ◌∷◌, ◌++◌, length, IfOk, IfSome, OnOk, OnErr, IsTrue, None, Some};
 ghost use Rattle.std.specs.FinMap as map;
 ghost use Rattle.std.specs.List.{slice_get};
 ghost use Rattle.std.specs.Option.{option_copied};
 ghost use Rattle.proto_types.specs.Names.{join};
-ghost use Rattle.name_tables.specs.Branches.{Leads, IsTree, SameTree, Within, WithinAt, meaning, names_of, path};
+ghost use Rattle.name_tables.specs.Branches.{Leads, IsTree, SameTree, meaning, names_of};
+ghost use Rattle.name_tables.specs.Latest.{IsLatest};
 ghost use Rattle.name_tables.specs.Parts.{parts};
 
 use crate::branches::Branches;
+use crate::latest::{Latest, near, write_name};
 use crate::name_table::NameTable;
 use crate::parts::Parts;
 use crate::scope::Scope;
+use crate::within::is_within;
 use pool_types::Definition;
 use std::alloc::{AllocError, Global};
 use std::marker::Model;
@@ -22,6 +25,8 @@ pub struct PartNames {
     branches: Branches,
     /// The branches that were given a definition, in order.
     entered: Vec<Entered>,
+    /// None where names were taken away since.
+    latest: Option<Latest>,
 }
 
 /// That a branch was given a definition.
@@ -45,11 +50,12 @@ impl Model for PartNames {
 
     ghost use Rattle.name_tables.specs.Branches.{IsTree, names_of};
     ghost use Rattle.name_tables.specs.PartNames.{Rising, Noted};
+    ghost use Rattle.name_tables.specs.Latest.{IsLatest};
 
     ghost view = { λ names. names_of names.branches };
 
     ghost invariant = { λ names. IsTree names.branches × Rising names.entered.items
-        × Noted names.branches names.entered.items };
+        × Noted names.branches names.entered.items × IsLatest names.branches names.latest };
 }
 
 impl PartNames {
@@ -61,6 +67,7 @@ impl PartNames {
             alloc,
             branches: Branches::new(alloc),
             entered: Vec::new(alloc),
+            latest: None,
         }
     }
 
@@ -83,7 +90,7 @@ impl NameTable for PartNames {
     ghost names = { λ names. names };
 
     fn get(&self, name: &str) -> Option<&Definition> {
-        let at = self.branches.descend(0, name)?;
+        let at = branch_of(&self.branches, self.latest.as_ref(), name)?;
         self.branches.definition(at as usize)
     }
 
@@ -96,14 +103,25 @@ impl NameTable for PartNames {
         Ok(self.find_joined(scope, name))
     }
 
-    fn insert(&mut self, name: &str, definition: Definition) -> Result<(), AllocError> {
-        let at = reach(&mut self.branches, name)?;
-        note(&mut self.entered, at, definition.file)?;
-        self.branches.define(at as usize, Some(definition));
-        Ok(())
+    fn insert(
+        &mut self,
+        name: &str,
+        definition: Definition,
+    ) -> Result<Option<Definition>, AllocError> {
+        let latest = self.latest.take();
+        let branch = enter(&mut self.branches, latest.as_ref(), name)?;
+        let name = write_name(self.alloc, latest, name)?;
+        self.latest = Some(Latest { name, branch });
+        if self.branches.definition(branch as usize).is_some() {
+            return Ok(Some(definition));
+        }
+        note(&mut self.entered, branch, definition.file)?;
+        self.branches.define(branch as usize, Some(definition));
+        Ok(None)
     }
 
     fn remove_from(&mut self, file: u32) {
+        self.latest = None;
         forget_from(&mut self.branches, &mut self.entered, file);
         prune(&mut self.branches);
     }
@@ -115,6 +133,7 @@ impl NameTable for PartNames {
             alloc: self.alloc,
             branches,
             entered,
+            latest: None,
         })
     }
 
@@ -125,6 +144,40 @@ impl NameTable for PartNames {
 
 ghost use Rattle.name_tables.specs.PartNames.{before, Forgets, ForgetsAt, MeanNothing, Noted, Rising};
 ghost use Rattle.name_tables.specs.declared.part_names.Entered.{Entered};
+
+/// The branch of a name, or none where none has it.
+fn branch_of(branches: &Branches, latest: Option<&Latest>, name: &str) -> Option<u32>
+    requires tree { IsTree branches.now }
+    requires latest { IsLatest branches.now (option_copied latest) }
+    ensures found { IfSome result (λ k. Leads branches.now 0 (parts name.now) k) }
+    ensures none { result ≡ None → (k : ℕ) → Leads branches.now 0 (parts name.now) k → ⊥ }
+{
+    match near(branches, latest, name) {
+        Some((scope, last)) => branches.find(scope, last.as_bytes()),
+        None => branches.look_up(name),
+    }
+}
+
+/// The branch of a name. It is added where there is none: below that of its scope, where that is
+/// near, else with all that it stands behind.
+///
+/// # Errors
+/// `AllocError` where memory was refused, or where there are 4,294,967,296 branches. Branches that
+/// were added mean nothing.
+fn enter(branches: &mut Branches, latest: Option<&Latest>, name: &str) -> Result<u32, AllocError>
+    requires tree { IsTree branches.old }
+    requires latest { IsLatest branches.old (option_copied latest) }
+    ensures tree { IsTree branches.new }
+    ensures names { names_of branches.new ≡ names_of branches.old }
+    ensures meanings { (k : ℕ) → meaning branches.new k ≡ meaning branches.old k }
+    ensures leads { IfOk result (λ k. Leads branches.new 0 (parts name.now) k) }
+{
+    let Some((scope, last)) = near(branches, latest, name) else {
+        return reach(branches, name);
+    };
+    let at = branches.grow(scope, last)?;
+    Ok(at)
+}
 
 /// The branch of a name. It is added, and so are those that it stands behind, where there is none.
 ///
@@ -249,59 +302,4 @@ fn prune(branches: &mut Branches)
     ensures meanings { (k : ℕ) → meaning branches.new k ≡ meaning branches.old k }
 {
     while branches.pop_bare() {}
-}
-
-/// Whether each name that means something among branches means the same among others.
-fn is_within(branches: &Branches, others: &Branches) -> bool
-    requires tree { IsTree branches.now }
-    requires others { IsTree others.now }
-    ensures { IsTrue result ↔ Within branches.now others.now }
-{
-    for at in 0..branches.len() {
-        if !means_same(branches, at, others) {
-            return false;
-        }
-    }
-    true
-}
-
-/// Whether the name of a branch means nothing, or the same among others.
-fn means_same(branches: &Branches, at: usize, others: &Branches) -> bool
-    requires tree { IsTree branches.now }
-    requires others { IsTree others.now }
-    requires at { at < length branches.now }
-    ensures { IsTrue result ↔ WithinAt branches.now others.now at }
-{
-    match branches.definition(at) {
-        Some(definition) => match counterpart(branches, at, others) {
-            Some(other) => means(others, other as usize, definition),
-            None => false,
-        },
-        None => true,
-    }
-}
-
-/// Whether the name of a branch means what a definition says.
-fn means(branches: &Branches, at: usize, definition: &Definition) -> bool
-    ensures { IsTrue result ↔ (meaning branches.now at ≡ Some definition.now) }
-{
-    match branches.definition(at) {
-        Some(other) => other == definition,
-        None => false,
-    }
-}
-
-/// The branch of others that has the name of a branch.
-fn counterpart(branches: &Branches, at: usize, others: &Branches) -> Option<u32>
-    requires tree { IsTree branches.now }
-    requires others { IsTree others.now }
-    requires at { at < length branches.now }
-    ensures found { IfSome result (λ k. Leads others.now 0 (path branches.now at) k) }
-    ensures none { result ≡ None → (k : ℕ) → Leads others.now 0 (path branches.now at) k → ⊥ }
-{
-    if at == 0 {
-        return Some(0);
-    }
-    let parent = counterpart(branches, branches.parent(at) as usize, others)?;
-    others.find(parent, branches.part(at))
 }

@@ -1,9 +1,10 @@
-ghost use Rattle.std.specs.Prelude.{◌≡◌, ◌↔◌, [], IfSome, None};
+ghost use Rattle.std.specs.Prelude.{◌≡◌, ◌≢◌, ◌↔◌, ℕ, [], ◌∷◌, IfSome, None};
 ghost use Rattle.std.specs.FinMap as map;
 ghost use Rattle.std.specs.Option.{option_copied};
 ghost use Rattle.proto_types.specs.Names.{join};
-ghost use Rattle.name_tables.specs.Branches.{IsTree, names_of};
-ghost use Rattle.name_tables.specs.Scopes.{IsAround};
+ghost use Rattle.name_tables.specs.Branches.{IsTree, Leads, names_of};
+ghost use Rattle.name_tables.specs.Parts.{parts};
+ghost use Rattle.name_tables.specs.Scopes.{IsAround, IsBranchOf};
 
 use crate::branches::Branches;
 use pool_types::Definition;
@@ -50,7 +51,7 @@ impl<'a, 't> Scope<'a, 't> {
         let at = if text.is_empty() {
             Some(0)
         } else {
-            branches.descend(0, text)
+            branches.look_up(text)
         };
         Scope { branches, text, at }
     }
@@ -66,7 +67,16 @@ impl<'a, 't> Scope<'a, 't> {
     pub fn find(&self, name: &str) -> Option<&'a Definition>
         ensures { option_copied result ≡ map.get self.now.0 (join self.now.1 name.now) }
     {
-        let at = self.branches.descend(self.at?, name)?;
+        let at = go_down(self.branches, self.at?, name)?;
+        self.branches.definition(at as usize)
+    }
+
+    /// The same of a name without a dot, which is found faster. One with a dot has none.
+    pub fn find_part(&self, part: &str) -> Option<&'a Definition>
+        ensures { parts part.now ≡ part.now ∷ [] → option_copied result
+            ≡ map.get self.now.0 (join self.now.1 part.now) }
+    {
+        let at = self.branches.find(self.at?, part.as_bytes())?;
         self.branches.definition(at as usize)
     }
 
@@ -80,7 +90,7 @@ impl<'a, 't> Scope<'a, 't> {
         if self.text.is_empty() {
             return None;
         }
-        let text = outer_text(self.text);
+        let text = outer_text(self.branches, self.text, self.at);
         match self.at {
             Some(at) if !text.is_empty() => Some(Scope {
                 branches: self.branches,
@@ -92,8 +102,37 @@ impl<'a, 't> Scope<'a, 't> {
     }
 }
 
+/// The branch to which a name leads from another: from the root, that of the whole name.
+fn go_down(branches: &Branches, from: u32, name: &str) -> Option<u32>
+    requires { IsTree branches.now }
+    ensures found { IfSome result (λ k. Leads branches.now from (parts name.now) k) }
+    ensures none { result ≡ None → (k : ℕ) → Leads branches.now from (parts name.now) k → ⊥ }
+{
+    if from == 0 {
+        branches.look_up(name)
+    } else {
+        branches.descend(from, name)
+    }
+}
+
+/// The text of the scope around another: what stands before its last part.
+fn outer_text<'t>(branches: &Branches, text: &'t str, at: Option<u32>) -> &'t str
+    requires tree { IsTree branches.now }
+    requires branch { IsBranchOf branches.now text.now at }
+    requires some { text.now ≢ [] }
+    ensures { IsAround text.now result.now }
+{
+    match at {
+        Some(at) => {
+            let part = branches.part(at as usize);
+            &text[..text.len().saturating_sub(part.len() + 1)]
+        }
+        None => before_last_dot(text),
+    }
+}
+
 /// The text before the last dot, or the empty text where there is none.
-fn outer_text(text: &str) -> &str
+fn before_last_dot(text: &str) -> &str
     ensures { IsAround text.now result.now }
 {
     match text.rsplit_once('.') {

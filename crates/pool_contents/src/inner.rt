@@ -2,7 +2,7 @@ ghost use Rattle.std.specs.Prelude.{◌≡◌};
 ghost use Rattle.pool_types.specs.Contents.{no_contents};
 ghost use Rattle.pool_contents.specs.Inner.{contents_in};
 
-use name_tables::{FileNames, HashedNames};
+use name_tables::{FileNames, PoolNames};
 use pool_types::{
     EnumDescriptorInner, ExtensionDescriptorInner, FileDescriptorInner, MessageDescriptorInner,
     ServiceDescriptorInner,
@@ -18,7 +18,7 @@ pub struct DescriptorPoolInner {
     pub enums: Vec<EnumDescriptorInner>,
     pub services: Vec<ServiceDescriptorInner>,
     pub extensions: Vec<ExtensionDescriptorInner>,
-    pub names: HashedNames,
+    pub names: PoolNames,
     pub file_names: FileNames,
 }
 
@@ -33,7 +33,7 @@ impl DescriptorPoolInner {
             enums: Vec::new(alloc),
             services: Vec::new(alloc),
             extensions: Vec::new(alloc),
-            names: HashedNames::new(alloc),
+            names: PoolNames::new(alloc),
             file_names: FileNames::new(alloc),
         }
     }

@@ -5,7 +5,7 @@ ghost use Rattle.pool_contents.specs.Equality.{contents_eq, items_eq, names_eq, 
 ghost use Rattle.pool_contents.specs.Inner.{contents_in};
 
 use crate::inner::DescriptorPoolInner;
-use name_tables::{FileNames, HashedNames, NameTable};
+use name_tables::{FileNames, NameTable, PoolNames};
 
 impl DescriptorPoolInner {
     /// Whether both hold the same items, and the same names with the same meanings.
@@ -30,7 +30,7 @@ impl DescriptorPoolInner {
 }
 
 /// Whether the same names mean the same.
-fn same_names(names: &HashedNames, others: &HashedNames) -> bool
+fn same_names(names: &PoolNames, others: &PoolNames) -> bool
     ensures { result ≡ names_eq names.now others.now }
 {
     names.same(others)

@@ -7,7 +7,7 @@ pub use name_resolution::{
     CandidateParents, ResolveNameFilter, ResolveNameResult, cardinality_of, named_kind,
     parents_count, resolve_in_parts, resolve_name, simple_kind, visible_from,
 };
-pub use name_tables::{FileNames, HashedNames, NameTable, PartNames, Parts, Scope};
+pub use name_tables::{FileNames, HashedNames, NameTable, PartNames, Parts, PoolNames, Scope};
 pub use plain_data::{Items, NumberMap, Text, TextMap};
 pub use pool_faults::{DescriptorError, DescriptorErrorKind, Label, Labelled, label_at};
 pub use pool_types::{

@@ -9,7 +9,7 @@ ghost use Rattle.field_rules.specs.Tells.{Tells, named_files};
 use crate::Setting;
 use field_rules::{Findings, Place};
 use name_resolution::{ResolveNameFilter, ResolveNameResult};
-use name_tables::{FileNames, HashedNames};
+use name_tables::{FileNames, PoolNames};
 use std::alloc::AllocError;
 
 /// What declarations are read with: the files that labels name, the faults that are found, and what
@@ -17,7 +17,7 @@ use std::alloc::AllocError;
 #[derive(Drop)]
 pub struct Reading<'f> {
     pub findings: Findings<'f>,
-    pub names: &'f HashedNames,
+    pub names: &'f PoolNames,
     pub file_names: &'f FileNames,
 }
 

@@ -7,7 +7,7 @@ use crate::items::NewItems;
 use crate::owner_reading::{check_imports, read_enum, read_extension, read_message, read_service};
 use crate::{EarlierExtensions, PoolExtensions, Setting};
 use field_rules::{Faults, Place};
-use name_tables::{FileNames, HashedNames};
+use name_tables::{FileNames, PoolNames};
 use proto_types::{
     DescriptorProto, EnumDescriptorProto, EnumValueDescriptorProto, FieldDescriptorProto,
     FileDescriptorProto, MethodDescriptorProto, OneofDescriptorProto, ServiceDescriptorProto,
@@ -25,7 +25,7 @@ use std::alloc::{AllocError, Global};
 #[derive(Drop)]
 pub struct ResolveVisitor<'a> {
     pub alloc: Global,
-    pub names: &'a HashedNames,
+    pub names: &'a PoolNames,
     pub file_names: &'a FileNames,
     pub pool: PoolExtensions<'a>,
     pub items: NewItems,

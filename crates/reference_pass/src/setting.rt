@@ -3,8 +3,8 @@ ghost use Rattle.std.specs.Option.{option_copied};
 ghost use Rattle.name_resolution.specs.Resolution.{resolution_in};
 ghost use Rattle.reference_pass.specs.Setting.{resolve};
 
-use name_resolution::{ResolveNameFilter, ResolveNameResult, resolve_name};
-use name_tables::{FileNames, HashedNames};
+use name_resolution::{ResolveNameFilter, ResolveNameResult, resolve_in_parts};
+use name_tables::{FileNames, PoolNames};
 use pool_types::FileDescriptorInner;
 use std::alloc::{AllocError, Global};
 use std::collections::BTreeSet;
@@ -14,7 +14,7 @@ use std::collections::BTreeSet;
 #[derive(Clone, Copy)]
 pub struct Setting<'a> {
     pub files: &'a [FileDescriptorInner],
-    pub names: &'a HashedNames,
+    pub names: &'a PoolNames,
     pub file_names: &'a FileNames,
 }
 
@@ -38,7 +38,7 @@ impl<'a> Setting<'a> {
     {
         let nothing = BTreeSet::new(alloc);
         let visible = self.visible(file).unwrap_or(&nothing);
-        resolve_name(alloc, visible, self.names, scope, written, filter)
+        resolve_in_parts(alloc, visible, self.names, scope, written, filter)
     }
 
     fn visible(self, file: u32) -> Option<&'a BTreeSet<u32>>

@@ -21,11 +21,8 @@ pub(super) fn enter<N: NameTable>(
     name: &str,
     definition: Definition,
 ) -> Result<bool, AllocError> {
-    if table.get(name).is_some() {
-        return Ok(false);
-    }
-    table.insert(name, definition)?;
-    Ok(true)
+    let back = table.insert(name, definition)?;
+    Ok(back.is_none())
 }
 
 fn later_files_go_and_a_copy_stays<N: NameTable>(

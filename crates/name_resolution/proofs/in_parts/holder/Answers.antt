@@ -10,7 +10,7 @@ returns-then-has_parent-clause-found c is_seen filter =
     let names = c.args.scope.0 in
     let scope = c.in-Some.scope in
     let same = names-left names c.loop-next.next scope c.in-Some.is c.loop-next.invariant.names in
-    first-held names is_seen filter c.args.name.now c.first_part-first.result.now c.first_part-first.ensures
+    first-held names is_seen filter c.args.name.now c.first_part-first.result.now c.first_part-first.ensures.text
     c.loop-next.next scope c.has_parent.result (outer c.args.scope.1) c.in-Some.is same c.has_parent.ensures c.if-has_parent.true
     (c.loop-next.invariant.left is_seen filter)
 
@@ -21,7 +21,7 @@ loop-next-preserved c =
     let same = names-left names c.loop-next.next scope c.in-Some.is c.loop-next.invariant.names in
     record {
       names = names-around names scope c.around-next.result c.around-next.ensures.names same;
-      left = λ is_seen filter. none-held names is_seen filter c.args.name.now c.first_part-first.result.now c.first_part-first.ensures
+      left = λ is_seen filter. none-held names is_seen filter c.args.name.now c.first_part-first.result.now c.first_part-first.ensures.text
           c.loop-next.next c.around-next.result scope c.has_parent.result (outer c.args.scope.1) c.in-Some.is same c.has_parent.ensures c.if-has_parent.false
           c.around-next.ensures.none c.around-next.ensures.text (c.loop-next.invariant.left is_seen filter);
     }

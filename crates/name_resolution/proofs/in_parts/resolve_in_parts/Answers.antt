@@ -5,6 +5,7 @@ use Rattle.std.specs.Ordering.{nat_cmp}
 use Rattle.std.specs.Result.{IfOk}
 use Rattle.std.proofs.lemmas.Str.Pattern.{strip_prefix_char}
 use Rattle.proto_types.specs.Names.{join}
+use Rattle.name_tables.proofs.NameParts.{part-undotted}
 use Rattle.name_resolution.specs.Parents.{outer}
 use Rattle.name_resolution.specs.Resolution.{resolution_in, resolution, look, simple, dotted}
 use Rattle.name_resolution.proofs.Dots.{none-long, resolution-empty, resolution-dotted, resolution-simple}
@@ -65,3 +66,6 @@ returns-in-None-3-clause-answer c =
 
 pub returns-in-None-3-clause-nothing : goal.returns-in-None-3-clause-nothing
 returns-in-None-3-clause-nothing c nothing = c.look_outwards.ensures.nothing (in_scope-simple c ∙ nothing)
+
+pub look_outwards-requires : goal.look_outwards-requires
+look_outwards-requires c = part-undotted c.args.name.now c.if-contains.ensures.cases

@@ -1,65 +1,84 @@
-use Rattle.std.proofs.Common.{◌≡◌, ◌<◌, suc, Some, length, string_bytes, arith, ap, sym, ◌∙◌, subst}
+use Rattle.std.proofs.Common.{◌≡◌, ◌≢◌, ◌<◌, ◌+◌, ℕ, Some, length, ap, sym, ◌∙◌, subst, arith}
 use Rattle.std.proofs.Math.Numerals.{add-one}
-use Rattle.std.specs.Cmp.Lexicographic.{bytes_decides}
-use Rattle.std.specs.List.{slice_get}
-use Rattle.std.specs.Str.{bytes_eq}
 use Rattle.std.proofs.lemmas.Bool.{both_ways}
-use Rattle.name_tables.specs.Siblings.{owner, part_at, side, turns, turn, digest_of}
-use Rattle.name_tables.proofs.Siblings.{IsSought, linked-node, part-of, owner-side, sought-next, place-found, place-none}
+use Rattle.std.proofs.lemmas.Bool.Decides.{Decides-eqb}
+use Rattle.std.proofs.lemmas.Slice.Eq.{slice_eq-Decides}
+use Rattle.std.specs.List.{slice_get}
+use Rattle.name_tables.specs.Index.{row, rows, linked, Key, key, key_of, key_at, key_below, digit_at, turn}
+use Rattle.name_tables.specs.declared.branches.Link.{Link}
+use Rattle.name_tables.proofs.Rows.{length-rows, row-read, row-some}
+use Rattle.name_tables.proofs.Ways.{IsSought, key-of, rises-row, sought-first, sought-next, place-found, place-none}
 use Rattle.name_tables.proofs.branches.seek.Goals as goal
-use Rattle.name_tables.proofs.branches.seek.Goals.{else-node-digest-via-then-node-digest+else-eq, else-node-digest-via-else-node-digest}
+use Rattle.name_tables.proofs.branches.seek.Goals.{else-node-label-via-then-node-label+then-node-label-2+else-eq, else-node-label-via-then-node-label+else-node-label-2, else-node-label-via-else-node-label}
+
+pub loop-at-init : goal.loop-at-init
+loop-at-init c =
+    let all = rows c.args.texts.now c.args.nodes.now in
+    let by : Key = key_below all c.args.label.parent c.args.label.part.now in
+    let counted = length-rows c.args.texts.now c.args.nodes.now in
+    let parent : c.args.label.parent < length c.args.nodes.now = c.requires.parent in
+    let turns : c.digit_at.result ≡ digit_at by 0 = c.digit_at.ensures.same ∙ ap (λ digest. digit_at (key digest c.args.label.parent c.args.label.part.now) 0) c.requires.digest in
+    let link : ℕ → Link = λ digit. record { at = 0; digit = digit } in
+    record {
+      inside = omega arith;
+      sought = subst (λ digit. IsSought all by (link digit) 0) (sym turns) (sought-first all by (omega arith));
+    }
 
 pub bounds-nodes-at : goal.bounds-nodes-at
-bounds-nodes-at c = (c.requires.woven.rising c.loop-at.link c.in-Some.at (sym c.in-Some.ensures)).1
+bounds-nodes-at c = (rises-row c.args.texts.now c.args.nodes.now c.loop-at.link c.in-Some.at c.requires.woven (sym (c.in-Some.ensures c.args.texts.now))).1
+
+pub get-requires : goal.get-requires
+get-requires c =
+    subst (λ n. c.in-Some.at < n) (sym c.requires.even) (rises-row c.args.texts.now c.args.nodes.now c.loop-at.link c.in-Some.at c.requires.woven (sym (c.in-Some.ensures c.args.texts.now))).1
 
 pub returns-then-eq : goal.returns-then-eq
 returns-then-eq c =
-    let read : slice_get c.args.nodes.now c.in-Some.at ≡ Some c.index-nodes-at.result =
-    linked-node c.args.nodes.now c.loop-at.link c.in-Some.at c.index-nodes-at.result c.requires.woven (sym c.in-Some.ensures) c.index-nodes-at.is in
-    place-found c.args.nodes.now c.args.parent c.args.part.now c.loop-at.link c.loop-at.level c.in-Some.at c.requires.woven c.loop-at.invariant.sought (sym c.in-Some.ensures)
-    (part-of c.args.nodes.now c.in-Some.at c.index-nodes-at.result read ∙ sym c.as_str.ensures.value ∙ (bytes_decides c.as_str.result.now c.args.part.now).0 (sym c.if-eq.ensures))
+    let all = rows c.args.texts.now c.args.nodes.now in
+    let node = c.index-nodes-at.result in
+    let stands : linked all c.loop-at.link ≡ Some c.in-Some.at = sym (c.in-Some.ensures c.args.texts.now) in
+    let inside = (rises-row c.args.texts.now c.args.nodes.now c.loop-at.link c.in-Some.at c.requires.woven stands).1 in
+    let read : slice_get all c.in-Some.at ≡ Some (row c.get.result.now node) = row-read c.args.texts.now c.args.nodes.now c.in-Some.at node inside c.index-nodes-at.is c.get.result.now c.get.ensures in
+    let named : c.get.result.now ≡ c.args.label.part.now = (slice_eq-Decides Decides-eqb c.get.result.now c.args.label.part.now c.eq.result c.eq.ensures).0 c.if-eq.true in
+    let counted = length-rows c.args.texts.now c.args.nodes.now in
+    let parent : c.args.label.parent < length c.args.nodes.now = c.requires.parent in
+    place-found all c.args.label.parent c.args.label.part.now c.loop-at.link c.loop-at.level c.requires.woven (omega arith) c.loop-at.invariant.sought c.in-Some.at stands
+    (key-of all c.in-Some.at (row c.get.result.now node) read ∙ (λ i. key ((c.if-node-label.true ∙ c.requires.digest) i) (c.if-node-label-2.true i) (named i)))
 
--- the branch at the link has another part
-differs : (c : goal.After-side-link) → part_at c.args.nodes.now c.in-Some.at ≡ c.args.part.now → ⊥
+-- the branch at the link has another key
+differs : (c : goal.After-digit_at-in-Some) → key_at (rows c.args.texts.now c.args.nodes.now) c.in-Some.at ≢ key_below (rows c.args.texts.now c.args.nodes.now) c.args.label.parent c.args.label.part.now
 differs c same =
-    let read : slice_get c.args.nodes.now c.in-Some.at ≡ Some c.index-nodes-at.result =
-    linked-node c.args.nodes.now c.loop-at.link c.in-Some.at c.index-nodes-at.result c.requires.woven (sym c.in-Some.ensures) c.index-nodes-at.is in
-    let named : string_bytes c.index-nodes-at.result.part ≡ c.args.part.now = sym (part-of c.args.nodes.now c.in-Some.at c.index-nodes-at.result read) ∙ same in
-    elim c.else-node-digest.branch [
-      | else-node-digest-via-then-node-digest+else-eq w ↦
-          both_ways (bytes_eq w.as_str.result.now c.args.part.now) (sym w.if-eq.ensures) ((bytes_decides w.as_str.result.now c.args.part.now).1 (w.as_str.ensures.value ∙ named))
-      | else-node-digest-via-else-node-digest w ↦
-          w.if-node-digest.false (c.requires.woven.digested c.in-Some.at c.index-nodes-at.result read ∙ ap digest_of named ∙ sym c.loop-at.invariant.digests)
+    let all = rows c.args.texts.now c.args.nodes.now in
+    let node = c.index-nodes-at.result in
+    let inside = (rises-row c.args.texts.now c.args.nodes.now c.loop-at.link c.in-Some.at c.requires.woven (sym (c.in-Some.ensures c.args.texts.now))).1 in
+    let some = row-some c.args.texts.now c.args.nodes.now c.in-Some.at node inside c.index-nodes-at.is in
+    let found : key_of (row some.0 node) ≡ key_below all c.args.label.parent c.args.label.part.now = sym (key-of all c.in-Some.at (row some.0 node) some.1) ∙ same in
+    elim c.else-node-label.branch [
+      | else-node-label-via-then-node-label+then-node-label-2+else-eq w ↦
+          let read : slice_get all c.in-Some.at ≡ Some (row w.get.result.now node) = row-read c.args.texts.now c.args.nodes.now c.in-Some.at node inside c.index-nodes-at.is w.get.result.now w.get.ensures in
+          let named : w.get.result.now ≡ c.args.label.part.now = ap (λ (key : Key). key.part) (sym (key-of all c.in-Some.at (row w.get.result.now node) read) ∙ same) in
+          both_ways w.eq.result w.if-eq.false ((slice_eq-Decides Decides-eqb w.get.result.now c.args.label.part.now w.eq.result w.eq.ensures).1 named)
+      | else-node-label-via-then-node-label+else-node-label-2 w ↦ w.if-node-label-2.false (ap (λ (key : Key). key.parent) found)
+      | else-node-label-via-else-node-label w ↦ w.if-node-label.false (ap (λ (key : Key). key.digest) found ∙ sym c.requires.digest)
     ]
 
--- the link that comes next
-next : (c : goal.After-side-link) → c.side-link.result ≡ turn c.args.part.now c.loop-at.level c.in-Some.at
-next c = c.side-link.ensures ∙ ap (side c.in-Some.at) (c.turns_high.ensures ∙ ap (λ digest. turns digest c.args.part.now c.loop-at.level) c.loop-at.invariant.digests)
-
--- where the search goes on
-goes_on : (c : goal.After-side-link) → IsSought c.args.nodes.now c.args.parent c.args.part.now c.side-link.result (suc c.loop-at.level)
-goes_on c =
-    subst (λ link. IsSought c.args.nodes.now c.args.parent c.args.part.now link (suc c.loop-at.level)) (sym (next c))
-    (sought-next c.args.nodes.now c.args.parent c.args.part.now c.loop-at.link c.loop-at.level c.in-Some.at c.requires.woven c.loop-at.invariant.sought (sym c.in-Some.ensures) (differs c))
-
-owner-next : (c : goal.After-side-link) → owner c.side-link.result ≡ c.in-Some.at
-owner-next c = ap owner c.side-link.ensures ∙ owner-side c.in-Some.at c.turns_high.result
-
-pub overflow_add-level : goal.overflow_add-level
-overflow_add-level c =
-    let rises : owner c.loop-at.link < c.in-Some.at = (c.requires.woven.rising c.loop-at.link c.in-Some.at (sym c.in-Some.ensures)).0 in
-    let low = c.loop-at.invariant.sought.low in
-    omega arith
-
-pub loop-at-smaller : goal.loop-at-smaller
-loop-at-smaller c =
-    let rises : owner c.loop-at.link < c.in-Some.at = (c.requires.woven.rising c.loop-at.link c.in-Some.at (sym c.in-Some.ensures)).0 in
-    let inside : c.in-Some.at < length c.args.nodes.now = (c.requires.woven.rising c.loop-at.link c.in-Some.at (sym c.in-Some.ensures)).1 in
-    let at : owner c.side-link.result ≡ c.in-Some.at = owner-next c in
-    omega arith
-
 pub loop-at-preserved : goal.loop-at-preserved
-loop-at-preserved c = record { digests = c.loop-at.invariant.digests; sought = rw add-one (goes_on c) }
+loop-at-preserved c =
+    let all = rows c.args.texts.now c.args.nodes.now in
+    let by : Key = key_below all c.args.label.parent c.args.label.part.now in
+    let stands : linked all c.loop-at.link ≡ Some c.in-Some.at = sym (c.in-Some.ensures c.args.texts.now) in
+    let next : IsSought all by (turn by (c.loop-at.level + 1) c.in-Some.at) (c.loop-at.level + 1) =
+    rw add-one (sought-next all by c.loop-at.link c.loop-at.level c.in-Some.at c.requires.woven c.loop-at.invariant.sought stands (differs c)) in
+    let turns : c.digit_at-in-Some.result ≡ digit_at by (c.loop-at.level + 1) =
+    c.digit_at-in-Some.ensures.same ∙ ap (λ digest. digit_at (key digest c.args.label.parent c.args.label.part.now) (c.loop-at.level + 1)) c.requires.digest in
+    let link : ℕ → Link = λ digit. record { at = c.in-Some.at; digit = digit } in
+    record {
+      inside = (rises-row c.args.texts.now c.args.nodes.now c.loop-at.link c.in-Some.at c.requires.woven stands).1;
+      sought = subst (λ digit. IsSought all by (link digit) (c.loop-at.level + 1)) (sym turns) next;
+    }
 
 pub returns : goal.returns
-returns c = place-none c.args.nodes.now c.args.parent c.args.part.now c.loop-at.link c.loop-at.level c.requires.woven c.loop-at.invariant.sought (sym c.in_default.ensures)
+returns c =
+    let counted = length-rows c.args.texts.now c.args.nodes.now in
+    let parent : c.args.label.parent < length c.args.nodes.now = c.requires.parent in
+    place-none (rows c.args.texts.now c.args.nodes.now) c.args.label.parent c.args.label.part.now c.loop-at.link c.loop-at.level c.requires.woven (omega arith) c.loop-at.invariant.sought
+    (sym (c.in_default.ensures c.args.texts.now))

@@ -1,18 +1,21 @@
 use Rattle.std.proofs.Common.{sym, subst, refl}
-use Rattle.name_tables.specs.Branches.{Leads}
+use Rattle.name_tables.specs.Branches.{IsBelow, Leads}
 use Rattle.name_tables.proofs.branches.Branches.descend.Goals as goal
 
 pub returns-in_err-at-clause-none : goal.returns-in_err-at-clause-none
 returns-in_err-at-clause-none c = λ none k led.
     let here = subst (λ ps. Leads c.args.self.now c.loop-part.at ps k) c.in-Some.ensures.steps (c.loop-part.invariant.3 k led) in
-    c.in_err-at.ensures.none refl here.0 here.1
+    c.in_err-at.ensures.none refl here.0 (subst (λ part. IsBelow c.args.self.now c.loop-part.at part here.0) (sym c.as_bytes.ensures.value) here.1)
 
 pub loop-part-preserved : goal.loop-part-preserved
 loop-part-preserved c = (
   tt,
   tt,
-  λ k led. c.loop-part.invariant.2 k (subst (λ ps. Leads c.args.self.now c.loop-part.at ps k) (sym c.in-Some.ensures.steps) (c.in_ok-at.at, c.in_ok-at.ensures.found, led)),
+  λ k led. c.loop-part.invariant.2 k
+      (subst (λ ps. Leads c.args.self.now c.loop-part.at ps k) (sym c.in-Some.ensures.steps)
+      (c.in_ok-at.at, subst (λ part. IsBelow c.args.self.now c.loop-part.at part c.in_ok-at.at) c.as_bytes.ensures.value c.in_ok-at.ensures.found, led)),
   λ k led.
       let here = subst (λ ps. Leads c.args.self.now c.loop-part.at ps k) c.in-Some.ensures.steps (c.loop-part.invariant.3 k led) in
-      subst (λ j. Leads c.args.self.now j c.next.new.self k) (c.in_ok-at.ensures.only here.0 here.1) here.2,
+      let below = subst (λ part. IsBelow c.args.self.now c.loop-part.at part here.0) (sym c.as_bytes.ensures.value) here.1 in
+      subst (λ j. Leads c.args.self.now j c.next.new.self k) (c.in_ok-at.ensures.only here.0 below) here.2,
 )

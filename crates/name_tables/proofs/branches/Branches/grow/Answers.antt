@@ -1,10 +1,10 @@
-use Rattle.std.proofs.Common.{◌≡◌, ◌<◌, ℕ, List, [], ◌∷◌, ◌++◌, Result, Ok, Err, None, length, refl, ap, sym, ◌∙◌, subst, inr, string_bytes, arith}
+use Rattle.std.proofs.Common.{◌≡◌, ◌<◌, ℕ, List, [], ◌∷◌, ◌++◌, Result, Ok, Err, None, length, refl, ap, sym, ◌∙◌, subst, inr, arith}
 use Rattle.std.specs.List.{slice_get}
 use Rattle.std.specs.Result.{IfOk, OnOk}
-use Rattle.std.proofs.lemmas.List.{length-map}
 use Rattle.name_tables.specs.Branches.{Branch, bare, IsBelow, Grows}
-use Rattle.name_tables.specs.Siblings.{shown, shown_node, linked, IsPlace}
-use Rattle.name_tables.specs.declared.branches.Node.{Node}
+use Rattle.name_tables.specs.Index.{rows, shown, linked, IsPlace}
+use Rattle.name_tables.proofs.Rows.{length-rows}
+use Rattle.name_tables.proofs.Shown.{length-shown}
 use Rattle.name_tables.proofs.Weaving.{get-last}
 use Rattle.name_tables.proofs.branches.Branches.grow.Goals as goal
 
@@ -19,16 +19,35 @@ grown (Ok k) old new b n parent part at shows counted is some none =
     )
 grown (Err e) old new b n parent part at shows counted is some none = tt
 
+pub digest_below-requires : goal.digest_below-requires
+digest_below-requires c =
+    let counted = length-shown c.self.inside.texts c.self.inside.nodes.items c.args.self.now c.self.view_is in
+    subst (λ n. c.args.parent < n) (counted ∙ ap length (sym c.deref.ensures.value)) c.requires
+
+pub seek-link-requires-clause-parent : goal.seek-link-requires-clause-parent
+seek-link-requires-clause-parent c =
+    let counted = length-shown c.self.inside.texts c.self.inside.nodes.items c.args.self.now c.self.view_is in
+    subst (λ n. c.args.parent < n) (counted ∙ ap length (sym c.deref-2.ensures.value)) c.requires
+
+pub follow-requires-clause-inside : goal.follow-requires-clause-inside
+follow-requires-clause-inside c =
+    let same = length-rows c.self.inside.texts c.deref-2.result.now ∙ ap length (c.deref-2.ensures.value ∙ sym c.deref-3.ensures.value) in
+    subst (λ n. c.seek-link.result.at < n) same c.seek-link.ensures.inside
+
 pub returns-clause-grows : goal.returns-clause-grows
 returns-clause-grows c =
-    let place : IsPlace c.self.inside.nodes.items c.args.parent c.args.part.now c.seek-link.result =
-    subst (λ nodes. IsPlace nodes c.args.parent c.args.part.now c.seek-link.result) c.deref.ensures.value c.seek-link.ensures in
-    let counted : length c.args.self.now ≡ length c.self.inside.nodes.items = ap length (sym c.self.view_is) ∙ length-map c.self.inside.nodes.items shown_node in
-    let inside : c.args.parent < length c.args.self.now = c.requires in
-    let node : Node = c.in_ok-node.node in
-    grown c.add.result c.args.self.now (shown c.add.new.nodes.items) (bare node.parent (string_bytes node.part)) (length c.self.inside.nodes.items) c.args.parent c.args.part.now
+    let texts = c.self.inside.texts in
+    let nodes = c.self.inside.nodes.items in
+    let parent = c.args.parent in
+    let text : List ℕ = c.as_bytes-part.result.now in
+    let same : text ≡ c.args.part.now = c.as_bytes-part.ensures.value in
+    let place : IsPlace (rows texts nodes) parent text c.seek-link.result =
+    subst (λ nodes. IsPlace (rows texts nodes) parent text c.seek-link.result) c.deref-2.ensures.value c.seek-link.ensures in
+    let counted : length c.args.self.now ≡ length nodes = length-shown texts nodes c.args.self.now c.self.view_is in
+    let inside : parent < length c.args.self.now = c.requires in
+    grown c.add.result c.args.self.now (shown (rows c.add.new.texts c.add.new.nodes.items)) (bare parent text) (length nodes) parent c.args.part.now
     c.add.ensures.at
-    (subst (λ old. OnOk c.add.result (shown c.add.new.nodes.items ≡ old ++ bare node.parent (string_bytes node.part) ∷ [])) c.self.view_is c.add.ensures.shows)
-    (sym counted) (ap (λ (b : Branch). bare b.parent b.part) c.in_ok-node.ensures.shows) (omega arith)
-    (λ j below. place.none (sym (subst (λ nodes. None ≡ linked nodes c.seek-link.result) c.deref-2.ensures.value c.in_default.ensures)) j
-    (subst (λ branches. IsBelow branches c.args.parent c.args.part.now j) (sym c.self.view_is) below))
+    (subst (λ old. OnOk c.add.result (shown (rows c.add.new.texts c.add.new.nodes.items) ≡ old ++ bare parent text ∷ [])) c.self.view_is c.add.ensures.shows)
+    (sym counted) (ap (bare parent) same) (omega arith)
+    (λ j below. place.none (sym (subst (λ nodes. None ≡ linked (rows texts nodes) c.seek-link.result) c.deref-3.ensures.value (c.in_default.ensures texts))) j
+    (subst (λ text. IsBelow (shown (rows texts nodes)) parent text j) (sym same) (subst (λ branches. IsBelow branches parent c.args.part.now j) (sym c.self.view_is) below)))

@@ -1,9 +1,17 @@
-use Rattle.std.proofs.Common.{refl}
-use Rattle.name_tables.specs.Siblings.{shown_node}
-use Rattle.name_tables.proofs.Shown.{shown-at}
+use Rattle.std.proofs.Common.{◌≡◌, ◌<◌, length, refl, arith}
+use Rattle.name_tables.specs.Index.{row, shown_node}
+use Rattle.name_tables.proofs.Shown.{length-shown, shown-at}
 use Rattle.name_tables.proofs.branches.Branches.parent.Goals as goal
+
+pub index-requires : goal.index-requires
+index-requires c =
+    let counted : length c.args.self.now ≡ length c.self.inside.nodes.items = length-shown c.self.inside.texts c.self.inside.nodes.items c.args.self.now c.self.view_is in
+    let ok = c.self.inside.nodes.ok.0 in
+    let inside : c.args.at < length c.args.self.now = c.requires in
+    omega arith
 
 pub returns : goal.returns
 returns c =
     let node = c.index.result.now in
-    (shown_node node, shown-at c.self.inside.nodes.items c.args.self.now c.args.at node c.self.view_is c.requires c.index.ensures, refl)
+    let some = shown-at c.self.inside.texts c.self.inside.nodes.items c.args.self.now c.self.view_is c.args.at node c.requires c.index.ensures in
+    (shown_node (row some.0 node), some.1, refl)

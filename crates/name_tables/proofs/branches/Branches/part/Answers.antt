@@ -1,9 +1,10 @@
-use Rattle.std.proofs.Common.{sym}
-use Rattle.name_tables.specs.Siblings.{shown_node}
-use Rattle.name_tables.proofs.Shown.{shown-at}
+use Rattle.std.proofs.Common.{◌<◌, sym, subst, ◌∙◌}
+use Rattle.name_tables.proofs.Shown.{length-shown, shown-part}
 use Rattle.name_tables.proofs.branches.Branches.part.Goals as goal
 
+pub get-requires : goal.get-requires
+get-requires c =
+    subst (λ n. c.args.at < n) (length-shown c.self.inside.texts c.self.inside.nodes.items c.args.self.now c.self.view_is ∙ sym c.self.invariant.0) c.requires
+
 pub returns : goal.returns
-returns c =
-    let node = c.index.result.now in
-    (shown_node node, shown-at c.self.inside.nodes.items c.args.self.now c.args.at node c.self.view_is c.requires c.index.ensures, sym c.as_str.ensures.value)
+returns c = shown-part c.self.inside.texts c.self.inside.nodes.items c.args.self.now c.self.view_is c.args.at c.get.result.now c.requires c.get.ensures

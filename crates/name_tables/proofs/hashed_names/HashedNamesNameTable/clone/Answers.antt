@@ -8,8 +8,8 @@ use Rattle.name_tables.specs.HashedNames.{texts}
 use Rattle.name_tables.proofs.Texts.{entries_at_turn, get-before, from_entries-next}
 use Rattle.name_tables.proofs.hashed_names.HashedNamesNameTable.clone.Goals as goal
 
-pub insert-requires : goal.insert-requires
-insert-requires c =
+pub add-requires : goal.add-requires
+add-requires c =
     let start = c.into_iter-name-iterator.ensures.into_iter_gives ∙ c.iter-name-items.ensures.rest in
     let entries = entries_at_turn deref_pair c.self.inside.table.entries c.loop-name.yielded c.into_iter-name-iterator.result c.loop-name.name-iterator c.next.new.self c.next.result (c.in-Some.name, c.in-Some.definition) start c.loop-name.yielded_by c.in-Some.is c.next.ensures.steps in
     (λ i. map.get (c.loop-name.invariant i) (c.as_str.ensures.value i))
@@ -19,7 +19,7 @@ pub loop-name-preserved : goal.loop-name-preserved
 loop-name-preserved c =
     let start = c.into_iter-name-iterator.ensures.into_iter_gives ∙ c.iter-name-items.ensures.rest in
     let entries = entries_at_turn deref_pair c.self.inside.table.entries c.loop-name.yielded c.into_iter-name-iterator.result c.loop-name.name-iterator c.next.new.self c.next.result (c.in-Some.name, c.in-Some.definition) start c.loop-name.yielded_by c.in-Some.is c.next.ensures.steps in
-    c.in_ok-insert.ensures.ok
+    c.in_ok-add.ensures.ok
     ∙ (λ i. map.insert (c.loop-name.invariant i) (c.as_str.ensures.value i) (c.in_ok-clone.ensures i))
     ∙ sym (from_entries-next c.self.inside.table c.iter-name-items.ensures.unique (each deref_pair c.loop-name.yielded) c.next.new.self (c.in-Some.name.now, c.in-Some.definition.now) entries)
     ∙ ap (λ es. from_entries (texts es)) (sym (map-append deref_pair c.loop-name.yielded ((c.in-Some.name, c.in-Some.definition) ∷ [])))

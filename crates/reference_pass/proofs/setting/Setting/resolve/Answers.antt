@@ -20,5 +20,5 @@ returns c =
     let seen : c.unwrap_or-visible.result.now ≡ seen_by s c.args.file =
     ap (λ b. b.now) c.unwrap_or-visible.ensures ∙ given-copied c.visible.result _
     ∙ (λ i. unwrap_or (c.visible.ensures i) (none i)) in
-    subst (λ visible. IfOk c.resolve_name.result (λ r. resolution_in r
-    ≡ resolution c.args.self.names.now (λ n. contains_by (nat_cmp n) visible) c.args.filter c.args.scope.now c.args.written.now)) seen c.resolve_name.ensures
+    subst (λ visible. IfOk c.resolve_in_parts.result (λ r. resolution_in r
+    ≡ resolution c.args.self.names.now (λ n. contains_by (nat_cmp n) visible) c.args.filter c.args.scope.now c.args.written.now)) seen c.resolve_in_parts.ensures.answer

@@ -1,0 +1,10 @@
+use Rattle.std.proofs.Common.{◌<◌, ◌≤◌, ℕ}
+use Rattle.name_tables.specs.Branches.{WithinAt}
+use Rattle.name_tables.specs.Pairs.{IsPair}
+use Rattle.name_tables.proofs.within.is_within.Given as goal
+
+-- the branches so far mean the same among others, and the pair is that of one of them, or the roots
+abbrev pub invariant-loop-at : goal.invariant-loop-at
+invariant-loop-at l =
+    ((k : ℕ) → k < l.at → WithinAt l.branches l.others k)
+    × IsPair l.branches l.others l.pair × (l.pair.branch ≤ l.at)
