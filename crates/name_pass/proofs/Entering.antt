@@ -1,5 +1,5 @@
 -- One more name comes to the first pass.
-use Rattle.std.proofs.Common.{◌≡◌, ℕ, List, [], ◌∷◌, ◌++◌, Option, Some, None, is_some, true, false, Result, OnOk, refl, sym, ap, rules, append-nil}
+use Rattle.std.proofs.Common.{◌≡◌, ℕ, List, [], ◌∷◌, ◌++◌, Option, Some, None, Result, OnOk, refl, sym, ap, append-nil}
 use Rattle.std.specs.FinMap as finite
 use Rattle.pool_types.specs.Contents.{ByText}
 use Rattle.proto_types.specs.declared.file.FileDescriptorProto.{FileDescriptorProto}
@@ -53,12 +53,3 @@ module _ (state : NameState) (name : List ℕ) (index : ℕ) where
   pub held-file-name : (held : ℕ) (faults : List DescriptorErrorKind) → finite.get state.file_names name ≡ Some held → faults ≡ state.faults ++ DuplicateFileName name ∷ []
       → record state { faults = faults } ≡ file_named state name index
   held-file-name held faults present told = simp (told, with-present state.file_names name index held present, present)
-
--- whether a look-up found something
-pub found-none : {X : Type 0} (found : Option X) → is_some found ≡ false → found ≡ None
-found-none None is = refl
-found-none (Some x) is = absurd (search rules)
-
-pub found-some : {X : Type 0} (found : Option X) → is_some found ≡ true → (x : X) × (found ≡ Some x)
-found-some None is = absurd (search rules)
-found-some (Some x) is = (x, refl)

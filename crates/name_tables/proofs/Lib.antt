@@ -9,6 +9,7 @@ pub mod NameParts
 pub mod Names
 pub mod Near
 pub mod Noted
+pub mod NotedFiles
 pub mod Relinks
 pub mod Rows
 pub mod Scoped

@@ -8,8 +8,8 @@ use Rattle.std.proofs.lemmas.Option.{none-some, slice_get-map}
 use Rattle.name_tables.specs.Branches.{Branch, IsBelow, IsTree, Leads, path}
 use Rattle.name_tables.specs.Index.{Row, row, rows, shown, shown_node, linked, Key, key_at, front_digest, first_digest, digest_from, digest_of, taken_in, digit_of, digit_at, turn, Way, Reaches, IsWoven}
 use Rattle.name_tables.specs.Parts.{name_of, parts}
-use Rattle.name_tables.specs.declared.branches.Link.{Link}
-use Rattle.name_tables.specs.declared.branches.Node.{Node}
+use Rattle.name_tables.specs.declared.index.Link.{Link}
+use Rattle.name_tables.specs.declared.index.Node.{Node}
 use Rattle.name_tables.proofs.NameParts.{parts-name_of, parts-some}
 use Rattle.name_tables.proofs.Rows.{length-rows, row-read}
 use Rattle.name_tables.proofs.Tree.{leads-some, path-below, path-leads, path-whole}

@@ -8,8 +8,8 @@ use Rattle.std.proofs.lemmas.Option.{slice_get-map}
 use Rattle.name_tables.specs.Index.{Row, row, rows, shown_node, linked, branch_of, next_of, key_of, Relinked}
 use Rattle.name_tables.proofs.Rows.{length-rows, row-some, next-row, set-next}
 use Rattle.name_tables.proofs.Woven.{and_then-through}
-use Rattle.name_tables.specs.declared.branches.Node.{Node}
-use Rattle.name_tables.specs.declared.branches.Link.{Link}
+use Rattle.name_tables.specs.declared.index.Node.{Node}
+use Rattle.name_tables.specs.declared.index.Link.{Link}
 
 module _ {X : Type 0} where
   -- an element that was set

@@ -5,7 +5,7 @@ use Rattle.std.specs.Option.{option_and_then, option_map_or}
 use Rattle.std.proofs.lemmas.Option.{slice_get_read}
 use Rattle.name_tables.specs.Branches.{defined, meaning}
 use Rattle.name_tables.specs.Index.{key, key_of, front_digest, taken_in, row, rows, shown, shown_node}
-use Rattle.name_tables.specs.declared.branches.Node.{Node}
+use Rattle.name_tables.specs.declared.index.Node.{Node}
 use Rattle.name_tables.proofs.Woven.{thread}
 use Rattle.pool_types.specs.declared.contents.definition.Definition.{Definition}
 

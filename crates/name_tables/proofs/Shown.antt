@@ -6,7 +6,7 @@ use Rattle.std.proofs.lemmas.List.{length-map}
 use Rattle.std.proofs.lemmas.Option.{slice_get-map}
 use Rattle.name_tables.specs.Branches.{Branch}
 use Rattle.name_tables.specs.Index.{row, rows, shown, shown_node}
-use Rattle.name_tables.specs.declared.branches.Node.{Node}
+use Rattle.name_tables.specs.declared.index.Node.{Node}
 use Rattle.name_tables.proofs.Rows.{length-rows, get-row, row-some, some_at}
 
 module _ (parts : List (List ℕ)) (nodes : List Node) (branches : List Branch) (are : shown (rows parts nodes) ≡ branches) where

@@ -6,8 +6,8 @@ use Rattle.std.proofs.lemmas.List.{length-map}
 use Rattle.std.proofs.lemmas.Option.{none-some, same_Some, slice_get-map, slice_get_within}
 use Rattle.name_tables.specs.Branches.{Branch, IsBelow}
 use Rattle.name_tables.specs.Index.{Row, rows, shown, shown_node, linked, Key, key, key_of, key_at, key_below, digit_at, turn, Way, here, past, Reaches, Extends, IsWoven, IsPlace}
-use Rattle.name_tables.specs.declared.branches.Link.{Link}
-use Rattle.name_tables.specs.declared.branches.Node.{Node}
+use Rattle.name_tables.specs.declared.index.Link.{Link}
+use Rattle.name_tables.specs.declared.index.Node.{Node}
 use Rattle.name_tables.proofs.Rows.{length-rows, some_at}
 
 -- a digit is below sixteen

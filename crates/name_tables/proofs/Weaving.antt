@@ -7,8 +7,8 @@ use Rattle.std.proofs.lemmas.List.{length-map, length_push, map_push, nil_from_l
 use Rattle.std.proofs.lemmas.Option.{none-some, same_Some, slice_get-map, slice_get_within, option_and_then_some}
 use Rattle.name_tables.specs.Branches.{Branch}
 use Rattle.name_tables.specs.Index.{Row, row, rows, shown, shown_node, linked, branch_of, next_of, Key, key, key_of, key_at, key_below, digest_below, turn, Way, here, past, Reaches, IsBare, Extends, Relinked, IsWoven, IsPlace}
-use Rattle.name_tables.specs.declared.branches.Link.{Link}
-use Rattle.name_tables.specs.declared.branches.Node.{Node}
+use Rattle.name_tables.specs.declared.index.Link.{Link}
+use Rattle.name_tables.specs.declared.index.Node.{Node}
 use Rattle.name_tables.proofs.Relinks.{links_eq}
 use Rattle.name_tables.proofs.Rows.{get-some, length-rows, row-read}
 use Rattle.name_tables.proofs.Ways.{way-some, way-more, key-of, place-at}

@@ -5,7 +5,7 @@ use Rattle.std.specs.Option.{option_map, option_and_then, option_map_or}
 use Rattle.std.proofs.lemmas.List.{length-map}
 use Rattle.std.proofs.lemmas.Option.{slice_get-map}
 use Rattle.name_tables.specs.Index.{Row, linked, branch_of, Key, key, key_of, key_at, front_digest, digest_from, digest_below, taken_in, turn, Way, here, past, IsWoven}
-use Rattle.name_tables.specs.declared.branches.Link.{Link}
+use Rattle.name_tables.specs.declared.index.Link.{Link}
 
 module _ {X Y Z : Type 0} (f : X → Y) where
   -- what is read of an element is read of what a function keeps of it

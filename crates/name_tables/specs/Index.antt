@@ -6,8 +6,8 @@ use Rattle.std.specs.Option.{option_and_then, option_map_or}
 use Rattle.std.specs.declared.option.Option.{Option}
 use Rattle.std.specs.declared.option.Option.TheVariants.{None, Some}
 use Rattle.name_tables.specs.Branches.{Branch, bare, IsBelow}
-use Rattle.name_tables.specs.declared.branches.Node.{Node}
-use Rattle.name_tables.specs.declared.branches.Link.{Link}
+use Rattle.name_tables.specs.declared.index.Node.{Node}
+use Rattle.name_tables.specs.declared.index.Link.{Link}
 use Rattle.pool_types.specs.declared.contents.definition.Definition.{Definition}
 
 -- a node with its part

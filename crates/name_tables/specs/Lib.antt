@@ -1,5 +1,6 @@
 pub mod Branches
 pub mod Entries
+pub mod FileNames
 pub mod HashedNames
 pub mod Index
 pub mod Latest

@@ -5,6 +5,7 @@
 mod branches;
 mod file_names;
 mod hashed_names;
+mod index;
 mod latest;
 mod laws;
 mod name_table;

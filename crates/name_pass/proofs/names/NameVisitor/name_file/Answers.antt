@@ -2,7 +2,8 @@ use Rattle.std.proofs.Common.{is_some, ◌++◌, ◌∷◌, [], refl, ap, sym, �
 use Rattle.pool_faults.specs.declared.fault.DescriptorErrorKind.TheVariants.{DuplicateFileName}
 use Rattle.name_pass.specs.State.{first_new, kept_of, state_of}
 use Rattle.std.specs.FinMap as finite
-use Rattle.name_pass.proofs.Entering.{found-none, found-some, new-file-name, held-file-name}
+use Rattle.name_tables.proofs.Inserted.{found-none, found-some}
+use Rattle.name_pass.proofs.Entering.{new-file-name, held-file-name}
 use Rattle.name_pass.proofs.Kept.{stays-before}
 use Rattle.name_pass.proofs.names.NameVisitor.name_file.Goals as goal
 

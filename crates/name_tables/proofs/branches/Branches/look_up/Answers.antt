@@ -7,7 +7,7 @@ use Rattle.name_tables.proofs.Shown.{length-shown}
 use Rattle.name_tables.specs.Branches.{IsTree, Leads, path}
 use Rattle.name_tables.specs.Index.{rows, row, shown, shown_node, linked, Key, key_at, key_of, digit_of, digest_of}
 use Rattle.name_tables.specs.Parts.{name_of, parts}
-use Rattle.name_tables.specs.declared.branches.Link.{Link}
+use Rattle.name_tables.specs.declared.index.Link.{Link}
 use Rattle.name_tables.proofs.LookedUp.{named-led, ahead-first, apart-digest, apart-name, ahead-none, ahead-next}
 use Rattle.name_tables.proofs.NameParts.{parts-some}
 use Rattle.name_tables.proofs.Tree.{leads-some}

@@ -7,7 +7,7 @@ use Rattle.name_tables.specs.Branches.{path}
 use Rattle.name_tables.specs.Index.{rows, shown}
 use Rattle.name_tables.specs.Parts.{name_of}
 use Rattle.name_tables.proofs.LookedUp.{before_part, before-dot, node-before, node-other, node-text, node-front}
-use Rattle.name_tables.proofs.branches.is_named.Goals as goal
+use Rattle.name_tables.proofs.index.is_named.Goals as goal
 
 pub parts-smaller : goal.parts-smaller
 parts-smaller c = node-before c.args.texts.now c.args.nodes.now c.requires.tree c.parts.at c.index-nodes-at.result c.get.result.now c.parts.invariant.some c.parts.invariant.inside c.index-nodes-at.is c.get.ensures

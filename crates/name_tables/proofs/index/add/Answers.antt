@@ -4,7 +4,7 @@ use Rattle.name_tables.specs.Index.{Row, rows, branch_of, IsBare, Relinked, IsWo
 use Rattle.name_tables.proofs.Relinks.{branch-some}
 use Rattle.name_tables.proofs.Rows.{length-rows}
 use Rattle.name_tables.proofs.Weaving.{woven-added, length-nodes}
-use Rattle.name_tables.proofs.branches.add.Goals as goal
+use Rattle.name_tables.proofs.index.add.Goals as goal
 
 pub hang-requires-clause-inside : goal.hang-requires-clause-inside
 hang-requires-clause-inside c =

@@ -5,11 +5,11 @@ use Rattle.std.specs.Vec.{with_items}
 use Rattle.std.proofs.lemmas.Bool.{false≢true}
 use Rattle.std.proofs.lemmas.List.{length_push, with_items_is}
 use Rattle.name_tables.specs.Index.{Row, row, rows, shown_node, digest_below, IsPlace, Relinked}
-use Rattle.name_tables.specs.declared.branches.Node.{Node}
+use Rattle.name_tables.specs.declared.index.Node.{Node}
 use Rattle.name_tables.proofs.Rows.{length-rows, rows-push}
 use Rattle.name_tables.proofs.Weaving.{IsLoose, last-hung, last-digested, last-loose, loose-length, woven-popped, shown-popped, length-nodes}
-use Rattle.name_tables.proofs.branches.unhang.Goals as goal
-use Rattle.name_tables.proofs.branches.unhang.Goals.{in_default, in-len2-up}
+use Rattle.name_tables.proofs.index.unhang.Goals as goal
+use Rattle.name_tables.proofs.index.unhang.Goals.{in_default, in-len2-up}
 
 -- the last of more nodes
 last_read : (nodes slice : List Node) (last : Node) → slice ≡ nodes → 2 ≤ length slice → last ≡ get_or slice (length slice - 1) last

@@ -2,7 +2,7 @@ use Rattle.std.proofs.Common.{◌≡◌, ◌<◌, length}
 use Rattle.name_tables.specs.Branches.{path}
 use Rattle.name_tables.specs.Index.{rows, shown}
 use Rattle.name_tables.specs.Parts.{name_of}
-use Rattle.name_tables.proofs.branches.is_named.Given as goal
+use Rattle.name_tables.proofs.index.is_named.Given as goal
 
 abbrev pub invariant-parts : goal.invariant-parts
 invariant-parts l = record {

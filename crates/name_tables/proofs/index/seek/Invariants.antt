@@ -1,7 +1,7 @@
 use Rattle.std.proofs.Common.{◌-◌, ◌<◌, length}
 use Rattle.name_tables.specs.Index.{rows, key_below}
 use Rattle.name_tables.proofs.Ways.{IsSought}
-use Rattle.name_tables.proofs.branches.seek.Given as goal
+use Rattle.name_tables.proofs.index.seek.Given as goal
 
 abbrev pub invariant-loop-at : goal.invariant-loop-at
 invariant-loop-at l = record {

@@ -1,9 +1,9 @@
 use Rattle.std.proofs.Common.{◌≡◌, ℕ, List, ap, sym, arith, ◌∙◌}
 use Rattle.name_tables.specs.Index.{digest_from, front_digest, rows, taken_in}
-use Rattle.name_tables.specs.declared.branches.Node.{Node}
+use Rattle.name_tables.specs.declared.index.Node.{Node}
 use Rattle.name_tables.proofs.Rows.{front-row}
-use Rattle.name_tables.proofs.branches.digest_below.Goals as goal
-use Rattle.name_tables.proofs.branches.digest_below.Goals.{in-0, in_default}
+use Rattle.name_tables.proofs.index.digest_below.Goals as goal
+use Rattle.name_tables.proofs.index.digest_below.Goals.{in-0, in_default}
 
 -- the digest up to the part
 front : (c : goal.After-digest_from) (texts : List (List ℕ)) → c.match-parent.front ≡ front_digest (rows texts c.args.nodes.now) c.args.parent

@@ -5,11 +5,11 @@ use Rattle.std.proofs.lemmas.Bool.Decides.{Decides-eqb}
 use Rattle.std.proofs.lemmas.Slice.Eq.{slice_eq-Decides}
 use Rattle.std.specs.List.{slice_get}
 use Rattle.name_tables.specs.Index.{row, rows, linked, Key, key, key_of, key_at, key_below, digit_at, turn}
-use Rattle.name_tables.specs.declared.branches.Link.{Link}
+use Rattle.name_tables.specs.declared.index.Link.{Link}
 use Rattle.name_tables.proofs.Rows.{length-rows, row-read, row-some}
 use Rattle.name_tables.proofs.Ways.{IsSought, key-of, rises-row, sought-first, sought-next, place-found, place-none}
-use Rattle.name_tables.proofs.branches.seek.Goals as goal
-use Rattle.name_tables.proofs.branches.seek.Goals.{else-node-label-via-then-node-label+then-node-label-2+else-eq, else-node-label-via-then-node-label+else-node-label-2, else-node-label-via-else-node-label}
+use Rattle.name_tables.proofs.index.seek.Goals as goal
+use Rattle.name_tables.proofs.index.seek.Goals.{else-node-label-via-then-node-label+then-node-label-2+else-eq, else-node-label-via-then-node-label+else-node-label-2, else-node-label-via-else-node-label}
 
 pub loop-at-init : goal.loop-at-init
 loop-at-init c =

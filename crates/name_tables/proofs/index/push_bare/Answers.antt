@@ -1,7 +1,7 @@
 use Rattle.std.proofs.Common.{◌∙◌}
 use Rattle.name_tables.specs.Index.{row, rows}
 use Rattle.name_tables.proofs.Rows.{rows-push}
-use Rattle.name_tables.proofs.branches.push_bare.Goals as goal
+use Rattle.name_tables.proofs.index.push_bare.Goals as goal
 
 pub returns-clause-pushed : goal.returns-clause-pushed
 returns-clause-pushed c =
