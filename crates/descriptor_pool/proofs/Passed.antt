@@ -3,7 +3,7 @@ use Rattle.std.proofs.Common.{rules, ◌≡◌, ℕ, true, List, [], ◌∷◌, 
 use Rattle.std.specs.List.{fold}
 use Rattle.std.specs.Result.{is_err}
 use Rattle.std.specs.declared.alloc.AllocError.{AllocError}
-use Rattle.field_rules.specs.declared.findings.Faults.{Faults as PassFaults}
+use Rattle.field_rules.specs.declared.faults.Faults.{Faults as PassFaults}
 use Rattle.pool_types.specs.Contents.{ByText, Contents, no_contents}
 use Rattle.pool_types.specs.declared.contents.extension.ExtensionDescriptorInner.{ExtensionDescriptorInner}
 use Rattle.pool_types.specs.declared.contents.file.FileDescriptorInner.{FileDescriptorInner}
@@ -101,7 +101,7 @@ append-same (o ∷ os) xs ys same = append-same os xs ys (ap tail same)
 pub references-end : (s : Setting) (v : ResolveVisitor) (old : List ExtensionDescriptorInner) (began : ReferenceState) (base : Counts) (fs : List FileDescriptorProto)
     → began ≡ no_items old → v.pool.extensions.now ≡ old
     → reference_progress (state_of_references v) ≡ reference_progress (fold (reference_step s) began (declarations base fs ++ []))
-    → HasItems v.items s (declarations base fs) × (v.faults.found.items ≡ second_pass s old (declarations base fs))
+    → HasItems v.items s (declarations base fs) × (v.reading.faults.found.items ≡ second_pass s old (declarations base fs))
 references-end s v old began base fs none kept seen =
     let ds = declarations base fs in
     let e = seen ∙ (λ i. reference_progress (fold (reference_step s) (none i) (append-nil ds i))) ∙ ap reference_progress (fold-seen s (no_items old) ds) in (

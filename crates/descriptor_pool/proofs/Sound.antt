@@ -24,7 +24,7 @@ use Rattle.name_tables.specs.Entries.{Entry, first_of, names, names_with}
 use Rattle.name_tables.specs.NameTables.{AllBefore, FileNamesBefore}
 use Rattle.name_tables.proofs.Entries.{get-with, with-names}
 use Rattle.reference_pass.specs.Linked.{linking}
-use Rattle.reference_pass.specs.Short.{ShortFiles}
+use Rattle.field_rules.specs.Short.{ShortFiles}
 use Rattle.name_pass.specs.Entered.{entries, file_entries}
 use Rattle.record_lists.specs.References.{Reference, references_in}
 use Rattle.descriptor_pool.specs.Invariant.{IsPool}

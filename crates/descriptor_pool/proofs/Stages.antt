@@ -9,7 +9,7 @@ use Rattle.record_walk.specs.Fits.{counts_with}
 use Rattle.record_walk.specs.Shown.{Shown}
 use Rattle.reference_pass.specs.Setting.{Setting}
 use Rattle.reference_pass.specs.NamesBegin.{AllNamesBegin}
-use Rattle.reference_pass.specs.Short.{ShortFiles}
+use Rattle.field_rules.specs.Short.{ShortFiles}
 use Rattle.name_pass.specs.Entered.{file_entries}
 use Rattle.reference_pass.specs.Linking.{ItemsAre, lists_in}
 use Rattle.descriptor_pool.specs.Items.{HasImports}
@@ -118,6 +118,9 @@ module _ (old added r : GrowingPool) (new : List FileDescriptorProto) (base_is :
 
   pub counts-added : IsOk (counts_with old.base new) → IsOk (counts_with added.base (new_records added))
   counts-added ok = subst IsOk (λ i. counts_with (sym base-added i) (sym fresh i)) ok
+
+  pub short-added : ShortFiles (files_of before ++ new) → ShortFiles (files_of (contents_in added.inner))
+  short-added short = subst ShortFiles (sym files-added) short
 
   pub names-told : first_pass (files_of (contents_in added.inner)) (contents_in added.inner) (declarations added.base (new_records added)) ≡ name_faults before new
   names-told = (λ i. first_pass (files_of (contents_in added.inner)) (contents_in added.inner) (declarations (base-added i) (fresh i)))

@@ -8,7 +8,7 @@ ghost use Rattle.record_walk.specs.Fits.{counts_with};
 ghost use Rattle.record_walk.specs.Declarations.{declarations};
 ghost use Rattle.reference_pass.specs.SecondPass.{second_pass};
 ghost use Rattle.reference_pass.specs.NamesBegin.{AllNamesBegin, NamesBegin};
-ghost use Rattle.reference_pass.specs.Short.{ShortFiles};
+ghost use Rattle.field_rules.specs.Short.{ShortFiles};
 ghost use Rattle.descriptor_pool.specs.Linking.{batch_faults, linked_with, with_items, with_names};
 ghost use Rattle.pool_contents.specs.Extended.{NumbersLead, with_extended};
 ghost use Rattle.name_pass.specs.FirstPass.{first_pass};
@@ -30,7 +30,7 @@ use pool_contents::{DescriptorPoolInner, GrowingPool};
 use pool_faults::{DescriptorError, DescriptorErrorKind};
 use proto_types::FileDescriptorProto;
 use record_walk::{Counts, walk};
-use reference_pass::{Linker, NewItems, NextItems, PoolExtensions, ResolveVisitor};
+use reference_pass::{Linker, NewItems, NextItems, PoolExtensions, Reading, ResolveVisitor};
 use std::alloc::{AllocError, Global};
 use std::mem;
 
@@ -96,7 +96,8 @@ fn link_new(
 /// The first pass: it enters the names of new files, or tells all faults of names, and of what a
 /// file, a message or an enum shows by itself. The pool has the new files as they are.
 fn enter_names(alloc: Global, pool: &mut GrowingPool) -> Result<(), BuildError>
-    requires { IsOk (counts_with pool.old.base (new_records pool.old)) }
+    requires counts { IsOk (counts_with pool.old.base (new_records pool.old)) }
+    requires short { ShortFiles (files_of (contents_in pool.old.inner)) }
     ensures entered { OnOk result (contents_in pool.new.inner
         ≡ with_names (contents_in pool.old.inner)
         (declarations pool.old.base (new_records pool.old))) }
@@ -194,15 +195,16 @@ fn read_items(alloc: Global, pool: &GrowingPool) -> Result<NewItems, BuildError>
     let base = pool.base;
     let inner = &pool.inner;
     let mut visitor = ResolveVisitor {
-        alloc,
-        names: &inner.names,
-        file_names: &inner.file_names,
         pool: PoolExtensions {
             messages: &inner.messages,
             extensions: &inner.extensions,
         },
         items: NewItems::new(alloc),
-        faults: Faults::new(alloc, &inner.files),
+        reading: Reading {
+            faults: Faults::new(alloc, &inner.files),
+            names: &inner.names,
+            file_names: &inner.file_names,
+        },
     };
     walk(
         alloc,
@@ -210,7 +212,8 @@ fn read_items(alloc: Global, pool: &GrowingPool) -> Result<NewItems, BuildError>
         &inner.files[base.files as usize..],
         &mut visitor,
     )?;
-    let ResolveVisitor { items, faults, .. } = visitor;
+    let ResolveVisitor { reading, items, .. } = visitor;
+    let Reading { faults, .. } = reading;
     let Faults { found, .. } = faults;
     refuse(found)?;
     Ok(items)

@@ -1,3 +1,4 @@
+pub mod Short
 pub mod Places
 pub mod Identities
 pub mod Labels

@@ -2,13 +2,13 @@
 use Rattle.std.specs.Prelude.{◌≡◌, List, ◌++◌, map}
 use Rattle.proto_types.specs.declared.file.FileDescriptorProto.{FileDescriptorProto}
 use Rattle.pool_faults.specs.declared.fault.DescriptorErrorKind.{DescriptorErrorKind}
-use Rattle.field_rules.specs.declared.findings.Findings.{Findings}
+use Rattle.field_rules.specs.declared.faults.Faults.{Faults}
 
 -- the records of the files that labels name
-abbrev pub named_files : Findings → List FileDescriptorProto
-named_files findings = map (λ f. f.raw) findings.faults.labels
+abbrev pub named_files : Faults → List FileDescriptorProto
+named_files faults = map (λ f. f.raw) faults.labels
 
 -- that faults were appended to those found before, and no more
-pub record Tells (old new : Findings) (faults : List DescriptorErrorKind) : Type 0 where
-  pub told : new.faults.found.items ≡ old.faults.found.items ++ faults
-  pub files : new.faults.labels ≡ old.faults.labels
+pub record Tells (old new : Faults) (faults : List DescriptorErrorKind) : Type 0 where
+  pub told : new.found.items ≡ old.found.items ++ faults
+  pub files : new.labels ≡ old.labels

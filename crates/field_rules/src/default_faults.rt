@@ -6,7 +6,7 @@ ghost use Rattle.field_rules.specs.DefaultEnumCode.{meant_in};
 ghost use Rattle.field_rules.specs.Tells.{named_files};
 
 use crate::default_enum::DefaultEnum;
-use crate::{Findings, Place};
+use crate::{Faults, Place};
 use plain_data::Text;
 use pool_faults::DescriptorErrorKind;
 use pool_types::KindIndex;
@@ -15,21 +15,21 @@ use std::alloc::{AllocError, Global};
 
 /// The fault of a text that writes no value of a kind.
 pub(crate) fn default_fault(
-    findings: &mut Findings,
+    faults: &mut Faults,
     place: Place,
     kind: KindIndex,
     meant: DefaultEnum,
     text: &str,
 ) -> Result<DescriptorErrorKind, AllocError>
     ensures fault { IfOk result (λ fault. fault
-        ≡ default_fault (named_files findings.old) place.entry.file place.entry.path.now kind
+        ≡ default_fault (named_files faults.old) place.entry.file place.entry.path.now kind
         (meant_in meant.entry) text.now) }
-    ensures stays { findings.new ≡ findings.old }
+    ensures stays { faults.new ≡ faults.old }
 {
     Ok(DescriptorErrorKind::InvalidFieldDefault {
-        value: Text::from_str(findings.alloc, text)?,
-        kind: kind_named(findings.alloc, kind, meant.full_name)?,
-        found: findings.part_label(place, tag::field::DEFAULT_VALUE)?,
+        value: Text::from_str(faults.alloc, text)?,
+        kind: kind_named(faults.alloc, kind, meant.full_name)?,
+        found: faults.part_label(place, tag::field::DEFAULT_VALUE)?,
     })
 }
 

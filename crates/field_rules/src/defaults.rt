@@ -6,7 +6,7 @@ ghost use Rattle.field_rules.specs.Tells.{Tells, named_files};
 use crate::default_enum::DefaultEnum;
 use crate::default_faults::default_fault;
 use crate::enum_defaults::value_of;
-use crate::{Findings, Place};
+use crate::{Faults, Place};
 use plain_data::Text;
 use pool_types::{DefaultValue, KindIndex};
 use std::alloc::AllocError;
@@ -23,7 +23,7 @@ use std::alloc::AllocError;
 /// # Errors
 /// `AllocError` where memory was refused.
 pub fn read_default(
-    findings: &mut Findings,
+    faults: &mut Faults,
     place: Place,
     kind: KindIndex,
     meant: DefaultEnum,
@@ -31,17 +31,17 @@ pub fn read_default(
 ) -> Result<Option<DefaultValue>, AllocError>
     ensures value { IfOk result (λ value. value
         ≡ default_value kind (meant_in meant.entry) given.now) }
-    ensures faults { OnOk result (Tells findings.old findings.new
-        (default_faults (named_files findings.old) place.entry.file place.entry.path.now kind
+    ensures faults { OnOk result (Tells faults.old faults.new
+        (default_faults (named_files faults.old) place.entry.file place.entry.path.now kind
         (meant_in meant.entry) given.now)) }
 {
     let Some(text) = given else {
         return Ok(None);
     };
-    let value = value_of(findings.alloc, kind, meant.values, text.as_str())?;
+    let value = value_of(faults.alloc, kind, meant.values, text.as_str())?;
     if value.is_none() {
-        let fault = default_fault(findings, place, kind, meant, text.as_str())?;
-        findings.push(fault)?;
+        let fault = default_fault(faults, place, kind, meant, text.as_str())?;
+        faults.push(fault)?;
     }
     Ok(value)
 }

@@ -11,7 +11,7 @@ ghost use Rattle.field_rules.specs.EnumValues.{values_faults};
 
 use crate::enum_tables::{value_names, value_numbers};
 use crate::enum_values::{allows_alias, check_values};
-use crate::{Findings, Place, identity, identity_beside};
+use crate::{Faults, Place, identity, identity_beside};
 use plain_data::Items;
 use pool_types::{EnumDescriptorInner, EnumValueDescriptorInner};
 use proto_types::{EnumDescriptorProto, tag};
@@ -23,7 +23,7 @@ use std::alloc::{AllocError, Global};
 /// # Errors
 /// `AllocError` where memory was refused.
 pub fn read_enum(
-    findings: &mut Findings,
+    faults: &mut Faults,
     place: Place,
     enumeration: &EnumDescriptorProto,
 ) -> Result<EnumDescriptorInner, AllocError>
@@ -32,12 +32,12 @@ pub fn read_enum(
     ensures item { IfOk result (λ item. item
         ≡ enum_item (enum_at place.entry enumeration.now) enumeration.now) }
     ensures begins { IfOk result (λ item. EnumNamesBegin item) }
-    ensures faults { OnOk result (Tells findings.old findings.new
-        (values_faults (named_files findings.old)
+    ensures faults { OnOk result (Tells faults.old faults.new
+        (values_faults (named_files faults.old)
         (enum_at place.entry enumeration.now) enumeration.now)) }
 {
-    check_values(findings, place, enumeration)?;
-    enum_item(findings.alloc, place, enumeration)
+    check_values(faults, place, enumeration)?;
+    enum_item(faults.alloc, place, enumeration)
 }
 
 fn enum_item(

@@ -10,7 +10,7 @@ ghost use Rattle.field_rules.specs.Tells.{Tells, named_files};
 ghost use Rattle.field_rules.specs.EnumRanges.{reserves};
 ghost use Rattle.field_rules.specs.EnumValues.{reserved_faults};
 
-use crate::{Findings, Place};
+use crate::{Faults, Place};
 use pool_faults::DescriptorErrorKind;
 use proto_types::{EnumDescriptorProto, EnumReservedRange, tag};
 use std::alloc::AllocError;
@@ -18,7 +18,7 @@ use std::alloc::AllocError;
 /// Appends to `faults` one for each reserved range of an enum that holds the number of its value
 /// with this position.
 pub(crate) fn check_reserved(
-    findings: &mut Findings,
+    faults: &mut Faults,
     place: Place,
     enumeration: &EnumDescriptorProto,
     position: usize,
@@ -26,14 +26,14 @@ pub(crate) fn check_reserved(
 ) -> Result<(), AllocError>
     requires short { fits_list enumeration.now.reserved_range ≡ true }
     requires position { position < 2 ^ 31 }
-    ensures { OnOk result (Tells findings.old findings.new
-        (reserved_faults (named_files findings.old) (enum_at place.entry enumeration.now)
+    ensures { OnOk result (Tells faults.old faults.new
+        (reserved_faults (named_files faults.old) (enum_at place.entry enumeration.now)
         position number enumeration.now.reserved_range)) }
 {
     for (index, range) in enumeration.reserved_range.as_slice().iter().enumerate() {
         if reserves(range, number) {
-            let fault = reserved_fault(findings, place, position, number, (index, range))?;
-            findings.push(fault)?;
+            let fault = reserved_fault(faults, place, position, number, (index, range))?;
+            faults.push(fault)?;
         }
     }
     Ok(())
@@ -49,7 +49,7 @@ fn reserves(range: &EnumReservedRange, number: i32) -> bool
 /// The fault of the number of the value with a position, and of a reserved range, given with its
 /// own.
 fn reserved_fault(
-    findings: &mut Findings,
+    faults: &mut Faults,
     place: Place,
     position: usize,
     number: i32,
@@ -59,11 +59,11 @@ fn reserved_fault(
     requires index { entry.0 < 2 ^ 31 }
     ensures fault { IfOk result (λ fault. fault ≡ EnumNumberInReservedRange number
         (number_of entry.entry.1.now.start) (number_of entry.entry.1.now.«end»)
-        (entry_label (named_files findings.old) place.entry.file place.entry.path.now
+        (entry_label (named_files faults.old) place.entry.file place.entry.path.now
         RESERVED_RANGE entry.entry.0)
-        (entry_part_label (named_files findings.old) place.entry.file place.entry.path.now
+        (entry_part_label (named_files faults.old) place.entry.file place.entry.path.now
         VALUE position NUMBER)) }
-    ensures stays { findings.new ≡ findings.old }
+    ensures stays { faults.new ≡ faults.old }
 {
     let (index, range) = entry;
     let (values, part) = (tag::enum_::VALUE, tag::enum_value::NUMBER);
@@ -71,7 +71,7 @@ fn reserved_fault(
         number,
         start: range.start(),
         end: range.end(),
-        defined: findings.entry_label(place, tag::enum_::RESERVED_RANGE, index)?,
-        found: findings.entry_part_label(place, values, position, part)?,
+        defined: faults.entry_label(place, tag::enum_::RESERVED_RANGE, index)?,
+        found: faults.entry_part_label(place, values, position, part)?,
     })
 }

@@ -15,7 +15,7 @@ ghost use Rattle.field_rules.specs.EnumItems.{allows_alias};
 ghost use Rattle.field_rules.specs.EnumValues.{values_faults};
 
 use crate::enum_ranges::check_reserved;
-use crate::{Findings, Place};
+use crate::{Faults, Place};
 use pool_faults::{DescriptorErrorKind, Label};
 use proto_types::{EnumDescriptorProto, tag};
 use std::alloc::AllocError;
@@ -30,23 +30,23 @@ use std::collections::btree_map::Entry;
 /// # Errors
 /// `AllocError` where memory was refused.
 pub fn check_values(
-    findings: &mut Findings,
+    faults: &mut Faults,
     place: Place,
     enumeration: &EnumDescriptorProto,
 ) -> Result<(), AllocError>
     requires { lists_fit (of_enum enumeration.now) ≡ true }
-    ensures { OnOk result (Tells findings.old findings.new
-        (values_faults (named_files findings.old)
+    ensures { OnOk result (Tells faults.old faults.new
+        (values_faults (named_files faults.old)
         (enum_at place.entry enumeration.now) enumeration.now)) }
 {
     let alias = allows_alias(enumeration);
-    let mut positions = BTreeMap::new(findings.alloc);
+    let mut positions = BTreeMap::new(faults.alloc);
     for (position, value) in enumeration.value.as_slice().iter().enumerate() {
         let number = value.number();
         let earlier = earlier_position(&mut positions, number, position)?;
-        check_reserved(findings, place, enumeration, position, number)?;
+        check_reserved(faults, place, enumeration, position, number)?;
         if !alias {
-            check_duplicate(findings, place, number, earlier, position)?;
+            check_duplicate(faults, place, number, earlier, position)?;
         }
     }
     Ok(())
@@ -84,7 +84,7 @@ fn earlier_position(
 
 /// Appends to `faults` that of a value whose number an earlier value has, if one does.
 fn check_duplicate(
-    findings: &mut Findings,
+    faults: &mut Faults,
     place: Place,
     number: i32,
     earlier: Option<usize>,
@@ -92,31 +92,31 @@ fn check_duplicate(
 ) -> Result<(), AllocError>
     requires earlier { IfSome earlier (λ first. first < 2 ^ 31) }
     requires position { position < 2 ^ 31 }
-    ensures { OnOk result (Tells findings.old findings.new
+    ensures { OnOk result (Tells faults.old faults.new
         (listed (option_map (λ first. DuplicateEnumNumber number
-        (entry_part_label (named_files findings.old) place.entry.file place.entry.path.now
+        (entry_part_label (named_files faults.old) place.entry.file place.entry.path.now
         VALUE first NUMBER)
-        (entry_part_label (named_files findings.old) place.entry.file place.entry.path.now
+        (entry_part_label (named_files faults.old) place.entry.file place.entry.path.now
         VALUE position NUMBER)) earlier))) }
 {
     if let Some(first) = earlier {
         let fault = DescriptorErrorKind::DuplicateEnumNumber {
             number,
-            first: number_label(findings, place, first)?,
-            second: number_label(findings, place, position)?,
+            first: number_label(faults, place, first)?,
+            second: number_label(faults, place, position)?,
         };
-        findings.push(fault)?;
+        faults.push(fault)?;
     }
     Ok(())
 }
 
 /// The label of the number of the value with a position.
-fn number_label(findings: &mut Findings, place: Place, position: usize) -> Result<Label, AllocError>
+fn number_label(faults: &mut Faults, place: Place, position: usize) -> Result<Label, AllocError>
     requires { position < 2 ^ 31 }
-    ensures label { IfOk result (λ l. l ≡ entry_part_label (named_files findings.old)
+    ensures label { IfOk result (λ l. l ≡ entry_part_label (named_files faults.old)
         place.entry.file place.entry.path.now VALUE position NUMBER) }
-    ensures stays { findings.new ≡ findings.old }
+    ensures stays { faults.new ≡ faults.old }
 {
     let (values, part) = (tag::enum_::VALUE, tag::enum_value::NUMBER);
-    findings.entry_part_label(place, values, position, part)
+    faults.entry_part_label(place, values, position, part)
 }

@@ -11,7 +11,7 @@ ghost use Rattle.field_rules.specs.Numbers.{extension_range_fault, extension_ran
 ghost use Rattle.field_rules.specs.Numbers.{outside_faults};
 ghost use Rattle.field_rules.specs.Ranges.{extends};
 
-use crate::{Findings, Owner, Place};
+use crate::{Faults, Owner, Place};
 use number_ranges::NumberRanges;
 use plain_data::Text;
 use pool_faults::DescriptorErrorKind;
@@ -21,7 +21,7 @@ use std::alloc::AllocError;
 /// Appends to `faults` what the number of a field breaks by the extension ranges of its message:
 /// that the first of them holds it; or, of a field that has an extendee, that none does.
 pub(crate) fn check_extension_ranges(
-    findings: &mut Findings,
+    faults: &mut Faults,
     owner: Owner,
     ranges: &NumberRanges,
     place: Place,
@@ -30,27 +30,27 @@ pub(crate) fn check_extension_ranges(
     requires fits { fits_list (out-DescriptorProto owner.message.now).extension_range ≡ true }
     requires ranges { ranges.now
         ≡ extension_bounds (out-DescriptorProto owner.message.now).extension_range }
-    ensures { OnOk result (Tells findings.old findings.new (if is_some field.now.extendee
-        then outside_faults (named_files findings.old) place.entry.file place.entry.path.now
+    ensures { OnOk result (Tells faults.old faults.new (if is_some field.now.extendee
+        then outside_faults (named_files faults.old) place.entry.file place.entry.path.now
         (number_of field.now.number) (inside_of owner.entry.place)
         (out-DescriptorProto owner.entry.message.now).extension_range
-        else extension_range_faults (named_files findings.old) place.entry.file place.entry.path.now
+        else extension_range_faults (named_files faults.old) place.entry.file place.entry.path.now
         (number_of field.now.number) (inside_of owner.entry.place)
         (out-DescriptorProto owner.entry.message.now).extension_range)) }
 {
     let number = field.number();
     let holder = ranges.first_from(0, number);
     if field.extendee.is_some() {
-        check_in_some_range(findings, owner, place, number, holder.is_some())
+        check_in_some_range(faults, owner, place, number, holder.is_some())
     } else {
-        check_not_in_ranges(findings, owner, holder, place, number)
+        check_not_in_ranges(faults, owner, holder, place, number)
     }
 }
 
 /// Appends to `faults` that of a number that no extension range of a message holds, by whether one
 /// does.
 pub(crate) fn check_in_some_range(
-    findings: &mut Findings,
+    faults: &mut Faults,
     owner: Owner,
     place: Place,
     number: i32,
@@ -58,15 +58,15 @@ pub(crate) fn check_in_some_range(
 ) -> Result<(), AllocError>
     requires { is_inside ≡ list_any (extends number)
         (out-DescriptorProto owner.message.now).extension_range }
-    ensures { OnOk result (Tells findings.old findings.new
-        (outside_faults (named_files findings.old) place.entry.file place.entry.path.now number
+    ensures { OnOk result (Tells faults.old faults.new
+        (outside_faults (named_files faults.old) place.entry.file place.entry.path.now number
         (inside_of owner.entry.place)
         (out-DescriptorProto owner.entry.message.now).extension_range)) }
 {
     if !is_inside {
-        let message = Text::from_str(findings.alloc, owner.place.full_name)?;
-        let found = findings.part_label(place, tag::field::NUMBER)?;
-        findings.push(DescriptorErrorKind::ExtensionNumberOutOfRange {
+        let message = Text::from_str(faults.alloc, owner.place.full_name)?;
+        let found = faults.part_label(place, tag::field::NUMBER)?;
+        faults.push(DescriptorErrorKind::ExtensionNumberOutOfRange {
             number,
             message,
             found,
@@ -78,7 +78,7 @@ pub(crate) fn check_in_some_range(
 /// Appends to `faults` that of the first extension range of a message that holds the number, if one
 /// does.
 fn check_not_in_ranges(
-    findings: &mut Findings,
+    faults: &mut Faults,
     owner: Owner,
     holder: Option<usize>,
     place: Place,
@@ -89,8 +89,8 @@ fn check_not_in_ranges(
         (out-DescriptorProto owner.message.now).extension_range }
     requires there { IfSome holder (λ found. found
         < length (out-DescriptorProto owner.message.now).extension_range) }
-    ensures { OnOk result (Tells findings.old findings.new
-        (extension_range_faults (named_files findings.old) place.entry.file place.entry.path.now number
+    ensures { OnOk result (Tells faults.old faults.new
+        (extension_range_faults (named_files faults.old) place.entry.file place.entry.path.now number
         (inside_of owner.entry.place)
         (out-DescriptorProto owner.entry.message.now).extension_range)) }
 {
@@ -99,15 +99,15 @@ fn check_not_in_ranges(
             position,
             &owner.message.extension_range.as_slice()[position],
         );
-        let fault = extension_range_fault(findings, owner.place, entry, place, number)?;
-        findings.push(fault)?;
+        let fault = extension_range_fault(faults, owner.place, entry, place, number)?;
+        faults.push(fault)?;
     }
     Ok(())
 }
 
 /// The fault of an extension range, given with its position, that holds the number of a field.
 fn extension_range_fault(
-    findings: &mut Findings,
+    faults: &mut Faults,
     owner: Place,
     entry: (usize, &ExtensionRange),
     place: Place,
@@ -115,17 +115,17 @@ fn extension_range_fault(
 ) -> Result<DescriptorErrorKind, AllocError>
     requires { entry.0 < 2 ^ 31 }
     ensures fault { IfOk result (λ fault. fault
-        ≡ extension_range_fault (named_files findings.old) place.entry.file place.entry.path.now number
+        ≡ extension_range_fault (named_files faults.old) place.entry.file place.entry.path.now number
         (inside_of owner.entry) (entry.entry.0, entry.entry.1.now)) }
-    ensures stays { findings.new ≡ findings.old }
+    ensures stays { faults.new ≡ faults.old }
 {
     let (position, range) = entry;
     Ok(DescriptorErrorKind::FieldNumberInExtensionRange {
         number,
         start: range.start(),
         end: range.end(),
-        defined: findings.entry_label(owner, tag::message::EXTENSION_RANGE, position)?,
-        found: findings.part_label(place, tag::field::NUMBER)?,
+        defined: faults.entry_label(owner, tag::message::EXTENSION_RANGE, position)?,
+        found: faults.part_label(place, tag::field::NUMBER)?,
     })
 }
 

@@ -11,7 +11,7 @@ ghost use Rattle.field_rules.specs.Duplicates.{duplicate_faults, same_number, sa
 ghost use Rattle.field_rules.specs.MapsOf.{AreMapsOf};
 ghost use Rattle.field_rules.specs.DuplicateNumbers.{item_number};
 
-use crate::{Findings, Owner, Place};
+use crate::{Faults, Owner, Place};
 use plain_data::{NumberMap, Text, TextMap};
 use pool_faults::DescriptorErrorKind;
 use proto_types::{FieldDescriptorProto, tag};
@@ -46,7 +46,7 @@ impl FieldMaps {
     /// `AllocError` where memory was refused.
     pub fn insert(
         &mut self,
-        findings: &mut Findings,
+        faults: &mut Faults,
         owner: Owner,
         position: usize,
     ) -> Result<(), AllocError>
@@ -56,25 +56,25 @@ impl FieldMaps {
             (take position (out-DescriptorProto owner.message.now).field) }
         ensures maps { OnOk result (AreMapsOf self.new
             (take (position + 1) (out-DescriptorProto owner.entry.message.now).field)) }
-        ensures faults { OnOk result (Tells findings.old findings.new
-            (duplicate_faults (named_files findings.old)
+        ensures faults { OnOk result (Tells faults.old faults.new
+            (duplicate_faults (named_files faults.old)
             owner.entry.place.file owner.entry.place.path.now
             (take position (out-DescriptorProto owner.entry.message.now).field) position
             (get_or (out-DescriptorProto owner.entry.message.now).field position no_field))) }
     {
         let field = &owner.message.field.as_slice()[position];
         let number = field.number();
-        check_number(findings, owner.place, &self.numbers, position, number)?;
+        check_number(faults, owner.place, &self.numbers, position, number)?;
         self.numbers.insert(item_number(number), position as u32)?;
         self.names.insert(field.name(), position as u32)?;
-        enter_json_name(findings, owner.place, &mut self.json_names, position, field)
+        enter_json_name(faults, owner.place, &mut self.json_names, position, field)
     }
 }
 
 /// Enters the JSON name of a field, if it has one. That an earlier field has it is appended to
 /// `faults`.
 fn enter_json_name(
-    findings: &mut Findings,
+    faults: &mut Faults,
     owner: Place,
     json_names: &mut TextMap,
     position: usize,
@@ -86,21 +86,21 @@ fn enter_json_name(
     ensures map { OnOk result (json_names.new
         ≡ option_map_or (λ name. finite.insert json_names.old name position)
         field.now.json_name json_names.old) }
-    ensures faults { OnOk result (Tells findings.old findings.new
+    ensures faults { OnOk result (Tells faults.old faults.new
         (option_map_or (λ name. listed (option_map (λ first. same_json_name
-        (named_files findings.old) owner.entry.file owner.entry.path.now name first position)
+        (named_files faults.old) owner.entry.file owner.entry.path.now name first position)
         (finite.get json_names.old name))) field.now.json_name [])) }
 {
     let Some(name) = &field.json_name else {
         return Ok(());
     };
-    check_json_name(findings, owner, json_names, position, name)?;
+    check_json_name(faults, owner, json_names, position, name)?;
     json_names.insert(name.as_str(), position as u32)
 }
 
 /// Appends to `faults` that of a number that an earlier field has, by the map of numbers.
 fn check_number(
-    findings: &mut Findings,
+    faults: &mut Faults,
     owner: Place,
     numbers: &NumberMap,
     position: usize,
@@ -109,21 +109,21 @@ fn check_number(
     requires short { position < 2 ^ 31 }
     requires holders_short { IfSome (finite.get numbers.now (item_number number)) (λ first.
         first < 2 ^ 31) }
-    ensures { OnOk result (Tells findings.old findings.new
-        (listed (option_map (λ first. same_number (named_files findings.old) owner.entry.file
+    ensures { OnOk result (Tells faults.old faults.new
+        (listed (option_map (λ first. same_number (named_files faults.old) owner.entry.file
         owner.entry.path.now number first position)
         (finite.get numbers.now (item_number number))))) }
 {
     let Some(first) = numbers.get(item_number(number)) else {
         return Ok(());
     };
-    let fault = same_number(findings, owner, number, first as usize, position)?;
-    findings.push(fault)
+    let fault = same_number(faults, owner, number, first as usize, position)?;
+    faults.push(fault)
 }
 
 /// Appends to `faults` that of a JSON name that an earlier field has, by the map of these.
 fn check_json_name(
-    findings: &mut Findings,
+    faults: &mut Faults,
     owner: Place,
     json_names: &TextMap,
     position: usize,
@@ -132,21 +132,21 @@ fn check_json_name(
     requires short { position < 2 ^ 31 }
     requires holders_short { IfSome (finite.get json_names.now name.now) (λ first.
         first < 2 ^ 31) }
-    ensures { OnOk result (Tells findings.old findings.new
-        (listed (option_map (λ first. same_json_name (named_files findings.old)
+    ensures { OnOk result (Tells faults.old faults.new
+        (listed (option_map (λ first. same_json_name (named_files faults.old)
         owner.entry.file owner.entry.path.now name.now first position)
         (finite.get json_names.now name.now)))) }
 {
     let Some(first) = json_names.get(name.as_str()) else {
         return Ok(());
     };
-    let fault = same_json_name(findings, owner, name, first as usize, position)?;
-    findings.push(fault)
+    let fault = same_json_name(faults, owner, name, first as usize, position)?;
+    faults.push(fault)
 }
 
 /// The fault of two fields with one number, the earlier first.
 fn same_number(
-    findings: &mut Findings,
+    faults: &mut Faults,
     owner: Place,
     number: i32,
     first: usize,
@@ -154,21 +154,21 @@ fn same_number(
 ) -> Result<DescriptorErrorKind, AllocError>
     requires first_short { first < 2 ^ 31 }
     requires second_short { second < 2 ^ 31 }
-    ensures fault { IfOk result (λ fault. fault ≡ same_number (named_files findings.old)
+    ensures fault { IfOk result (λ fault. fault ≡ same_number (named_files faults.old)
         owner.entry.file owner.entry.path.now number first second) }
-    ensures stays { findings.new ≡ findings.old }
+    ensures stays { faults.new ≡ faults.old }
 {
     let (message, part) = (tag::message::FIELD, tag::field::NUMBER);
     Ok(DescriptorErrorKind::DuplicateFieldNumber {
         number,
-        first: findings.entry_part_label(owner, message, first, part)?,
-        second: findings.entry_part_label(owner, message, second, part)?,
+        first: faults.entry_part_label(owner, message, first, part)?,
+        second: faults.entry_part_label(owner, message, second, part)?,
     })
 }
 
 /// The fault of two fields with one JSON name, the earlier first.
 fn same_json_name(
-    findings: &mut Findings,
+    faults: &mut Faults,
     owner: Place,
     name: &Text,
     first: usize,
@@ -176,15 +176,15 @@ fn same_json_name(
 ) -> Result<DescriptorErrorKind, AllocError>
     requires first_short { first < 2 ^ 31 }
     requires second_short { second < 2 ^ 31 }
-    ensures fault { IfOk result (λ fault. fault ≡ same_json_name (named_files findings.old)
+    ensures fault { IfOk result (λ fault. fault ≡ same_json_name (named_files faults.old)
         owner.entry.file owner.entry.path.now name.now first second) }
-    ensures stays { findings.new ≡ findings.old }
+    ensures stays { faults.new ≡ faults.old }
 {
     let (message, part) = (tag::message::FIELD, tag::field::NAME);
     Ok(DescriptorErrorKind::DuplicateFieldJsonName {
-        name: name.clone(findings.alloc)?,
-        first: findings.entry_part_label(owner, message, first, part)?,
-        second: findings.entry_part_label(owner, message, second, part)?,
+        name: name.clone(faults.alloc)?,
+        first: faults.entry_part_label(owner, message, first, part)?,
+        second: faults.entry_part_label(owner, message, second, part)?,
     })
 }
 

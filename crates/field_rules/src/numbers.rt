@@ -9,7 +9,7 @@ ghost use Rattle.field_rules.specs.Numbers.{field_number_faults, extension_numbe
 use crate::extension_ranges::{any_extends, check_extension_ranges, check_in_some_range};
 use crate::message_ranges::MessageRanges;
 use crate::reserved::{check_reserved_by, check_reserved_ranges, check_valid};
-use crate::{Findings, Owner, Place};
+use crate::{Faults, Owner, Place};
 use proto_types::FieldDescriptorProto;
 use std::alloc::AllocError;
 
@@ -22,7 +22,7 @@ use std::alloc::AllocError;
 /// # Errors
 /// `AllocError` where memory was refused.
 pub fn check_field_number(
-    findings: &mut Findings,
+    faults: &mut Faults,
     owner: Owner,
     ranges: &MessageRanges,
     place: Place,
@@ -30,15 +30,15 @@ pub fn check_field_number(
 ) -> Result<(), AllocError>
     requires short { lists_fit (of_message owner.message.now) ≡ true }
     requires ranges { AreRangesOf ranges.now owner.message.now }
-    ensures { OnOk result (Tells findings.old findings.new
-        (field_number_faults (named_files findings.old)
+    ensures { OnOk result (Tells faults.old faults.new
+        (field_number_faults (named_files faults.old)
         (message_at owner.entry.place owner.entry.message.now) owner.entry.message.now
         (shown_at place.entry (of_field field.now)) field.now)) }
 {
     let number = field.number();
-    check_valid(findings, place, number)?;
-    check_reserved_by(findings, owner, &ranges.reserved, place, number)?;
-    check_extension_ranges(findings, owner, &ranges.extension, place, field)
+    check_valid(faults, place, number)?;
+    check_reserved_by(faults, owner, &ranges.reserved, place, number)?;
+    check_extension_ranges(faults, owner, &ranges.extension, place, field)
 }
 
 /// Appends to `faults` what the number of an extension breaks, by the record of the message that it
@@ -48,20 +48,20 @@ pub fn check_field_number(
 /// # Errors
 /// `AllocError` where memory was refused.
 pub fn check_extension_number(
-    findings: &mut Findings,
+    faults: &mut Faults,
     owner: Owner,
     place: Place,
     extension: &FieldDescriptorProto,
 ) -> Result<(), AllocError>
     requires { lists_fit (of_message owner.message.now) ≡ true }
-    ensures { OnOk result (Tells findings.old findings.new
-        (extension_number_faults (named_files findings.old)
+    ensures { OnOk result (Tells faults.old faults.new
+        (extension_number_faults (named_files faults.old)
         (message_at owner.entry.place owner.entry.message.now) owner.entry.message.now
         (shown_at place.entry (of_extension extension.now)) extension.now)) }
 {
     let number = extension.number();
-    check_valid(findings, place, number)?;
-    check_reserved_ranges(findings, owner, place, number)?;
+    check_valid(faults, place, number)?;
+    check_reserved_ranges(faults, owner, place, number)?;
     let is_inside = any_extends(owner.message.extension_range.as_slice(), number);
-    check_in_some_range(findings, owner, place, number, is_inside)
+    check_in_some_range(faults, owner, place, number, is_inside)
 }

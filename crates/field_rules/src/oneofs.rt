@@ -4,7 +4,7 @@ ghost use Rattle.plain_data.specs.Each.{map_enumerated};
 ghost use Rattle.field_rules.specs.Tells.{Tells};
 ghost use Rattle.field_rules.specs.Oneofs.{oneof_faults, oneof_of, members};
 
-use crate::Findings;
+use crate::Faults;
 use plain_data::Items;
 use pool_faults::DescriptorErrorKind;
 use proto_types::{FieldDescriptorProto, OneofDescriptorProto};
@@ -16,15 +16,15 @@ use std::alloc::{AllocError, Global};
 /// # Errors
 /// `AllocError` where memory was refused.
 pub fn check_oneof_index(
-    findings: &mut Findings,
+    faults: &mut Faults,
     oneofs: &[OneofDescriptorProto],
     field: &FieldDescriptorProto,
 ) -> Result<(), AllocError>
-    ensures { OnOk result (Tells findings.old findings.new
+    ensures { OnOk result (Tells faults.old faults.new
         (oneof_faults oneofs.now field.now)) }
 {
     if field.oneof_index.is_some() && oneof_of(oneofs, field).is_none() {
-        findings.push(DescriptorErrorKind::InvalidOneofIndex)?;
+        faults.push(DescriptorErrorKind::InvalidOneofIndex)?;
     }
     Ok(())
 }

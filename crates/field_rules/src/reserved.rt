@@ -8,44 +8,40 @@ ghost use Rattle.field_rules.specs.Numbers.{invalid_faults, reserved_fault, rese
 ghost use Rattle.field_rules.specs.Ranges.{reserves};
 
 use crate::field_number::is_valid_number;
-use crate::{Findings, Owner, Place};
+use crate::{Faults, Owner, Place};
 use number_ranges::NumberRanges;
 use pool_faults::DescriptorErrorKind;
 use proto_types::{ReservedRange, tag};
 use std::alloc::AllocError;
 
 /// Appends to `faults` that of a number that no field may have.
-pub(crate) fn check_valid(
-    findings: &mut Findings,
-    place: Place,
-    number: i32,
-) -> Result<(), AllocError>
-    ensures { OnOk result (Tells findings.old findings.new
-        (invalid_faults (named_files findings.old) place.entry.file place.entry.path.now number)) }
+pub(crate) fn check_valid(faults: &mut Faults, place: Place, number: i32) -> Result<(), AllocError>
+    ensures { OnOk result (Tells faults.old faults.new
+        (invalid_faults (named_files faults.old) place.entry.file place.entry.path.now number)) }
 {
     if !is_valid_number(number) {
-        let found = findings.part_label(place, tag::field::NUMBER)?;
-        findings.push(DescriptorErrorKind::InvalidFieldNumber { number, found })?;
+        let found = faults.part_label(place, tag::field::NUMBER)?;
+        faults.push(DescriptorErrorKind::InvalidFieldNumber { number, found })?;
     }
     Ok(())
 }
 
 /// Appends to `faults` one for each reserved range of a message that holds the number.
 pub(crate) fn check_reserved_ranges(
-    findings: &mut Findings,
+    faults: &mut Faults,
     owner: Owner,
     place: Place,
     number: i32,
 ) -> Result<(), AllocError>
     requires { fits_list (out-DescriptorProto owner.message.now).reserved_range ≡ true }
-    ensures { OnOk result (Tells findings.old findings.new
-        (reserved_faults (named_files findings.old) place.entry.file place.entry.path.now number
+    ensures { OnOk result (Tells faults.old faults.new
+        (reserved_faults (named_files faults.old) place.entry.file place.entry.path.now number
         (inside_of owner.entry.place)
         (out-DescriptorProto owner.entry.message.now).reserved_range)) }
 {
     for (position, range) in owner.message.reserved_range.as_slice().iter().enumerate() {
         let entry = (position, range);
-        check_reserved_range(findings, owner.place, entry, place, number)?;
+        check_reserved_range(faults, owner.place, entry, place, number)?;
     }
     Ok(())
 }
@@ -53,7 +49,7 @@ pub(crate) fn check_reserved_ranges(
 /// The same as `check_reserved_ranges`, by the ranges in order: only those are looked at that hold
 /// the number.
 pub(crate) fn check_reserved_by(
-    findings: &mut Findings,
+    faults: &mut Faults,
     owner: Owner,
     ranges: &NumberRanges,
     place: Place,
@@ -62,8 +58,8 @@ pub(crate) fn check_reserved_by(
     requires fits { fits_list (out-DescriptorProto owner.message.now).reserved_range ≡ true }
     requires ranges { ranges.now
         ≡ reserved_bounds (out-DescriptorProto owner.message.now).reserved_range }
-    ensures { OnOk result (Tells findings.old findings.new
-        (reserved_faults (named_files findings.old) place.entry.file place.entry.path.now number
+    ensures { OnOk result (Tells faults.old faults.new
+        (reserved_faults (named_files faults.old) place.entry.file place.entry.path.now number
         (inside_of owner.entry.place)
         (out-DescriptorProto owner.entry.message.now).reserved_range)) }
 {
@@ -71,7 +67,7 @@ pub(crate) fn check_reserved_by(
     let mut from = 0;
     while let Some(position) = ranges.first_from(from, number) {
         let entry = (position, &list[position]);
-        check_reserved_range(findings, owner.place, entry, place, number)?;
+        check_reserved_range(faults, owner.place, entry, place, number)?;
         from = position + 1;
     }
     Ok(())
@@ -80,15 +76,15 @@ pub(crate) fn check_reserved_by(
 /// Appends to `faults` that of a reserved range of a message, given with its position, that holds
 /// the number.
 fn check_reserved_range(
-    findings: &mut Findings,
+    faults: &mut Faults,
     owner: Place,
     entry: (usize, &ReservedRange),
     place: Place,
     number: i32,
 ) -> Result<(), AllocError>
     requires { entry.0 < 2 ^ 31 }
-    ensures { OnOk result (Tells findings.old findings.new
-        (reserved_fault (named_files findings.old) place.entry.file place.entry.path.now number
+    ensures { OnOk result (Tells faults.old faults.new
+        (reserved_fault (named_files faults.old) place.entry.file place.entry.path.now number
         (inside_of owner.entry) entry.entry.0 entry.entry.1.now)) }
 {
     let (position, range) = entry;
@@ -97,10 +93,10 @@ fn check_reserved_range(
             number,
             start: range.start(),
             end: range.end(),
-            defined: findings.entry_label(owner, tag::message::RESERVED_RANGE, position)?,
-            found: findings.part_label(place, tag::field::NUMBER)?,
+            defined: faults.entry_label(owner, tag::message::RESERVED_RANGE, position)?,
+            found: faults.part_label(place, tag::field::NUMBER)?,
         };
-        findings.push(fault)?;
+        faults.push(fault)?;
     }
     Ok(())
 }

@@ -1,10 +1,12 @@
 -- One more declaration is shown to the first pass.
-use Rattle.std.proofs.Common.{◌≡◌, Result, OnOk, List, [], ◌∷◌, ◌++◌, length, map, refl, ap, subst, sym, ◌∙◌, append_assoc, append-nil}
+use Rattle.std.proofs.Common.{◌≡◌, Result, OnOk, List, [], ◌∷◌, ◌++◌, length, map, take, refl, ap, subst, sym, ◌∙◌, append_assoc, append-nil}
 use Rattle.std.proofs.lemmas.Result.{on_ok_weaker}
 use Rattle.std.specs.List.{fold}
 use Rattle.pool_faults.specs.declared.fault.DescriptorErrorKind.{DescriptorErrorKind}
-use Rattle.field_rules.specs.declared.findings.Faults.{Faults}
-use Rattle.pool_types.specs.Contents.{ByText, Contents}
+use Rattle.field_rules.specs.declared.faults.Faults.{Faults}
+use Rattle.pool_types.specs.Contents.{ByText, Contents, no_contents}
+use Rattle.pool_types.specs.declared.contents.file.FileDescriptorInner.{FileDescriptorInner}
+use Rattle.name_tables.specs.NameTables.{file_names_before, without_files_from}
 use Rattle.pool_types.specs.declared.contents.definition.Definition.{Definition}
 use Rattle.record_walk.specs.Progress.{HasSeen}
 use Rattle.proto_types.specs.declared.file.FileDescriptorProto.{FileDescriptorProto}
@@ -26,11 +28,19 @@ stays-on first second = record {
   borrows = second.borrows ∙ first.borrows;
 }
 
+-- what a roll-back leaves where labels name these files and names mean this
+abbrev kept_with : NameVisitor → List FileDescriptorInner → ByText Definition → Contents
+kept_with v files names = record no_contents {
+  files = take v.first files;
+  names = without_files_from (length (take v.first files)) names;
+  file_names = file_names_before (length (take v.first files)) v.file_names.now;
+}
+
 -- what stays where faults come
 pub stays-told : (v : NameVisitor) (faults : Faults) → faults.labels ≡ v.faults.now.labels → Stays v (record v { faults = re_v faults v.faults })
 stays-told v faults same = record {
   files = same;
-  kept = λ i. kept_of (record v { faults = re_v (record faults { labels = same i }) v.faults });
+  kept = λ i. kept_with v (same i) v.names.now;
   borrows = refl;
 }
 
@@ -39,7 +49,7 @@ pub stays-held : (v : NameVisitor) (names : ByText Definition) (faults : Faults)
     → Stays v (record v { names = re_v names (re_v names v.names); faults = re_v faults v.faults })
 stays-held v names faults same labels = record {
   files = labels;
-  kept = λ i. kept_of (record v { names = re_v (same i) v.names; faults = re_v (record faults { labels = labels i }) v.faults });
+  kept = λ i. kept_with v (labels i) (same i);
   borrows = refl;
 }
 

@@ -8,7 +8,7 @@ ghost use Rattle.field_rules.specs.Tells.{Tells, named_files};
 ghost use Rattle.name_pass.specs.CamelCase.{camel_case_key, name_path, camel_case_fault, camel_case_faults, message_own_faults};
 
 use crate::syntax::syntax_at;
-use field_rules::Findings;
+use field_rules::Faults;
 use plain_data::Text;
 use pool_faults::{DescriptorErrorKind, Label};
 use pool_types::Syntax;
@@ -26,40 +26,42 @@ use std::collections::HashMap;
 /// # Errors
 /// `AllocError` where memory was refused.
 pub fn check_camel_case_names(
-    findings: &mut Findings,
+    faults: &mut Faults,
     file: u32,
     path: &[i32],
     message: &DescriptorProto,
 ) -> Result<(), AllocError>
     requires { lists_fit (of_message message.now) ≡ true }
-    ensures { OnOk result (Tells findings.old findings.new
-        (message_own_faults (named_files findings.old) file path.now message.now)) }
+    ensures told { OnOk result (Tells faults.old faults.new
+        (message_own_faults (named_files faults.old) file path.now message.now)) }
+    ensures labels { faults.new.labels ≡ faults.old.labels }
 {
-    match syntax_at(findings.files(), file) {
+    match syntax_at(faults.files(), file) {
         Syntax::Proto2 => Ok(()),
-        Syntax::Proto3 => check_keys(findings, file, path, message.field.as_slice()),
+        Syntax::Proto3 => check_keys(faults, file, path, message.field.as_slice()),
     }
 }
 
 /// Appends to `faults` one for each field whose key an earlier field has.
 fn check_keys(
-    findings: &mut Findings,
+    faults: &mut Faults,
     file: u32,
     path: &[i32],
     fields: &[FieldDescriptorProto],
 ) -> Result<(), AllocError>
     requires { fits_list fields.now ≡ true }
-    ensures { OnOk result (Tells findings.old findings.new
-        (camel_case_faults (named_files findings.old) file path.now fields.now)) }
+    ensures told { OnOk result (Tells faults.old faults.new
+        (camel_case_faults (named_files faults.old) file path.now fields.now)) }
+    ensures labels { faults.new.labels ≡ faults.old.labels }
 {
-    let mut holders = HashMap::new(findings.alloc);
+    let mut holders = HashMap::new(faults.alloc);
     for (position, field) in fields.iter().enumerate() {
-        let key = camel_case_key(findings.alloc, field.name())?;
+        let key = camel_case_key(faults.alloc, field.name())?;
         let first = first_holder(&mut holders, key, position)?;
         if first != position {
             let holder = (first, &fields[first]);
-            let fault = camel_case_fault(findings, file, path, holder, (position, field))?;
-            findings.push(fault)?;
+            let fault = camel_case_fault(faults, file, path, holder, (position, field))?;
+            faults.push(fault)?;
         }
     }
     Ok(())
@@ -91,7 +93,7 @@ fn first_holder(
 
 /// The fault of two fields, given with their positions, whose names have one key.
 fn camel_case_fault(
-    findings: &mut Findings,
+    faults: &mut Faults,
     file: u32,
     path: &[i32],
     first: (usize, &FieldDescriptorProto),
@@ -100,31 +102,31 @@ fn camel_case_fault(
     requires first_short { first.0 < 2 ^ 31 }
     requires second_short { second.0 < 2 ^ 31 }
     ensures fault { IfOk result (λ fault. fault
-        ≡ camel_case_fault (named_files findings.old) file path.now
+        ≡ camel_case_fault (named_files faults.old) file path.now
         (first.entry.0, first.entry.1.now) (second.entry.0, second.entry.1.now)) }
-    ensures stays { findings.new ≡ findings.old }
+    ensures stays { faults.new ≡ faults.old }
 {
     Ok(DescriptorErrorKind::DuplicateFieldCamelCaseName {
-        first_name: Text::from_str(findings.alloc, first.1.name())?,
-        second_name: Text::from_str(findings.alloc, second.1.name())?,
-        first: name_label(findings, file, path, first.0)?,
-        second: name_label(findings, file, path, second.0)?,
+        first_name: Text::from_str(faults.alloc, first.1.name())?,
+        second_name: Text::from_str(faults.alloc, second.1.name())?,
+        first: name_label(faults, file, path, first.0)?,
+        second: name_label(faults, file, path, second.0)?,
     })
 }
 
 /// The label of a field's name.
 fn name_label(
-    findings: &mut Findings,
+    faults: &mut Faults,
     file: u32,
     path: &[i32],
     position: usize,
 ) -> Result<Label, AllocError>
     requires { position < 2 ^ 31 }
     ensures label { IfOk result (λ l. l
-        ≡ label_in (named_files findings.old) file (name_path path.now position)) }
-    ensures stays { findings.new ≡ findings.old }
+        ≡ label_in (named_files faults.old) file (name_path path.now position)) }
+    ensures stays { faults.new ≡ faults.old }
 {
-    let mut name_path = entry_path(findings.alloc, path, tag::message::FIELD, position)?;
+    let mut name_path = entry_path(faults.alloc, path, tag::message::FIELD, position)?;
     name_path.push(tag::field::NAME)?;
-    findings.label(file, &name_path)
+    faults.label(file, &name_path)
 }

@@ -1,9 +1,9 @@
-ghost use Rattle.std.specs.Prelude.{OnOk};
+ghost use Rattle.std.specs.Prelude.{◌≡◌, OnOk};
 ghost use Rattle.field_rules.specs.Tells.{Tells, named_files};
 ghost use Rattle.name_pass.specs.Enumeration.{enum_faults};
 
 use crate::syntax::syntax_at;
-use field_rules::Findings;
+use field_rules::Faults;
 use pool_faults::DescriptorErrorKind;
 use pool_types::Syntax;
 use proto_types::{EnumDescriptorProto, tag};
@@ -16,25 +16,26 @@ use std::alloc::AllocError;
 /// # Errors
 /// `AllocError` where memory was refused.
 pub fn check_enum_values(
-    findings: &mut Findings,
+    faults: &mut Faults,
     file: u32,
     path: &[i32],
     enumeration: &EnumDescriptorProto,
 ) -> Result<(), AllocError>
-    ensures { OnOk result (Tells findings.old findings.new
-        (enum_faults (named_files findings.old) file path.now enumeration.now)) }
+    ensures told { OnOk result (Tells faults.old faults.new
+        (enum_faults (named_files faults.old) file path.now enumeration.now)) }
+    ensures labels { faults.new.labels ≡ faults.old.labels }
 {
     let Some(first) = enumeration.value.as_slice().first() else {
-        let found = findings.label(file, path)?;
-        return findings.push(DescriptorErrorKind::EmptyEnum { found });
+        let found = faults.label(file, path)?;
+        return faults.push(DescriptorErrorKind::EmptyEnum { found });
     };
-    if syntax_at(findings.files(), file) == Syntax::Proto3 && first.number() != 0 {
-        let mut number_path = Vec::from_slice(findings.alloc, path)?;
+    if syntax_at(faults.files(), file) == Syntax::Proto3 && first.number() != 0 {
+        let mut number_path = Vec::from_slice(faults.alloc, path)?;
         number_path.push(tag::enum_::VALUE)?;
         number_path.push(0)?;
         number_path.push(tag::enum_value::NUMBER)?;
-        let found = findings.label(file, &number_path)?;
-        findings.push(DescriptorErrorKind::InvalidProto3EnumDefault { found })?;
+        let found = faults.label(file, &number_path)?;
+        faults.push(DescriptorErrorKind::InvalidProto3EnumDefault { found })?;
     }
     Ok(())
 }

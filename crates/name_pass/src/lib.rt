@@ -2,7 +2,6 @@
 #![tactic(auto)]
 
 mod camel_case;
-mod checks;
 mod enumeration;
 mod names;
 mod syntax;

@@ -1,11 +1,12 @@
 ghost use Rattle.std.specs.Prelude.{◌≡◌, ◌≤◌, ◌∷◌, ◌++◌, [], OnOk, map};
 ghost use Rattle.std.specs.Option.{option_copied};
 ghost use Rattle.proto_types.specs.declared.tag.message.TheConstants.{NAME};
+ghost use Rattle.field_rules.specs.Tells.{Tells, named_files};
 ghost use Rattle.name_resolution.specs.Kinds.{is_package};
 ghost use Rattle.name_pass.specs.Entered.{packages, package_entry};
 ghost use Rattle.name_pass.specs.FirstPass.{holder_faults};
 
-use crate::checks::{check_camel_case_names, check_enum_values, check_syntax};
+use crate::{check_camel_case_names, check_enum_values, check_syntax};
 use field_rules::Faults;
 use name_tables::{FileNames, NameTable, PoolNames};
 use plain_data::{Items, Text};
@@ -55,7 +56,7 @@ impl NameVisitor<'_, '_> {
             return Ok(());
         };
         let holder = self.names.get(name);
-        check_clash(self.alloc, self.faults, name, holder, &definition)
+        check_clash(self.faults, name, holder, &definition)
     }
 
     /// Enters a package and those around it, from the outermost in.
@@ -99,9 +100,7 @@ impl NameVisitor<'_, '_> {
         }
         let name = Text::from_str(self.alloc, name)?;
         self.faults
-            .found
-            .push(DescriptorErrorKind::DuplicateFileName { name })?;
-        Ok(())
+            .push(DescriptorErrorKind::DuplicateFileName { name })
     }
 
     /// Enters a declaration's full name, at the name of its record.
@@ -147,7 +146,7 @@ impl Visitor for NameVisitor<'_, '_> {
         index: u32,
         file: &FileDescriptorProto,
     ) -> Result<(), AllocError> {
-        check_syntax(self.alloc, index, file, self.faults)?;
+        check_syntax(self.faults, index, file)?;
         self.name_file(file.name(), index)?;
         self.enter_packages(index, file.package())
     }
@@ -162,7 +161,7 @@ impl Visitor for NameVisitor<'_, '_> {
         message: &DescriptorProto,
     ) -> Result<(), AllocError> {
         self.enter_own(full_name, file, path, DefinitionKind::Message(index))?;
-        check_camel_case_names(self.alloc, file, path, message, self.faults)
+        check_camel_case_names(self.faults, file, path, message)
     }
 
     fn visit_field(
@@ -222,7 +221,7 @@ impl Visitor for NameVisitor<'_, '_> {
         enumeration: &EnumDescriptorProto,
     ) -> Result<(), AllocError> {
         self.enter_own(full_name, file, path, DefinitionKind::Enum(index))?;
-        check_enum_values(self.alloc, file, path, enumeration, self.faults)
+        check_enum_values(self.faults, file, path, enumeration)
     }
 
     fn visit_enum_value(
@@ -253,15 +252,14 @@ impl Visitor for NameVisitor<'_, '_> {
 /// Appends to `faults` that of a name that has a holder; a package may be entered again as a
 /// package.
 fn check_clash(
-    alloc: Global,
     faults: &mut Faults,
     name: &str,
     holder: Option<&Definition>,
     new: &Definition,
 ) -> Result<(), AllocError>
-    ensures told { OnOk result (faults.new.found.items ≡ faults.old.found.items
-        ++ holder_faults (map (λ f. f.raw) faults.old.labels) (option_copied holder.entry)
-        (name.now, new.now)) }
+    ensures told { OnOk result (Tells faults.old faults.new
+        (holder_faults (named_files faults.old) (option_copied holder.entry)
+        (name.now, new.now))) }
     ensures labels { faults.new.labels ≡ faults.old.labels }
 {
     let Some(holder) = holder else {
@@ -271,12 +269,11 @@ fn check_clash(
         return Ok(());
     }
     let fault = DescriptorErrorKind::DuplicateName {
-        name: Text::from_str(alloc, name)?,
-        first: faults.labels.label(holder.file, holder.path.as_slice())?,
-        second: faults.labels.label(new.file, new.path.as_slice())?,
+        name: Text::from_str(faults.alloc, name)?,
+        first: faults.label(holder.file, holder.path.as_slice())?,
+        second: faults.label(new.file, new.path.as_slice())?,
     };
-    faults.found.push(fault)?;
-    Ok(())
+    faults.push(fault)
 }
 
 fn is_package(kind: DefinitionKind) -> bool

@@ -3,7 +3,7 @@ ghost use Rattle.field_rules.specs.Tells.{Tells, named_files};
 ghost use Rattle.std.specs.Option.{option_copied};
 ghost use Rattle.name_pass.specs.Syntaxes.{known_syntax, syntax_of, syntax_at, syntax_faults};
 
-use field_rules::Findings;
+use field_rules::Faults;
 use plain_data::Text;
 use pool_faults::DescriptorErrorKind;
 use pool_types::{FileDescriptorInner, Syntax};
@@ -47,19 +47,20 @@ pub fn syntax_at(files: &[FileDescriptorInner], file: u32) -> Syntax
 /// # Errors
 /// `AllocError` where memory was refused.
 pub fn check_syntax(
-    findings: &mut Findings,
+    faults: &mut Faults,
     index: u32,
     file: &FileDescriptorProto,
 ) -> Result<(), AllocError>
-    ensures { OnOk result (Tells findings.old findings.new
-        (syntax_faults (named_files findings.old) index file.now)) }
+    ensures told { OnOk result (Tells faults.old faults.new
+        (syntax_faults (named_files faults.old) index file.now)) }
+    ensures labels { faults.new.labels ≡ faults.old.labels }
 {
     if known_syntax(written_syntax(file)).is_some() {
         return Ok(());
     }
-    let syntax = Text::from_str(findings.alloc, or_empty(&file.syntax))?;
-    let found = findings.label(index, &[tag::file::SYNTAX])?;
-    findings.push(DescriptorErrorKind::UnknownSyntax { syntax, found })
+    let syntax = Text::from_str(faults.alloc, or_empty(&file.syntax))?;
+    let found = faults.label(index, &[tag::file::SYNTAX])?;
+    faults.push(DescriptorErrorKind::UnknownSyntax { syntax, found })
 }
 
 /// The `syntax` of a file, as it is written there.

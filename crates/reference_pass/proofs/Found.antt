@@ -8,7 +8,7 @@ use Rattle.record_walk.specs.Protos.{Proto, of_file, of_message, of_field, of_on
 use Rattle.record_walk.proofs.Reached.{found-fits}
 use Rattle.reference_pass.specs.Definitions.{declaration_path, message_record, record_of}
 use Rattle.reference_pass.specs.Setting.{Setting}
-use Rattle.reference_pass.specs.Short.{ShortFiles}
+use Rattle.field_rules.specs.Short.{ShortFiles}
 
 -- a record that is read as a message is one
 as-message-of : (p : Option Proto) (m : DescriptorProto) → option_and_then as_message p ≡ Some m → p ≡ Some (of_message m)

@@ -1,7 +1,7 @@
 -- What is read, one after another.
 use Rattle.std.proofs.Common.{◌≡◌, ◌<◌, ◌+◌, ℕ, List, [], ◌++◌, length, map, take, get_or, refl, ap, subst, sym, ◌∙◌}
 use Rattle.std.specs.List.{flat_map}
-use Rattle.field_rules.specs.declared.findings.Findings.{Findings}
+use Rattle.field_rules.specs.declared.faults.Faults.{Faults as PassFaults}
 use Rattle.plain_data.specs.Each.{map_enumerated}
 use Rattle.field_rules.specs.Tells.{Tells}
 use Rattle.field_rules.proofs.Each.{all-next}
@@ -13,29 +13,29 @@ use Rattle.reference_pass.specs.Reading.{Reads, setting_of}
 
 -- no fault
 pub reads-none : (r : Reading) → Reads r r []
-reads-none r = record { findings = tells-none r.findings; names = refl; file_names = refl }
+reads-none r = record { told = tells-none r.faults; names = refl; file_names = refl }
 
 -- the same faults, as they are said otherwise
 pub reads-as : {a b : Reading} {fs gs : Faults} → fs ≡ gs → Reads a b fs → Reads a b gs
 reads-as {a} {b} is reads = subst (Reads a b) is reads
 
--- what a check of the findings alone appends
-pub reads-told : {r : Reading} {found : Findings} {fs : Faults} → Tells r.findings found fs → Reads r (record r { findings = found }) fs
-reads-told told = record { findings = told; names = refl; file_names = refl }
+-- what a check of the faults alone appends
+pub reads-told : {r : Reading} {found : PassFaults} {fs : Faults} → Tells r.faults found fs → Reads r (record r { faults = found }) fs
+reads-told told = record { told = told; names = refl; file_names = refl }
 
 -- declarations are read against the same
 pub same-setting : {a b : Reading} {fs : Faults} → Reads a b fs → setting_of b ≡ setting_of a
 same-setting reads = λ j. record {
-  files = map (λ f. f.raw) (reads.findings.files j);
+  files = map (λ f. f.raw) (reads.told.files j);
   names = (reads.names j).now;
   file_names = (reads.file_names j).now;
-  seen = map (λ f. f.transitive_dependencies) (reads.findings.files j);
+  seen = map (λ f. f.transitive_dependencies) (reads.told.files j);
 }
 
 -- two readings
 pub reads-two : {a b c : Reading} {fs gs : Faults} → Reads a b fs → Reads b c gs → Reads a c (fs ++ gs)
 reads-two first second = record {
-  findings = tells-two first.findings second.findings;
+  told = tells-two first.told second.told;
   names = second.names ∙ first.names;
   file_names = second.file_names ∙ first.file_names;
 }

@@ -1,9 +1,8 @@
 -- One more declaration is shown to the second pass.
-use Rattle.std.proofs.Common.{◌≡◌, List, [], ◌∷◌, ◌++◌, map, refl, ap, sym, ◌∙◌, append-nil, append_assoc}
+use Rattle.std.proofs.Common.{◌≡◌, List, [], ◌∷◌, ◌++◌, refl, ap, sym, ◌∙◌, append-nil, append_assoc}
 use Rattle.std.specs.List.{fold}
 use Rattle.pool_types.specs.declared.contents.extension.ExtensionDescriptorInner.{ExtensionDescriptorInner}
-use Rattle.pool_types.specs.declared.contents.file.FileDescriptorInner.{FileDescriptorInner}
-use Rattle.field_rules.specs.declared.findings.Faults.{Faults as PassFaults}
+use Rattle.field_rules.specs.declared.faults.Faults.{Faults as PassFaults}
 use Rattle.record_walk.specs.FullNames.{CanBeRead}
 use Rattle.record_walk.specs.Progress.{HasSeen, Progress}
 use Rattle.record_walk.specs.Shown.{Shown}
@@ -11,7 +10,9 @@ use Rattle.reference_pass.specs.SecondPass.{owner_faults}
 use Rattle.reference_pass.specs.Setting.{Setting}
 use Rattle.reference_pass.specs.declared.items.NewItems.{NewItems}
 use Rattle.reference_pass.specs.declared.resolve.ResolveVisitor.{ResolveVisitor}
-use Rattle.reference_pass.specs.State.{setting_of, state_of}
+use Rattle.reference_pass.specs.declared.reading.Reading.{Reading}
+use Rattle.reference_pass.specs.Reading.{setting_of}
+use Rattle.reference_pass.specs.State.{state_of}
 use Rattle.reference_pass.specs.Steps.{ReferenceState, reference_progress, reference_step, with_declarations}
 use Rattle.reference_pass.proofs.Steps.{with-none}
 
@@ -29,15 +30,6 @@ held old items faults = record {
   faults = faults.found.items;
 }
 
--- what declarations are read against, where labels name these files
-abbrev setting_over : ResolveVisitor → List FileDescriptorInner → Setting
-setting_over v files = record {
-  files = map (λ f. f.raw) files;
-  names = v.names.now;
-  file_names = v.file_names.now;
-  seen = map (λ f. f.transitive_dependencies) files;
-}
-
 -- what is held then is what the declaration makes of what was held
 shown : (s t : Setting) (a b : ReferenceState) (d : Shown) → t ≡ s → CanBeRead (d ∷ []) → b ≡ reference_step s a d
     → HasSeen (after s a) CanBeRead (after t b) CanBeRead (d ∷ [])
@@ -47,15 +39,16 @@ shown s t a b d same can is = record {
 }
 
 -- the same, where what the declaration breaks is told behind what was told
-pub seen : (v : ResolveVisitor) (items : NewItems) (faults : PassFaults) (d : Shown) → faults.labels ≡ v.faults.labels → CanBeRead (d ∷ [])
-    → held v.pool.extensions.now items faults ≡ record (reference_step (setting_of v) (state_of v) d) { faults = v.faults.found.items ++ owner_faults (setting_of v) (state_of v).extensions d }
-    → HasSeen (after (setting_of v) (state_of v)) CanBeRead (after (setting_over v faults.labels) (held v.pool.extensions.now items faults)) CanBeRead (d ∷ [])
-seen v items faults d same can is =
-    let s = setting_of v in
+pub seen : (v : ResolveVisitor) (items : NewItems) (reading : Reading) (d : Shown) → setting_of reading ≡ setting_of v.reading → CanBeRead (d ∷ [])
+    → held v.pool.extensions.now items reading.faults
+    ≡ record (reference_step (setting_of v.reading) (state_of v) d) { faults = v.reading.faults.found.items ++ owner_faults (setting_of v.reading) (state_of v).extensions d }
+    → HasSeen (after (setting_of v.reading) (state_of v)) CanBeRead (after (setting_of reading) (held v.pool.extensions.now items reading.faults)) CanBeRead (d ∷ [])
+seen v items reading d same can is =
+    let s = setting_of v.reading in
     let step = reference_step s (state_of v) d in
     let told = sym (append-nil (owner_faults s (state_of v).extensions d)) in
-    shown s (setting_over v faults.labels) (state_of v) (held v.pool.extensions.now items faults) d (ap (setting_over v) same) can
-    (is ∙ (λ i. record step { faults = v.faults.found.items ++ told i }))
+    shown s (setting_of reading) (state_of v) (held v.pool.extensions.now items reading.faults) d same can
+    (is ∙ (λ i. record step { faults = v.reading.faults.found.items ++ told i }))
 
 -- where no item of a kind is made, what there was is all
 pub none : {X : Type 0} {xs ys : List X} → ys ≡ xs → ys ≡ xs ++ []
@@ -69,8 +62,8 @@ pub one-behind : {X : Type 0} {ys : List X} (old xs zs : List X) → ys ≡ xs +
 one-behind old xs zs is = ap (λ ws. old ++ ws) is ∙ sym (append_assoc old xs zs)
 
 -- a declaration of which nothing is made changes nothing
-pub passed : (v : ResolveVisitor) (d : Shown) → reference_step (setting_of v) (state_of v) d ≡ with_declarations (setting_of v) (state_of v) []
-    → CanBeRead (d ∷ []) → HasSeen (after (setting_of v) (state_of v)) CanBeRead (after (setting_of v) (state_of v)) CanBeRead (d ∷ [])
+pub passed : (v : ResolveVisitor) (d : Shown) → reference_step (setting_of v.reading) (state_of v) d ≡ with_declarations (setting_of v.reading) (state_of v) []
+    → CanBeRead (d ∷ []) → HasSeen (after (setting_of v.reading) (state_of v)) CanBeRead (after (setting_of v.reading) (state_of v)) CanBeRead (d ∷ [])
 passed v d nothing can =
-    let s = setting_of v in
+    let s = setting_of v.reading in
     shown s s (state_of v) (state_of v) d refl can (sym (nothing ∙ with-none s (state_of v)))

@@ -1,9 +1,7 @@
 pub mod Setting
-pub mod SettingCode
 pub mod Linked
 pub mod FieldTypes
 pub mod Messages
-pub mod Short
 pub mod Definitions
 pub mod Numbered
 pub mod Earlier

@@ -8,14 +8,14 @@ use Rattle.reference_pass.specs.declared.reading.Reading.{Reading}
 -- what declarations are read against
 abbrev pub setting_of : Reading → Setting
 setting_of r = record {
-  files = named_files r.findings;
+  files = named_files r.faults;
   names = r.names.now;
   file_names = r.file_names.now;
-  seen = map (λ f. f.transitive_dependencies) r.findings.faults.labels;
+  seen = map (λ f. f.transitive_dependencies) r.faults.labels;
 }
 
 -- that faults were appended to those found before, and no more
 pub record Reads (old new : Reading) (faults : List DescriptorErrorKind) : Type 0 where
-  pub findings : Tells old.findings new.findings faults
+  pub told : Tells old.faults new.faults faults
   pub names : new.names ≡ old.names
   pub file_names : new.file_names ≡ old.file_names

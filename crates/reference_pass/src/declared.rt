@@ -1,32 +1,32 @@
 ghost use Rattle.std.specs.Prelude.{◌≡◌};
 ghost use Rattle.std.specs.Option.{option_copied};
 ghost use Rattle.reference_pass.specs.Definitions.{declaration_path, enum_record, message_record};
-ghost use Rattle.reference_pass.specs.SettingCode.{setting_in};
+ghost use Rattle.reference_pass.specs.Reading.{setting_of};
 
-use crate::Setting;
+use crate::Reading;
 use pool_types::Definition;
 use proto_types::{DescriptorProto, EnumDescriptorProto};
 use record_lists::{find_enum_proto, find_message_proto};
 
 /// The record of the message with a definition.
 pub(crate) fn message_record<'a>(
-    setting: Setting<'a>,
+    reading: &Reading<'a>,
     definition: &Definition,
 ) -> Option<&'a DescriptorProto>
-    ensures { option_copied result ≡ message_record (setting_in setting.entry) definition.now }
+    ensures { option_copied result ≡ message_record (setting_of reading.now) definition.now }
 {
-    let file = setting.files.get(definition.file as usize)?;
+    let file = reading.faults.files().get(definition.file as usize)?;
     find_message_proto(&file.raw, declaration_path(definition.path.as_slice()))
 }
 
 /// The record of the enum with a definition.
 pub(crate) fn enum_record<'a>(
-    setting: Setting<'a>,
+    reading: &Reading<'a>,
     definition: &Definition,
 ) -> Option<&'a EnumDescriptorProto>
-    ensures { option_copied result ≡ enum_record (setting_in setting.entry) definition.now }
+    ensures { option_copied result ≡ enum_record (setting_of reading.now) definition.now }
 {
-    let file = setting.files.get(definition.file as usize)?;
+    let file = reading.faults.files().get(definition.file as usize)?;
     find_enum_proto(&file.raw, declaration_path(definition.path.as_slice()))
 }
 

@@ -9,7 +9,6 @@ ghost use Rattle.reference_pass.specs.Items.{bracketed, extension_item};
 ghost use Rattle.reference_pass.specs.Messages.{message_found, resolve_message, index_or_max};
 ghost use Rattle.reference_pass.specs.NamesBegin.{ExtensionNameBegins};
 ghost use Rattle.reference_pass.specs.Reading.{Reads, setting_of};
-ghost use Rattle.reference_pass.specs.Short.{ShortFiles};
 ghost use Rattle.proto_types.specs.declared.tag.field.TheConstants as field;
 ghost use Rattle.field_rules.specs.Labels.{part_label};
 ghost use Rattle.field_rules.specs.Places.{shown_at};
@@ -21,9 +20,7 @@ use crate::field::is_proto3;
 use crate::reading::Reading;
 use crate::references::message_index_or_max;
 use crate::types::type_and_default;
-use field_rules::{
-    Findings, Owner, Place, check_extension_number, identity, is_packed, item_number,
-};
+use field_rules::{Faults, Owner, Place, check_extension_number, identity, is_packed, item_number};
 use name_resolution::{ResolveNameResult, cardinality_of};
 use plain_data::Text;
 use pool_faults::{DescriptorErrorKind, Label};
@@ -33,8 +30,7 @@ use std::alloc::{AllocError, Global};
 
 /// The item of an extension behind earlier ones. What it breaks is appended to `faults`: that its
 /// extendee is no message; else what its number breaks by the record of that message, and that an
-/// earlier extension of the message has it; its type; its default value. No list of the files that it
-/// is read against is longer than a pool allows.
+/// earlier extension of the message has it; its type; its default value.
 ///
 /// # Errors
 /// `AllocError` where memory was refused.
@@ -44,7 +40,6 @@ pub fn read_extension(
     extension: &FieldDescriptorProto,
     earlier: EarlierExtensions,
 ) -> Result<ExtensionDescriptorInner, AllocError>
-    requires { ShortFiles (setting_of reading.old).files }
     ensures item { IfOk result (λ item. item
         ≡ extension_item (setting_of reading.old)
         (shown_at place.entry (of_extension extension.now)) extension.now) }
@@ -55,8 +50,8 @@ pub fn read_extension(
         (extension_faults (setting_of reading.old) (earlier_in earlier.entry)
         (shown_at place.entry (of_extension extension.now)) extension.now)) }
 {
-    let id = identity(reading.findings.alloc, place, extension.name())?;
-    let json_name = bracketed(reading.findings.alloc, place.full_name)?;
+    let id = identity(reading.faults.alloc, place, extension.name())?;
+    let json_name = bracketed(reading.faults.alloc, place.full_name)?;
     let extendee = read_extendee(reading, place, extension, earlier)?;
     let (kind, default) = type_and_default(reading, place, extension)?;
     let kind = kind.unwrap_or(KindIndex::Double);
@@ -82,7 +77,6 @@ fn read_extendee(
     extension: &FieldDescriptorProto,
     earlier: EarlierExtensions,
 ) -> Result<u32, AllocError>
-    requires { ShortFiles (setting_of reading.old).files }
     ensures index { IfOk result (λ index. index
         ≡ index_or_max (message_found (resolve_message (setting_of reading.old)
         (shown_at place.entry (of_extension extension.now)) extension.now.extendee))) }
@@ -113,7 +107,6 @@ fn check_number(
     place: Place,
     extension: &FieldDescriptorProto,
 ) -> Result<(), AllocError>
-    requires { ShortFiles (setting_of reading.old).files }
     ensures { OnOk result (Reads reading.old reading.new
         (number_faults (setting_of reading.old)
         (shown_at place.entry (of_extension extension.now)) extension.now
@@ -122,7 +115,7 @@ fn check_number(
     let ResolveNameResult::Found { name, def } = extendee else {
         return Ok(());
     };
-    let Some(message) = message_record(reading.setting(), def) else {
+    let Some(message) = message_record(reading, def) else {
         return Ok(());
     };
     let owner = Place {
@@ -136,7 +129,7 @@ fn check_number(
         place: owner,
         message,
     };
-    check_extension_number(&mut reading.findings, owner, place, extension)
+    check_extension_number(&mut reading.faults, owner, place, extension)
 }
 
 /// Appends to `faults` that an earlier extension of the message that was found has the number.
@@ -160,11 +153,11 @@ fn check_taken(
     let Some(first) = earlier.extension(message, item_number(number)) else {
         return Ok(());
     };
-    let findings = &mut reading.findings;
-    let first = number_label(findings, &first.id)?;
-    let second = findings.part_label(place, tag::field::NUMBER)?;
-    let message = name.clone(findings.alloc)?;
-    findings.push(DescriptorErrorKind::DuplicateExtensionNumber {
+    let faults = &mut reading.faults;
+    let first = number_label(faults, &first.id)?;
+    let second = faults.part_label(place, tag::field::NUMBER)?;
+    let message = name.clone(faults.alloc)?;
+    faults.push(DescriptorErrorKind::DuplicateExtensionNumber {
         number,
         message,
         first,
@@ -173,14 +166,14 @@ fn check_taken(
 }
 
 /// The label of the number of an extension.
-fn number_label(findings: &mut Findings, extension: &Identity) -> Result<Label, AllocError>
-    ensures label { IfOk result (λ l. l ≡ part_label (named_files findings.old)
+fn number_label(faults: &mut Faults, extension: &Identity) -> Result<Label, AllocError>
+    ensures label { IfOk result (λ l. l ≡ part_label (named_files faults.old)
         extension.now.file extension.now.path field.NUMBER) }
-    ensures stays { findings.new ≡ findings.old }
+    ensures stays { faults.new ≡ faults.old }
 {
-    let mut path = Vec::from_slice(findings.alloc, extension.path())?;
+    let mut path = Vec::from_slice(faults.alloc, extension.path())?;
     path.push(tag::field::NUMBER)?;
-    findings.label(extension.file, &path)
+    faults.label(extension.file, &path)
 }
 
 /// A text in square brackets.

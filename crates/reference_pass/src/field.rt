@@ -52,7 +52,7 @@ pub(crate) fn read_field(
         (get_or (out-DescriptorProto owner.entry.message.now).field position no_field))
         (get_or (out-DescriptorProto owner.entry.message.now).field position no_field))) }
 {
-    let alloc = reading.findings.alloc;
+    let alloc = reading.faults.alloc;
     let around = owner.place;
     let field = &owner.message.field.as_slice()[position];
     let id = identity_inside(alloc, around, tag::message::FIELD, position, field.name())?;
@@ -92,9 +92,9 @@ fn check_field(
         (shown_at place.entry (of_field field.now)) field.now)) }
 {
     let oneofs = owner.message.oneof_decl.as_slice();
-    check_field_number(&mut reading.findings, owner, ranges, place, field)?;
+    check_field_number(&mut reading.faults, owner, ranges, place, field)?;
     let (kind, default) = type_and_default(reading, place, field)?;
-    check_oneof_index(&mut reading.findings, oneofs, field)?;
+    check_oneof_index(&mut reading.faults, oneofs, field)?;
     Ok((kind.unwrap_or(KindIndex::Double), default))
 }
 
@@ -110,7 +110,7 @@ fn item_at(
     ensures { IfOk result (λ item. item
         ≡ item_at (setting_of reading.now) oneofs.now id field.now kind default) }
 {
-    let alloc = reading.findings.alloc;
+    let alloc = reading.faults.alloc;
     let is_proto3 = is_proto3(reading, id.file);
     Ok(FieldDescriptorInner {
         id,
@@ -129,7 +129,7 @@ fn item_at(
 pub(crate) fn is_proto3(reading: &Reading, file: u32) -> bool
     ensures { result ≡ is_proto3 (syntax_at (setting_of reading.now).files file) }
 {
-    match syntax_at(reading.findings.files(), file) {
+    match syntax_at(reading.faults.files(), file) {
         Syntax::Proto2 => false,
         Syntax::Proto3 => true,
     }

@@ -8,7 +8,7 @@ ghost use Rattle.reference_pass.specs.Reading.{Reads, setting_of};
 ghost use Rattle.field_rules.specs.Tells.{Tells};
 
 use crate::reading::Reading;
-use field_rules::Findings;
+use field_rules::Faults;
 use plain_data::Text;
 use pool_faults::DescriptorErrorKind;
 use proto_types::{FileDescriptorProto, tag};
@@ -33,12 +33,12 @@ pub fn check_imports(
     let imports = file.dependency.as_slice();
     check_names(reading, index, imports)?;
     check_indexes(
-        &mut reading.findings,
+        &mut reading.faults,
         imports,
         file.public_dependency.as_slice(),
     )?;
     check_indexes(
-        &mut reading.findings,
+        &mut reading.faults,
         imports,
         file.weak_dependency.as_slice(),
     )
@@ -69,35 +69,31 @@ fn check_name(
     if reading.file_names.get(name.as_str()).is_some() {
         return Ok(());
     }
-    let alloc = reading.findings.alloc;
+    let alloc = reading.faults.alloc;
     let path = entry_path(alloc, &[], tag::file::DEPENDENCY, position)?;
-    let found = reading.findings.label(index, &path)?;
+    let found = reading.faults.label(index, &path)?;
     let name = name.clone(alloc)?;
     reading
-        .findings
+        .faults
         .push(DescriptorErrorKind::FileNotFound { name, found })
 }
 
 /// Appends to `faults` one for each index that is no place of the imports.
-fn check_indexes(
-    findings: &mut Findings,
-    imports: &[Text],
-    indexes: &[i32],
-) -> Result<(), AllocError>
-    ensures { OnOk result (Tells findings.old findings.new
+fn check_indexes(faults: &mut Faults, imports: &[Text], indexes: &[i32]) -> Result<(), AllocError>
+    ensures { OnOk result (Tells faults.old faults.new
         (flat_map (index_fault imports.now) indexes.now)) }
 {
     for index in indexes {
-        check_index(findings, imports, *index)?;
+        check_index(faults, imports, *index)?;
     }
     Ok(())
 }
 
-fn check_index(findings: &mut Findings, imports: &[Text], index: i32) -> Result<(), AllocError>
-    ensures { OnOk result (Tells findings.old findings.new (index_fault imports.now index)) }
+fn check_index(faults: &mut Faults, imports: &[Text], index: i32) -> Result<(), AllocError>
+    ensures { OnOk result (Tells faults.old faults.new (index_fault imports.now index)) }
 {
     if !is_place(imports, index) {
-        findings.push(DescriptorErrorKind::InvalidImportIndex)?;
+        faults.push(DescriptorErrorKind::InvalidImportIndex)?;
     }
     Ok(())
 }

@@ -10,13 +10,11 @@ mod imports;
 mod items;
 mod linking;
 mod message;
-mod owner_reading;
 mod pool_extensions;
 mod reading;
 mod references;
 mod resolve;
 mod service;
-mod setting;
 mod types;
 
 pub use earlier::EarlierExtensions;
@@ -29,4 +27,3 @@ pub use pool_extensions::PoolExtensions;
 pub use reading::Reading;
 pub use resolve::ResolveVisitor;
 pub use service::read_service;
-pub use setting::Setting;

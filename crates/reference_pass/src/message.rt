@@ -42,7 +42,7 @@ pub fn read_message(
         (message_faults (setting_of reading.old)
         (message_at place.entry message.now) message.now)) }
 {
-    let alloc = reading.findings.alloc;
+    let alloc = reading.faults.alloc;
     let id = identity(alloc, place, message.name())?;
     let mut maps = FieldMaps::new(alloc);
     let ranges = MessageRanges::new(alloc, message)?;
@@ -84,10 +84,10 @@ fn read_fields(
         (out-DescriptorProto owner.entry.message.now).field)) }
 {
     let fields = owner.message.field.as_slice();
-    let mut items = Vec::with_capacity(reading.findings.alloc, fields.len())?;
+    let mut items = Vec::with_capacity(reading.faults.alloc, fields.len())?;
     for position in 0..fields.len() {
         items.push(read_field(reading, owner, ranges, position)?)?;
-        maps.insert(&mut reading.findings, owner, position)?;
+        maps.insert(&mut reading.faults, owner, position)?;
     }
     Ok(items)
 }

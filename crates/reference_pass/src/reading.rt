@@ -1,39 +1,28 @@
-ghost use Rattle.std.specs.Prelude.{◌≡◌, ◌++◌, ◌∷◌, [], IfOk, OnOk};
+ghost use Rattle.std.specs.Prelude.{◌≡◌, ◌++◌, ◌∷◌, [], IfOk, OnOk, slice_get};
+ghost use Rattle.std.specs.Option.{option_copied};
 ghost use Rattle.plain_data.specs.Lists.{listed};
 ghost use Rattle.name_resolution.specs.References.{reference_fault};
 ghost use Rattle.name_resolution.specs.Resolution.{resolution_in};
 ghost use Rattle.reference_pass.specs.Setting.{resolve};
-ghost use Rattle.reference_pass.specs.SettingCode.{setting_in};
 ghost use Rattle.field_rules.specs.Tells.{Tells, named_files};
 
-use crate::Setting;
-use field_rules::{Findings, Place};
-use name_resolution::{ResolveNameFilter, ResolveNameResult};
+use field_rules::{Faults, Place};
+use name_resolution::{ResolveNameFilter, ResolveNameResult, resolve_in_parts};
 use name_tables::{FileNames, PoolNames};
 use std::alloc::AllocError;
+use std::collections::BTreeSet;
 
 /// What declarations are read with: the files that labels name, the faults that are found, and what
 /// names mean.
 #[derive(Drop)]
 pub struct Reading<'f> {
-    pub findings: Findings<'f>,
+    pub faults: Faults<'f>,
     pub names: &'f PoolNames,
     pub file_names: &'f FileNames,
 }
 
 impl<'f> Reading<'f> {
     ghost use Rattle.reference_pass.specs.Reading.{Reads, setting_of};
-
-    /// What declarations are read against.
-    pub(crate) fn setting(&self) -> Setting<'f>
-        ensures { setting_in result ≡ setting_of self.now }
-    {
-        Setting {
-            files: self.findings.files(),
-            names: self.names,
-            file_names: self.file_names,
-        }
-    }
 
     /// What a name means that a declaration writes.
     ///
@@ -49,9 +38,18 @@ impl<'f> Reading<'f> {
             ≡ resolve (setting_of self.now) place.entry.file place.entry.full_name.now
             filter written.now) }
     {
-        let alloc = self.findings.alloc;
-        self.setting()
-            .resolve(alloc, place.file, place.full_name, filter, written)
+        let alloc = self.faults.alloc;
+        let nothing = BTreeSet::new(alloc);
+        let visible = self.visible(place.file).unwrap_or(&nothing);
+        resolve_in_parts(alloc, visible, self.names, place.full_name, written, filter)
+    }
+
+    /// The files that the file with an index sees.
+    fn visible(&self, file: u32) -> Option<&'f BTreeSet<u32>>
+        ensures { option_copied result ≡ slice_get (setting_of self.now).seen file }
+    {
+        let file = self.faults.files().get(file as usize)?;
+        Some(&file.transitive_dependencies)
     }
 
     /// The same of the part of a declaration with a tag. Where it isn't found, that is appended to
@@ -75,7 +73,7 @@ impl<'f> Reading<'f> {
             place.entry.file place.entry.full_name.now filter written.now)))) }
     {
         let meaning = self.resolve(place, filter, written)?;
-        check_found(&mut self.findings, place, tag, written, &meaning)?;
+        check_found(&mut self.faults, place, tag, written, &meaning)?;
         Ok(meaning)
     }
 
@@ -105,25 +103,25 @@ impl<'f> Reading<'f> {
 /// Appends to `faults` that of a reference, in the part of a declaration with a tag, which isn't
 /// found.
 fn check_found(
-    findings: &mut Findings,
+    faults: &mut Faults,
     place: Place,
     tag: i32,
     written: &str,
     meaning: &ResolveNameResult,
 ) -> Result<(), AllocError>
-    ensures { OnOk result (Tells findings.old findings.new
-        (listed (reference_fault (named_files findings.old) written.now place.entry.file
+    ensures { OnOk result (Tells faults.old faults.new
+        (listed (reference_fault (named_files faults.old) written.now place.entry.file
         (place.entry.path.now ++ tag ∷ []) (resolution_in meaning.now)))) }
 {
     if meaning.is_found() {
         return Ok(());
     }
-    let alloc = findings.alloc;
+    let alloc = faults.alloc;
     let mut path = Vec::from_slice(alloc, place.path)?;
     path.push(tag)?;
-    let labels = &mut findings.faults.labels;
+    let labels = &mut faults.labels;
     if let Some(fault) = meaning.labelled_fault(alloc, written, labels, place.file, &path)? {
-        findings.push(fault)?;
+        faults.push(fault)?;
     }
     Ok(())
 }

@@ -1,19 +1,17 @@
-ghost use Rattle.std.specs.Prelude.{◌≡◌, map};
-ghost use Rattle.reference_pass.specs.SettingCode.{setting_in};
 ghost use Rattle.reference_pass.specs.NamesBegin.{NamesBegin};
-ghost use Rattle.reference_pass.specs.Short.{ShortFiles};
 
 use crate::items::NewItems;
-use crate::owner_reading::{check_imports, read_enum, read_extension, read_message, read_service};
-use crate::{EarlierExtensions, PoolExtensions, Setting};
-use field_rules::{Faults, Place};
-use name_tables::{FileNames, PoolNames};
+use crate::{
+    EarlierExtensions, PoolExtensions, Reading, check_imports, read_extension, read_message,
+    read_service,
+};
+use field_rules::{Place, read_enum};
 use proto_types::{
     DescriptorProto, EnumDescriptorProto, EnumValueDescriptorProto, FieldDescriptorProto,
     FileDescriptorProto, MethodDescriptorProto, OneofDescriptorProto, ServiceDescriptorProto,
 };
 use record_walk::Visitor;
-use std::alloc::{AllocError, Global};
+use std::alloc::AllocError;
 
 /// The second pass: it reads a batch against a pool whose files and names are those of the batch as
 /// well, makes the items of messages, enums, services and extensions, and gathers the faults of
@@ -21,34 +19,14 @@ use std::alloc::{AllocError, Global};
 /// of the pool. A message is read with its
 /// oneofs and fields, an enum with its values, and a service with its methods. The full name of
 /// each declaration that it is shown ends with the declared name, and its lists are short enough
-/// for a pool, as are those of all files that it is read against, which are those that labels name.
+/// for a pool.
 #[derive(Drop)]
 pub struct ResolveVisitor<'a> {
-    pub alloc: Global,
-    pub names: &'a PoolNames,
-    pub file_names: &'a FileNames,
+    pub reading: Reading<'a>,
     pub pool: PoolExtensions<'a>,
     pub items: NewItems,
-    pub faults: Faults<'a>,
     ghost names_begin: { NamesBegin items.messages.items items.enums.items items.services.items
         items.extensions.items },
-    ghost short: { ShortFiles (map (λ f. f.raw) faults.labels) },
-}
-
-impl<'a> ResolveVisitor<'a> {
-    ghost use Rattle.reference_pass.specs.State.{setting_of};
-
-    /// What declarations are read against.
-    fn setting(&self) -> Setting<'a>
-        ensures setting { setting_in result ≡ setting_of self.now }
-        ensures files { result.files.now ≡ self.now.faults.labels }
-    {
-        Setting {
-            files: self.faults.labels.files(),
-            names: self.names,
-            file_names: self.file_names,
-        }
-    }
 }
 
 impl Visitor for ResolveVisitor<'_> {
@@ -57,10 +35,11 @@ impl Visitor for ResolveVisitor<'_> {
     ghost use Rattle.pool_types.specs.Contents.{no_contents};
     ghost use Rattle.record_walk.specs.FullNames.{CanBeRead, front-read};
     ghost use Rattle.reference_pass.specs.Steps.{reference_progress, reference_step};
-    ghost use Rattle.reference_pass.specs.State.{setting_of, state_of};
+    ghost use Rattle.reference_pass.specs.Reading.{setting_of};
+    ghost use Rattle.reference_pass.specs.State.{state_of};
 
     ghost after = { λ v ds.
-        reference_progress (fold (reference_step (setting_of v)) (state_of v) ds) };
+        reference_progress (fold (reference_step (setting_of v.reading)) (state_of v) ds) };
 
     ghost ready = { λ _ ds. CanBeRead ds };
 
@@ -76,8 +55,7 @@ impl Visitor for ResolveVisitor<'_> {
         index: u32,
         file: &FileDescriptorProto,
     ) -> Result<(), AllocError> {
-        let setting = self.setting();
-        check_imports(self.alloc, setting, index, file, &mut self.faults)
+        check_imports(&mut self.reading, index, file)
     }
 
     fn visit_message(
@@ -96,8 +74,7 @@ impl Visitor for ResolveVisitor<'_> {
             path,
             full_name,
         };
-        let setting = self.setting();
-        let item = read_message(self.alloc, setting, place, message, &mut self.faults)?;
+        let item = read_message(&mut self.reading, place, message)?;
         self.items.push_message(item)
     }
 
@@ -142,8 +119,7 @@ impl Visitor for ResolveVisitor<'_> {
             path,
             full_name,
         };
-        let setting = self.setting();
-        let item = read_service(self.alloc, setting, place, service, &mut self.faults)?;
+        let item = read_service(&mut self.reading, place, service)?;
         self.items.push_service(item)
     }
 
@@ -176,7 +152,7 @@ impl Visitor for ResolveVisitor<'_> {
             path,
             full_name,
         };
-        let item = read_enum(self.alloc, place, enumeration, &mut self.faults)?;
+        let item = read_enum(&mut self.reading.faults, place, enumeration)?;
         self.items.push_enum(item)
     }
 
@@ -209,13 +185,11 @@ impl Visitor for ResolveVisitor<'_> {
             path,
             full_name,
         };
-        let setting = self.setting();
         let earlier = EarlierExtensions {
             pool: self.pool,
             new: &self.items,
         };
-        let faults = &mut self.faults;
-        let item = read_extension(self.alloc, setting, earlier, place, extension, faults)?;
+        let item = read_extension(&mut self.reading, place, extension, earlier)?;
         self.items.push_extension(item)
     }
 }

@@ -45,7 +45,7 @@ pub fn read_service(
 {
     let methods = read_methods(reading, place, service.method.as_slice())?;
     Ok(ServiceDescriptorInner {
-        id: identity(reading.findings.alloc, place, service.name())?,
+        id: identity(reading.faults.alloc, place, service.name())?,
         methods: Items::from_vec(methods),
     })
 }
@@ -62,7 +62,7 @@ fn read_methods(
     ensures faults { OnOk result (Reads reading.old reading.new
         (faults_of_methods (setting_of reading.old) (inside_of service.entry) methods.now)) }
 {
-    let mut items = Vec::with_capacity(reading.findings.alloc, methods.len())?;
+    let mut items = Vec::with_capacity(reading.faults.alloc, methods.len())?;
     for (position, method) in methods.iter().enumerate() {
         items.push(read_method(reading, service, position, method)?)?;
     }
@@ -86,7 +86,7 @@ fn read_method(
         (method_faults (setting_of reading.old)
         (method_at (inside_of service.entry) position method.now) method.now)) }
 {
-    let alloc = reading.findings.alloc;
+    let alloc = reading.faults.alloc;
     let id = identity_inside(
         alloc,
         service,

@@ -17,12 +17,10 @@ ghost use Rattle.reference_pass.specs.Defaults.{field_default_faults, no_enum_me
 ghost use Rattle.reference_pass.specs.FieldTypes.{field_kind, type_faults, resolve_type};
 ghost use Rattle.reference_pass.specs.Reading.{Reads, setting_of};
 ghost use Rattle.field_rules.specs.Places.{shown_at};
-ghost use Rattle.reference_pass.specs.SettingCode.{setting_in};
 
-use crate::Setting;
 use crate::declared::enum_record;
 use crate::reading::Reading;
-use field_rules::{DefaultEnum, Findings, Place, read_default};
+use field_rules::{DefaultEnum, Faults, Place, read_default};
 use name_resolution::{ResolveNameFilter, ResolveNameResult, named_kind, simple_kind};
 use plain_data::Text;
 use pool_faults::DescriptorErrorKind;
@@ -50,7 +48,7 @@ pub(crate) fn type_and_default(
         (shown_at place.entry (of_field field.now)) field.now)) }
 {
     if field.type_name().is_empty() {
-        written_type(&mut reading.findings, place, field)
+        written_type(&mut reading.faults, place, field)
     } else {
         named_type(reading, place, field)
     }
@@ -58,7 +56,7 @@ pub(crate) fn type_and_default(
 
 /// The kind of a type that a field names by its number, and the default value.
 fn written_type(
-    findings: &mut Findings,
+    faults: &mut Faults,
     place: Place,
     field: &FieldDescriptorProto,
 ) -> Result<(Option<KindIndex>, Option<DefaultValue>), AllocError>
@@ -66,20 +64,20 @@ fn written_type(
     ensures default { IfOk result (λ t. t.1
         ≡ default_by (simple_kind (type_of field.now.type_)) no_enum_meant
         field.now.default_value) }
-    ensures faults { OnOk result (Tells findings.old findings.new
+    ensures faults { OnOk result (Tells faults.old faults.new
         (only_if (not (is_some (simple_kind (type_of field.now.type_))))
-        (MissingRequiredField (part_label (named_files findings.old) place.entry.file
+        (MissingRequiredField (part_label (named_files faults.old) place.entry.file
         place.entry.path.now TYPE_NAME))
-        ++ option_map_or (λ k. default_faults (named_files findings.old) place.entry.file
+        ++ option_map_or (λ k. default_faults (named_files faults.old) place.entry.file
         place.entry.path.now k no_enum_meant field.now.default_value)
         (simple_kind (type_of field.now.type_)) [])) }
 {
     let kind = simple_kind(field.field_type());
     if kind.is_none() {
-        let label = findings.part_label(place, tag::field::TYPE_NAME)?;
-        findings.push(DescriptorErrorKind::MissingRequiredField { label })?;
+        let label = faults.part_label(place, tag::field::TYPE_NAME)?;
+        faults.push(DescriptorErrorKind::MissingRequiredField { label })?;
     }
-    let default = kind_default(findings, place, kind, no_enum(), &field.default_value)?;
+    let default = kind_default(faults, place, kind, no_enum(), &field.default_value)?;
     Ok((kind, default))
 }
 
@@ -149,14 +147,14 @@ fn named_default(
     if given.is_none() {
         return Ok(None);
     }
-    let meant = enum_found(reading.setting(), meaning);
-    kind_default(&mut reading.findings, place, kind, meant, given)
+    let meant = enum_found(reading, meaning);
+    kind_default(&mut reading.faults, place, kind, meant, given)
 }
 
 /// The default value of a field or an extension, if one is given. Where it is none of the kind of
 /// the type, that is appended to `faults`; where the type has no kind, it isn't read.
 fn kind_default(
-    findings: &mut Findings,
+    faults: &mut Faults,
     place: Place,
     kind: Option<KindIndex>,
     meant: DefaultEnum,
@@ -164,25 +162,25 @@ fn kind_default(
 ) -> Result<Option<DefaultValue>, AllocError>
     ensures value { IfOk result (λ value. value
         ≡ default_by kind (meant_in meant.entry) given.now) }
-    ensures faults { OnOk result (Tells findings.old findings.new
-        (option_map_or (λ k. default_faults (named_files findings.old) place.entry.file
+    ensures faults { OnOk result (Tells faults.old faults.new
+        (option_map_or (λ k. default_faults (named_files faults.old) place.entry.file
         place.entry.path.now k (meant_in meant.entry) given.now) kind [])) }
 {
     match kind {
-        Some(kind) => read_default(findings, place, kind, meant, given),
+        Some(kind) => read_default(faults, place, kind, meant, given),
         None => Ok(None),
     }
 }
 
 /// The enum that was found, or none.
-fn enum_found<'n, 'v>(setting: Setting<'v>, meaning: &'n ResolveNameResult) -> DefaultEnum<'n, 'v>
+fn enum_found<'n, 'v>(reading: &Reading<'v>, meaning: &'n ResolveNameResult) -> DefaultEnum<'n, 'v>
     ensures { meant_in result
-        ≡ enum_found (setting_in setting.entry) (resolution_in meaning.now) }
+        ≡ enum_found (setting_of reading.now) (resolution_in meaning.now) }
 {
     let ResolveNameResult::Found { name, def } = meaning else {
         return no_enum();
     };
-    let values = match enum_record(setting, def) {
+    let values = match enum_record(reading, def) {
         Some(found) => found.value.as_slice(),
         None => &[],
     };

@@ -3,13 +3,17 @@ use Rattle.descriptor_pool.specs.Linking.{name_faults, reference_faults}
 use Rattle.descriptor_pool.specs.Tells.{TellsAll, TellsFaults}
 use Rattle.pool_contents.specs.Inner.{contents_in}
 use Rattle.descriptor_pool.proofs.Passed.{ok-is, tells-err}
-use Rattle.descriptor_pool.proofs.Stages.{before-seen, begin-seen, counts-added, counts-seen, few-files, imports-seen, items-seen, made-seen, names-told, numbers-seen, places-lie, references-told, short-seen, told-first, told-second}
+use Rattle.descriptor_pool.proofs.Stages.{before-seen, begin-seen, counts-added, counts-seen, few-files, imports-seen, items-seen, made-seen, names-told, numbers-seen, places-lie, references-told, short-added, short-seen, told-first, told-second}
 use Rattle.descriptor_pool.proofs.build.link_new.Goals as goal
 
 -- what is new fits
-pub enter_names-requires : goal.enter_names-requires
-enter_names-requires c =
+pub enter_names-requires-clause-counts : goal.enter_names-requires-clause-counts
+enter_names-requires-clause-counts c =
     counts-added c.args.pool.now c.add_files.new.self c.add_files.new.self c.args.new.items c.requires.base c.requires.whole c.in_ok-add_files.ensures.ok c.add_files.ensures.kept c.requires.counts
+
+pub enter_names-requires-clause-short : goal.enter_names-requires-clause-short
+enter_names-requires-clause-short c =
+    short-added c.args.pool.now c.add_files.new.self c.add_files.new.self c.args.new.items c.requires.base c.requires.whole c.in_ok-add_files.ensures.ok c.add_files.ensures.kept c.requires.short
 
 -- the first pass is refused with its faults
 pub returns-in_err-enter_names-clause-faults : goal.returns-in_err-enter_names-clause-faults

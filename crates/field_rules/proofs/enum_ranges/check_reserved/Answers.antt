@@ -3,7 +3,7 @@ use Rattle.std.proofs.Common.{◌≡◌, ◌+◌, ◌∷◌, [], List, take, get
 use Rattle.std.proofs.lemmas.List.{get_or_default}
 use Rattle.proto_types.specs.declared.records.enumeration.EnumReservedRange.{EnumReservedRange}
 use Rattle.pool_faults.specs.declared.fault.DescriptorErrorKind.{DescriptorErrorKind}
-use Rattle.field_rules.specs.declared.findings.Findings.{Findings}
+use Rattle.field_rules.specs.declared.faults.Faults.{Faults}
 use Rattle.field_rules.specs.Places.{enum_at}
 use Rattle.field_rules.specs.Tells.{Tells, named_files}
 use Rattle.field_rules.proofs.Tells.{tells-as, tells-from, tells-next, tells-none}
@@ -15,8 +15,8 @@ use Rattle.field_rules.proofs.enum_ranges.check_reserved.Goals.{then-reserves+in
 -- one more range is checked
 pub loop-index-preserved : goal.loop-index-preserved
 loop-index-preserved c =
-    let a = c.args.findings.now in
-    let b = c.loop-index.findings in
+    let a = c.args.faults.now in
+    let b = c.loop-index.faults in
     let owner = enum_at c.args.place c.args.enumeration.now in
     let n = to_z w32 (of_z w32 c.args.number) in
     let i = c.loop-index.index in
@@ -25,7 +25,7 @@ loop-index-preserved c =
     let range = get_or ranges i none in
     let same = c.as_slice-range-items.ensures in
     let so_far = tells-as (ap (λ rs. reserved_faults (named_files a) owner c.args.position n (take i rs)) (sym same)) c.loop-index.invariant in
-    let next = λ (d : Findings) (told : List DescriptorErrorKind) (is : told ≡ reserved_fault (named_files b) owner c.args.position n i range) (tells : Tells b d told).
+    let next = λ (d : Faults) (told : List DescriptorErrorKind) (is : told ≡ reserved_fault (named_files b) owner c.args.position n i range) (tells : Tells b d told).
     tells-as (ap (λ rs. reserved_faults (named_files a) owner c.args.position n (take (i + 1) rs)) same)
     (tells-next (λ files. reserved_fault files owner c.args.position n) ranges i range c.loop-index-test.true
     (get_or_default ranges i none range c.loop-index-test.true) so_far is tells) in
@@ -33,11 +33,11 @@ loop-index-preserved c =
       | then-reserves+in_ok-fault+in_ok-push w ↦
           next _ (w.in_ok-fault.fault ∷ [])
           (told-held (named_files b) owner c.args.position n i range c.reserves.result w.in_ok-fault.fault c.reserves.ensures w.if-reserves.true w.in_ok-fault.ensures.fault)
-          (rw w.findings-is (tells-from w.in_ok-fault.ensures.stays w.in_ok-push.ensures))
+          (rw w.faults-is (tells-from w.in_ok-fault.ensures.stays w.in_ok-push.ensures.told))
       | else-reserves w ↦
           next _ []
           (told-free (named_files b) owner c.args.position n i range c.reserves.result c.reserves.ensures w.if-reserves.false)
-          (rw w.findings-is (tells-none b))
+          (rw w.faults-is (tells-none b))
     ]
 
 pub returns : goal.returns

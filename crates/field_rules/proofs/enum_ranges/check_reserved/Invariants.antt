@@ -7,5 +7,5 @@ use Rattle.field_rules.proofs.enum_ranges.check_reserved.Given as goal
 -- the ranges so far are checked
 abbrev pub invariant-loop-index : goal.invariant-loop-index
 invariant-loop-index l =
-    Tells l.initial.findings l.findings
-    (reserved_faults (named_files l.initial.findings) (enum_at l.place l.enumeration) l.position l.number (take l.index l.enumeration.reserved_range))
+    Tells l.initial.faults l.faults
+    (reserved_faults (named_files l.initial.faults) (enum_at l.place l.enumeration) l.position l.number (take l.index l.enumeration.reserved_range))

@@ -16,6 +16,6 @@ invariant-loop-position l = record {
   positions : (n : ℤ) → get int_cmp l.positions n
       ≡ option_map (λ e. e.0) (find (λ e. int_eq (number_of e.1.number) n) (enumerate_from 0 (take l.position l.enumeration.value)));
   below : (n : ℤ) → IfSome (get int_cmp l.positions n) (λ first. first < l.position);
-  faults : Tells l.initial.findings l.findings
-      (flat_map (λ fs. fs) (map_enumerated (value_faults (named_files l.initial.findings) (enum_at l.place l.enumeration) l.enumeration) 0 (take l.position l.enumeration.value)));
+  faults : Tells l.initial.faults l.faults
+      (flat_map (λ fs. fs) (map_enumerated (value_faults (named_files l.initial.faults) (enum_at l.place l.enumeration) l.enumeration) 0 (take l.position l.enumeration.value)));
 }

@@ -34,7 +34,7 @@ check_not_in_ranges-requires-clause-holder c =
 
 pub returns-then-is_some : goal.returns-then-is_some
 returns-then-is_some c =
-    let files = named_files c.args.findings.now in
+    let files = named_files c.args.faults.now in
     let d = c.args.place in
     let owner = inside_of c.args.owner.place in
     let ranges = (out-DescriptorProto c.args.owner.message.now).extension_range in
@@ -48,7 +48,7 @@ returns-then-is_some c =
 
 pub returns-else-is_some : goal.returns-else-is_some
 returns-else-is_some c =
-    let files = named_files c.args.findings.now in
+    let files = named_files c.args.faults.now in
     let d = c.args.place in
     let owner = inside_of c.args.owner.place in
     let ranges = (out-DescriptorProto c.args.owner.message.now).extension_range in

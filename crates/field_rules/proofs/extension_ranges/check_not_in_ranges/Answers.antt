@@ -21,7 +21,7 @@ none-of (Some x) other = absurd (other x refl)
 pub returns-in_ok-push : goal.returns-in_ok-push
 returns-in_ok-push c =
     let n = c.args.number in
-    let files = named_files c.args.findings.now in
+    let files = named_files c.args.faults.now in
     let i = c.in-Some.position in
     let range = c.index-as_slice-position.result in
     let ranges = (out-DescriptorProto c.args.owner.message.now).extension_range in
@@ -32,15 +32,15 @@ returns-in_ok-push c =
     tells-from c.in_ok-fault.ensures.stays (tells-as (ap (λ fault. fault ∷ []) (c.in_ok-fault.ensures.fault ∙ ap (λ m. told m (i, range)) fits)
     ∙ ap (λ e. listed (option_map (told n) e))
     (sym (found.entry range (c.index-as_slice-position.is ∙ (λ j. get_or (c.as_slice.ensures j) (sym whole j) range)))))
-    c.in_ok-push.ensures)
+    c.in_ok-push.ensures.told)
 
 -- no range holds the number
 pub returns-in_default : goal.returns-in_default
 returns-in_default c =
     let n = c.args.number in
-    let files = named_files c.args.findings.now in
+    let files = named_files c.args.faults.now in
     let ranges = (out-DescriptorProto c.args.owner.message.now).extension_range in
     let told = extension_range_fault files c.args.place.file c.args.place.path.now n (inside_of c.args.owner.place) in
     let none = none-of c.args.holder c.in_default.not-Some in
     tells-as (ap (λ e. listed (option_map told e)) (sym (none-from (extends n) 0 ranges (sym c.requires.holder ∙ none))))
-    (tells-none c.args.findings.now)
+    (tells-none c.args.faults.now)

@@ -12,16 +12,16 @@ use Rattle.field_rules.proofs.numbers.check_field_number.Goals as goal
 -- the number is looked at by itself, by the reserved ranges and by the extension ranges
 pub returns : goal.returns
 returns c =
-    let a = c.args.findings.now in
+    let a = c.args.faults.now in
     let d = c.args.place in
     let owner = inside_of c.args.owner.place in
     let f = c.args.field.now in
     let m = out-DescriptorProto c.args.owner.message.now in
     let n = number_of f.number in
     let same : to_z w32 (of_z w32 c.number-number.result) ≡ n = grind (arith, to_z-of_z, c.number-number.ensures) in
-    let first : Tells a c.check_valid.new.findings (invalid_faults (named_files a) d.file d.path.now n) =
+    let first : Tells a c.check_valid.new.faults (invalid_faults (named_files a) d.file d.path.now n) =
     tells-as (ap (invalid_faults (named_files a) d.file d.path.now) same) c.in_ok-check_valid.ensures in
-    let second : Tells c.check_valid.new.findings c.check_reserved_by.new.findings (reserved_faults (named_files a) d.file d.path.now n owner m.reserved_range) =
+    let second : Tells c.check_valid.new.faults c.check_reserved_by.new.faults (reserved_faults (named_files a) d.file d.path.now n owner m.reserved_range) =
     tells-as (λ j. reserved_faults (same-files first j) d.file d.path.now (same j) owner m.reserved_range) c.in_ok-check_reserved_by.ensures in
     let files = same-files (tells-two first second) in
     on-ok c.check_extension_ranges.result (λ third.

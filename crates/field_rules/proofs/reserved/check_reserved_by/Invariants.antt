@@ -11,7 +11,7 @@ invariant-loop-position l =
     let ranges = (out-DescriptorProto l.owner.message.now).reserved_range in
     record {
       within : l.from ≤ length ranges;
-      told : Tells l.initial.findings l.findings (reserved_faults (named_files l.initial.findings) l.place.file l.place.path.now l.number (inside_of l.owner.place) (take l.from ranges));
+      told : Tells l.initial.faults l.faults (reserved_faults (named_files l.initial.faults) l.place.file l.place.path.now l.number (inside_of l.owner.place) (take l.from ranges));
     }
 
 -- those that are left

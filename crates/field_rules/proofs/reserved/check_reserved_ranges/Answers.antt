@@ -13,7 +13,7 @@ loop-position-preserved c =
     let m : ℤ = to_z w32 (of_z w32 c.args.number) in
     let d = c.args.place in
     let owner = inside_of c.args.owner.place in
-    let files = named_files c.args.findings.now in
+    let files = named_files c.args.faults.now in
     let i = c.loop-position.position in
     let ranges = c.as_slice-range-items.result.now in
     let none : ReservedRange = record { start = None; «end» = None } in

@@ -38,12 +38,12 @@ loop-position-preserved c =
     let first = c.in_ok-first.first in
     let key = string_bytes c.in_ok-key.key in
     let below = c.loop-position-test.true in
-    let b = c.loop-position.findings in
+    let b = c.loop-position.faults in
     let so_far = c.loop-position.invariant.faults in
     let key_is = c.in_ok-key.ensures ∙ ap camel_case_key c.name.ensures in
     let first_is = c.in_ok-first.ensures.first in
     let holder_is = c.loop-position.invariant.holders key in
-    let told = told-next (named_files c.args.findings.now) c.args.file c.args.path.now fields i f key below c.index-fields-position.is key_is in
+    let told = told-next (named_files c.args.faults.now) c.args.file c.args.path.now fields i f key below c.index-fields-position.is key_is in
     record {
       holders = λ text. holders-next key_at (enumerate_from 0 (take i fields)) (i, f) (λ t. get_by_text c.loop-position.holders t) first (λ t. get_by_text c.first_holder.new.holders t)
           key key_is c.loop-position.invariant.holders first_is c.in_ok-first.ensures.holders text
@@ -53,9 +53,9 @@ loop-position-preserved c =
             let held = held-before fields i first below key_at key _ first_is holder_is w.if-first-position.true in
             let found = told (Some (first, w.index-fields-first.result)) (held.entry w.index-fields-first.result w.index-fields-first.is) in
             let fault = w.in_ok-fault.ensures.fault ∙ ap (λ fs. camel_case_fault fs c.args.file c.args.path.now (first, w.index-fields-first.result) (i, f)) (same-files so_far) in
-            rw w.findings-is (tells-as found (tells-two so_far (tells-from w.in_ok-fault.ensures.stays (tells-as (ap (λ x. x ∷ []) fault) w.in_ok-push.ensures))))
+            rw w.faults-is (tells-as found (tells-two so_far (tells-from w.in_ok-fault.ensures.stays (tells-as (ap (λ x. x ∷ []) fault) w.in_ok-push.ensures.told))))
         | else-first-position w ↦
             let found = told None (none-before fields i first below key_at key _ first_is holder_is w.if-first-position.false) in
-            rw w.findings-is (tells-as found (tells-two so_far (tells-none b)))
+            rw w.faults-is (tells-as found (tells-two so_far (tells-none b)))
       ];
     }

@@ -12,5 +12,5 @@ abbrev pub invariant-loop-position : goal.invariant-loop-position
 invariant-loop-position l = record {
   holders : (text : List ℕ) → get_by_text l.holders text
       ≡ option_map (λ e. e.0) (find (λ e. bytes_eq text (key_at e)) (enumerate_from 0 (take l.position l.fields)));
-  faults : Tells l.initial.findings l.findings (camel_case_faults (named_files l.initial.findings) l.file l.path (take l.position l.fields));
+  faults : Tells l.initial.faults l.faults (camel_case_faults (named_files l.initial.faults) l.file l.path (take l.position l.fields));
 }

@@ -1,6 +1,5 @@
 use Rattle.std.proofs.Common.{ap, sym, ◌∙◌}
 use Rattle.std.specs.Option.{option_copied}
-use Rattle.reference_pass.specs.Definitions.{message_record}
 use Rattle.reference_pass.specs.Reading.{setting_of}
 use Rattle.reference_pass.proofs.Found.{message-fits}
 use Rattle.reference_pass.proofs.extension.check_number.Goals as goal
@@ -9,5 +8,5 @@ use Rattle.reference_pass.proofs.extension.check_number.Goals as goal
 pub check_extension_number-requires : goal.check_extension_number-requires
 check_extension_number-requires c =
     let def = c.in-Found.def.now in
-    let found = ap (λ s. message_record s def) (sym c.setting.ensures) ∙ sym c.message_record.ensures ∙ ap option_copied c.in-Some.is in
-    message-fits (setting_of c.args.reading.now) def c.in-Some.message.now c.requires found
+    let found = sym c.message_record.ensures ∙ ap option_copied c.in-Some.is in
+    message-fits (setting_of c.args.reading.now) def c.in-Some.message.now c.args.reading.now.faults.short found

@@ -6,4 +6,4 @@ use Rattle.reference_pass.proofs.imports.check_indexes.Given as goal
 
 -- what the indexes so far break is told
 abbrev pub invariant-loop-index : goal.invariant-loop-index
-invariant-loop-index l = Tells l.initial.findings l.findings (flat_map (index_fault l.imports) (take l.index-index l.indexes))
+invariant-loop-index l = Tells l.initial.faults l.faults (flat_map (index_fault l.imports) (take l.index-index l.indexes))

@@ -24,4 +24,4 @@ returns c =
     let fault : DescriptorErrorKind = FileNotFound name (label_in s.files c.args.index (step [] DEPENDENCY c.args.position)) in
     on-ok c.push.result (λ told.
     reads-as ((λ i. FileNotFound (c.in_ok-name.ensures i) (found i) ∷ []) ∙ ap (λ here. only_if (not here) fault) (sym absent)) (reads-told {r = a} (tells-from c.in_ok-found.ensures.stays told)))
-    c.push.ensures
+    c.push.ensures.told

@@ -43,7 +43,7 @@ returns-clause-maps c =
 -- what the maps tell of the field's number, and then of its JSON name
 pub returns-clause-faults : goal.returns-clause-faults
 returns-clause-faults c =
-    let files = named_files c.args.findings.now in
+    let files = named_files c.args.faults.now in
     let file = c.args.owner.place.file in
     let path = c.args.owner.place.path.now in
     let i = c.args.position in
@@ -58,7 +58,7 @@ returns-clause-faults c =
     let names = json_name-told files file path i f maps earlier c.requires.maps in
     let own : f ≡ get_or fields i no_field = is ∙ get_or_default fields i f no_field c.requires.there in
     let told = λ (n : ℤ). listed (option_map (λ first. same_number files file path n first i) (finite.get maps.numbers (item_number n))) in
-    let first : Tells c.args.findings.now c.check_number.new.findings (number_duplicate files file path earlier i f) =
+    let first : Tells c.args.faults.now c.check_number.new.faults (number_duplicate files file path earlier i f) =
     tells-as (ap told (to_z-of_z w32 number fits) ∙ numbers) c.in_ok-check_number.ensures in
     on-ok c.enter_json_name.result (λ entered.
     tells-as (ap (duplicate_faults files file path earlier i) own)

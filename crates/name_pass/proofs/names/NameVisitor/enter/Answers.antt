@@ -37,7 +37,7 @@ returns-clause-ok c =
     let holder = c.get-holder.ensures ∙ ap (λ names. finite.get names name) was.2 ∙ was.1 in
     on_ok_weaker c.check_clash.result (λ told.
     (λ i. record (state_of v) { names = was.2 i; faults = c.check_clash.new.faults.found.items })
-    ∙ held-name files (state_of v) (name, d) was.0 c.check_clash.new.faults.found.items was.1 (told ∙ (λ i. v.faults.now.found.items ++ holder_faults files (holder i) (name, was.3 i))))
+    ∙ held-name files (state_of v) (name, d) was.0 c.check_clash.new.faults.found.items was.1 (told.told ∙ (λ i. v.faults.now.found.items ++ holder_faults files (holder i) (name, was.3 i))))
     c.check_clash.ensures.told
 
 pub returns-clause-stays : goal.returns-clause-stays

@@ -4,6 +4,8 @@ use Rattle.name_pass.specs.State.{first_new, kept_of, state_of}
 use Rattle.std.specs.FinMap as finite
 use Rattle.name_tables.proofs.Inserted.{found-none, found-some}
 use Rattle.name_pass.proofs.Entering.{new-file-name, held-file-name}
+use Rattle.std.proofs.lemmas.Result.{on_ok_weaker}
+use Rattle.name_pass.proofs.Showing.{stays-told}
 use Rattle.name_pass.proofs.Kept.{stays-before}
 use Rattle.name_pass.proofs.names.NameVisitor.name_file.Goals as goal
 
@@ -25,5 +27,8 @@ pub returns-clause-ok : goal.returns-clause-ok
 returns-clause-ok c =
     let state = state_of c.args.self.now in
     let held = found-some (finite.get state.file_names c.args.name.now) (ap is_some (sym c.get.ensures) ∙ c.if-is_none.ensures) in
-    held-file-name state c.args.name.now c.args.file held.0 c.push.new.self.items held.1
-    (c.in_ok-push.ensures.items ∙ ap (λ name. state.faults ++ DuplicateFileName name ∷ []) c.in_ok-name.ensures)
+    on_ok_weaker c.push.result (λ told. held-file-name state c.args.name.now c.args.file held.0 c.push.new.self.found.items held.1
+    (told.told ∙ ap (λ name. state.faults ++ DuplicateFileName name ∷ []) c.in_ok-name.ensures)) c.push.ensures.told
+
+pub returns-clause-stays : goal.returns-clause-stays
+returns-clause-stays c = stays-told c.args.self.now c.push.new.self c.push.ensures.labels

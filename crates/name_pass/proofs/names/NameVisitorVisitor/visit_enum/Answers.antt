@@ -8,4 +8,4 @@ use Rattle.name_pass.proofs.names.NameVisitorVisitor.visit_enum.Goals as goal
 pub returns-clause-ok : goal.returns-clause-ok
 returns-clause-ok c =
     on_ok_weaker c.check_enum_values.result (λ told. shown-own c.args.self.now c.enter_own.new.self _ c.enter_own.ensures.stays c.requires c.check_enum_values.new.faults
-    (λ files. enum_faults files c.args.file c.args.path.now c.args.enumeration.now) refl c.in_ok-enter_own.ensures.ok told c.check_enum_values.ensures.labels) c.check_enum_values.ensures.told
+    (λ files. enum_faults files c.args.file c.args.path.now c.args.enumeration.now) refl c.in_ok-enter_own.ensures.ok told.told c.check_enum_values.ensures.labels) c.check_enum_values.ensures.told

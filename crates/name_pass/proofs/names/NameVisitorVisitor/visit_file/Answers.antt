@@ -14,6 +14,6 @@ returns-clause-ok c =
     let stays = stays-on (stays-told v c.check_syntax.new.faults c.check_syntax.ensures.labels) c.name_file.ensures.stays in
     on_ok_weaker c.enter_packages.result (λ is. shown v c.enter_packages.new.self _ (stays-on stays c.enter_packages.ensures.stays) c.requires (is
     ∙ (λ i. entered (map (λ f. f.raw) (stays.files i)) (c.in_ok-name_file.ensures.ok i) (map (package_entry c.args.index) (packages (c.package.ensures i))))
-    ∙ (λ i. entered (records_of v) (file_named (record (state_of v) { faults = c.in_ok-check_syntax.ensures.told i }) (c.name.ensures i) c.args.index)
+    ∙ (λ i. entered (records_of v) (file_named (record (state_of v) { faults = c.in_ok-check_syntax.ensures.told.told i }) (c.name.ensures i) c.args.index)
     (map (package_entry c.args.index) (packages (text_of c.args.file.now.«package»))))
     ∙ simp (append_assoc, append-nil))) c.enter_packages.ensures.ok

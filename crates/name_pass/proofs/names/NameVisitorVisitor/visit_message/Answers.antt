@@ -8,4 +8,4 @@ use Rattle.name_pass.proofs.names.NameVisitorVisitor.visit_message.Goals as goal
 pub returns-clause-ok : goal.returns-clause-ok
 returns-clause-ok c =
     on_ok_weaker c.check_camel_case_names.result (λ told. shown-own c.args.self.now c.enter_own.new.self _ c.enter_own.ensures.stays c.requires c.check_camel_case_names.new.faults
-    (λ files. message_own_faults files c.args.file c.args.path.now c.args.message.now) refl c.in_ok-enter_own.ensures.ok told c.check_camel_case_names.ensures.labels) c.check_camel_case_names.ensures.told
+    (λ files. message_own_faults files c.args.file c.args.path.now c.args.message.now) refl c.in_ok-enter_own.ensures.ok told.told c.check_camel_case_names.ensures.labels) c.check_camel_case_names.ensures.told

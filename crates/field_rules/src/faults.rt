@@ -1,5 +1,6 @@
-ghost use Rattle.std.specs.Prelude.{◌≡◌, ◌∷◌, ◌<◌, ◌^◌, [], IfOk, OnOk};
+ghost use Rattle.std.specs.Prelude.{◌≡◌, ◌∷◌, ◌<◌, ◌^◌, [], IfOk, OnOk, map};
 ghost use Rattle.pool_faults.specs.Labels.{label_in};
+ghost use Rattle.field_rules.specs.Short.{ShortFiles};
 ghost use Rattle.field_rules.specs.Labels.{part_label, entry_label, entry_part_label};
 
 use crate::Place;
@@ -7,58 +8,44 @@ use pool_faults::{DescriptorErrorKind, Label, Labels};
 use pool_types::FileDescriptorInner;
 use record_walk::entry_path;
 use std::alloc::{AllocError, Global};
-use std::mem;
 
-/// The faults that a pass finds, and the labels that they show.
+/// What declarations are checked with: the files that labels name, none of whose lists is longer
+/// than a pool allows, and the faults that are found.
 #[derive(Drop)]
 pub struct Faults<'f> {
+    pub alloc: Global,
     /// Of all files, in the order of linking.
     pub labels: Labels<'f>,
     /// In the order in which they are found.
     pub found: Vec<DescriptorErrorKind>,
+    pub ghost short: { ShortFiles (map (λ f. f.raw) labels) },
 }
 
 impl<'f> Faults<'f> {
+    ghost use Rattle.field_rules.specs.Tells.{Tells, named_files};
+
     /// No faults, whose labels are those of files in the order of linking. This takes no memory.
     pub fn new(alloc: Global, files: &'f [FileDescriptorInner]) -> Faults<'f>
+        requires { ShortFiles (map (λ f. f.raw) files.now) }
         ensures labels { result.labels ≡ files.now }
         ensures found { result.found.items ≡ [] }
     {
         Faults {
+            alloc,
             labels: Labels::new(alloc, files),
             found: Vec::new(alloc),
         }
     }
 
-    /// Takes the faults and the labels out. What is left has no faults, and labels of the same
-    /// files.
-    pub fn take(&mut self, alloc: Global) -> Faults<'f>
-        ensures taken { result ≡ self.old }
-        ensures labels { self.new.labels ≡ self.old.labels }
-    {
-        let files = self.labels.files();
-        mem::replace(self, Faults::new(alloc, files))
-    }
-}
-
-/// What declarations are checked with: the files that labels name, and the faults that are found.
-#[derive(Drop)]
-pub struct Findings<'f> {
-    pub alloc: Global,
-    pub faults: Faults<'f>,
-}
-
-impl<'f> Findings<'f> {
-    ghost use Rattle.field_rules.specs.Tells.{Tells, named_files};
-
-    /// Appends a fault to `faults`.
+    /// Appends a fault.
     ///
     /// # Errors
     /// `AllocError` where memory was refused.
     pub fn push(&mut self, fault: DescriptorErrorKind) -> Result<(), AllocError>
-        ensures { OnOk result (Tells self.old self.new (fault ∷ [])) }
+        ensures told { OnOk result (Tells self.old self.new (fault ∷ [])) }
+        ensures labels { self.new.labels ≡ self.old.labels }
     {
-        self.faults.found.push(fault)?;
+        self.found.push(fault)?;
         Ok(())
     }
 
@@ -70,14 +57,14 @@ impl<'f> Findings<'f> {
         ensures label { IfOk result (λ l. l ≡ label_in (named_files self.old) file path.now) }
         ensures stays { self.new ≡ self.old }
     {
-        self.faults.labels.label(file, path)
+        self.labels.label(file, path)
     }
 
     /// The files that labels name, in the order of linking.
     pub fn files(&self) -> &'f [FileDescriptorInner]
-        ensures { result.now ≡ self.now.faults.labels }
+        ensures { result.now ≡ self.now.labels }
     {
-        self.faults.labels.files()
+        self.labels.files()
     }
 
     /// The label of a part of a declaration. The tag is the part's field number in
