@@ -6,7 +6,7 @@ use Rattle.pool_types.specs.declared.default_value.DefaultValue.TheVariants as v
 use Rattle.default_values.specs.declared.faults.EscapeFault.TheVariants.{MissingEscape, HexTooShort, InvalidHex, OctalTooLarge, InvalidEscape}
 use Rattle.default_values.specs.declared.faults.ValueFault.TheVariants as fault
 use Rattle.default_values.specs.Escapes.{unescaped}
-use Rattle.default_values.specs.Defaults.{simple_value}
+use Rattle.default_values.specs.Simple.{simple_value}
 
 -- the two bytes of é
 abbrev accented : List ℕ

@@ -6,7 +6,7 @@ use Rattle.pool_types.specs.declared.default_value.DefaultValue.TheVariants as v
 use Rattle.default_values.specs.declared.faults.EscapeFault.{EscapeFault}
 use Rattle.default_values.specs.declared.faults.EscapeFault.TheVariants.{MissingEscape, HexTooShort, InvalidHex, OctalTooLarge, InvalidEscape, OutOfMemory}
 use Rattle.default_values.specs.Escapes.{Bytes, Escaped, EscapeRefused, IsRefusal}
-use Rattle.default_values.specs.Defaults.{Value, made, value_fault, simple_value, IsValueOf}
+use Rattle.default_values.specs.Simple.{Value, made, value_fault, simple_value, IsValueOf}
 use Rattle.default_values.proofs.Unescaped.{good, bad}
 
 abbrev value_of : Bytes → Value

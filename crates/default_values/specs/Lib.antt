@@ -1,6 +1,4 @@
 pub mod Escapes
 pub mod EscapeCode
-pub mod WholeNumbers
-pub mod Defaults
-pub mod Equality
-pub mod TruthValues
+pub mod Simple
+pub mod Exact

@@ -1,4 +1,4 @@
-ghost use Rattle.default_values.specs.Equality.{escape_fault-exact, value_fault-exact};
+ghost use Rattle.default_values.specs.Exact.{escape_fault-exact, value_fault-exact};
 
 use crate::{EscapeFault, ValueFault};
 use plain_data::ExactEq;

@@ -1,7 +1,7 @@
 //! What is wrong with the text of a default value.
 
 ghost use Rattle.std.specs.Prelude.{◌≡◌};
-ghost use Rattle.default_values.specs.Defaults.{value_fault};
+ghost use Rattle.default_values.specs.Simple.{value_fault};
 ghost use Rattle.default_values.specs.declared.faults.EscapeFault.TheVariants as escape;
 ghost use Rattle.default_values.specs.declared.faults.ValueFault.TheVariants as fault;
 

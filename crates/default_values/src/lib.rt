@@ -7,10 +7,8 @@ mod exact;
 mod faults;
 mod laws;
 mod simple;
-mod words;
 
 pub use escapes::unescape_c_escape_string;
 pub use faults::{EscapeFault, ValueFault};
 pub use laws::{escaped_is_one, refused_is_one, unescaped_is_escaped};
 pub use simple::parse_simple_value;
-pub use words::{parse_bool, parse_int32};

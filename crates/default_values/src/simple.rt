@@ -1,12 +1,11 @@
 //! The values of a kind that is no message, group or enum.
 
 ghost use Rattle.std.specs.Prelude.{◌≡◌, IsTrue};
-ghost use Rattle.default_values.specs.Defaults as spec;
+ghost use Rattle.default_values.specs.Simple as spec;
 
 use crate::escapes::unescape_c_escape_string;
 use crate::faults::ValueFault;
-use crate::words::{parse_bool, parse_int32};
-use plain_data::{Items, Text};
+use plain_data::{Items, Text, parse_bool, parse_int32};
 use pool_types::{DefaultValue, KindIndex};
 use std::alloc::Global;
 

@@ -8,7 +8,7 @@ use Rattle.record_walk.proofs.Listings.{on-ok}
 use Rattle.pool_types.specs.Contents.{Contents}
 use Rattle.pool_faults.specs.declared.error.DescriptorError.{DescriptorError}
 use Rattle.reference_pass.specs.SecondPass.{Faults}
-use Rattle.descriptor_pool.specs.Linking.{first_of_both}
+use Rattle.descriptor_pool.specs.Build.{first_of_both}
 use Rattle.descriptor_pool.specs.Pool.{Batch, faults, faults_of_names, faults_of_references, counts_after}
 use Rattle.descriptor_pool.specs.Outcome.{IsLinked, IsRefused, Outcome}
 use Rattle.descriptor_pool.specs.declared.error.BuildError.{BuildError}

@@ -3,7 +3,7 @@ use Rattle.std.proofs.Common.{◌≡◌, ◌≢◌, Bool, false, ◌&&◌, is_ok
 use Rattle.pool_types.specs.Contents.{Contents, no_contents, files_of}
 use Rattle.pool_faults.specs.declared.error.DescriptorError.{DescriptorError}
 use Rattle.reference_pass.specs.SecondPass.{Faults}
-use Rattle.pool_contents.specs.Equality.{contents_eq}
+use Rattle.pool_contents.specs.Same.{contents_eq}
 use Rattle.descriptor_pool.specs.Pool.{Batch, faults, counts_after, link}
 use Rattle.descriptor_pool.specs.Outcome.{IsLinked, IsRefused, Outcome}
 use Rattle.descriptor_pool.specs.declared.error.BuildError.{BuildError}

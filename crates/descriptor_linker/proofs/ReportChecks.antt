@@ -9,9 +9,9 @@ use Rattle.pool_types.specs.Contents.{no_contents}
 use Rattle.pool_types.specs.declared.contents.definition.Definition.{Definition}
 use Rattle.name_tables.proofs.Entries.{get-with, with-nothing}
 use Rattle.link_script.specs.Script.Reading.{script}
-use Rattle.pool_contents.specs.Equality.{contents-exact}
+use Rattle.pool_contents.specs.Same.{contents-exact}
 use Rattle.descriptor_pool.specs.Pool.{link}
-use Rattle.record_lists.specs.References.{references}
+use Rattle.record_lists.specs.Reference.{references}
 use Rattle.script_answers.specs.Answers.{line, reference_lines}
 use Rattle.descriptor_linker.specs.Report.Session.{report, new_session, step}
 use Rattle.descriptor_linker.proofs.Computed.{scripts}

@@ -9,7 +9,6 @@ mod runs;
 
 pub use descriptor_pool::{BuildError, DescriptorPool};
 pub use ending::Ending;
-pub use field_rules::Faults;
 pub use link_script::{
     Block, Keyword, Open, RecordBuilder, Script, ScriptError, ScriptFault, ScriptReader, Statement,
     files_of, read_script,
@@ -31,8 +30,8 @@ pub use proto_types::{
     Location, MethodDescriptorProto, OneofDescriptorProto, Options, ReservedRange,
     ServiceDescriptorProto, SourceCodeInfo, Unread,
 };
-pub use record_walk::{CountKind, Counts, Visitor};
-pub use reference_pass::{NewItems, ResolveVisitor};
+pub use record_walk::{CountKind, Counts, Faults, Visitor};
+pub use reference_pass::{NewItems, PoolExtensions, Reading, ResolveVisitor};
 pub use report::{Report, report_of};
 pub use runs::run;
 pub use script_devices::{

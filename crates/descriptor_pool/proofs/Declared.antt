@@ -28,9 +28,9 @@ use Rattle.reference_pass.specs.Items.{file_item, message_item, service_item, ex
 use Rattle.reference_pass.specs.Linked.{linking, linked_field, typed}
 use Rattle.reference_pass.specs.Setting.{Setting, resolve}
 use Rattle.reference_pass.proofs.Steps.{kind-append}
-use Rattle.name_pass.specs.Entered.{entries_of, entries, file_entries_of, file_entries}
+use Rattle.name_pass.specs.Names.{entries_of, entries, file_entries_of, file_entries}
 use Rattle.pool_contents.proofs.Each.{each-map}
-use Rattle.descriptor_pool.specs.Linking.{with_items}
+use Rattle.descriptor_pool.specs.Build.{with_items}
 
 -- the names that the files of a pool enter
 abbrev pub known_names : Contents → List Entry

@@ -26,16 +26,16 @@ use Rattle.pool_types.specs.declared.kinds.KindIndex.TheVariants.{Double}
 use Rattle.record_walk.specs.Changed.{changed_fields, changed_methods}
 use Rattle.record_walk.specs.Shown.{Shown, Surrounding, inside}
 use Rattle.name_resolution.specs.declared.filter.ResolveNameFilter.TheVariants.{Message, FieldType as AnyType}
-use Rattle.name_resolution.specs.Kinds.{is_match, named_kind, simple_kind}
+use Rattle.name_resolution.specs.Filter.{is_match}
+use Rattle.pool_types.specs.Kinds.{named_kind, simple_kind}
 use Rattle.name_resolution.specs.References.{reference_fault}
 use Rattle.name_resolution.specs.Resolution.{Resolution, found, invalid_type, not_imported, shadowed, not_found, kind_found}
-use Rattle.name_resolution.proofs.Named.{IsNamed, resolution-named}
-use Rattle.name_resolution.proofs.Wanted.{IsWanted, resolution-wanted}
-use Rattle.field_rules.specs.Places.{field_at}
-use Rattle.reference_pass.specs.FieldTypes.{field_kind, resolve_type, type_faults}
+use Rattle.name_resolution.proofs.Found.{IsNamed, resolution-named, IsWanted, resolution-wanted}
+use Rattle.record_walk.specs.Place.{field_at}
+use Rattle.reference_pass.specs.Types.{field_kind, resolve_type, type_faults}
 use Rattle.reference_pass.specs.Items.{extension_item, field_item, method_item}
 use Rattle.reference_pass.specs.Linked.{linked_extension, linked_field, linked_method, resolved, typed}
-use Rattle.reference_pass.specs.Messages.{index_or_max, message_found, message_index, method_at, resolve_message}
+use Rattle.reference_pass.specs.References.{index_or_max, message_found, message_index, method_at, resolve_message}
 use Rattle.reference_pass.specs.SecondPass.{Faults, Owner, extension_faults, field_faults, method_faults}
 use Rattle.reference_pass.specs.Setting.{Setting, seen_by}
 use Rattle.descriptor_pool.specs.References.{ExtensionNames, FieldNames, MethodNames, NamesKind, NamesType}

@@ -22,14 +22,14 @@ use Rattle.record_walk.specs.Shown.{Shown, of_kind}
 use Rattle.name_resolution.specs.declared.filter.ResolveNameFilter.TheVariants.{Message}
 use Rattle.name_resolution.specs.References.{reference_fault}
 use Rattle.name_resolution.specs.Resolution.{Resolution, found, invalid_type, not_imported, shadowed, not_found}
-use Rattle.name_resolution.proofs.Named.{IsNamed, resolution-named}
-use Rattle.name_resolution.proofs.Wanted.{IsWanted, resolution-wanted}
+use Rattle.name_resolution.proofs.Found.{IsNamed, resolution-named, IsWanted, resolution-wanted}
 use Rattle.reference_pass.specs.SecondPass.{owner_faults}
-use Rattle.reference_pass.specs.Extensions.{extendee_faults}
+use Rattle.reference_pass.specs.Extension.{extendee_faults}
 use Rattle.reference_pass.specs.Items.{extension_item, message_item, extension_items, message_items}
-use Rattle.reference_pass.specs.Messages.{message_found, resolve_message, index_or_max}
+use Rattle.reference_pass.specs.References.{message_found, resolve_message, index_or_max}
 use Rattle.reference_pass.specs.Setting.{Setting, seen_by}
-use Rattle.pool_contents.specs.Extended.{NumbersLead, NumbersLieBefore, extended_by, extending, extension_numbered, has_number, number_held, with_extensions}
+use Rattle.pool_contents.specs.Extended.{NumbersLieBefore, extended_by, with_extensions}
+use Rattle.pool_types.specs.Extension.{NumbersLead, extending, extension_numbered, has_number, number_held}
 use Rattle.pool_contents.proofs.Extending.{with-more}
 use Rattle.pool_contents.proofs.Numbered.{first-extending, first_numbered, numbers-entered}
 use Rattle.reference_pass.proofs.Owners.{owners-tell}
@@ -39,7 +39,7 @@ use Rattle.proto_types.specs.declared.file.FileDescriptorProto.{FileDescriptorPr
 use Rattle.proto_types.specs.declared.message.DescriptorProto.{DescriptorProto}
 use Rattle.record_walk.specs.Counts.{counts_in}
 use Rattle.std.proofs.lemmas.Cmp.{by_ranked, ranked}
-use Rattle.descriptor_pool.specs.Linking.{declared_with, linked_with, reference_faults, setting_with}
+use Rattle.descriptor_pool.specs.Build.{declared_with, with_batch, reference_faults, setting_with}
 use Rattle.descriptor_pool.specs.Extensions.{ExtendeesLieIn, ListsAreWhole, NumbersAreUnique, bare}
 use Rattle.descriptor_pool.specs.Invariant.{IsPool}
 use Rattle.descriptor_pool.specs.Pool.{Made, empty, linked_to, new_files}
@@ -170,7 +170,7 @@ nothing-whole : Whole no_contents
 nothing-whole = record { lists = refl; extendees = All-nil (λ x. x.extendee < 0); numbers = tt }
 
 -- so it is behind new files that break nothing in the second pass
-pub link-whole : (q : Contents) (new : List FileDescriptorProto) → Known q → Whole q → reference_faults q new ≡ [] → Whole (linked_with q new)
+pub link-whole : (q : Contents) (new : List FileDescriptorProto) → Known q → Whole q → reference_faults q new ≡ [] → Whole (with_batch q new)
 link-whole q new known was none =
     let s = setting_with q new in
     let ds = declared_with q new in
@@ -179,7 +179,7 @@ link-whole q new known was none =
     let ms = q.messages in
     let make = λ (e : Shown × _). message_item s e.0 e.1 in
     let later = message_items s ds in
-    let end = length (linked_with q new).messages in
+    let end = length (with_batch q new).messages in
     let many : end ≡ length (ms ++ later) = length-each (extended_by (length old) (drop (length old) (old ++ came))) 0 (ms ++ later) in
     let more : length ms ≤ end = let sum = length-append ms later in omega (arith, many, sum) in
     let below = recursion_from_All (λ x. x.extendee < length ms) old was.extendees in
@@ -191,7 +191,7 @@ link-whole q new known was none =
           ∙ ap (λ xs. map_enumerated (listing (old ++ came)) 0 (map_enumerated (extended_by (length old) xs) 0 (ms ++ later))) (sym rest);
       extendees = All-append (λ x. x.extendee < end) old came
           (All-weaker (λ x. x.extendee < length ms) (λ x. x.extendee < end) (λ x here. omega (arith, here, more)) old was.extendees)
-          (All-from_recursion (λ x. x.extendee < end) came (all-below s end (messages-lie (linked_with q new) (link-known q new known)) ds told.0));
+          (All-from_recursion (λ x. x.extendee < end) came (all-below s end (messages-lie (with_batch q new) (link-known q new known)) ds told.0));
       numbers = all-new-append [] old came was.numbers told.1;
     }
 

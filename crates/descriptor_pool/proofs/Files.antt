@@ -24,7 +24,7 @@ use Rattle.record_walk.specs.Protos.{Proto, of_file, of_message, of_field, of_on
 use Rattle.record_walk.specs.Shown.{Shown}
 use Rattle.record_walk.proofs.Paths.{one-file}
 use Rattle.record_walk.proofs.Walks.{file-all}
-use Rattle.name_pass.specs.Entered.{entries, entries_of, file_entries, file_entries_of, package_entry, packages}
+use Rattle.name_pass.specs.Names.{entries, entries_of, file_entries, file_entries_of, package_entry, packages}
 use Rattle.descriptor_pool.proofs.Resolved.{all-append}
 
 -- declarations of files lie in these

@@ -11,10 +11,10 @@ use Rattle.reference_pass.specs.SecondPass.{Faults}
 use Rattle.reference_pass.specs.NamesBegin.{AllNamesBegin}
 use Rattle.descriptor_pool.specs.declared.error.BuildError.{BuildError}
 use Rattle.descriptor_pool.specs.declared.error.BuildError.TheVariants.{TooMany, Descriptor, OutOfMemory}
-use Rattle.descriptor_pool.specs.Linking.{declared_with, setting_with, batch_faults, first_of_both, linked_with, with_items, with_names}
+use Rattle.descriptor_pool.specs.Build.{declared_with, setting_with, batch_faults, first_of_both, with_batch, with_items, with_names}
 use Rattle.descriptor_pool.specs.Invariant.{IsPool}
 use Rattle.descriptor_pool.specs.Outcome.{Outcome}
-use Rattle.descriptor_pool.specs.Tells.{TellsAll, TellsFaults}
+use Rattle.descriptor_pool.specs.Error.{TellsAll, TellsFaults}
 use Rattle.descriptor_pool.specs.Pool.{Batch, Accepts, Fits, linked_to, new_files, faults, faults_of_names, faults_of_references}
 use Rattle.descriptor_pool.proofs.Declared.{counts-with}
 use Rattle.descriptor_pool.proofs.Listed.{counts-extended}
@@ -27,7 +27,7 @@ none_of_both (f ∷ fs) second none = absurd (search rules)
 
 -- the contents after new files were linked behind those of a pool, or were refused
 pub record IsBehind {U : Type 0} (p : Contents) (new : List FileDescriptorProto) (r : Result U BuildError) (q : Contents) : Type 0 where
-  pub ok : OnOk r (q ≡ linked_with p new)
+  pub ok : OnOk r (q ≡ with_batch p new)
   pub told : TellsAll r (batch_faults p new)
   pub err : OnErr r (q ≡ p)
   pub names : AllNamesBegin q

@@ -17,8 +17,8 @@ use Rattle.record_walk.proofs.Counted.{counted-append, counted-plus}
 use Rattle.record_walk.proofs.Indexes.{indexes-count-on}
 use Rattle.name_tables.specs.Entries.{names}
 use Rattle.name_tables.proofs.Names.{get-lookup}
-use Rattle.reference_pass.specs.Messages.{message_index}
-use Rattle.name_pass.specs.Entered.{entries, entries_of, package_entry, packages}
+use Rattle.reference_pass.specs.References.{message_index}
+use Rattle.name_pass.specs.Names.{entries, entries_of, package_entry, packages}
 use Rattle.descriptor_pool.proofs.Files.{first-has}
 use Rattle.descriptor_pool.proofs.Resolved.{all-append}
 use Rattle.descriptor_pool.proofs.Sound.{Known}

@@ -8,7 +8,7 @@ use Rattle.record_walk.specs.Declarations.{declarations}
 use Rattle.record_walk.specs.Shown.{Shown}
 use Rattle.reference_pass.specs.SecondPass.{owners_faults, second_pass}
 use Rattle.reference_pass.specs.Setting.{Setting}
-use Rattle.reference_pass.specs.Steps.{ReferenceState, reference_step, with_declarations}
+use Rattle.reference_pass.specs.Resolve.{ReferenceState, reference_step, with_declarations}
 use Rattle.reference_pass.proofs.Owners.{owners-tell}
 use Rattle.reference_pass.proofs.Steps.{with-more, with-none}
 

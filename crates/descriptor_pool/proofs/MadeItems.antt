@@ -8,13 +8,13 @@ use Rattle.record_walk.specs.Declarations.{declarations}
 use Rattle.record_walk.specs.Shown.{Shown}
 use Rattle.reference_pass.specs.Items.{file_item}
 use Rattle.reference_pass.specs.Setting.{Setting}
-use Rattle.reference_pass.specs.Against.{setting_against}
+use Rattle.descriptor_pool.specs.Against.{setting_against}
 use Rattle.reference_pass.specs.Linking.{ItemLists, ItemsAre, linked_item, lists_in}
 use Rattle.reference_pass.specs.declared.items.NewItems.{NewItems}
 use Rattle.pool_contents.specs.Inner.{contents_in}
 use Rattle.pool_contents.specs.declared.growing.GrowingPool.{GrowingPool}
 use Rattle.pool_contents.specs.Growing.{before_items, rolled_back, new_records, records_from}
-use Rattle.descriptor_pool.specs.Linking.{with_items}
+use Rattle.descriptor_pool.specs.Build.{with_items}
 use Rattle.descriptor_pool.specs.Items.{HasImports, HasItems, LinksNew, with_linked, with_new_items}
 use Rattle.descriptor_pool.proofs.Bases.{same-base}
 use Rattle.descriptor_pool.proofs.Declared.{items-of-files}

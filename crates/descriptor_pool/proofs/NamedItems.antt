@@ -34,10 +34,10 @@ use Rattle.field_rules.specs.EnumItems.{enum_item}
 use Rattle.reference_pass.specs.Items.{extension_item, message_item, service_item, made_of, message_items, enum_items, service_items, extension_items}
 use Rattle.reference_pass.specs.Setting.{Setting}
 use Rattle.reference_pass.proofs.Steps.{made-append}
-use Rattle.name_pass.specs.Entered.{definition_kind, entries, entries_of, package_entry, packages}
+use Rattle.name_pass.specs.Names.{definition_kind, entries, entries_of, package_entry, packages}
 use Rattle.pool_contents.specs.Extended.{extended_by, with_extended}
 use Rattle.reference_pass.specs.Linking.{HasItem, IsNamedBy, ItemLists, ItemsAre, lists_in, message_name}
-use Rattle.descriptor_pool.specs.Linking.{declared_with, linked_with, setting_with, with_items, with_names}
+use Rattle.descriptor_pool.specs.Build.{declared_with, with_batch, setting_with, with_items, with_names}
 use Rattle.descriptor_pool.specs.Pool.{Made, empty, linked_to, new_files}
 use Rattle.descriptor_pool.proofs.Declared.{counted-many, counts-with}
 use Rattle.descriptor_pool.proofs.Resolved.{all-append}
@@ -258,7 +258,7 @@ made-mean p (linked_to {q = q} batch made accepts fits is) = subst MeanNamed (sy
     let new = new_files q batch in
     let s = setting_with q new in
     let ds = declared_with q new in
-    grown-names (length q.extensions) (with_items (with_names q ds) s ds) name (finite.get (linked_with q new).names name) (mean-behind q s new (made-mean q made) name))
+    grown-names (length q.extensions) (with_items (with_names q ds) s ds) name (finite.get (with_batch q new).names name) (mean-behind q s new (made-mean q made) name))
 
 -- the items of a pool and of new files that fit are those of what is read against both
 pub items-are : (p : Contents) → Made p → (new : List FileDescriptorProto) → IsOk (counts_with (counts_in p) new)
@@ -287,7 +287,7 @@ items-are p made new fits =
 
 -- and so are those of the pool with the new files
 pub linked-items-are : (p : Contents) → Made p → (new : List FileDescriptorProto) → IsOk (counts_with (counts_in p) new)
-    → ItemsAre (setting_with p new) (lists_in (linked_with p new)) (declared_with p new)
+    → ItemsAre (setting_with p new) (lists_in (with_batch p new)) (declared_with p new)
 linked-items-are p made new fits =
     let s = setting_with p new in
     let ds = declared_with p new in

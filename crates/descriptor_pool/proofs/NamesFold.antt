@@ -6,7 +6,7 @@ use Rattle.name_tables.proofs.Entries.{with-more, with-nothing}
 use Rattle.record_walk.specs.Shown.{Shown}
 use Rattle.pool_types.specs.Contents.{Contents}
 use Rattle.proto_types.specs.declared.file.FileDescriptorProto.{FileDescriptorProto}
-use Rattle.name_pass.specs.Entered.{entries_of, entries, file_entries_of, file_entries}
+use Rattle.name_pass.specs.Names.{entries_of, entries, file_entries_of, file_entries}
 use Rattle.name_pass.specs.FirstPass.{first_faults, first_pass}
 use Rattle.name_pass.specs.Steps.{NameState, known, name_step, state_at}
 use Rattle.name_pass.proofs.Behind.{all-behind}

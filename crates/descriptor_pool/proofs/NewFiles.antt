@@ -10,7 +10,7 @@ use Rattle.record_walk.specs.Fits.{counts_with}
 use Rattle.record_walk.specs.Walking.{WithinLimits}
 use Rattle.record_walk.specs.declared.counts.Counts.{Counts}
 use Rattle.proto_types.specs.declared.file.FileDescriptorProto.{FileDescriptorProto}
-use Rattle.descriptor_pool.specs.Linking.{name_faults, reference_faults, linked_with}
+use Rattle.descriptor_pool.specs.Build.{name_faults, reference_faults, with_batch}
 use Rattle.pool_contents.specs.Extended.{extended_by}
 use Rattle.descriptor_pool.specs.Outcome.{IsLinked}
 use Rattle.descriptor_pool.specs.Pool.{Batch, new_files}
@@ -21,14 +21,14 @@ few_fit : (c : Counts) → WithinLimits c → IsOk (counts_with c [])
 few_fit c within = grind (arith, nat_tests, within.files, within.messages, within.enums, within.services, within.extensions)
 
 -- no new extensions leave the messages as they are
-listed : (p : Contents) → (linked_with p []).messages ≡ p.messages
+listed : (p : Contents) → (with_batch p []).messages ≡ p.messages
 listed p =
     let first = length p.extensions in
     let none : drop first (p.extensions ++ []) ≡ [] = ap (drop first) (append-nil p.extensions) ∙ drop_all first p.extensions (omega arith) in
     ap (λ xs. map_enumerated (extended_by first xs) 0 (p.messages ++ [])) none ∙ extended-by-none first (p.messages ++ []) ∙ append-nil p.messages
 
 -- no new files leave the pool as it is
-stays : (p : Contents) → p ≡ linked_with p []
+stays : (p : Contents) → p ≡ with_batch p []
 stays p = λ i. record {
   files = sym (append-nil p.files) i;
   messages = sym (listed p) i;
@@ -46,5 +46,5 @@ nothing_linked p batch none within =
     record {
       fits = subst Fits (sym none) (few_fit (counts_in p) within);
       accepted = subst Accepts (sym none) (refl, refl);
-      is = stays p ∙ ap (linked_with p) (sym none);
+      is = stays p ∙ ap (with_batch p) (sym none);
     }

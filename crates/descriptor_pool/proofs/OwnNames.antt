@@ -21,7 +21,7 @@ use Rattle.pool_types.specs.declared.contents.service.MethodDescriptorInner.{Met
 use Rattle.pool_types.specs.declared.contents.service.ServiceDescriptorInner.{ServiceDescriptorInner}
 use Rattle.name_tables.specs.Entries.{Entry, first_of, names_with}
 use Rattle.name_tables.proofs.Entries.{get-with}
-use Rattle.name_pass.specs.Entered.{entries}
+use Rattle.name_pass.specs.Names.{entries}
 use Rattle.record_walk.specs.Changed.{Changes, changed, changed_fields, changed_message, changed_methods}
 use Rattle.record_walk.specs.Counts.{counts_in, no_counts}
 use Rattle.record_walk.specs.Declarations.{declarations}
@@ -36,7 +36,7 @@ use Rattle.reference_pass.specs.Setting.{Setting}
 use Rattle.reference_pass.proofs.Owners.{owners-tell}
 use Rattle.pool_contents.specs.Extended.{extended_by}
 use Rattle.descriptor_pool.specs.Invariant.{IsPool}
-use Rattle.descriptor_pool.specs.Linking.{declared_with, linked_with, reference_faults, setting_with, with_items, with_names}
+use Rattle.descriptor_pool.specs.Build.{declared_with, with_batch, reference_faults, setting_with, with_items, with_names}
 use Rattle.descriptor_pool.specs.Pool.{Made, empty, linked_to, new_files}
 use Rattle.descriptor_pool.specs.References.{AllNamed, ExtensionNames, FieldNames, MethodNames, NamesKind, NamesOwn, NamesType}
 use Rattle.descriptor_pool.proofs.Declared.{declared-linked}
@@ -143,7 +143,7 @@ item-stays f P Q follows (Some x) now stays has = item-has f Q now (f x) (stays 
 
 module _ (q : Contents) (new : List FileDescriptorProto) where
   abbrev p : Contents
-  p = linked_with q new
+  p = with_batch q new
 
   abbrev s : Setting
   s = setting_with q new

@@ -3,7 +3,7 @@ use Rattle.std.proofs.Common.{rules, ◌≡◌, ℕ, true, List, [], ◌∷◌, 
 use Rattle.std.specs.List.{fold}
 use Rattle.std.specs.Result.{is_err}
 use Rattle.std.specs.declared.alloc.AllocError.{AllocError}
-use Rattle.field_rules.specs.declared.faults.Faults.{Faults as PassFaults}
+use Rattle.record_walk.specs.declared.faults.Faults.{Faults as PassFaults}
 use Rattle.pool_types.specs.Contents.{ByText, Contents, no_contents}
 use Rattle.pool_types.specs.declared.contents.extension.ExtensionDescriptorInner.{ExtensionDescriptorInner}
 use Rattle.pool_types.specs.declared.contents.file.FileDescriptorInner.{FileDescriptorInner}
@@ -12,7 +12,7 @@ use Rattle.record_walk.specs.declared.counts.Counts.{Counts}
 use Rattle.record_walk.specs.Declarations.{declarations}
 use Rattle.pool_types.specs.declared.contents.definition.Definition.{Definition}
 use Rattle.name_tables.specs.NameTables.{file_names_before, without_files_from}
-use Rattle.record_walk.specs.Progress.{HasSeen, Progress}
+use Rattle.record_walk.specs.Visitor.{HasSeen, Progress}
 use Rattle.record_walk.specs.Shown.{Shown}
 use Rattle.name_pass.specs.declared.names.NameVisitor.{NameVisitor}
 use Rattle.name_pass.specs.State.{borrows_of, first_new, kept_of, records_of, state_of}
@@ -23,12 +23,12 @@ use Rattle.reference_pass.specs.SecondPass.{second_pass, Faults}
 use Rattle.reference_pass.specs.declared.items.NewItems.{NewItems}
 use Rattle.reference_pass.specs.declared.resolve.ResolveVisitor.{ResolveVisitor}
 use Rattle.reference_pass.specs.State.{state_of as state_of_references}
-use Rattle.reference_pass.specs.Steps.{ReferenceState, reference_progress, reference_step}
+use Rattle.reference_pass.specs.Resolve.{ReferenceState, reference_progress, reference_step}
 use Rattle.reference_pass.proofs.Seen.{held}
 use Rattle.descriptor_pool.specs.Items.{HasItems}
 use Rattle.descriptor_pool.proofs.ItemsFold.{faults-seen, fold-seen}
 use Rattle.descriptor_pool.specs.declared.error.BuildError.{BuildError}
-use Rattle.descriptor_pool.specs.Tells.{TellsAll, TellsFaults}
+use Rattle.descriptor_pool.specs.Error.{TellsAll, TellsFaults}
 
 -- the first, the second and the third of some numbers
 abbrev first-of : List ℕ → ℕ

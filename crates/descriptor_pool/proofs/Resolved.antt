@@ -21,21 +21,21 @@ use Rattle.record_walk.specs.Changed.{changed}
 use Rattle.record_walk.specs.Protos.{Proto, of_file, of_message, of_field, of_oneof, of_service, of_method, of_enum, of_value, of_extension}
 use Rattle.record_walk.specs.Shown.{Shown}
 use Rattle.name_resolution.specs.declared.filter.ResolveNameFilter.TheVariants.{Message, FieldType}
-use Rattle.name_resolution.specs.Kinds.{simple_kind}
+use Rattle.pool_types.specs.Kinds.{simple_kind}
 use Rattle.name_resolution.specs.References.{reference_fault}
 use Rattle.name_resolution.specs.Resolution.{Resolution, found, invalid_type, not_imported, shadowed, not_found}
-use Rattle.name_resolution.proofs.Named.{IsNamed, resolution-named}
+use Rattle.name_resolution.proofs.Found.{IsNamed, resolution-named}
 use Rattle.reference_pass.specs.SecondPass.{Faults, Owner, field_faults, field_record_faults, message_of, second_faults, second_pass}
 use Rattle.reference_pass.specs.Defaults.{field_default_faults}
-use Rattle.reference_pass.specs.FieldTypes.{resolve_type, type_faults}
+use Rattle.reference_pass.specs.Types.{resolve_type, type_faults}
 use Rattle.reference_pass.specs.Linked.{resolved, typed, linking}
-use Rattle.reference_pass.specs.Messages.{resolve_message}
+use Rattle.reference_pass.specs.References.{resolve_message}
 use Rattle.reference_pass.specs.Items.{extension_items}
 use Rattle.reference_pass.proofs.Unbroken.{both-empty, extension-parts}
 use Rattle.reference_pass.specs.Setting.{Setting, seen_by}
 use Rattle.std.specs.BTreeSet.{contains_by}
 use Rattle.std.specs.Ordering.{nat_cmp}
-use Rattle.record_lists.specs.References.{Reference, reference_in, references_in}
+use Rattle.record_lists.specs.Reference.{Reference, reference_in, references_in}
 
 has-name : (found : Option Definition) (def : Definition) → found ≡ Some def → IsSome found
 has-name got def is = subst IsSome (sym is) refl

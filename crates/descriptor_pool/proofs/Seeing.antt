@@ -10,7 +10,7 @@ use Rattle.pool_types.specs.declared.contents.file.FileDescriptorInner.{FileDesc
 use Rattle.proto_types.specs.declared.file.FileDescriptorProto.{FileDescriptorProto}
 use Rattle.plain_data.specs.Each.{map_enumerated}
 use Rattle.pool_contents.specs.declared.growing.GrowingPool.{GrowingPool}
-use Rattle.descriptor_pool.specs.Linking.{declared_with, seen_with, with_names}
+use Rattle.descriptor_pool.specs.Build.{declared_with, seen_with, with_names}
 use Rattle.pool_contents.specs.Growing.{files_seeing, first_new, rolled_back, seeing}
 use Rattle.pool_contents.specs.Inner.{contents_in}
 use Rattle.pool_contents.proofs.Each.{each-all, each-append, each-map, each-same}

@@ -24,13 +24,13 @@ use Rattle.name_tables.specs.Entries.{Entry, first_of, names, names_with}
 use Rattle.name_tables.specs.NameTables.{AllBefore, FileNamesBefore}
 use Rattle.name_tables.proofs.Entries.{get-with, with-names}
 use Rattle.reference_pass.specs.Linked.{linking}
-use Rattle.field_rules.specs.Short.{ShortFiles}
-use Rattle.name_pass.specs.Entered.{entries, file_entries}
-use Rattle.record_lists.specs.References.{Reference, references_in}
+use Rattle.record_walk.specs.Short.{ShortFiles}
+use Rattle.name_pass.specs.Names.{entries, file_entries}
+use Rattle.record_lists.specs.Reference.{Reference, references_in}
 use Rattle.descriptor_pool.specs.Invariant.{IsPool}
 use Rattle.pool_contents.specs.Inner.{NamesLieIn}
 use Rattle.descriptor_pool.specs.Pool.{Batch, Made, empty, linked_to, Fits, new_files, faults_of_references, link}
-use Rattle.descriptor_pool.specs.Linking.{declared_with, linked_with, setting_with, with_items, with_names}
+use Rattle.descriptor_pool.specs.Build.{declared_with, with_batch, setting_with, with_items, with_names}
 use Rattle.descriptor_pool.specs.References.{AllResolved}
 use Rattle.descriptor_pool.proofs.Declared.{known_names, known_file_names, declared-behind, declared-linked, names-linked, file-names-linked, counts-linked}
 use Rattle.descriptor_pool.proofs.Files.{names-before, file-names-before}
@@ -75,7 +75,7 @@ nothing-sound = record {
 }
 
 -- so they are behind new files
-pub link-known : (q : Contents) (new : List FileDescriptorProto) → Known q → Known (linked_with q new)
+pub link-known : (q : Contents) (new : List FileDescriptorProto) → Known q → Known (with_batch q new)
 link-known q new known =
     let s = setting_with q new in
     let ds = declared_with q new in

@@ -9,8 +9,8 @@ use Rattle.record_walk.specs.Fits.{counts_with}
 use Rattle.record_walk.specs.Shown.{Shown}
 use Rattle.reference_pass.specs.Setting.{Setting}
 use Rattle.reference_pass.specs.NamesBegin.{AllNamesBegin}
-use Rattle.field_rules.specs.Short.{ShortFiles}
-use Rattle.name_pass.specs.Entered.{file_entries}
+use Rattle.record_walk.specs.Short.{ShortFiles}
+use Rattle.name_pass.specs.Names.{file_entries}
 use Rattle.reference_pass.specs.Linking.{ItemsAre, lists_in}
 use Rattle.descriptor_pool.specs.Items.{HasImports}
 use Rattle.descriptor_pool.specs.Pool.{Made}
@@ -27,14 +27,15 @@ use Rattle.reference_pass.specs.SecondPass.{Faults, second_pass}
 use Rattle.pool_contents.specs.declared.growing.GrowingPool.{GrowingPool}
 use Rattle.descriptor_pool.specs.declared.error.BuildError.{BuildError}
 use Rattle.descriptor_pool.specs.declared.error.BuildError.TheVariants.{TooMany, Descriptor, OutOfMemory}
-use Rattle.descriptor_pool.specs.Linking.{name_faults, reference_faults, first_of_both, setting_with, linked_with, with_items, with_names}
-use Rattle.pool_contents.specs.Extended.{NumbersLead, with_extended}
+use Rattle.descriptor_pool.specs.Build.{name_faults, reference_faults, first_of_both, setting_with, with_batch, with_items, with_names}
+use Rattle.pool_contents.specs.Extended.{with_extended}
+use Rattle.pool_types.specs.Extension.{NumbersLead}
 use Rattle.name_pass.specs.FirstPass.{first_pass}
 use Rattle.pool_contents.specs.Growing.{before_items, files_seeing, first_extension, rolled_back, new_records}
 use Rattle.pool_contents.specs.Unlinked.{unlinked}
 use Rattle.pool_contents.specs.Inner.{contents_in}
-use Rattle.descriptor_pool.specs.Tells.{TellsAll, TellsFaults}
-use Rattle.reference_pass.specs.Against.{setting_against}
+use Rattle.descriptor_pool.specs.Error.{TellsAll, TellsFaults}
+use Rattle.descriptor_pool.specs.Against.{setting_against}
 use Rattle.pool_contents.proofs.Seeing.{raws-stay}
 use Rattle.descriptor_pool.proofs.Seeing.{seen-are}
 
@@ -90,7 +91,7 @@ module _ (p q : Contents) (base : Counts) (new : List FileDescriptorProto) (base
     pub base_before : base ≡ counts_in (before_items t)
     base_before = base_is ∙ sym (ap counts_in items_before)
 
-    pub linked_is : with_extended (first_extension t) (with_items (before_items t) (setting_against t.inner) (declarations base new)) ≡ linked_with p new
+    pub linked_is : with_extended (first_extension t) (with_items (before_items t) (setting_against t.inner) (declarations base new)) ≡ with_batch p new
     linked_is =
         let first : first_extension t ≡ length p.extensions = ap (λ (x : Contents). length x.extensions) (still ∙ kept) in
         λ i. with_extended (first i) (with_items (items_before i) (setting_is i) (declarations (base_is i) new))
@@ -203,7 +204,7 @@ module _ (old added r : GrowingPool) (new : List FileDescriptorProto) (base_is :
           (sym (items_before before q old.base new base_is rest-added files-added r t entered-is kept-is seen still)) one in
           subst (λ (es : List Shown). ItemsAre s (lists_in (with_items (before_items t) s es)) es) (sym (declared-seen ∙ (λ i. declarations (base_is i) new))) two
 
-      pub made-seen : with_extended (first_extension t) (with_items (before_items t) (setting_against t.inner) (declarations t.base (new_records t))) ≡ linked_with before new
+      pub made-seen : with_extended (first_extension t) (with_items (before_items t) (setting_against t.inner) (declarations t.base (new_records t))) ≡ with_batch before new
       made-seen =
           (λ i. with_extended (first_extension t) (with_items (before_items t) (setting_against t.inner) (declared-seen i)))
           ∙ linked_is before (contents_in added.inner) old.base new base_is rest-added files-added r t entered-is kept-is seen still

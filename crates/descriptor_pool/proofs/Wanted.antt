@@ -4,8 +4,8 @@ use Rattle.std.specs.Option.{IfSome}
 use Rattle.pool_types.specs.declared.contents.definition.DefinitionKind.{DefinitionKind}
 use Rattle.pool_types.specs.declared.contents.definition.DefinitionKind.TheVariants as definition
 use Rattle.name_resolution.specs.declared.filter.ResolveNameFilter.TheVariants.{Message}
-use Rattle.name_resolution.specs.Kinds.{is_match}
-use Rattle.reference_pass.specs.Messages.{message_index, index_or_max}
+use Rattle.name_resolution.specs.Filter.{is_match}
+use Rattle.reference_pass.specs.References.{message_index, index_or_max}
 
 -- a message that is found has its index below the limit of all that are named
 pub message-wanted : (end : ℕ) (kind : DefinitionKind) → is_match Message kind ≡ true → IfSome (message_index kind) (λ i. i < end) → index_or_max (message_index kind) < end

@@ -6,7 +6,8 @@ use Rattle.plain_data.specs.Each.{map_enumerated}
 use Rattle.pool_types.specs.Contents.{Contents}
 use Rattle.pool_types.specs.declared.contents.extension.ExtensionDescriptorInner.{ExtensionDescriptorInner}
 use Rattle.pool_types.specs.declared.contents.message.MessageDescriptorInner.{MessageDescriptorInner}
-use Rattle.pool_contents.specs.Extended.{Indexed, extending, with_extensions}
+use Rattle.pool_contents.specs.Extended.{with_extensions}
+use Rattle.pool_types.specs.Extension.{Indexed, extending}
 
 -- all extensions of a pool that extend the message with an index, by their own indexes, which rise
 abbrev pub extensions_of : Contents → ℕ → List Indexed

@@ -5,7 +5,7 @@ use Rattle.record_walk.specs.Declarations.{declarations}
 use Rattle.record_walk.specs.Walking.{WithinLimits}
 use Rattle.pool_types.specs.Contents.{Contents, files_of}
 use Rattle.name_tables.specs.Entries.{names}
-use Rattle.name_pass.specs.Entered.{entries, file_entries}
+use Rattle.name_pass.specs.Names.{entries, file_entries}
 use Rattle.reference_pass.specs.NamesBegin.{AllNamesBegin}
 use Rattle.descriptor_pool.specs.Pool.{Made}
 

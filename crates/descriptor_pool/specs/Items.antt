@@ -6,7 +6,7 @@ use Rattle.pool_types.specs.Contents.{Contents}
 use Rattle.pool_types.specs.declared.contents.file.FileDescriptorInner.{FileDescriptorInner}
 use Rattle.plain_data.specs.Each.{map_enumerated}
 use Rattle.record_walk.specs.Declarations.{declarations}
-use Rattle.name_pass.specs.Syntaxes.{syntax_of}
+use Rattle.pool_types.specs.Syntaxes.{syntax_of}
 use Rattle.pool_contents.specs.Inner.{contents_in}
 use Rattle.pool_contents.specs.declared.growing.GrowingPool.{GrowingPool}
 use Rattle.pool_contents.specs.Growing.{new_records}

@@ -1,8 +1,9 @@
 pub mod Pool
-pub mod Tells
+pub mod Error
 pub mod Invariant
-pub mod Linking
+pub mod Build
 pub mod Outcome
 pub mod Extensions
 pub mod References
 pub mod Items
+pub mod Against

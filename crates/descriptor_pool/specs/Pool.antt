@@ -11,7 +11,7 @@ use Rattle.record_walk.specs.Counts.{counts_in}
 use Rattle.record_walk.specs.Fits.{counts_with}
 use Rattle.proto_types.specs.Readers.{text_of}
 use Rattle.reference_pass.specs.SecondPass.{Faults}
-use Rattle.descriptor_pool.specs.Linking.{name_faults, reference_faults, first_of_both, linked_with}
+use Rattle.descriptor_pool.specs.Build.{name_faults, reference_faults, first_of_both, with_batch}
 
 abbrev pub Batch : Type 0
 Batch = List FileDescriptorProto
@@ -47,7 +47,7 @@ Fits p batch = IsOk (counts_after p batch)
 
 -- the pool after a batch
 abbrev pub link : Contents → Batch → Contents
-link p batch = linked_with p (new_files p batch)
+link p batch = with_batch p (new_files p batch)
 
 -- the contents that pools have: what accepted batches that fit make from nothing
 pub data Made : Contents → Type 0 where

@@ -15,7 +15,7 @@ use Rattle.pool_types.specs.declared.contents.definition.DefinitionKind.TheVaria
 use Rattle.pool_types.specs.declared.contents.extension.ExtensionDescriptorInner.{ExtensionDescriptorInner}
 use Rattle.pool_types.specs.declared.contents.field.FieldDescriptorInner.{FieldDescriptorInner}
 use Rattle.pool_types.specs.declared.contents.service.MethodDescriptorInner.{MethodDescriptorInner}
-use Rattle.record_lists.specs.References.{Reference, references}
+use Rattle.record_lists.specs.Reference.{Reference, references}
 use Rattle.record_walk.specs.Counts.{no_counts}
 use Rattle.record_walk.specs.Declarations.{declarations}
 use Rattle.record_walk.specs.Protos.{of_message, of_service, of_extension}

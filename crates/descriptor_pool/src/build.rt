@@ -8,28 +8,28 @@ ghost use Rattle.record_walk.specs.Fits.{counts_with};
 ghost use Rattle.record_walk.specs.Declarations.{declarations};
 ghost use Rattle.reference_pass.specs.SecondPass.{second_pass};
 ghost use Rattle.reference_pass.specs.NamesBegin.{AllNamesBegin, NamesBegin};
-ghost use Rattle.field_rules.specs.Short.{ShortFiles};
-ghost use Rattle.descriptor_pool.specs.Linking.{batch_faults, linked_with, with_items, with_names};
-ghost use Rattle.pool_contents.specs.Extended.{NumbersLead, with_extended};
+ghost use Rattle.record_walk.specs.Short.{ShortFiles};
+ghost use Rattle.descriptor_pool.specs.Build.{batch_faults, with_batch, with_items, with_names};
+ghost use Rattle.pool_contents.specs.Extended.{with_extended};
+ghost use Rattle.pool_types.specs.Extension.{NumbersLead};
 ghost use Rattle.name_pass.specs.FirstPass.{first_pass};
 ghost use Rattle.pool_contents.specs.Growing.{before_items, first_extension, rolled_back, new_records, records_from};
 ghost use Rattle.name_tables.specs.NameTables.{file_names_before, without_files_from};
 ghost use Rattle.name_pass.specs.Steps.{name_step, state_at};
 ghost use Rattle.descriptor_pool.specs.Items.{HasImports, HasItems, LinksNew, with_new_items};
 ghost use Rattle.pool_contents.specs.Inner.{contents_in, NamesLieIn};
-ghost use Rattle.descriptor_pool.specs.Tells.{TellsAll, TellsFaults};
-ghost use Rattle.reference_pass.specs.Against.{setting_against};
+ghost use Rattle.descriptor_pool.specs.Error.{TellsAll, TellsFaults};
+ghost use Rattle.descriptor_pool.specs.Against.{setting_against};
 ghost use Rattle.reference_pass.specs.Linking.{ItemsAre, lists_in};
 ghost use Rattle.descriptor_pool.specs.Pool.{Made};
 
 use crate::error::BuildError;
-use field_rules::Faults;
+use record_walk::{Counts, Faults, walk};
 use name_pass::NameVisitor;
 use name_tables::{FileNames, PoolNames};
 use pool_contents::{DescriptorPoolInner, GrowingPool};
 use pool_faults::{DescriptorError, DescriptorErrorKind};
 use proto_types::FileDescriptorProto;
-use record_walk::{Counts, walk};
 use reference_pass::{Linker, NewItems, NextItems, PoolExtensions, Reading, ResolveVisitor};
 use std::alloc::{AllocError, Global};
 use std::mem;
@@ -50,7 +50,7 @@ pub(crate) fn link(
     requires names { AllNamesBegin (contents_in pool.old) }
     requires short { ShortFiles (files_of (contents_in pool.old) ++ new.items) }
     ensures ok { OnOk result (contents_in pool.new
-        ≡ linked_with (contents_in pool.old) new.items) }
+        ≡ with_batch (contents_in pool.old) new.items) }
     ensures faults { TellsAll result (batch_faults (contents_in pool.old) new.items) }
     ensures err { OnErr result (contents_in pool.new ≡ contents_in pool.old) }
     ensures names { AllNamesBegin (contents_in pool.new) }
@@ -82,7 +82,7 @@ fn link_new(
     requires names { AllNamesBegin (contents_in pool.old.inner) }
     requires short { ShortFiles (files_of (contents_in pool.old.inner) ++ new.items) }
     ensures ok { OnOk result (contents_in pool.new.inner
-        ≡ linked_with (contents_in pool.old.inner) new.items) }
+        ≡ with_batch (contents_in pool.old.inner) new.items) }
     ensures faults { TellsAll result (batch_faults (contents_in pool.old.inner) new.items) }
     ensures kept { OnErr result (rolled_back pool.new ≡ rolled_back pool.old) }
     ensures names { OnOk result (AllNamesBegin (contents_in pool.new.inner)) }

@@ -1,4 +1,4 @@
-ghost use Rattle.pool_contents.specs.Equality.{contents-exact};
+ghost use Rattle.pool_contents.specs.Same.{contents-exact};
 
 use crate::DescriptorPool;
 use plain_data::ExactEq;

@@ -42,7 +42,7 @@ impl DescriptorPool {
     ghost use Rattle.record_walk.specs.Counts.{counts_in, no_counts};
     ghost use Rattle.record_walk.specs.Fits.{counts_with};
     ghost use Rattle.descriptor_pool.specs.Extensions.{ExtendeesLieIn, ListsAreWhole, NumbersAreUnique};
-    ghost use Rattle.pool_contents.specs.Extended.{extension_numbered};
+    ghost use Rattle.pool_types.specs.Extension.{extension_numbered};
     ghost use Rattle.descriptor_pool.specs.Invariant.{IsPool};
     ghost use Rattle.pool_contents.specs.LookUps.{definition_named};
     ghost use Rattle.field_rules.specs.NamesBegin.{EnumNamesBegin};
@@ -225,7 +225,7 @@ impl DescriptorPool {
 
 /// Two pools are equal where their contents are.
 impl PartialEq for DescriptorPool {
-    ghost use Rattle.pool_contents.specs.Equality.{contents_eq, contents-per};
+    ghost use Rattle.pool_contents.specs.Same.{contents_eq, contents-per};
 
     ghost eq = { contents_eq };
 

@@ -24,9 +24,8 @@ use Rattle.record_walk.specs.Counts.{fits_list}
 use Rattle.plain_data.specs.Maps.{inserted}
 use Rattle.field_rules.specs.declared.maps.FieldMaps.{FieldMaps}
 use Rattle.field_rules.specs.Duplicates.{latest, number_duplicate, json_name_duplicate, same_number, same_json_name}
-use Rattle.field_rules.specs.Maps.{keyed, by_number, by_json_name}
+use Rattle.field_rules.specs.Maps.{keyed, by_number, by_json_name, item_number}
 use Rattle.field_rules.specs.MapsOf.{AreMapsOf}
-use Rattle.field_rules.specs.DuplicateNumbers.{item_number}
 use Rattle.field_rules.proofs.Latest.{get-keyed, keyed-next, same-latest}
 
 -- numbers of 32 bits that an item holds alike are one

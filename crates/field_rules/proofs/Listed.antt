@@ -10,7 +10,7 @@ use Rattle.std.proofs.lemmas.Option.{slice_get_within}
 use Rattle.proto_types.specs.declared.records.field.FieldDescriptorProto.{FieldDescriptorProto}
 use Rattle.plain_data.specs.Lists.{at}
 use Rattle.plain_data.specs.Each.{map_enumerated}
-use Rattle.field_rules.specs.DuplicateNumbers.{item_number}
+use Rattle.field_rules.specs.Maps.{item_number}
 use Rattle.field_rules.specs.Oneofs.{oneof_of, members}
 use Rattle.proto_types.specs.declared.message.OneofDescriptorProto.{OneofDescriptorProto}
 use Rattle.field_rules.proofs.Latest.{entries-next}

@@ -8,7 +8,7 @@ use Rattle.proto_types.specs.declared.file.FileDescriptorProto.{FileDescriptorPr
 use Rattle.pool_faults.specs.declared.fault.DescriptorErrorKind.{DescriptorErrorKind}
 use Rattle.pool_faults.specs.declared.fault.DescriptorErrorKind.TheVariants as fault
 use Rattle.record_walk.specs.Shown.{Shown}
-use Rattle.field_rules.specs.Labels.{entry_label}
+use Rattle.pool_faults.specs.Labels.{entry_label}
 use Rattle.field_rules.specs.EnumRanges.{reserves}
 use Rattle.field_rules.specs.EnumValues.{number_label, reserved_fault}
 

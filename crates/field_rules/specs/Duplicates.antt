@@ -15,7 +15,7 @@ use Rattle.proto_types.specs.declared.file.FileDescriptorProto.{FileDescriptorPr
 use Rattle.pool_faults.specs.declared.label.Label.{Label}
 use Rattle.pool_faults.specs.declared.fault.DescriptorErrorKind.{DescriptorErrorKind}
 use Rattle.pool_faults.specs.declared.fault.DescriptorErrorKind.TheVariants as fault
-use Rattle.field_rules.specs.Labels.{entry_part_label}
+use Rattle.pool_faults.specs.Labels.{entry_part_label}
 
 -- the last field that meets a test, with its position
 abbrev pub latest : (FieldDescriptorProto → Bool) → List FieldDescriptorProto

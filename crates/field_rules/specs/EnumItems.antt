@@ -18,7 +18,7 @@ use Rattle.record_walk.specs.Protos.{of_value}
 use Rattle.record_walk.specs.Shown.{Shown}
 use Rattle.plain_data.specs.Each.{map_enumerated}
 use Rattle.field_rules.specs.Identities.{identity}
-use Rattle.field_rules.specs.Places.{part_beside}
+use Rattle.record_walk.specs.Place.{part_beside}
 
 -- by number, and then by position
 abbrev pub is_before : ℤ × ℕ → ℤ × ℕ → Bool

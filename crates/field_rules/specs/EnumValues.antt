@@ -17,7 +17,7 @@ use Rattle.pool_faults.specs.declared.fault.DescriptorErrorKind.{DescriptorError
 use Rattle.pool_faults.specs.declared.fault.DescriptorErrorKind.TheVariants as fault
 use Rattle.record_walk.specs.Shown.{Shown}
 use Rattle.plain_data.specs.Each.{map_enumerated}
-use Rattle.field_rules.specs.Labels.{entry_label, entry_part_label}
+use Rattle.pool_faults.specs.Labels.{entry_label, entry_part_label}
 use Rattle.field_rules.specs.EnumItems.{allows_alias}
 use Rattle.field_rules.specs.EnumRanges.{reserves}
 

@@ -1,5 +1,5 @@
 -- Where a declaration stands that has a name, as a pool keeps it.
-use Rattle.std.specs.Prelude.{ℕ, ◌-◌, ℤ, List, length}
+use Rattle.std.specs.Prelude.{ℕ, ◌-◌, ℤ, List, length, take}
 use Rattle.pool_types.specs.declared.contents.definition.Identity.{Identity}
 use Rattle.record_walk.specs.Protos.{name_of}
 use Rattle.record_walk.specs.Shown.{Shown}
@@ -15,3 +15,7 @@ named_at file path full_name name = record {
 
 abbrev pub identity : Shown → Identity
 identity d = named_at d.file d.path d.full_name (name_of d.proto)
+
+-- a text without its ending
+abbrev pub before_ending : List ℕ → List ℕ → List ℕ
+before_ending text ending = take (length text - length ending) text

@@ -1,14 +1,9 @@
-pub mod Short
-pub mod Places
 pub mod Identities
-pub mod Labels
 pub mod NamesBegin
-pub mod Tells
-pub mod FieldNumbers
+pub mod FieldNumber
 pub mod Ranges
 pub mod Numbers
 pub mod Bounds
-pub mod DuplicateNumbers
 pub mod Maps
 pub mod Duplicates
 pub mod Oneofs
@@ -18,4 +13,4 @@ pub mod EnumRanges
 pub mod EnumItems
 pub mod EnumValues
 pub mod Defaults
-pub mod DefaultEnumCode
+pub mod DefaultEnum

@@ -1,5 +1,5 @@
 -- The maps of a message: from number, name and given JSON name of each field to its position.
-use Rattle.std.specs.Prelude.{ℕ, List}
+use Rattle.std.specs.Prelude.{ℕ, suc, ◌-◌, ◌^◌, ℤ, pos, negsuc, List}
 use Rattle.std.specs.List.{filter_map, enumerate_from}
 use Rattle.std.specs.Option.{option_map}
 use Rattle.std.specs.declared.option.Option.{Option}
@@ -7,7 +7,12 @@ use Rattle.std.specs.declared.option.Option.TheVariants.{Some}
 use Rattle.plain_data.specs.Maps.{ByNumber, ByText, inserted}
 use Rattle.proto_types.specs.declared.records.field.FieldDescriptorProto.{FieldDescriptorProto}
 use Rattle.proto_types.specs.Readers.{number_of, text_of}
-use Rattle.field_rules.specs.DuplicateNumbers.{item_number}
+
+-- the number of a field as a pool holds it: a negative one, which is a fault, stands there as itself
+-- plus 2 ^ 32
+abbrev pub item_number : ℤ → ℕ
+item_number (pos n) = n
+item_number (negsuc n) = 2 ^ 32 - suc n
 
 -- each field's key, where it has one, with its position
 abbrev pub keyed : {K : Type 0} → (FieldDescriptorProto → Option K) → List FieldDescriptorProto

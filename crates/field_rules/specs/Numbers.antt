@@ -16,9 +16,9 @@ use Rattle.pool_faults.specs.declared.label.Label.{Label}
 use Rattle.pool_faults.specs.declared.fault.DescriptorErrorKind.{DescriptorErrorKind}
 use Rattle.pool_faults.specs.declared.fault.DescriptorErrorKind.TheVariants as fault
 use Rattle.record_walk.specs.Shown.{Shown, Surrounding, inside}
-use Rattle.field_rules.specs.FieldNumbers.{is_valid_number}
+use Rattle.field_rules.specs.FieldNumber.{is_valid_number}
 use Rattle.plain_data.specs.Each.{map_enumerated}
-use Rattle.field_rules.specs.Labels.{part_label, entry_label}
+use Rattle.pool_faults.specs.Labels.{part_label, entry_label}
 use Rattle.field_rules.specs.Ranges.{reserves, extends}
 
 module _ (files : List FileDescriptorProto) (file : ℕ) (path : List ℤ) (n : ℤ) where
@@ -57,8 +57,8 @@ module _ (files : List FileDescriptorProto) (file : ℕ) (path : List ℤ) (n : 
       (find (λ e. extends n e.1) (enumerate_from 0 ranges)))
 
   -- of an extension's number that no extension range holds
-  abbrev pub outside_faults : Surrounding → List ExtensionRange → List DescriptorErrorKind
-  outside_faults owner ranges =
+  abbrev pub out_of_range_faults : Surrounding → List ExtensionRange → List DescriptorErrorKind
+  out_of_range_faults owner ranges =
       only_if (not (list_any (extends n) ranges))
       (fault.ExtensionNumberOutOfRange n owner.scope number_label)
 
@@ -69,14 +69,14 @@ module _ (files : List FileDescriptorProto) (file : ℕ) (path : List ℤ) (n : 
   by_message owner m f =
       let ranges = (out-DescriptorProto m).extension_range in
       invalid_faults ++ reserved_faults owner (out-DescriptorProto m).reserved_range
-      ++ (if is_some f.extendee then outside_faults owner ranges
+      ++ (if is_some f.extendee then out_of_range_faults owner ranges
       else extension_range_faults owner ranges)
 
   -- of an extension's number by the record of the message that it extends
   abbrev pub by_extendee : Surrounding → DescriptorProto → List DescriptorErrorKind
   by_extendee owner m =
       invalid_faults ++ reserved_faults owner (out-DescriptorProto m).reserved_range
-      ++ outside_faults owner (out-DescriptorProto m).extension_range
+      ++ out_of_range_faults owner (out-DescriptorProto m).extension_range
 
 -- of the number of a field that stands in a message
 abbrev pub field_number_faults : List FileDescriptorProto → Shown → DescriptorProto → Shown

@@ -10,7 +10,7 @@ use Rattle.plain_data.specs.Lists.{at, only_if}
 use Rattle.proto_types.specs.declared.message.OneofDescriptorProto.{OneofDescriptorProto}
 use Rattle.pool_faults.specs.declared.fault.DescriptorErrorKind.{DescriptorErrorKind}
 use Rattle.pool_faults.specs.declared.fault.DescriptorErrorKind.TheVariants.{InvalidOneofIndex}
-use Rattle.field_rules.specs.DuplicateNumbers.{item_number}
+use Rattle.field_rules.specs.Maps.{item_number}
 
 -- of an index that is no position of the oneofs
 abbrev pub oneof_faults : List OneofDescriptorProto → FieldDescriptorProto

@@ -1,13 +1,15 @@
 -- Which numbers a range of a message holds (descriptor.proto on `ReservedRange` and
--- `ExtensionRange`).
-use Rattle.std.specs.Prelude.{ℤ, Bool, ◌&&◌, int_le, int_lt}
+-- `ExtensionRange`): those from its start on and below its end.
+use Rattle.std.specs.Prelude.{ℤ, Bool}
 use Rattle.proto_types.specs.declared.message.ExtensionRange.{ExtensionRange}
 use Rattle.proto_types.specs.declared.message.ReservedRange.{ReservedRange}
 use Rattle.proto_types.specs.Readers.{number_of}
+use Rattle.number_ranges.specs.Ranges.{holds}
 
--- those from its start on and below its end
+-- whether a reserved range of a message holds a number
 abbrev pub reserves : ℤ → ReservedRange → Bool
-reserves n range = int_le (number_of range.start) n && int_lt n (number_of range.«end»)
+reserves n range = holds n (number_of range.start, number_of range.«end»)
 
+-- whether an extension range of a message holds a number
 abbrev pub extends : ℤ → ExtensionRange → Bool
-extends n range = int_le (number_of range.start) n && int_lt n (number_of range.«end»)
+extends n range = holds n (number_of range.start, number_of range.«end»)

@@ -2,11 +2,11 @@
 
 ghost use Rattle.std.specs.Prelude.{◌≡◌, IfOk};
 ghost use Rattle.field_rules.specs.Defaults.{default_fault, kind_named};
-ghost use Rattle.field_rules.specs.DefaultEnumCode.{meant_in};
-ghost use Rattle.field_rules.specs.Tells.{named_files};
+ghost use Rattle.field_rules.specs.DefaultEnum.{default_enum_in};
+ghost use Rattle.record_walk.specs.Faults.{named_files};
 
 use crate::default_enum::DefaultEnum;
-use crate::{Faults, Place};
+use record_walk::{Faults, Place};
 use plain_data::Text;
 use pool_faults::DescriptorErrorKind;
 use pool_types::KindIndex;
@@ -23,7 +23,7 @@ pub(crate) fn default_fault(
 ) -> Result<DescriptorErrorKind, AllocError>
     ensures fault { IfOk result (λ fault. fault
         ≡ default_fault (named_files faults.old) place.entry.file place.entry.path.now kind
-        (meant_in meant.entry) text.now) }
+        (default_enum_in meant.entry) text.now) }
     ensures stays { faults.new ≡ faults.old }
 {
     Ok(DescriptorErrorKind::InvalidFieldDefault {

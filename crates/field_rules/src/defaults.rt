@@ -1,12 +1,12 @@
 ghost use Rattle.std.specs.Prelude.{◌≡◌, IfOk, OnOk};
 ghost use Rattle.field_rules.specs.Defaults.{default_faults, default_value};
-ghost use Rattle.field_rules.specs.DefaultEnumCode.{meant_in};
-ghost use Rattle.field_rules.specs.Tells.{Tells, named_files};
+ghost use Rattle.field_rules.specs.DefaultEnum.{default_enum_in};
+ghost use Rattle.record_walk.specs.Faults.{Tells, named_files};
 
 use crate::default_enum::DefaultEnum;
 use crate::default_faults::default_fault;
 use crate::enum_defaults::value_of;
-use crate::{Faults, Place};
+use record_walk::{Faults, Place};
 use plain_data::Text;
 use pool_types::{DefaultValue, KindIndex};
 use std::alloc::AllocError;
@@ -30,10 +30,10 @@ pub fn read_default(
     given: &Option<Text>,
 ) -> Result<Option<DefaultValue>, AllocError>
     ensures value { IfOk result (λ value. value
-        ≡ default_value kind (meant_in meant.entry) given.now) }
+        ≡ default_value kind (default_enum_in meant.entry) given.now) }
     ensures faults { OnOk result (Tells faults.old faults.new
         (default_faults (named_files faults.old) place.entry.file place.entry.path.now kind
-        (meant_in meant.entry) given.now)) }
+        (default_enum_in meant.entry) given.now)) }
 {
     let Some(text) = given else {
         return Ok(None);

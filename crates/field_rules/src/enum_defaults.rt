@@ -2,7 +2,7 @@
 
 ghost use Rattle.std.specs.Prelude.{◌≡◌, IfOk, IsTrue};
 ghost use Rattle.std.specs.Result.{result_ok};
-ghost use Rattle.default_values.specs.Defaults.{is_simple, simple_value};
+ghost use Rattle.default_values.specs.Simple.{is_simple, simple_value};
 ghost use Rattle.field_rules.specs.Defaults.{value_named, value_of};
 
 use default_values::{ValueFault, parse_simple_value};

@@ -4,14 +4,15 @@ ghost use Rattle.record_walk.specs.Counts.{lists_fit};
 ghost use Rattle.record_walk.specs.FullNames.{EndsWithName};
 ghost use Rattle.record_walk.specs.Protos.{of_enum};
 ghost use Rattle.field_rules.specs.NamesBegin.{BeginsAtBoundary, EnumNamesBegin};
-ghost use Rattle.field_rules.specs.Places.{enum_at};
-ghost use Rattle.field_rules.specs.Tells.{Tells, named_files};
+ghost use Rattle.record_walk.specs.Place.{enum_at};
+ghost use Rattle.record_walk.specs.Faults.{Tells, named_files};
 ghost use Rattle.field_rules.specs.EnumItems.{enum_item, value_items};
 ghost use Rattle.field_rules.specs.EnumValues.{values_faults};
 
 use crate::enum_tables::{value_names, value_numbers};
 use crate::enum_values::{allows_alias, check_values};
-use crate::{Faults, Place, identity, identity_beside};
+use crate::{identity, identity_beside};
+use record_walk::{Faults, Place};
 use plain_data::Items;
 use pool_types::{EnumDescriptorInner, EnumValueDescriptorInner};
 use proto_types::{EnumDescriptorProto, tag};

@@ -4,13 +4,13 @@ ghost use Rattle.proto_types.specs.declared.tag.enum_.TheConstants.{VALUE, RESER
 ghost use Rattle.proto_types.specs.declared.tag.enum_value.TheConstants.{NUMBER};
 ghost use Rattle.proto_types.specs.Readers.{number_of};
 ghost use Rattle.record_walk.specs.Counts.{fits_list};
-ghost use Rattle.field_rules.specs.Labels.{entry_label, entry_part_label};
-ghost use Rattle.field_rules.specs.Places.{enum_at};
-ghost use Rattle.field_rules.specs.Tells.{Tells, named_files};
+ghost use Rattle.pool_faults.specs.Labels.{entry_label, entry_part_label};
+ghost use Rattle.record_walk.specs.Place.{enum_at};
+ghost use Rattle.record_walk.specs.Faults.{Tells, named_files};
 ghost use Rattle.field_rules.specs.EnumRanges.{reserves};
 ghost use Rattle.field_rules.specs.EnumValues.{reserved_faults};
 
-use crate::{Faults, Place};
+use record_walk::{Faults, Place};
 use pool_faults::DescriptorErrorKind;
 use proto_types::{EnumDescriptorProto, EnumReservedRange, tag};
 use std::alloc::AllocError;

@@ -8,14 +8,14 @@ ghost use Rattle.proto_types.specs.declared.tag.enum_value.TheConstants.{NUMBER}
 ghost use Rattle.plain_data.specs.Lists.{listed};
 ghost use Rattle.record_walk.specs.Counts.{lists_fit};
 ghost use Rattle.record_walk.specs.Protos.{of_enum};
-ghost use Rattle.field_rules.specs.Labels.{entry_part_label};
-ghost use Rattle.field_rules.specs.Places.{enum_at};
-ghost use Rattle.field_rules.specs.Tells.{Tells, named_files};
+ghost use Rattle.pool_faults.specs.Labels.{entry_part_label};
+ghost use Rattle.record_walk.specs.Place.{enum_at};
+ghost use Rattle.record_walk.specs.Faults.{Tells, named_files};
 ghost use Rattle.field_rules.specs.EnumItems.{allows_alias};
 ghost use Rattle.field_rules.specs.EnumValues.{values_faults};
 
 use crate::enum_ranges::check_reserved;
-use crate::{Faults, Place};
+use record_walk::{Faults, Place};
 use pool_faults::{DescriptorErrorKind, Label};
 use proto_types::{EnumDescriptorProto, tag};
 use std::alloc::AllocError;

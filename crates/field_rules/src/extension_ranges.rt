@@ -4,15 +4,16 @@ ghost use Rattle.std.specs.List.{list_any, position_from};
 ghost use Rattle.proto_types.specs.declared.message.DescriptorProto.{out-DescriptorProto};
 ghost use Rattle.record_walk.specs.Counts.{fits_list};
 ghost use Rattle.proto_types.specs.Readers.{number_of};
-ghost use Rattle.field_rules.specs.Tells.{Tells, named_files};
-ghost use Rattle.field_rules.specs.Places.{inside_of};
+ghost use Rattle.record_walk.specs.Faults.{Tells, named_files};
+ghost use Rattle.record_walk.specs.Place.{inside_of};
 ghost use Rattle.field_rules.specs.Bounds.{extension_bounds};
 ghost use Rattle.field_rules.specs.Numbers.{extension_range_fault, extension_range_faults};
-ghost use Rattle.field_rules.specs.Numbers.{outside_faults};
+ghost use Rattle.field_rules.specs.Numbers.{out_of_range_faults};
 ghost use Rattle.field_rules.specs.Ranges.{extends};
 
-use crate::{Faults, Owner, Place};
-use number_ranges::NumberRanges;
+use crate::Owner;
+use record_walk::{Faults, Place};
+use number_ranges::{NumberRanges, holds};
 use plain_data::Text;
 use pool_faults::DescriptorErrorKind;
 use proto_types::{ExtensionRange, FieldDescriptorProto, tag};
@@ -31,7 +32,7 @@ pub(crate) fn check_extension_ranges(
     requires ranges { ranges.now
         ≡ extension_bounds (out-DescriptorProto owner.message.now).extension_range }
     ensures { OnOk result (Tells faults.old faults.new (if is_some field.now.extendee
-        then outside_faults (named_files faults.old) place.entry.file place.entry.path.now
+        then out_of_range_faults (named_files faults.old) place.entry.file place.entry.path.now
         (number_of field.now.number) (inside_of owner.entry.place)
         (out-DescriptorProto owner.entry.message.now).extension_range
         else extension_range_faults (named_files faults.old) place.entry.file place.entry.path.now
@@ -59,7 +60,7 @@ pub(crate) fn check_in_some_range(
     requires { is_inside ≡ list_any (extends number)
         (out-DescriptorProto owner.message.now).extension_range }
     ensures { OnOk result (Tells faults.old faults.new
-        (outside_faults (named_files faults.old) place.entry.file place.entry.path.now number
+        (out_of_range_faults (named_files faults.old) place.entry.file place.entry.path.now number
         (inside_of owner.entry.place)
         (out-DescriptorProto owner.entry.message.now).extension_range)) }
 {
@@ -133,12 +134,7 @@ fn extension_range_fault(
 pub(crate) fn any_extends(ranges: &[ExtensionRange], number: i32) -> bool
     ensures { result ≡ list_any (extends number) ranges.now }
 {
-    ranges.iter().any(|range| extends(range, number))
-}
-
-/// Whether an extension range holds a number.
-fn extends(range: &ExtensionRange, number: i32) -> bool
-    ensures { result ≡ extends number range.now }
-{
-    range.start() <= number && number < range.end()
+    ranges
+        .iter()
+        .any(|range| holds((range.start(), range.end()), number))
 }

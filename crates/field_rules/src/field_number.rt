@@ -1,5 +1,5 @@
 ghost use Rattle.std.specs.Prelude.{◌≡◌};
-ghost use Rattle.field_rules.specs.FieldNumbers.{is_valid_number};
+ghost use Rattle.field_rules.specs.FieldNumber.{is_valid_number};
 
 /// Whether a field may have the number: 1 to 536,870,911, but for 19,000 to 19,999, which the
 /// protobuf implementation keeps for itself.

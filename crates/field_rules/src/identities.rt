@@ -1,16 +1,14 @@
 ghost use Rattle.std.specs.Prelude.{◌≡◌, ◌++◌, ◌<◌, ◌^◌, IfOk};
 ghost use Rattle.proto_types.specs.Names.{join};
 ghost use Rattle.record_walk.specs.FullNames.{EndsWith};
-ghost use Rattle.record_walk.specs.Shown.{step};
-ghost use Rattle.field_rules.specs.Identities.{named_at};
+ghost use Rattle.proto_types.specs.Paths.{entry_path};
+ghost use Rattle.field_rules.specs.Identities.{named_at, before_ending};
 ghost use Rattle.field_rules.specs.NamesBegin.{BeginsAtBoundary};
-ghost use Rattle.field_rules.specs.Places.{before_ending};
 
-use crate::Place;
+use record_walk::Place;
 use plain_data::{Items, Text};
 use pool_types::Identity;
-use proto_types::join;
-use record_walk::entry_path;
+use proto_types::{entry_path, join};
 use std::alloc::{AllocError, Global};
 
 /// Where a declaration stands that has this name, which ends its full name.
@@ -42,7 +40,7 @@ pub fn identity_inside(
 ) -> Result<Identity, AllocError>
     requires { position < 2 ^ 31 }
     ensures id { IfOk result (λ id. id ≡ named_at place.entry.file
-        (step place.entry.path.now tag position)
+        (entry_path place.entry.path.now tag position)
         (join place.entry.full_name.now name.now) name.now) }
     ensures begins { IfOk result (λ id. BeginsAtBoundary id) }
 {
@@ -68,7 +66,7 @@ pub fn identity_beside(
     requires position { position < 2 ^ 31 }
     requires ends { EndsWith place.full_name.now own_name.now }
     ensures id { IfOk result (λ id. id ≡ named_at place.entry.file
-        (step place.entry.path.now tag position)
+        (entry_path place.entry.path.now tag position)
         (before_ending place.entry.full_name.now own_name.now ++ name.now) name.now) }
     ensures begins { IfOk result (λ id. BeginsAtBoundary id) }
 {

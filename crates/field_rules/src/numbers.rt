@@ -1,15 +1,16 @@
 ghost use Rattle.std.specs.Prelude.{◌≡◌, true, OnOk};
 ghost use Rattle.record_walk.specs.Counts.{lists_fit};
 ghost use Rattle.record_walk.specs.Protos.{of_message, of_field, of_extension};
-ghost use Rattle.field_rules.specs.Places.{message_at, shown_at};
-ghost use Rattle.field_rules.specs.Tells.{Tells, named_files};
+ghost use Rattle.record_walk.specs.Place.{message_at, shown_at};
+ghost use Rattle.record_walk.specs.Faults.{Tells, named_files};
 ghost use Rattle.field_rules.specs.Bounds.{AreRangesOf};
 ghost use Rattle.field_rules.specs.Numbers.{field_number_faults, extension_number_faults};
 
 use crate::extension_ranges::{any_extends, check_extension_ranges, check_in_some_range};
 use crate::message_ranges::MessageRanges;
 use crate::reserved::{check_reserved_by, check_reserved_ranges, check_valid};
-use crate::{Faults, Owner, Place};
+use crate::Owner;
+use record_walk::{Faults, Place};
 use proto_types::FieldDescriptorProto;
 use std::alloc::AllocError;
 

@@ -1,10 +1,10 @@
 ghost use Rattle.std.specs.Prelude.{◌≡◌, true, [], OnOk, IfOk, map};
 ghost use Rattle.record_walk.specs.Counts.{fits_list};
 ghost use Rattle.plain_data.specs.Each.{map_enumerated};
-ghost use Rattle.field_rules.specs.Tells.{Tells};
+ghost use Rattle.record_walk.specs.Faults.{Tells};
 ghost use Rattle.field_rules.specs.Oneofs.{oneof_faults, oneof_of, members};
 
-use crate::Faults;
+use record_walk::Faults;
 use plain_data::Items;
 use pool_faults::DescriptorErrorKind;
 use proto_types::{FieldDescriptorProto, OneofDescriptorProto};

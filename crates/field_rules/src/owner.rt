@@ -1,4 +1,4 @@
-use crate::Place;
+use record_walk::Place;
 use proto_types::DescriptorProto;
 
 /// A message at a place, for what its fields and its extensions are checked with.

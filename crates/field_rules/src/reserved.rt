@@ -1,15 +1,15 @@
 ghost use Rattle.std.specs.Prelude.{◌≡◌, ◌<◌, ◌^◌, true, OnOk};
 ghost use Rattle.proto_types.specs.declared.message.DescriptorProto.{out-DescriptorProto};
 ghost use Rattle.record_walk.specs.Counts.{fits_list};
-ghost use Rattle.field_rules.specs.Tells.{Tells, named_files};
-ghost use Rattle.field_rules.specs.Places.{inside_of};
+ghost use Rattle.record_walk.specs.Faults.{Tells, named_files};
+ghost use Rattle.record_walk.specs.Place.{inside_of};
 ghost use Rattle.field_rules.specs.Bounds.{reserved_bounds};
 ghost use Rattle.field_rules.specs.Numbers.{invalid_faults, reserved_fault, reserved_faults};
-ghost use Rattle.field_rules.specs.Ranges.{reserves};
 
 use crate::field_number::is_valid_number;
-use crate::{Faults, Owner, Place};
-use number_ranges::NumberRanges;
+use crate::Owner;
+use record_walk::{Faults, Place};
+use number_ranges::{NumberRanges, holds};
 use pool_faults::DescriptorErrorKind;
 use proto_types::{ReservedRange, tag};
 use std::alloc::AllocError;
@@ -88,7 +88,7 @@ fn check_reserved_range(
         (inside_of owner.entry) entry.entry.0 entry.entry.1.now)) }
 {
     let (position, range) = entry;
-    if reserves(range, number) {
+    if holds((range.start(), range.end()), number) {
         let fault = DescriptorErrorKind::FieldNumberInReservedRange {
             number,
             start: range.start(),
@@ -99,11 +99,4 @@ fn check_reserved_range(
         faults.push(fault)?;
     }
     Ok(())
-}
-
-/// Whether a reserved range holds a number.
-fn reserves(range: &ReservedRange, number: i32) -> bool
-    ensures { result ≡ reserves number range.now }
-{
-    range.start() <= number && number < range.end()
 }

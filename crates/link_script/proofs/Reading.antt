@@ -7,7 +7,7 @@ use Rattle.link_script.specs.declared.script.statement.Script.{Script}
 use Rattle.link_script.specs.declared.script.statement.ScriptFault.{ScriptFault}
 use Rattle.link_script.specs.declared.script.statement.ScriptFault.TheVariants.{BadText}
 use Rattle.link_script.specs.Script.Words.{lines, words}
-use Rattle.link_script.specs.Script.Keywords.{Standing, standing_after}
+use Rattle.link_script.specs.Script.Keyword.{Standing, standing_after}
 use Rattle.link_script.specs.Script.Answers.{after_line}
 use Rattle.link_script.specs.Script.Left.{IsNext}
 use Rattle.link_script.specs.Script.Reading as spec
@@ -43,12 +43,12 @@ with_said None said = said
 with_said (Some s) said = spec.after_statement s said
 
 -- what the lines from a line on say, by what that line says
-abbrev saying : ℕ → Standing → List (List ℕ) → spec.Line → Script
+abbrev saying : ℕ → Standing → List (List ℕ) → spec.Saying → Script
 saying n here rest (Err fault) = spec.faulty n fault
 saying n here rest (Ok None) = spec.said_from (suc n) here rest
 saying n here rest (Ok (Some s)) = spec.after_statement s.1 (spec.said_from (suc n) (standing_after here s.0) rest)
 
-step : (n : ℕ) (here opened : Standing) (rest : List (List ℕ)) (said : Option Statement) (line : spec.Line)
+step : (n : ℕ) (here opened : Standing) (rest : List (List ℕ)) (said : Option Statement) (line : spec.Saying)
     → after_line line here ≡ Ok (said, opened) → saying n here rest line ≡ with_said said (spec.said_from (suc n) opened rest)
 step n here opened rest said (Err fault) h = absurd (err-ok fault _ _ refl h)
 step n here opened rest said (Ok None) h = let e = ok-ok _ _ _ refl h in λ i. with_said (e i).0 (spec.said_from (suc n) (e i).1 rest)

@@ -3,8 +3,10 @@ use Rattle.std.specs.Prelude.{Bool, true, false, List, [], ◌∷◌, ◌++◌}
 use Rattle.std.specs.Option.{option_map_or}
 use Rattle.std.specs.declared.option.Option.{Option}
 use Rattle.std.specs.declared.option.Option.TheVariants.{None, Some}
-use Rattle.proto_types.specs.Empty.{no_enum, no_service}
-use Rattle.proto_types.specs.EmptyFile.{no_file, no_message, no_oneof}
+use Rattle.proto_types.specs.Service.{no_service}
+use Rattle.proto_types.specs.Enumeration.{no_enum}
+use Rattle.proto_types.specs.Message.{no_message, no_oneof}
+use Rattle.proto_types.specs.File.{no_file}
 use Rattle.proto_types.specs.declared.file.FileDescriptorProto.{FileDescriptorProto}
 use Rattle.proto_types.specs.declared.message.DescriptorProto.{DescriptorProto, DescriptorProto-F, out-DescriptorProto, roll-DescriptorProto}
 use Rattle.proto_types.specs.declared.records.field.FieldDescriptorProto.{FieldDescriptorProto}

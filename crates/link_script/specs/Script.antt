@@ -1,5 +1,5 @@
 pub mod Words
-pub mod Keywords
+pub mod Keyword
 pub mod Arguments
 pub mod Answers
 pub mod Reading

@@ -10,8 +10,8 @@ use Rattle.name_tables.specs.Entries.{Entry, names_with}
 use Rattle.name_tables.proofs.Entries.{get-with, with-more}
 use Rattle.record_walk.specs.Protos.{of_file}
 use Rattle.record_walk.specs.Shown.{Shown}
-use Rattle.name_pass.specs.Syntaxes.{syntax_faults}
-use Rattle.name_pass.specs.Entered.{entries_of, entries, file_entries_of, file_entries}
+use Rattle.name_pass.specs.Syntax.{syntax_faults}
+use Rattle.name_pass.specs.Names.{entries_of, entries, file_entries_of, file_entries}
 use Rattle.name_pass.specs.FirstPass.{clashes, file_faults, file_name_faults, first_faults, holder, holder_faults, shape_faults}
 use Rattle.name_pass.specs.Steps.{NameState, entered, known, name_step}
 use Rattle.name_pass.proofs.Holders.{after-append}

@@ -5,7 +5,7 @@ use Rattle.std.proofs.lemmas.List.{map-append}
 use Rattle.proto_types.specs.declared.file.FileDescriptorProto.{FileDescriptorProto}
 use Rattle.proto_types.specs.Names.{fronts, is_dot}
 use Rattle.name_tables.specs.Entries.{Entry}
-use Rattle.name_pass.specs.Entered.{package_entry, packages}
+use Rattle.name_pass.specs.Names.{package_entry, packages}
 use Rattle.name_pass.specs.Steps.{NameState, entered}
 use Rattle.name_pass.proofs.Behind.{entered-more}
 use Rattle.name_pass.proofs.Fronts.{fronts_push}

@@ -3,19 +3,19 @@ use Rattle.std.proofs.Common.{◌≡◌, Result, OnOk, List, [], ◌∷◌, ◌+
 use Rattle.std.proofs.lemmas.Result.{on_ok_weaker}
 use Rattle.std.specs.List.{fold}
 use Rattle.pool_faults.specs.declared.fault.DescriptorErrorKind.{DescriptorErrorKind}
-use Rattle.field_rules.specs.declared.faults.Faults.{Faults}
+use Rattle.record_walk.specs.declared.faults.Faults.{Faults}
 use Rattle.pool_types.specs.Contents.{ByText, Contents, no_contents}
 use Rattle.pool_types.specs.declared.contents.file.FileDescriptorInner.{FileDescriptorInner}
 use Rattle.name_tables.specs.NameTables.{file_names_before, without_files_from}
 use Rattle.pool_types.specs.declared.contents.definition.Definition.{Definition}
-use Rattle.record_walk.specs.Progress.{HasSeen}
+use Rattle.record_walk.specs.Visitor.{HasSeen}
 use Rattle.proto_types.specs.declared.file.FileDescriptorProto.{FileDescriptorProto}
 use Rattle.name_tables.specs.Entries.{names_with}
 use Rattle.name_tables.proofs.Entries.{with-nothing}
 use Rattle.record_walk.specs.Shown.{Shown}
 use Rattle.name_pass.specs.declared.names.NameVisitor.{NameVisitor}
 use Rattle.name_pass.specs.State.{first_new, kept_of, records_of, state_of, Stays}
-use Rattle.name_pass.specs.Entered.{own_entry}
+use Rattle.name_pass.specs.Names.{own_entry}
 use Rattle.name_pass.specs.FirstPass.{clashes}
 use Rattle.name_pass.specs.Steps.{CanBeEntered, NameState, entered, name_progress, name_step}
 use borrow.Rule.Reborrow.{re_v}

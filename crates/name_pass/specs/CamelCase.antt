@@ -11,11 +11,11 @@ use Rattle.plain_data.specs.Lists.{flat_map_after, listed}
 use Rattle.proto_types.specs.Readers.{text_of}
 use Rattle.proto_types.specs.declared.file.FileDescriptorProto.{FileDescriptorProto}
 use Rattle.proto_types.specs.declared.message.DescriptorProto.{DescriptorProto, out-DescriptorProto}
-use Rattle.record_walk.specs.Shown.{step}
+use Rattle.proto_types.specs.Paths.{entry_path}
 use Rattle.pool_faults.specs.Labels.{label_in}
 use Rattle.pool_faults.specs.declared.fault.DescriptorErrorKind.{DescriptorErrorKind}
 use Rattle.pool_faults.specs.declared.fault.DescriptorErrorKind.TheVariants.{DuplicateFieldCamelCaseName}
-use Rattle.name_pass.specs.Syntaxes.{syntax_at, is_proto3}
+use Rattle.pool_types.specs.Syntaxes.{syntax_at, is_proto3}
 
 -- a field with its position in its message
 abbrev pub Placed : Type 0
@@ -31,7 +31,7 @@ key_at f = camel_case_key (text_of f.1.name)
 
 -- the path of a field's name, from the path of its message and the field's position
 abbrev pub name_path : List ℤ → ℕ → List ℤ
-name_path path position = step path message.FIELD position ++ field.NAME ∷ []
+name_path path position = entry_path path message.FIELD position ++ field.NAME ∷ []
 
 -- of two fields whose names have one key, the earlier first
 abbrev pub camel_case_fault : List FileDescriptorProto → ℕ → List ℤ → Placed → Placed

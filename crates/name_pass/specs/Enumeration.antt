@@ -10,7 +10,7 @@ use Rattle.proto_types.specs.declared.file.FileDescriptorProto.{FileDescriptorPr
 use Rattle.pool_faults.specs.Labels.{label_in}
 use Rattle.pool_faults.specs.declared.fault.DescriptorErrorKind.{DescriptorErrorKind}
 use Rattle.pool_faults.specs.declared.fault.DescriptorErrorKind.TheVariants.{EmptyEnum, InvalidProto3EnumDefault}
-use Rattle.name_pass.specs.Syntaxes.{syntax_at, is_proto3}
+use Rattle.pool_types.specs.Syntaxes.{syntax_at, is_proto3}
 
 -- the path of the number of an enum's first value, from the path of the enum
 abbrev pub first_number_path : List ℤ → List ℤ

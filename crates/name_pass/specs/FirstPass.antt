@@ -16,11 +16,11 @@ use Rattle.plain_data.specs.Lists.{after_each, flat_map_after, only_if}
 use Rattle.proto_types.specs.Readers.{text_of}
 use Rattle.record_walk.specs.Protos.{of_file, of_message, of_enum}
 use Rattle.record_walk.specs.Shown.{Shown}
-use Rattle.name_resolution.specs.Kinds.{is_package}
-use Rattle.name_pass.specs.Syntaxes.{syntax_faults}
+use Rattle.pool_types.specs.Definition.{is_package}
+use Rattle.name_pass.specs.Syntax.{syntax_faults}
 use Rattle.name_pass.specs.CamelCase.{message_own_faults}
 use Rattle.name_pass.specs.Enumeration.{enum_faults}
-use Rattle.name_pass.specs.Entered.{entries_of, entries, file_entries}
+use Rattle.name_pass.specs.Names.{entries_of, entries, file_entries}
 
 -- what a name means already: what is known, else what the first entry before it says
 abbrev pub holder : {X : Type 0} → ByText X → List (List ℕ × X) → List ℕ → Option X

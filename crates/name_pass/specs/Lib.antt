@@ -1,7 +1,7 @@
-pub mod Syntaxes
+pub mod Syntax
 pub mod CamelCase
 pub mod Enumeration
-pub mod Entered
+pub mod Names
 pub mod FirstPass
 pub mod Steps
 pub mod State

@@ -6,11 +6,11 @@ use Rattle.pool_faults.specs.declared.fault.DescriptorErrorKind.{DescriptorError
 use Rattle.pool_types.specs.Contents.{ByText, Contents, no_contents}
 use Rattle.pool_types.specs.declared.contents.definition.Definition.{Definition}
 use Rattle.proto_types.specs.declared.file.FileDescriptorProto.{FileDescriptorProto}
-use Rattle.record_walk.specs.Progress.{Progress}
+use Rattle.record_walk.specs.Visitor.{Progress}
 use Rattle.record_walk.specs.Shown.{Shown}
 use Rattle.name_tables.specs.Entries.{Entry, names_with}
 use Rattle.record_walk.specs.Counts.{lists_fit}
-use Rattle.name_pass.specs.Entered.{entries_of, file_entries_of}
+use Rattle.name_pass.specs.Names.{entries_of, file_entries_of}
 use Rattle.name_pass.specs.FirstPass.{clashes, file_name_faults, first_faults, holder}
 
 -- what names and names of files mean by now, and the faults so far

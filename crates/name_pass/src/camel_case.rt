@@ -4,16 +4,14 @@ ghost use Rattle.std.specs.Str.{bytes_eq};
 ghost use Rattle.record_walk.specs.Counts.{fits_list, lists_fit};
 ghost use Rattle.record_walk.specs.Protos.{of_message};
 ghost use Rattle.pool_faults.specs.Labels.{label_in};
-ghost use Rattle.field_rules.specs.Tells.{Tells, named_files};
+ghost use Rattle.record_walk.specs.Faults.{Tells, named_files};
 ghost use Rattle.name_pass.specs.CamelCase.{camel_case_key, name_path, camel_case_fault, camel_case_faults, message_own_faults};
 
-use crate::syntax::syntax_at;
-use field_rules::Faults;
+use record_walk::Faults;
 use plain_data::Text;
 use pool_faults::{DescriptorErrorKind, Label};
-use pool_types::Syntax;
-use proto_types::{DescriptorProto, FieldDescriptorProto, tag};
-use record_walk::entry_path;
+use pool_types::{Syntax, syntax_at};
+use proto_types::{DescriptorProto, FieldDescriptorProto, entry_path, tag};
 use std::alloc::{AllocError, Global};
 use std::collections::HashMap;
 

@@ -1,11 +1,10 @@
 ghost use Rattle.std.specs.Prelude.{◌≡◌, OnOk};
-ghost use Rattle.field_rules.specs.Tells.{Tells, named_files};
+ghost use Rattle.record_walk.specs.Faults.{Tells, named_files};
 ghost use Rattle.name_pass.specs.Enumeration.{enum_faults};
 
-use crate::syntax::syntax_at;
-use field_rules::Faults;
+use record_walk::Faults;
 use pool_faults::DescriptorErrorKind;
-use pool_types::Syntax;
+use pool_types::{Syntax, syntax_at};
 use proto_types::{EnumDescriptorProto, tag};
 use std::alloc::AllocError;
 

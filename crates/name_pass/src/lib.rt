@@ -9,4 +9,4 @@ mod syntax;
 pub use camel_case::check_camel_case_names;
 pub use enumeration::check_enum_values;
 pub use names::NameVisitor;
-pub use syntax::{check_syntax, known_syntax, syntax_at, syntax_of};
+pub use syntax::check_syntax;

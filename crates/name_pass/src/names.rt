@@ -1,13 +1,12 @@
 ghost use Rattle.std.specs.Prelude.{◌≡◌, ◌≤◌, ◌∷◌, ◌++◌, [], OnOk, map};
 ghost use Rattle.std.specs.Option.{option_copied};
 ghost use Rattle.proto_types.specs.declared.tag.message.TheConstants.{NAME};
-ghost use Rattle.field_rules.specs.Tells.{Tells, named_files};
-ghost use Rattle.name_resolution.specs.Kinds.{is_package};
-ghost use Rattle.name_pass.specs.Entered.{packages, package_entry};
+ghost use Rattle.record_walk.specs.Faults.{Tells, named_files};
+ghost use Rattle.name_pass.specs.Names.{packages, package_entry};
 ghost use Rattle.name_pass.specs.FirstPass.{holder_faults};
 
 use crate::{check_camel_case_names, check_enum_values, check_syntax};
-use field_rules::Faults;
+use record_walk::{Faults, Visitor};
 use name_tables::{FileNames, NameTable, PoolNames};
 use plain_data::{Items, Text};
 use pool_faults::DescriptorErrorKind;
@@ -16,7 +15,6 @@ use proto_types::{
     DescriptorProto, EnumDescriptorProto, EnumValueDescriptorProto, FieldDescriptorProto,
     FileDescriptorProto, MethodDescriptorProto, OneofDescriptorProto, ServiceDescriptorProto, tag,
 };
-use record_walk::Visitor;
 use std::alloc::{AllocError, Global};
 
 /// The first pass: it enters the names of declarations into the tables of a pool whose files are
@@ -265,7 +263,7 @@ fn check_clash(
     let Some(holder) = holder else {
         return Ok(());
     };
-    if is_package(holder.kind) && is_package(new.kind) {
+    if holder.kind.is_package() && new.kind.is_package() {
         return Ok(());
     }
     let fault = DescriptorErrorKind::DuplicateName {
@@ -274,10 +272,4 @@ fn check_clash(
         second: faults.label(new.file, new.path.as_slice())?,
     };
     faults.push(fault)
-}
-
-fn is_package(kind: DefinitionKind) -> bool
-    ensures { result ≡ is_package kind }
-{
-    matches!(kind, DefinitionKind::Package)
 }

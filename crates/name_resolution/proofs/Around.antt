@@ -8,7 +8,7 @@ use Rattle.std.proofs.lemmas.List.{take-append-drop}
 use Rattle.std.proofs.lemmas.List.Splits.{length-slice_split}
 use Rattle.pool_types.specs.Contents.{ByText}
 use Rattle.pool_types.specs.declared.contents.definition.Definition.{Definition}
-use Rattle.pool_types.specs.DefinitionKinds.{is_parent}
+use Rattle.pool_types.specs.Definition.{is_parent}
 use Rattle.proto_types.specs.Names.{first_part, is_dot, join}
 use Rattle.name_tables.specs.Parts.{parts}
 use Rattle.name_tables.specs.Scopes.{IsAround}

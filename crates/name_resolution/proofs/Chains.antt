@@ -6,7 +6,8 @@ use Rattle.std.proofs.lemmas.List.Folds.{Any-from_list_any, list_any-from_Any}
 use Rattle.std.proofs.lemmas.Option.{slice_get_within, get_or_from_slice_get}
 use Rattle.proto_types.specs.declared.file.FileDescriptorProto.{FileDescriptorProto}
 use Rattle.plain_data.specs.Lists.{at}
-use Rattle.name_resolution.specs.Visibility.{file_at, imports_of, public_imports_of, Imports, ImportsPublicly, PublicChain, Sees, leads_publicly, sees, SeesIsTested}
+use Rattle.name_resolution.specs.Visibility.{imports_of, public_imports_of, Imports, ImportsPublicly, PublicChain, Sees, leads_publicly, sees, SeesIsTested}
+use Rattle.proto_types.specs.File.{file_at}
 use Rattle.name_resolution.proofs.Members.{has, Contains-filter_map, filter_map-Contains}
 
 -- how many indexes below n a list lacks

@@ -9,7 +9,7 @@ use Rattle.pool_types.specs.declared.contents.definition.Definition.{Definition}
 use Rattle.proto_types.specs.Names.{join}
 use Rattle.name_tables.specs.Scopes.{IsAround}
 use Rattle.name_resolution.specs.declared.filter.ResolveNameFilter.{ResolveNameFilter}
-use Rattle.name_resolution.specs.Kinds.{is_match}
+use Rattle.name_resolution.specs.Filter.{is_match}
 use Rattle.name_resolution.specs.Parents.{outer}
 use Rattle.name_resolution.specs.Resolution.{Resolution, found, invalid_type, not_imported, shadowed, not_found, is_found, is_not_found, judged, look}
 use Rattle.name_resolution.proofs.Outward.{answers, best_from, best_from-next}

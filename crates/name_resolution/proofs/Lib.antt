@@ -11,5 +11,4 @@ pub mod Outward
 pub mod Around
 pub mod Innermost
 pub mod Held
-pub mod Named
-pub mod Wanted
+pub mod Found

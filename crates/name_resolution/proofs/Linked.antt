@@ -9,11 +9,11 @@ use Rattle.std.proofs.lemmas.Option.{slice_get-map, slice_get-get_or}
 use Rattle.name_tables.specs.NameTables.{FileNamesBefore}
 use Rattle.pool_types.specs.Contents.{ByText}
 use Rattle.pool_types.specs.declared.contents.file.FileDescriptorInner.{FileDescriptorInner}
-use Rattle.proto_types.specs.EmptyFile.{no_file}
+use Rattle.proto_types.specs.File.{no_file, file_at}
 use Rattle.proto_types.specs.declared.file.FileDescriptorProto.{FileDescriptorProto}
-use Rattle.name_resolution.specs.declared.visible.Seen.{Seen}
+use Rattle.name_resolution.specs.declared.visibility.Seen.{Seen}
 use Rattle.name_resolution.specs.Seen.{SeesEach}
-use Rattle.name_resolution.specs.Visibility.{file_at, public_imports_of, Sees, seen_from}
+use Rattle.name_resolution.specs.Visibility.{public_imports_of, Sees, seen_from}
 use Rattle.name_resolution.proofs.Chains.{Sees-within}
 use Rattle.name_resolution.proofs.Reached.{Reached, Reached-next, Reached-waits, Reached-few, Reached-sees, Reached-keys}
 

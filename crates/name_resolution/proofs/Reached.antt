@@ -14,9 +14,10 @@ use Rattle.std.proofs.lemmas.Map.Keys.{sorted_from_strictly_increasing}
 use Rattle.std.proofs.lemmas.Map.Lookups.{btree_set_from_contains, exact_unsigned}
 use Rattle.std.proofs.lemmas.Map.Views.{All-set_contains, length-le_from_below, any-filter_same}
 use Rattle.proto_types.specs.declared.file.FileDescriptorProto.{FileDescriptorProto}
-use Rattle.name_resolution.specs.declared.visible.Seen.{Seen}
+use Rattle.name_resolution.specs.declared.visibility.Seen.{Seen}
 use Rattle.name_resolution.specs.Seen.{SeesEach}
-use Rattle.name_resolution.specs.Visibility.{file_at, imports_of, public_imports_of, Imports, ImportsPublicly, Sees, sees, seen_from}
+use Rattle.name_resolution.specs.Visibility.{imports_of, public_imports_of, Imports, ImportsPublicly, Sees, sees, seen_from}
+use Rattle.proto_types.specs.File.{file_at}
 use Rattle.name_resolution.proofs.Chains.{Imports-from_public, Sees-import, Sees-public, Sees-least, Sees-within, Sees-tested, Sees-from_test}
 use Rattle.name_resolution.proofs.Members.{has, Contains-from_has, has-from_Contains}
 

@@ -7,7 +7,7 @@ use Rattle.std.proofs.lemmas.List.{take_more, append-nil}
 use Rattle.std.proofs.lemmas.List.Elements.{filter_map-append}
 use Rattle.std.proofs.lemmas.List.Folds.{list_any-append}
 use Rattle.plain_data.specs.Lists.{listed}
-use Rattle.name_resolution.specs.declared.visible.Seen.{Seen}
+use Rattle.name_resolution.specs.declared.visibility.Seen.{Seen}
 use Rattle.name_resolution.specs.Seen.{SeesEach}
 
 or-false : (a : Bool) → a ≡ (a || false)

@@ -1,6 +1,6 @@
 pub mod Seen
 pub mod Visibility
-pub mod Kinds
+pub mod Filter
 pub mod Parents
 pub mod Resolution
 pub mod References

@@ -7,13 +7,13 @@ use Rattle.std.specs.declared.option.Option.{Option}
 use Rattle.std.specs.declared.option.Option.TheVariants.{None, Some}
 use Rattle.proto_types.specs.Names.{first_part, is_dot, join}
 use Rattle.pool_types.specs.Contents.{ByText}
-use Rattle.pool_types.specs.DefinitionKinds.{is_parent}
+use Rattle.pool_types.specs.Definition.{is_parent}
 use Rattle.pool_types.specs.declared.contents.definition.Definition.{Definition}
 use Rattle.pool_types.specs.declared.contents.definition.DefinitionKind.{DefinitionKind}
 use Rattle.name_resolution.specs.declared.filter.ResolveNameFilter.{ResolveNameFilter}
-use Rattle.name_resolution.specs.declared.resolve.ResolveNameResult.{ResolveNameResult}
-use Rattle.name_resolution.specs.declared.resolve.ResolveNameResult.TheVariants as result
-use Rattle.name_resolution.specs.Kinds.{is_match}
+use Rattle.name_resolution.specs.declared.resolution.ResolveNameResult.{ResolveNameResult}
+use Rattle.name_resolution.specs.declared.resolution.ResolveNameResult.TheVariants as result
+use Rattle.name_resolution.specs.Filter.{is_match}
 use Rattle.name_resolution.specs.Parents.{outer}
 
 -- The full name that was looked up and what it means: a kind that is wanted, one that isn't, or a

@@ -4,7 +4,7 @@ use Rattle.std.specs.Prelude.{◌≡◌, ◌+◌, ◌||◌, ◌&&◌, ℕ, not, 
 use Rattle.std.specs.BTreeSet.{contains, btree_set_len, IsOrdered}
 use Rattle.std.specs.List.{list_any}
 use Rattle.std.specs.Ordering.{nat_cmp}
-use Rattle.name_resolution.specs.declared.visible.Seen.{Seen}
+use Rattle.name_resolution.specs.declared.visibility.Seen.{Seen}
 
 -- each file of a list is seen, and waits if it was not seen before
 pub record SeesEach (list : List ℕ) (old new : Seen) : Type 0 where

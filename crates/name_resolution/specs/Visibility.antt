@@ -4,13 +4,9 @@ use Rattle.std.specs.Prelude.{◌≡◌, ◌↔◌, ◌<◌, ◌==◌, ◌||◌,
 use Rattle.std.specs.List.{list_any, filter_map, range_with_len, Contains}
 use Rattle.std.specs.declared.option.Option.{Option}
 use Rattle.std.specs.declared.option.Option.TheVariants.{Some}
-use Rattle.proto_types.specs.EmptyFile.{no_file}
+use Rattle.proto_types.specs.File.{file_at}
 use Rattle.proto_types.specs.declared.file.FileDescriptorProto.{FileDescriptorProto}
 use Rattle.plain_data.specs.Lists.{at}
-
--- the file with an index
-abbrev pub file_at : List FileDescriptorProto → ℕ → FileDescriptorProto
-file_at files n = unwrap_or (slice_get files n) no_file
 
 -- the indexes of a file's imports, under a naming of files
 abbrev pub imports_of : (List ℕ → Option ℕ) → FileDescriptorProto → List ℕ

@@ -1,5 +1,5 @@
 ghost use Rattle.std.specs.Prelude.{◌≡◌};
-ghost use Rattle.name_resolution.specs.Kinds.{is_match};
+ghost use Rattle.name_resolution.specs.Filter.{is_match};
 
 use pool_types::DefinitionKind;
 use std::fmt;
@@ -32,7 +32,7 @@ impl ResolveNameFilter {
 
 impl fmt::Display for ResolveNameFilter {
     ghost use Rattle.std.specs.Prelude.{Some};
-    ghost use Rattle.name_resolution.specs.Kinds.{filter_text};
+    ghost use Rattle.name_resolution.specs.Filter.{filter_text};
 
     ghost output = { λ filter. Some (filter_text filter) };
 

@@ -5,14 +5,14 @@ ghost use Rattle.std.specs.List.{find};
 ghost use Rattle.std.specs.Option.{option_map_or};
 ghost use Rattle.std.specs.Ordering.{nat_cmp};
 ghost use Rattle.proto_types.specs.Names.{join};
-ghost use Rattle.pool_types.specs.DefinitionKinds.{is_parent};
+ghost use Rattle.pool_types.specs.Definition.{is_parent};
 ghost use Rattle.name_tables.specs.Parts.{parts};
 ghost use Rattle.name_resolution.specs.declared.filter.ResolveNameFilter.{ResolveNameFilter};
 ghost use Rattle.name_resolution.specs.Parents.{outer};
 ghost use Rattle.name_resolution.specs.Resolution.{resolution, resolution_in, not_found, look, simple, dotted, holds_first};
 
 use crate::filter::ResolveNameFilter;
-use crate::resolve::{ResolveNameResult, first_part};
+use crate::resolution::{ResolveNameResult, first_part};
 use crate::wants::Wanted;
 use name_tables::{PartNames, Scope};
 use plain_data::Text;

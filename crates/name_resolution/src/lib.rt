@@ -1,21 +1,19 @@
-//! Which files a file sees, what a reference means, and the kinds of fields.
+//! Which files a file sees, and what a reference means.
 #![tactic(auto)]
 
 mod filter;
 mod imports;
 mod in_parts;
-mod kinds;
 mod parents;
-mod resolve;
+mod resolution;
 mod visibility_laws;
-mod visible;
+mod visibility;
 mod wants;
 
 pub use filter::ResolveNameFilter;
 pub use imports::imported_files;
 pub use in_parts::resolve_in_parts;
-pub use kinds::{cardinality_of, named_kind, simple_kind};
 pub use parents::{CandidateParents, parents_count};
-pub use resolve::{ResolveNameResult, resolve_name};
+pub use resolution::{ResolveNameResult, resolve_name};
 pub use visibility_laws::sees_is_tested;
-pub use visible::visible_from;
+pub use visibility::visible_from;

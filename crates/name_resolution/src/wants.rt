@@ -1,11 +1,11 @@
 ghost use Rattle.std.specs.Prelude.{◌≡◌, ◌&&◌};
 ghost use Rattle.std.specs.BTreeSet.{contains_by};
 ghost use Rattle.std.specs.Ordering.{nat_cmp};
-ghost use Rattle.name_resolution.specs.Kinds.{is_match};
+ghost use Rattle.name_resolution.specs.Filter.{is_match};
 ghost use Rattle.name_resolution.specs.Resolution.{judged, resolution_in};
 
 use crate::filter::ResolveNameFilter;
-use crate::resolve::ResolveNameResult;
+use crate::resolution::ResolveNameResult;
 use plain_data::Text;
 use pool_types::Definition;
 use std::collections::BTreeSet;

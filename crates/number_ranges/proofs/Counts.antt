@@ -5,7 +5,7 @@ use Rattle.std.specs.List.{count_by, AllWithin}
 use Rattle.std.specs.Int.{int_max}
 use Rattle.std.proofs.lemmas.Int.{ints}
 use Rattle.std.proofs.lemmas.List.Sums.{sum_by-cons}
-use Rattle.number_ranges.specs.Holds.{holds}
+use Rattle.number_ranges.specs.Ranges.{holds}
 use Rattle.number_ranges.specs.Tables.{end_of}
 
 -- a range that has begun has ended, or holds the number

@@ -4,7 +4,7 @@ use Rattle.std.specs.List.{count_by, list_any, position_from}
 use Rattle.std.specs.Option.{option_map}
 use Rattle.std.proofs.lemmas.List.Sums.{sum_by-cons}
 use Rattle.std.proofs.lemmas.Iterator.Adapters.{position_from-zero}
-use Rattle.number_ranges.specs.Holds.{first_from}
+use Rattle.number_ranges.specs.Ranges.{first_from}
 
 option_map-map : {A B C : Type 0} (f : A → B) (g : B → C) (x : Option A) → option_map g (option_map f x) ≡ option_map (λ a. g (f a)) x
 option_map-map f g None = refl

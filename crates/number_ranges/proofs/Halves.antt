@@ -8,7 +8,7 @@ use Rattle.std.proofs.lemmas.List.Sorted.{sum_by-IsPermutation, length_permutati
 use Rattle.std.specs.List.Sorted.{IsPermutation, IsSorted}
 use Rattle.std.specs.Ordering.{int_cmp}
 use Rattle.std.proofs.Math.Seq.{take-append_seam, drop-append_seam}
-use Rattle.number_ranges.specs.Holds.{holds, first_from}
+use Rattle.number_ranges.specs.Ranges.{holds, first_from}
 use Rattle.number_ranges.specs.Tables.{AreTables, IsInOrder, IsTable, IsTableBehind, end_of}
 use Rattle.number_ranges.proofs.Counts.{begun}
 use Rattle.number_ranges.proofs.Firsts.{first-none, first-front, first-back}

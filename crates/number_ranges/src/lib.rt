@@ -1,8 +1,8 @@
 //! Ranges of numbers, among which those that hold a number are found without going through all.
 #![tactic(auto)]
 
-mod part;
 mod ranges;
+mod stretch;
 mod tables;
 
-pub use ranges::NumberRanges;
+pub use ranges::{NumberRanges, holds};

@@ -1,8 +1,8 @@
 ghost use Rattle.std.specs.Prelude.{◌≡◌, ◌<◌, length, map, IfOk, IfSome};
-ghost use Rattle.number_ranges.specs.Holds.{holds, first_from};
+ghost use Rattle.number_ranges.specs.Ranges.{holds, first_from};
 ghost use Rattle.number_ranges.specs.Tables.{end_of};
 
-use crate::part::{Part, first_in};
+use crate::stretch::{Stretch, first_in};
 use crate::tables::push_table;
 use std::alloc::{AllocError, Global};
 use std::marker::Model;
@@ -62,12 +62,12 @@ impl NumberRanges {
         ensures first { result ≡ first_from (holds number) from self.now }
         ensures there { IfSome result (λ found. found < length self.now) }
     {
-        let part = Part {
+        let stretch = Stretch {
             ranges: self.ranges.as_slice(),
             starts: self.starts.as_slice(),
             ends: self.ends.as_slice(),
         };
-        first_in(part, self.levels, from, number)
+        first_in(stretch, self.levels, from, number)
     }
 }
 
@@ -93,4 +93,11 @@ fn end_of(range: (i32, i32)) -> i32
     ensures { result ≡ end_of range }
 {
     range.0.max(range.1)
+}
+
+/// Whether a range, a start and an end, holds a number.
+pub fn holds(range: (i32, i32), number: i32) -> bool
+    ensures { result ≡ holds number range }
+{
+    range.0 <= number && number < range.1
 }

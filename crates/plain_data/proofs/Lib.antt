@@ -2,3 +2,5 @@ pub mod Checks
 pub mod Entries
 pub mod Numbers
 pub mod Texts
+pub mod WholeNumbers
+pub mod Positions

@@ -13,7 +13,8 @@ use Rattle.std.specs.Cmp.{nat_cmp_total}
 use Rattle.plain_data.specs.Each.{map_enumerated}
 use Rattle.pool_types.specs.declared.contents.extension.ExtensionDescriptorInner.{ExtensionDescriptorInner}
 use Rattle.pool_types.specs.declared.contents.message.MessageDescriptorInner.{MessageDescriptorInner}
-use Rattle.pool_contents.specs.Extended.{Indexed, LieBefore, NumbersLieBefore, extended_between, extended_by, extending, with_extensions, with_number}
+use Rattle.pool_contents.specs.Extended.{LieBefore, NumbersLieBefore, extended_between, extended_by, with_extensions, with_number}
+use Rattle.pool_types.specs.Extension.{Indexed, extending}
 use Rattle.pool_contents.proofs.Each.{changed-elsewhere, changed-here, each-same, each-still, each-twice, length-each, one, set-each}
 
 -- a message that one more extension extends

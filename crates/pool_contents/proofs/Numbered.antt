@@ -10,48 +10,10 @@ use Rattle.std.specs.Prelude.{slice_get}
 use Rattle.plain_data.specs.Maps.{ByNumber}
 use Rattle.pool_types.specs.declared.contents.extension.ExtensionDescriptorInner.{ExtensionDescriptorInner}
 use Rattle.pool_types.specs.declared.contents.message.MessageDescriptorInner.{MessageDescriptorInner}
-use Rattle.pool_contents.specs.Extended.{Indexed, NumbersLead, NumbersLieBefore, extending, extension_numbered, has_number, number_held, with_number}
+use Rattle.pool_contents.specs.Extended.{NumbersLieBefore, with_number}
+use Rattle.pool_types.specs.Extension.{Indexed, NumbersLead, extending, extension_numbered, has_number, number_held}
+use Rattle.plain_data.proofs.Positions.{position-below}
 use Rattle.pool_contents.proofs.Extending.{pair_of}
-
-module _ {X : Type 0} (p : X → Bool) where
-  -- positions that count from a later one
-  position-suc : (i : ℕ) (xs : List X) → position_from p (suc i) xs ≡ option_map suc (position_from p i xs)
-  position-suc i [] = refl
-  position-suc i (x ∷ xs) =
-      let there : suc i + 1 ≡ suc (i + 1) = omega arith in
-      elim (p x) as (λ b. cond b (Some (suc i)) (position_from p (suc i + 1) xs) ≡ option_map suc (cond b (Some i) (position_from p (i + 1) xs)))
-      [ true ↦ refl | false ↦ ap (λ n. position_from p n xs) there ∙ position-suc (i + 1) xs ]
-
-  later-entry : (x : X) (xs : List X) (r : Option ℕ) → option_and_then (slice_get xs) r ≡ option_and_then (slice_get (x ∷ xs)) (option_map suc r)
-  later-entry x xs None = refl
-  later-entry x xs (Some k) = refl
-
-  -- the first of a list stands at its position
-  pub find-position : (xs : List X) → find p xs ≡ option_and_then (slice_get xs) (position_from p 0 xs)
-  find-position [] = refl
-  find-position (x ∷ xs) =
-      let rest = find-position xs ∙ later-entry x xs (position_from p 0 xs) ∙ ap (option_and_then (slice_get (x ∷ xs))) (sym (position-suc 0 xs)) in
-      elim (p x) as (λ b. cond b (Some x) (find p xs) ≡ option_and_then (slice_get (x ∷ xs)) (cond b (Some 0) (position_from p 1 xs)))
-      [ true ↦ refl | false ↦ rest ]
-
-  -- in a list behind another
-  pub position-append : (i : ℕ) (xs ys : List X) → position_from p i (xs ++ ys) ≡ option_or (position_from p i xs) (position_from p (i + length xs) ys)
-  position-append i [] ys = let here : i ≡ i + 0 = omega arith in ap (λ n. position_from p n ys) here
-  position-append i (x ∷ xs) ys =
-      let there : i + 1 + length xs ≡ i + suc (length xs) = omega arith in
-      let rest = position-append (i + 1) xs ys ∙ ap (λ n. option_or (position_from p (i + 1) xs) (position_from p n ys)) there in
-      elim (p x) as (λ b. cond b (Some i) (position_from p (i + 1) (xs ++ ys))
-      ≡ option_or (cond b (Some i) (position_from p (i + 1) xs)) (position_from p (i + suc (length xs)) ys))
-      [ true ↦ refl | false ↦ rest ]
-
-  -- it is one of the list
-  pub position-below : (i : ℕ) (xs : List X) → IfSome (position_from p i xs) (λ k. k < i + length xs)
-  position-below i [] = tt
-  position-below i (x ∷ xs) =
-      let there : i + 1 + length xs ≡ i + suc (length xs) = omega arith in
-      let rest = subst (λ n. IfSome (position_from p (i + 1) xs) (λ k. k < n)) there (position-below (i + 1) xs) in
-      elim (p x) as (λ b. IfSome (cond b (Some i) (position_from p (i + 1) xs)) (λ k. k < i + suc (length xs)))
-      [ true ↦ omega arith | false ↦ rest ]
 
 -- the numbers of messages lead to some of as many extensions, if each of them does
 all-lie : (end : ℕ) (ms : List MessageDescriptorInner) → ((message number : ℕ) → IfSome (number_held ms message number) (λ k. k < end)) → NumbersLieBefore end ms

@@ -1,40 +1,14 @@
 -- Extensions in the lists and the indexes of the messages that they extend.
-use Rattle.std.specs.Prelude.{◌≡◌, ℕ, ◌==◌, ◌<◌, ◌&&◌, Bool, List, ◌++◌, map, drop, slice_get, if◌then◌else◌}
+use Rattle.std.specs.Prelude.{ℕ, ◌<◌, List, ◌++◌, map, drop, if◌then◌else◌}
 use Rattle.std.specs.FinMap as finite
-use Rattle.std.specs.List.{AllByRecursion, between, enumerate_from, filter, fold, position_from}
-use Rattle.std.specs.Option.{IfSome, option_and_then}
-use Rattle.std.specs.declared.option.Option.{Option}
+use Rattle.std.specs.List.{AllByRecursion, between, fold}
+use Rattle.std.specs.Option.{IfSome}
 use Rattle.plain_data.specs.Maps.{ByNumber}
 use Rattle.pool_types.specs.Contents.{Contents}
+use Rattle.pool_types.specs.Extension.{Indexed, extending}
 use Rattle.pool_types.specs.declared.contents.extension.ExtensionDescriptorInner.{ExtensionDescriptorInner}
 use Rattle.pool_types.specs.declared.contents.message.MessageDescriptorInner.{MessageDescriptorInner}
 use Rattle.plain_data.specs.Each.{map_enumerated}
-
--- an extension with its index
-abbrev pub Indexed : Type 0
-Indexed = ℕ × ExtensionDescriptorInner
-
--- of extensions that are indexed on from a first index, those that extend the message with an index
-abbrev pub extending : ℕ → ℕ → List ExtensionDescriptorInner → List Indexed
-extending message first xs = filter (λ e. e.1.extendee == message) (enumerate_from first xs)
-
--- an extension of the message with an index, that has a number
-abbrev pub has_number : ℕ → ℕ → ExtensionDescriptorInner → Bool
-has_number message number x = x.extendee == message && x.number == number
-
--- the index of the first of these
-abbrev pub extension_numbered : List ExtensionDescriptorInner → ℕ → ℕ → Option ℕ
-extension_numbered xs message number = position_from (has_number message number) 0 xs
-
--- the extension that the message with an index has for a number
-abbrev pub number_held : List MessageDescriptorInner → ℕ → ℕ → Option ℕ
-number_held ms message number =
-    option_and_then (λ m. finite.get m.extension_numbers number) (slice_get ms message)
-
--- messages lead from numbers to the first of these extensions
-abbrev pub NumbersLead : List ExtensionDescriptorInner → List MessageDescriptorInner → Type 0
-NumbersLead xs ms = (message number : ℕ)
-    → number_held ms message number ≡ extension_numbered xs message number
 
 -- from numbers to extensions, with one more; a number that has an extension keeps it
 abbrev pub with_number : ByNumber ℕ → ℕ × ℕ → ByNumber ℕ
@@ -70,6 +44,6 @@ extended_between first end xs ms = map_enumerated (extended_by first (between fi
 abbrev pub LieBefore : ℕ → ByNumber ℕ → Type 0
 LieBefore end numbers = (number : ℕ) → IfSome (finite.get numbers number) (λ e. e < end)
 
--- the numbers of messages do
+-- the numbers of each message lead to extensions before an index
 abbrev pub NumbersLieBefore : ℕ → List MessageDescriptorInner → Type 0
 NumbersLieBefore end ms = AllByRecursion (λ m. LieBefore end m.extension_numbers) ms

@@ -1,6 +1,6 @@
 pub mod Inner
 pub mod LookUps
-pub mod Equality
+pub mod Same
 pub mod Extended
 pub mod Growing
 pub mod Unlinked

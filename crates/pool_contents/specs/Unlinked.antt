@@ -2,7 +2,7 @@
 use Rattle.std.specs.Prelude.{[]}
 use Rattle.pool_types.specs.declared.contents.file.FileDescriptorInner.{FileDescriptorInner}
 use Rattle.proto_types.specs.declared.file.FileDescriptorProto.{FileDescriptorProto}
-use Rattle.name_pass.specs.Syntaxes.{syntax_of}
+use Rattle.pool_types.specs.Syntaxes.{syntax_of}
 
 -- a file as it is, of which nothing but its syntax is known
 abbrev pub unlinked : FileDescriptorProto → FileDescriptorInner

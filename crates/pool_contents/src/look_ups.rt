@@ -6,7 +6,7 @@ ghost use Rattle.std.specs.List.{filter};
 ghost use Rattle.std.specs.Option.{option_copied, option_map};
 ghost use Rattle.pool_types.specs.Contents.{files_of};
 ghost use Rattle.proto_types.specs.Readers.{text_of};
-ghost use Rattle.pool_contents.specs.Extended.{number_held};
+ghost use Rattle.pool_types.specs.Extension.{number_held};
 ghost use Rattle.pool_contents.specs.Inner.{contents_in};
 ghost use Rattle.pool_contents.specs.LookUps.{definition_named, without_dot};
 

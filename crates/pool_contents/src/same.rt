@@ -1,7 +1,7 @@
 //! Whether two pools hold the same.
 
 ghost use Rattle.std.specs.Prelude.{◌≡◌};
-ghost use Rattle.pool_contents.specs.Equality.{contents_eq, items_eq, names_eq, file_names_eq};
+ghost use Rattle.pool_contents.specs.Same.{contents_eq, items_eq, names_eq, file_names_eq};
 ghost use Rattle.pool_contents.specs.Inner.{contents_in};
 
 use crate::inner::DescriptorPoolInner;

@@ -4,7 +4,7 @@ use Rattle.std.specs.Fmt.{digits}
 use Rattle.std.specs.declared.option.Option.TheVariants.{None}
 use Rattle.pool_faults.specs.declared.label.Label.{Label}
 use Rattle.pool_faults.specs.declared.fault.DescriptorErrorKind.TheVariants as fault
-use Rattle.pool_faults.specs.Texts.{fault_text, labelled_text}
+use Rattle.pool_faults.specs.Fault.{fault_text, labelled_text}
 
 abbrev at : List ℕ → Label
 at file = record { file = file; path = pos 4 ∷ pos 0 ∷ pos 2 ∷ []; span = None }

@@ -1,7 +1,7 @@
 -- A path prints as the library prints a list of numbers.
 use Rattle.std.proofs.Common.{◌≡◌, ℤ, List, [], ◌∷◌, refl, Some}
 use Rattle.std.specs.Fmt.{signed_decimal, debug_list, debug_items, comma_space}
-use Rattle.pool_faults.specs.Texts.{numbers_text, further_numbers, path_text}
+use Rattle.pool_faults.specs.Fault.{numbers_text, further_numbers, path_text}
 
 debug_items-further : (ns : List ℤ) → debug_items (λ n. Some (signed_decimal n)) comma_space ns ≡ Some (further_numbers ns)
 debug_items-further [] = refl

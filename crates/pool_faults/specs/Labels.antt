@@ -1,20 +1,17 @@
 -- Where something stands: a file's name, a path, and lines and columns in its source.
-use Rattle.std.specs.Prelude.{ℕ, ℤ, pos, negsuc, List, [], ◌∷◌, slice_get, unwrap_or, find, int_lt, if◌then◌else◌}
+use Rattle.std.specs.Prelude.{ℕ, ℤ, pos, negsuc, List, [], ◌∷◌, ◌++◌, slice_get, find, int_lt, if◌then◌else◌}
 use Rattle.std.specs.Cmp.Lexicographic.{pointwise}
 use Rattle.std.specs.List.{list_any}
 use Rattle.std.specs.Option.{option_map_or, option_and_then}
 use Rattle.std.specs.Ordering.{int_eq}
 use Rattle.std.specs.declared.option.Option.{Option}
 use Rattle.std.specs.declared.option.Option.TheVariants.{None, Some}
-use Rattle.proto_types.specs.EmptyFile.{no_file}
+use Rattle.proto_types.specs.File.{file_at}
+use Rattle.proto_types.specs.Paths.{entry_path}
 use Rattle.proto_types.specs.Readers.{text_of}
 use Rattle.proto_types.specs.declared.records.source.Location.{Location}
 use Rattle.pool_faults.specs.declared.label.Label.{Label}
 use Rattle.proto_types.specs.declared.file.FileDescriptorProto.{FileDescriptorProto}
-
--- the file with an index
-abbrev pub file_at : List FileDescriptorProto → ℕ → FileDescriptorProto
-file_at files n = unwrap_or (slice_get files n) no_file
 
 -- start line, start column, end line, end column, of these or of three without the end line
 abbrev pub four_of : List ℤ → Option (List ℤ)
@@ -41,6 +38,19 @@ label f path = record { file = text_of f.name; path = path; span = span_at f pat
 -- in the file with an index
 abbrev pub label_in : List FileDescriptorProto → ℕ → List ℤ → Label
 label_in files file path = label (file_at files file) path
+
+-- the label of the part with a field number, of what stands at a path of a file
+abbrev pub part_label : List FileDescriptorProto → ℕ → List ℤ → ℤ → Label
+part_label files file path tag = label_in files file (path ++ tag ∷ [])
+
+-- the label of an entry of its list with a field number, by the entry's position
+abbrev pub entry_label : List FileDescriptorProto → ℕ → List ℤ → ℤ → ℕ → Label
+entry_label files file path tag position = label_in files file (entry_path path tag position)
+
+-- the label of a part of an entry of its list with a field number
+abbrev pub entry_part_label : List FileDescriptorProto → ℕ → List ℤ → ℤ → ℕ → ℤ → Label
+entry_part_label files file path tag position part =
+    label_in files file (entry_path path tag position ++ part ∷ [])
 
 -- a number that is not negative
 abbrev pub non_negative : ℤ → Option ℕ

@@ -1,4 +1,4 @@
 pub mod Labels
-pub mod Indexed
-pub mod Texts
-pub mod Equality
+pub mod Spans
+pub mod Fault
+pub mod Exact

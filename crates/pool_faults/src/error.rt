@@ -1,7 +1,7 @@
 ghost use Rattle.std.specs.Prelude.{◌≡◌, ◌≢◌, []};
 ghost use Rattle.std.specs.Option.{option_copied, option_map, option_and_then};
 ghost use Rattle.pool_faults.specs.Labels.{label_line, label_column};
-ghost use Rattle.pool_faults.specs.Texts.{first_label};
+ghost use Rattle.pool_faults.specs.Fault.{first_label};
 
 use crate::{DescriptorErrorKind, Label, Labelled};
 use plain_data::Items;
@@ -76,7 +76,7 @@ impl DescriptorError {
 
 impl fmt::Display for DescriptorError {
     ghost use Rattle.std.specs.Prelude.{Some};
-    ghost use Rattle.pool_faults.specs.Texts.{first_text};
+    ghost use Rattle.pool_faults.specs.Fault.{first_text};
 
     ghost output = { λ e. Some (first_text e.errors) };
 
@@ -90,7 +90,7 @@ impl fmt::Display for DescriptorError {
 
 impl fmt::Debug for DescriptorError {
     ghost use Rattle.std.specs.Prelude.{Some};
-    ghost use Rattle.pool_faults.specs.Texts.{first_labelled_text};
+    ghost use Rattle.pool_faults.specs.Fault.{first_labelled_text};
 
     ghost debug_output = { λ e. Some (first_labelled_text e.errors) };
 

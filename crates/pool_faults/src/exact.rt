@@ -1,4 +1,4 @@
-ghost use Rattle.pool_faults.specs.Equality.{label-exact, fault-exact};
+ghost use Rattle.pool_faults.specs.Exact.{label-exact, fault-exact};
 
 use crate::{DescriptorErrorKind, Label};
 use plain_data::ExactEq;

@@ -1,7 +1,7 @@
 ghost use Rattle.std.specs.Prelude.{◌≡◌, pos, ◌-ℤ◌, Some, codes};
 ghost use Rattle.std.specs.Fmt.{DisplaysOnOk};
 ghost use Rattle.std.specs.Option.{option_copied};
-ghost use Rattle.pool_faults.specs.Texts.{shown_label, name_fault_text, reference_fault_text, number_fault_text, value_fault_text, range_text, out_of_range_text, taken_text, between, line_text};
+ghost use Rattle.pool_faults.specs.Fault.{shown_label, name_fault_text, reference_fault_text, number_fault_text, value_fault_text, range_text, out_of_range_text, taken_text, between, line_text};
 
 use crate::Label;
 use plain_data::Text;
@@ -279,7 +279,7 @@ impl DescriptorErrorKind {
                 number,
                 message,
                 ..
-            } => fmt_taken(f, message.as_str(), *number),
+            } => fmt_duplicate(f, message.as_str(), *number),
             _ => self.fmt_value_fault(f),
         }
     }
@@ -368,7 +368,7 @@ fn fmt_out_of_range<W: fmt::Write>(
 }
 
 /// Writes that an earlier extension of a message has a number.
-fn fmt_taken<W: fmt::Write>(f: &mut fmt::Formatter<W>, message: &str, number: i32) -> fmt::Result
+fn fmt_duplicate<W: fmt::Write>(f: &mut fmt::Formatter<W>, message: &str, number: i32) -> fmt::Result
     ensures { DisplaysOnOk W.write_str_gives f.old result
         (Some (taken_text message.now number)) f.new }
 {
@@ -379,7 +379,7 @@ fn fmt_taken<W: fmt::Write>(f: &mut fmt::Formatter<W>, message: &str, number: i3
 }
 
 impl fmt::Display for DescriptorErrorKind {
-    ghost use Rattle.pool_faults.specs.Texts.{fault_text};
+    ghost use Rattle.pool_faults.specs.Fault.{fault_text};
 
     ghost output = { λ kind. Some (fault_text kind) };
 
@@ -415,7 +415,7 @@ impl fmt::Display for DescriptorErrorKind {
 }
 
 impl fmt::Debug for DescriptorErrorKind {
-    ghost use Rattle.pool_faults.specs.Texts.{fault_text};
+    ghost use Rattle.pool_faults.specs.Fault.{fault_text};
 
     ghost debug_output = { λ kind. Some (fault_text kind) };
 
@@ -431,7 +431,7 @@ impl Error for DescriptorErrorKind {}
 pub struct Labelled<'a>(pub &'a DescriptorErrorKind);
 
 impl fmt::Display for Labelled<'_> {
-    ghost use Rattle.pool_faults.specs.Texts.{labelled_text};
+    ghost use Rattle.pool_faults.specs.Fault.{labelled_text};
 
     ghost output = { λ labelled. Some (labelled_text labelled.0.now) };
 
@@ -452,7 +452,7 @@ impl fmt::Display for Labelled<'_> {
 struct LabelPrefix<'a>(&'a Label);
 
 impl fmt::Display for LabelPrefix<'_> {
-    ghost use Rattle.pool_faults.specs.Texts.{place_text};
+    ghost use Rattle.pool_faults.specs.Fault.{place_text};
 
     ghost output = { λ prefix. Some (place_text prefix.0.now) };
 

@@ -1,5 +1,6 @@
 ghost use Rattle.std.specs.Prelude.{◌≡◌, IfOk, map};
-ghost use Rattle.pool_faults.specs.Labels.{file_at, label_in, locations, span_at};
+ghost use Rattle.pool_faults.specs.Labels.{label_in, locations, span_at};
+ghost use Rattle.proto_types.specs.File.{file_at};
 
 use crate::files::label_at;
 use crate::label::Label;
@@ -30,7 +31,7 @@ impl<'f> Model for Labels<'f> {
 
     ghost coded = { coded_list file.the_row.coded };
 
-    ghost use Rattle.pool_faults.specs.Indexed.{AreOfFiles};
+    ghost use Rattle.pool_faults.specs.Spans.{AreOfFiles};
 
     ghost view = { λ l. l.files.now };
 

@@ -28,7 +28,7 @@ impl<'f> Model for Spans<'f> {
 
     ghost coded = { coded_list location.the_row.coded };
 
-    ghost use Rattle.pool_faults.specs.Indexed.{HasFirstSpans};
+    ghost use Rattle.pool_faults.specs.Spans.{HasFirstSpans};
 
     ghost view = { λ s. s.locations.now };
 

@@ -3,7 +3,8 @@ use Rattle.std.proofs.Common.{◌≡◌, ◌==◌, ◌||◌, ℕ, zero, suc, Opt
 use Rattle.std.specs.List.{filter, filter_map, list_any, range_with_len}
 use Rattle.proto_types.specs.declared.file.FileDescriptorProto.{FileDescriptorProto}
 use Rattle.plain_data.specs.Lists.{at}
-use Rattle.name_resolution.specs.Visibility.{file_at, imports_of, public_imports_of, leads_publicly, seen_from}
+use Rattle.name_resolution.specs.Visibility.{imports_of, public_imports_of, leads_publicly, seen_from}
+use Rattle.proto_types.specs.File.{file_at}
 
 -- a file has the imports of another, and the same of them are public
 pub record SameImports (f g : FileDescriptorProto) : Type 0 where

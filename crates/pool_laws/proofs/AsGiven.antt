@@ -11,16 +11,16 @@ use Rattle.pool_faults.specs.declared.fault.DescriptorErrorKind.TheVariants.{Mis
 use Rattle.pool_faults.specs.Labels.{label_in}
 use Rattle.record_walk.specs.Shown.{Shown}
 use Rattle.name_resolution.specs.declared.filter.ResolveNameFilter.TheVariants.{FieldType as AnyType, Message}
-use Rattle.name_resolution.specs.Kinds.{named_kind, simple_kind}
+use Rattle.pool_types.specs.Kinds.{named_kind, simple_kind}
 use Rattle.name_resolution.specs.References.{reference_fault}
 use Rattle.name_resolution.specs.Resolution.{Resolution, found, kind_found}
 use Rattle.field_rules.specs.Defaults.{DefaultEnum, default_faults}
-use Rattle.reference_pass.specs.Defaults.{default_by, enum_found, field_default, field_default_faults, no_enum_meant, type_enum}
-use Rattle.reference_pass.specs.Definitions.{message_record}
-use Rattle.reference_pass.specs.Extensions.{number_faults}
-use Rattle.reference_pass.specs.FieldTypes.{field_kind, type_faults, resolve_type}
+use Rattle.reference_pass.specs.Defaults.{default_by, enum_found, field_default, field_default_faults, no_default_enum, type_enum}
+use Rattle.reference_pass.specs.Declared.{message_record}
+use Rattle.reference_pass.specs.Extension.{number_faults}
+use Rattle.reference_pass.specs.Types.{field_kind, type_faults, resolve_type}
 use Rattle.reference_pass.specs.Linked.{linked_field, resolved, typed}
-use Rattle.reference_pass.specs.Messages.{message_found, resolve_message}
+use Rattle.reference_pass.specs.References.{message_found, resolve_message}
 use Rattle.reference_pass.specs.Setting.{Setting}
 use Rattle.pool_laws.specs.SettingLaws.{IsDefaulted, IsMessageName, IsTyped, Stands, unchanged}
 use Rattle.pool_laws.proofs.Carries.{Carries, CarriesMethods, NamedThere}
@@ -86,7 +86,7 @@ module _ {s t : Setting} {many : ℕ} (stands : Stands s t many) where
           let made : Resolution → FieldDescriptorProto = λ r. elim name [ [] ↦ f | _ ∷ _ ↦ typed r f ] in
           made (resolve_type t d f) ≡ made (resolve_type s d f)
       enum_is :
-          let meant : Setting → DefaultEnum = λ u. elim name [ [] ↦ no_enum_meant | _ ∷ _ ↦ enum_found u (resolve_type u d f) ] in
+          let meant : Setting → DefaultEnum = λ u. elim name [ [] ↦ no_default_enum | _ ∷ _ ↦ enum_found u (resolve_type u d f) ] in
           meant t ≡ meant s
 
     by-name : (name : List ℕ)

@@ -1,11 +1,11 @@
 -- Files of which the last are changed, position by position: what is read of each file is what was read.
 use Rattle.std.proofs.Common.{◌≡◌, ℕ, ℤ, zero, suc, Option, Some, List, [], ◌∷◌, ◌++◌, length, slice_get, unwrap_or, append-nil, refl, ap, subst}
 use Rattle.std.specs.Option.{option_and_then}
-use Rattle.proto_types.specs.EmptyFile.{no_file}
+use Rattle.proto_types.specs.File.{no_file}
 use Rattle.proto_types.specs.declared.file.FileDescriptorProto.{FileDescriptorProto}
 use Rattle.record_walk.specs.Changed.{Changes, changed_file, changed_files}
 use Rattle.record_walk.specs.Leads.{leads}
-use Rattle.name_pass.specs.Syntaxes.{syntax_of}
+use Rattle.pool_types.specs.Syntaxes.{syntax_of}
 use Rattle.pool_laws.proofs.Alike.{SameImports}
 use Rattle.pool_laws.proofs.Records.{Stays, file-stays, stays-itself}
 

@@ -14,7 +14,7 @@ use Rattle.record_walk.specs.Counts.{counts_in}
 use Rattle.plain_data.specs.Each.{map_enumerated}
 use Rattle.reference_pass.specs.Setting.{seen_by}
 use Rattle.pool_laws.specs.SettingLaws.{NamesFiles}
-use Rattle.descriptor_pool.specs.Linking.{setting_with}
+use Rattle.descriptor_pool.specs.Build.{setting_with}
 use Rattle.descriptor_pool.proofs.Files.{names-behind-before}
 use Rattle.descriptor_pool.proofs.Sound.{Known}
 use Rattle.pool_laws.proofs.Relinks.{long-pool, long-with, names-mean-files, old_seen, seen-at, seen_in, sees-is, slice-front}

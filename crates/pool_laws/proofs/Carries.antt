@@ -7,13 +7,13 @@ use Rattle.plain_data.specs.Lists.{listed}
 use Rattle.proto_types.specs.Readers.{text_of}
 use Rattle.record_walk.specs.Changed.{Changes}
 use Rattle.record_walk.specs.Shown.{Shown}
-use Rattle.name_pass.specs.Syntaxes.{syntax_at}
+use Rattle.pool_types.specs.Syntaxes.{syntax_at}
 use Rattle.name_resolution.specs.References.{reference_fault}
 use Rattle.reference_pass.specs.Defaults.{field_default, field_default_faults}
-use Rattle.reference_pass.specs.Extensions.{extendee_faults, number_faults}
-use Rattle.reference_pass.specs.FieldTypes.{field_kind, type_faults}
+use Rattle.reference_pass.specs.Extension.{extendee_faults, number_faults}
+use Rattle.reference_pass.specs.Types.{field_kind, type_faults}
 use Rattle.reference_pass.specs.Linked.{linked_field, resolved}
-use Rattle.reference_pass.specs.Messages.{message_found, resolve_message}
+use Rattle.reference_pass.specs.References.{message_found, resolve_message}
 use Rattle.reference_pass.specs.Setting.{Setting, seen_by}
 use Rattle.pool_laws.specs.SettingLaws.{IsDefaulted, IsMessageName, IsTyped}
 use Rattle.pool_laws.proofs.SettingStays.{retyped}

@@ -12,12 +12,12 @@ use Rattle.pool_faults.specs.declared.fault.DescriptorErrorKind.TheVariants.{Mis
 use Rattle.pool_faults.specs.Labels.{label_in}
 use Rattle.record_walk.specs.Shown.{Shown}
 use Rattle.name_resolution.specs.declared.filter.ResolveNameFilter.TheVariants.{FieldType as AnyType}
-use Rattle.name_resolution.specs.Kinds.{simple_kind}
+use Rattle.pool_types.specs.Kinds.{simple_kind}
 use Rattle.name_resolution.specs.References.{reference_fault}
 use Rattle.name_resolution.specs.Resolution.{Resolution, found}
 use Rattle.field_rules.specs.Defaults.{DefaultEnum, default_fault, default_faults, value_of}
-use Rattle.reference_pass.specs.Defaults.{default_by, enum_found, field_default, field_default_faults, no_enum_meant, type_enum}
-use Rattle.reference_pass.specs.FieldTypes.{field_kind, type_faults, resolve_type}
+use Rattle.reference_pass.specs.Defaults.{default_by, enum_found, field_default, field_default_faults, no_default_enum, type_enum}
+use Rattle.reference_pass.specs.Types.{field_kind, type_faults, resolve_type}
 use Rattle.reference_pass.specs.Linked.{linked_field, typed}
 use Rattle.reference_pass.specs.Setting.{Setting}
 use Rattle.pool_laws.specs.SettingLaws.{EnumsStay, Grows, IsDefaulted}
@@ -72,7 +72,7 @@ module _ (s t : Setting) (grows : Grows s t) (stay : EnumsStay s t) (d : Shown) 
         | [] ↦ only_if (not (is_some (simple_kind (type_of f.type_)))) (MissingRequiredField (label_in s.files d.file at))
         | _ ∷ _ ↦ listed (reference_fault s.files (text_of f.type_name) d.file at (resolve_type s d f))
       ] in
-      faults ≡ [] → type_enum t d (elim name [ [] ↦ f | _ ∷ _ ↦ typed (resolve_type s d f) f ]) ≡ elim name [ [] ↦ no_enum_meant | _ ∷ _ ↦ enum_found s (resolve_type s d f) ]
+      faults ≡ [] → type_enum t d (elim name [ [] ↦ f | _ ∷ _ ↦ typed (resolve_type s d f) f ]) ≡ elim name [ [] ↦ no_default_enum | _ ∷ _ ↦ enum_found s (resolve_type s d f) ]
   meant-by-name f [] is none = rw (is, type_enum) refl
   meant-by-name f (c ∷ cs) is none = found-meant f (resolve_type s d f) refl none
 

@@ -21,7 +21,7 @@ use Rattle.record_walk.specs.Declarations.{enum_walk, enums_walk, file_walk, in_
 use Rattle.record_walk.specs.Protos.{Proto, of_enum, of_extension, of_field, of_message, of_method, of_oneof, of_service, of_value, name_of}
 use Rattle.record_walk.specs.Shown.{Shown, Surrounding, beside, file_shown, inside, parts, row, shown}
 use Rattle.record_walk.specs.Walking.{within_file}
-use Rattle.name_pass.specs.Entered.{entries, entries_of, own_entry, package_entry, packages}
+use Rattle.name_pass.specs.Names.{entries, entries_of, own_entry, package_entry, packages}
 use Rattle.descriptor_pool.proofs.Resolved.{all-append}
 use Rattle.pool_laws.specs.Laws.{HasScope, IsPlainName, PrefixesEntered, is_scope}
 use Rattle.pool_laws.proofs.AllOf.{all-front, all-rest}

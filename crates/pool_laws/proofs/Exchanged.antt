@@ -21,10 +21,11 @@ use Rattle.pool_faults.specs.declared.fault.DescriptorErrorKind.TheVariants.{Dup
 use Rattle.name_tables.specs.Entries.{Entry}
 use Rattle.record_walk.specs.Protos.{Proto, of_file, of_message, of_enum}
 use Rattle.record_walk.specs.Shown.{Shown}
-use Rattle.name_resolution.specs.Kinds.{is_package}
+use Rattle.pool_types.specs.Definition.{is_package}
 use Rattle.name_pass.specs.CamelCase.{camel_case_faults, message_own_faults}
-use Rattle.name_pass.specs.Syntaxes.{is_proto3, known_syntax, syntax_at, syntax_faults}
-use Rattle.name_pass.specs.Entered.{entries, entries_of, file_entries, file_entries_of, package_entry, packages}
+use Rattle.pool_types.specs.Syntaxes.{is_proto3, known_syntax, syntax_at}
+use Rattle.name_pass.specs.Syntax.{syntax_faults}
+use Rattle.name_pass.specs.Names.{entries, entries_of, file_entries, file_entries_of, package_entry, packages}
 use Rattle.name_pass.specs.FirstPass.{clashes, file_faults, file_name_faults, first_faults, holder, holder_faults, shape_faults}
 use Rattle.descriptor_pool.proofs.Declared.{entries-append}
 use Rattle.reference_pass.proofs.Unbroken.{both-empty}

@@ -6,7 +6,7 @@ use Rattle.std.specs.FinMap as finite
 use Rattle.std.specs.List.{AllByRecursion}
 use Rattle.std.specs.Option.{IfSome, option_map, option_or}
 use Rattle.std.specs.Ordering.{nat_cmp}
-use Rattle.proto_types.specs.EmptyFile.{no_file}
+use Rattle.proto_types.specs.File.{no_file}
 use Rattle.proto_types.specs.declared.file.FileDescriptorProto.{FileDescriptorProto}
 use Rattle.plain_data.specs.Lists.{after_each}
 use Rattle.pool_types.specs.Contents.{Contents, files_of}
@@ -20,11 +20,11 @@ use Rattle.record_walk.specs.Declarations.{declarations}
 use Rattle.record_walk.specs.Shown.{Shown}
 use Rattle.record_walk.proofs.Appended.{declarations-append}
 use Rattle.record_walk.proofs.Counted.{counted-append}
-use Rattle.name_pass.specs.Entered.{entries, file_entries}
+use Rattle.name_pass.specs.Names.{entries, file_entries}
 use Rattle.name_pass.specs.FirstPass.{first_faults, holder}
-use Rattle.name_pass.specs.Syntaxes.{syntax_of}
+use Rattle.pool_types.specs.Syntaxes.{syntax_of}
 use Rattle.reference_pass.specs.Setting.{Setting, seen_by}
-use Rattle.descriptor_pool.specs.Linking.{declared_with, name_faults, setting_with}
+use Rattle.descriptor_pool.specs.Build.{declared_with, name_faults, setting_with}
 use Rattle.descriptor_pool.specs.Pool.{Made}
 use Rattle.descriptor_pool.proofs.Files.{counted-files, lie-between, names-before}
 use Rattle.descriptor_pool.proofs.Sound.{Known, made-sound}

@@ -4,22 +4,22 @@ use Rattle.std.specs.List.{find}
 use Rattle.proto_types.specs.declared.records.field.FieldDescriptorProto.{FieldDescriptorProto}
 use Rattle.proto_types.specs.Readers.{label_of, number_of, text_of}
 use Rattle.pool_types.specs.declared.contents.extension.ExtensionDescriptorInner.{ExtensionDescriptorInner}
-use Rattle.pool_contents.specs.Extended.{has_number}
+use Rattle.pool_types.specs.Extension.{has_number}
 use Rattle.pool_types.specs.declared.kinds.KindIndex.TheVariants.{Double}
 use Rattle.record_walk.specs.Changed.{Changes}
 use Rattle.record_walk.specs.Shown.{Shown}
 use Rattle.name_resolution.specs.declared.filter.ResolveNameFilter.TheVariants.{FieldType as AnyType}
 use Rattle.name_resolution.specs.Resolution.{Resolution}
-use Rattle.name_resolution.specs.Kinds.{cardinality_of}
-use Rattle.name_pass.specs.Syntaxes.{is_proto3}
+use Rattle.pool_types.specs.Kinds.{cardinality_of}
+use Rattle.pool_types.specs.Syntaxes.{is_proto3}
 use Rattle.field_rules.specs.Identities.{named_at}
 use Rattle.field_rules.specs.Encoding.{is_packed}
-use Rattle.field_rules.specs.DuplicateNumbers.{item_number}
+use Rattle.field_rules.specs.Maps.{item_number}
 use Rattle.reference_pass.specs.SecondPass.{extension_faults}
-use Rattle.reference_pass.specs.Extensions.{number_faults}
+use Rattle.reference_pass.specs.Extension.{number_faults}
 use Rattle.reference_pass.specs.Items.{extension_item}
 use Rattle.reference_pass.specs.Linked.{linked_extension, typed}
-use Rattle.reference_pass.specs.Messages.{resolve_message, index_or_max}
+use Rattle.reference_pass.specs.References.{resolve_message, index_or_max}
 use Rattle.reference_pass.specs.Setting.{Setting, resolve}
 use Rattle.pool_laws.specs.SettingLaws.{IsExtension, extension_at_place}
 use Rattle.pool_laws.proofs.Carries.{Carries}

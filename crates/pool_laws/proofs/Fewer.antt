@@ -6,10 +6,10 @@ use Rattle.std.specs.List.{AllByRecursion, find, position_or_len}
 use Rattle.std.specs.Option.{option_map_or}
 use Rattle.proto_types.specs.Names.{first_part, fronts, is_dot, join}
 use Rattle.pool_types.specs.Contents.{ByText}
-use Rattle.pool_types.specs.DefinitionKinds.{is_parent}
+use Rattle.pool_types.specs.Definition.{is_parent}
 use Rattle.pool_types.specs.declared.contents.definition.Definition.{Definition}
 use Rattle.name_resolution.specs.declared.filter.ResolveNameFilter.{ResolveNameFilter}
-use Rattle.name_resolution.specs.Kinds.{is_match}
+use Rattle.name_resolution.specs.Filter.{is_match}
 use Rattle.name_resolution.specs.Parents.{outer}
 use Rattle.name_resolution.specs.Resolution.{Resolution, found, invalid_type, not_imported, not_found, is_found, is_not_found, or_shadowed, has_dot, look, simple, holds_first, dotted, relative, resolution}
 use Rattle.name_resolution.proofs.Outward.{answers}

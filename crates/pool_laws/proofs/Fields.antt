@@ -10,13 +10,13 @@ use Rattle.proto_types.specs.declared.message.DescriptorProto.{DescriptorProto, 
 use Rattle.pool_faults.specs.declared.fault.DescriptorErrorKind.TheVariants.{InvalidOneofIndex}
 use Rattle.record_walk.specs.Changed.{Changes}
 use Rattle.record_walk.specs.Shown.{Shown, inside}
-use Rattle.field_rules.specs.Places.{field_at}
+use Rattle.record_walk.specs.Place.{field_at}
 use Rattle.field_rules.specs.Numbers.{field_number_faults}
 use Rattle.field_rules.specs.Duplicates.{duplicate_faults}
 use Rattle.field_rules.specs.Oneofs.{oneof_faults}
 use Rattle.reference_pass.specs.SecondPass.{Faults, Owner, field_faults, field_record_faults}
 use Rattle.reference_pass.specs.Defaults.{field_default_faults}
-use Rattle.reference_pass.specs.FieldTypes.{type_faults}
+use Rattle.reference_pass.specs.Types.{type_faults}
 use Rattle.reference_pass.specs.Setting.{Setting}
 use Rattle.pool_laws.specs.SettingLaws.{SameRanges}
 use Rattle.pool_laws.proofs.SettingRelinks.{again-still}

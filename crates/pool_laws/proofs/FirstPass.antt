@@ -25,11 +25,12 @@ use Rattle.name_tables.proofs.Entries.{first-append}
 use Rattle.record_walk.specs.Changed.{Changes, KeepNames, changed, changed_message}
 use Rattle.record_walk.specs.Protos.{Proto, of_file, of_message, of_enum}
 use Rattle.record_walk.specs.Shown.{Shown}
-use Rattle.name_resolution.specs.Kinds.{is_package}
+use Rattle.pool_types.specs.Definition.{is_package}
 use Rattle.name_pass.specs.CamelCase.{Placed, camel_case_faults, camel_case_key, key_at, message_own_faults, shared_key_faults}
 use Rattle.name_pass.specs.Enumeration.{first_number_path}
-use Rattle.name_pass.specs.Syntaxes.{is_proto3, known_syntax, syntax_at, syntax_faults}
-use Rattle.name_pass.specs.Entered.{entries, entries_of, file_entries}
+use Rattle.pool_types.specs.Syntaxes.{is_proto3, known_syntax, syntax_at}
+use Rattle.name_pass.specs.Syntax.{syntax_faults}
+use Rattle.name_pass.specs.Names.{entries, entries_of, file_entries}
 use Rattle.name_pass.specs.FirstPass.{clashes, file_faults, file_name_faults, first_faults, holder, holder_faults, shape_faults}
 use Rattle.pool_laws.proofs.Messages.{parts-of}
 use Rattle.pool_laws.proofs.Told.{lists-nothing, nothing-of}

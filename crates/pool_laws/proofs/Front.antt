@@ -11,7 +11,7 @@ use Rattle.std.specs.Ordering.{nat_cmp}
 use Rattle.std.specs.Str.{bytes_eq}
 use Rattle.plain_data.specs.Lists.{after_each}
 use Rattle.proto_types.specs.Readers.{text_of}
-use Rattle.proto_types.specs.EmptyFile.{no_file}
+use Rattle.proto_types.specs.File.{no_file}
 use Rattle.proto_types.specs.declared.file.FileDescriptorProto.{FileDescriptorProto}
 use Rattle.pool_types.specs.Contents.{Contents, files_of}
 use Rattle.pool_types.specs.declared.contents.definition.Definition.{Definition}
@@ -28,10 +28,10 @@ use Rattle.record_walk.specs.Walking.{within_file}
 use Rattle.record_walk.proofs.Walks.{IsInside, within-all}
 use Rattle.name_resolution.specs.declared.filter.ResolveNameFilter.{ResolveNameFilter}
 use Rattle.name_resolution.specs.Resolution.{found, resolution}
-use Rattle.name_pass.specs.Syntaxes.{syntax_of}
+use Rattle.pool_types.specs.Syntaxes.{syntax_of}
 use Rattle.reference_pass.specs.SecondPass.{owner_faults}
 use Rattle.reference_pass.specs.Items.{extension_item, extension_items}
-use Rattle.reference_pass.specs.Definitions.{declaration_path, message_record, record_of}
+use Rattle.reference_pass.specs.Declared.{declaration_path, message_record, record_of}
 use Rattle.reference_pass.specs.Setting.{Setting, resolve, seen_by}
 use Rattle.reference_pass.proofs.Owners.{owners-tell}
 use Rattle.reference_pass.proofs.Unbroken.{AllNew, owners-behind}
@@ -41,9 +41,9 @@ use Rattle.pool_laws.proofs.Fewer.{found-fewer}
 use Rattle.pool_laws.proofs.Items.{all-fine, kind-again, same-extension}
 use Rattle.pool_laws.proofs.Looked.{IsLooked, looked-seen, resolution-looked}
 use Rattle.pool_laws.proofs.Unchanged.{declarations-unchanged, unchanged-keeps}
-use Rattle.name_pass.specs.Entered.{file_entries, file_entries_of}
+use Rattle.name_pass.specs.Names.{file_entries, file_entries_of}
 use Rattle.name_pass.specs.FirstPass.{first_faults}
-use Rattle.descriptor_pool.specs.Linking.{declared_with, name_faults, reference_faults, with_names}
+use Rattle.descriptor_pool.specs.Build.{declared_with, name_faults, reference_faults, with_names}
 use Rattle.descriptor_pool.specs.Pool.{has_file}
 use Rattle.descriptor_pool.proofs.Files.{lie-between}
 use Rattle.descriptor_pool.proofs.Resolved.{all-append}

@@ -21,7 +21,7 @@ use Rattle.pool_laws.proofs.Carries.{Carries}
 use Rattle.pool_laws.proofs.Unchanged.{declarations-unchanged, files-unchanged}
 use Rattle.pool_contents.specs.Extended.{extended_by}
 use Rattle.pool_contents.proofs.Each.{each-append, length-each}
-use Rattle.descriptor_pool.specs.Linking.{declared_with, linked_with, reference_faults, with_names}
+use Rattle.descriptor_pool.specs.Build.{declared_with, with_batch, reference_faults, with_names}
 use Rattle.descriptor_pool.proofs.Declared.{items-of-files}
 use Rattle.descriptor_pool.proofs.Extendees.{Whole, drop-front, link-whole}
 use Rattle.descriptor_pool.proofs.Files.{counted-files}
@@ -120,7 +120,7 @@ module _ (p : Contents) (entered : Known p) (again : Relinked p) (front back : L
       (subst (λ n. AllByRecursion (λ x. x.extendee < n) pool.extensions) many_messages
       (recursion_from_All (λ x. x.extendee < length pool.messages) pool.extensions grown_lists.extendees))
 
-  lists-joined : Whole p → (linked_with pool back).messages ≡ (linked_with p (front ++ back)).messages
+  lists-joined : Whole p → (with_batch pool back).messages ≡ (with_batch p (front ++ back)).messages
   lists-joined lists =
       let old = p.extensions in
       let before = p.messages ++ messages_first in
@@ -131,7 +131,7 @@ module _ (p : Contents) (entered : Known p) (again : Relinked p) (front back : L
       ∙ (λ i. filled ((sym extensions-joined ∙ sym (drop-front old all)) i) ((append_assoc p.messages messages_first messages_after ∙ ap (λ ms. p.messages ++ ms) (sym messages-joined)) i))
 
   -- the pool
-  pub linked-joined : Whole p → linked_with pool back ≡ linked_with p (front ++ back)
+  pub linked-joined : Whole p → with_batch pool back ≡ with_batch p (front ++ back)
   linked-joined lists =
       let files = append_assoc p.files (file_items u first) (file_items t after) ∙ ap (λ xs. p.files ++ xs) (sym files-joined) in
       let messages = lists-joined lists in

@@ -5,7 +5,8 @@ use Rattle.std.specs.List.{AllByRecursion}
 use Rattle.pool_types.specs.declared.contents.extension.ExtensionDescriptorInner.{ExtensionDescriptorInner}
 use Rattle.pool_types.specs.declared.contents.message.MessageDescriptorInner.{MessageDescriptorInner}
 use Rattle.plain_data.specs.Each.{map_enumerated}
-use Rattle.pool_contents.specs.Extended.{extended_by, extending, with_extensions}
+use Rattle.pool_contents.specs.Extended.{extended_by, with_extensions}
+use Rattle.pool_types.specs.Extension.{extending}
 use Rattle.pool_contents.proofs.Extending.{with-more}
 use Rattle.pool_contents.proofs.Each.{each-append, each-same, each-twice, length-each}
 use Rattle.descriptor_pool.proofs.Extendees.{extending-append, extending-none}

@@ -12,7 +12,7 @@ use Rattle.pool_types.specs.declared.contents.definition.DefinitionKind.TheVaria
 use Rattle.pool_types.specs.declared.contents.extension.ExtensionDescriptorInner.{ExtensionDescriptorInner}
 use Rattle.name_tables.specs.Entries.{names}
 use Rattle.name_tables.proofs.Names.{get-lookup}
-use Rattle.name_pass.specs.Entered.{entries, entries_of, package_entry, packages}
+use Rattle.name_pass.specs.Names.{entries, entries_of, package_entry, packages}
 use Rattle.record_walk.specs.declared.counts.Counts.{Counts}
 use Rattle.record_walk.specs.Counts.{counted, no_counts}
 use Rattle.record_walk.specs.Declarations.{declarations}
@@ -21,11 +21,11 @@ use Rattle.record_walk.specs.Protos.{Proto, of_file, of_message, of_extension, a
 use Rattle.record_walk.specs.Shown.{Shown, of_kind}
 use Rattle.record_walk.proofs.Indexes.{indexes-count-on}
 use Rattle.reference_pass.specs.Items.{extension_item, extension_items, made_of}
-use Rattle.reference_pass.specs.Messages.{message_index}
+use Rattle.reference_pass.specs.References.{message_index}
 use Rattle.reference_pass.specs.SecondPass.{owner_faults}
 use Rattle.reference_pass.proofs.Steps.{made-append}
 use Rattle.reference_pass.proofs.Unbroken.{both-empty}
-use Rattle.descriptor_pool.specs.Linking.{declared_with, setting_with}
+use Rattle.descriptor_pool.specs.Build.{declared_with, setting_with}
 use Rattle.descriptor_pool.specs.Pool.{Made}
 use Rattle.descriptor_pool.proofs.Declared.{counted-many}
 use Rattle.descriptor_pool.proofs.Definitions.{extension-named}

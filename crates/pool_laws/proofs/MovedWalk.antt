@@ -16,7 +16,8 @@ use Rattle.record_walk.specs.declared.counts.Counts.{Counts}
 use Rattle.record_walk.specs.Counts.{counted, counting}
 use Rattle.record_walk.specs.Declarations.{in_file, enum_walk, enums_walk, service_walk, services_walk, message_front, message_end, message_walk, nested_walk, messages_walk, file_walk, declarations}
 use Rattle.record_walk.specs.Protos.{Proto, of_message, of_field, of_oneof, of_service, of_method, of_enum, of_value, of_extension, name_of}
-use Rattle.record_walk.specs.Shown.{Shown, Surrounding, shown, step, row, parts, inside, beside}
+use Rattle.record_walk.specs.Shown.{Shown, Surrounding, shown, row, parts, inside, beside}
+use Rattle.proto_types.specs.Paths.{entry_path}
 use Rattle.record_walk.proofs.Paths.{one-file}
 use Rattle.pool_laws.proofs.Moved.{Moved, AllMoved}
 use Rattle.pool_laws.proofs.Paired.{paired-append, paired-four}
@@ -31,7 +32,7 @@ module _ (number : ℕ → ℕ) where
   shown-moved : (here there : Surrounding) → Around here there → (tag : ℤ) (position i j : ℕ) (proto : Proto) → Moved number (shown here tag position i proto) (shown there tag position j proto)
   shown-moved here there around tag position i j proto = record {
     file = around.file;
-    path = λ k. step (around.path k) tag position;
+    path = λ k. entry_path (around.path k) tag position;
     full_name = λ k. join (around.scope k) (name_of proto);
     proto = refl;
   }

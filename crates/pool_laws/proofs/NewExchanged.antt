@@ -14,13 +14,13 @@ use Rattle.pool_types.specs.declared.contents.extension.ExtensionDescriptorInner
 use Rattle.record_walk.specs.Protos.{Proto, of_extension, as_extension}
 use Rattle.record_walk.specs.Shown.{Shown}
 use Rattle.name_resolution.specs.declared.filter.ResolveNameFilter.TheVariants.{Message}
-use Rattle.name_resolution.specs.Kinds.{is_match}
+use Rattle.name_resolution.specs.Filter.{is_match}
 use Rattle.name_resolution.specs.References.{reference_fault}
 use Rattle.name_resolution.specs.Resolution.{Resolution, found}
-use Rattle.pool_contents.specs.Extended.{has_number}
+use Rattle.pool_types.specs.Extension.{has_number}
 use Rattle.descriptor_pool.proofs.Resolved.{all-append}
 use Rattle.reference_pass.specs.Items.{extension_item, extension_items}
-use Rattle.reference_pass.specs.Messages.{index_or_max, message_found, message_index}
+use Rattle.reference_pass.specs.References.{index_or_max, message_found, message_index}
 use Rattle.reference_pass.specs.SecondPass.{owner_faults}
 use Rattle.reference_pass.specs.Setting.{Setting, resolve}
 use Rattle.reference_pass.proofs.Steps.{made-append}

@@ -7,12 +7,12 @@ use Rattle.std.specs.BTreeSet.{BTreeSet, contains_by}
 use Rattle.std.specs.FinMap as finite
 use Rattle.std.specs.List.{Contains, flat_map}
 use Rattle.std.specs.Ordering.{nat_cmp}
-use Rattle.proto_types.specs.EmptyFile.{no_file}
+use Rattle.proto_types.specs.File.{no_file, file_at}
 use Rattle.proto_types.specs.declared.file.FileDescriptorProto.{FileDescriptorProto}
 use Rattle.pool_types.specs.Contents.{Contents, files_of}
 use Rattle.name_tables.specs.Entries.{first_of, names_with}
 use Rattle.name_tables.proofs.Entries.{get-with, with-more}
-use Rattle.name_resolution.specs.Visibility.{file_at, seen_from}
+use Rattle.name_resolution.specs.Visibility.{seen_from}
 use Rattle.record_walk.specs.Counts.{counted, counts_in}
 use Rattle.record_walk.specs.Declarations.{declarations}
 use Rattle.record_walk.specs.Shown.{Shown}
@@ -28,8 +28,8 @@ use Rattle.pool_laws.specs.SettingLaws.{ImportsStay, NamesFiles}
 use Rattle.reference_pass.proofs.Unbroken.{AllNew, all-new-parts, both-empty, owners-apart}
 use Rattle.pool_laws.proofs.SeenStays.{seen-stays}
 use Rattle.pool_contents.proofs.Each.{each-append, each-same, length-each}
-use Rattle.name_pass.specs.Entered.{file_entries, file_entries_of}
-use Rattle.descriptor_pool.specs.Linking.{declared_with, reference_faults, setting_with, with_names}
+use Rattle.name_pass.specs.Names.{file_entries, file_entries_of}
+use Rattle.descriptor_pool.specs.Build.{declared_with, reference_faults, setting_with, with_names}
 use Rattle.descriptor_pool.proofs.Sound.{Known}
 use Rattle.pool_laws.proofs.Relinks.{first-kept, known-imports, long-pool, long-with, old_seen, slice-front}
 use Rattle.pool_laws.proofs.Behind.{keys, mean-with, new-sees, old-sees, position-behind, seen-within, slice-rest}

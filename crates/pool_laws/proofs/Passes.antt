@@ -8,7 +8,7 @@ use Rattle.pool_types.specs.Contents.{ByText, Contents}
 use Rattle.name_tables.specs.Entries.{first_of}
 use Rattle.record_walk.specs.Changed.{Changes, KeepNames, changed}
 use Rattle.record_walk.specs.Shown.{Shown}
-use Rattle.name_pass.specs.Syntaxes.{syntax_at}
+use Rattle.pool_types.specs.Syntaxes.{syntax_at}
 use Rattle.reference_pass.specs.SecondPass.{owner_faults}
 use Rattle.reference_pass.specs.Linked.{linking}
 use Rattle.reference_pass.specs.Setting.{Setting}
@@ -19,7 +19,7 @@ use Rattle.pool_laws.proofs.Carries.{Carries}
 use Rattle.pool_laws.proofs.Declarations.{all-mean, declaration-carried}
 use Rattle.pool_laws.proofs.FirstPass.{first-again, holder-more}
 use Rattle.reference_pass.proofs.Unbroken.{both-empty}
-use Rattle.name_pass.specs.Entered.{entries, file_entries, file_entries_of}
+use Rattle.name_pass.specs.Names.{entries, file_entries, file_entries_of}
 use Rattle.name_pass.specs.FirstPass.{first_faults, holder}
 use Rattle.std.proofs.lemmas.Grind.{flat_map-append}
 use Rattle.descriptor_pool.proofs.Declared.{entries-append, entries-changed, file-entries-changed}

@@ -9,7 +9,7 @@ use Rattle.record_walk.specs.Shown.{Shown}
 use Rattle.reference_pass.specs.SecondPass.{Faults, owner_faults, owners_faults}
 use Rattle.reference_pass.proofs.Owners.{owners-tell}
 use Rattle.reference_pass.proofs.Unbroken.{both-empty, owners-apart, owners-behind}
-use Rattle.descriptor_pool.specs.Linking.{name_faults, reference_faults}
+use Rattle.descriptor_pool.specs.Build.{name_faults, reference_faults}
 use Rattle.descriptor_pool.specs.Pool.{Made}
 use Rattle.pool_laws.proofs.ExchangedSetting as exchanged
 use Rattle.pool_laws.proofs.MessagesApart.{NamesExtendee, messages-apart, old-extendees, old-stays}

@@ -23,7 +23,7 @@ use Rattle.record_walk.specs.Fits.{counts_with}
 use Rattle.record_walk.specs.Protos.{Proto, as_enum, as_extension, as_message, as_service}
 use Rattle.record_walk.specs.Shown.{Shown, of_kind}
 use Rattle.record_walk.proofs.Changed.{declare-changed}
-use Rattle.name_pass.specs.Syntaxes.{syntax_at}
+use Rattle.pool_types.specs.Syntaxes.{syntax_at}
 use Rattle.field_rules.specs.EnumItems.{enum_item}
 use Rattle.plain_data.specs.Each.{map_enumerated}
 use Rattle.reference_pass.specs.SecondPass.{owner_faults, second_pass}
@@ -39,7 +39,7 @@ use Rattle.pool_laws.proofs.Carries.{Carries}
 use Rattle.pool_contents.specs.Extended.{extended_by, with_extended}
 use Rattle.pool_contents.proofs.Each.{each-all, each-append, each-map, each-same}
 use Rattle.name_pass.specs.FirstPass.{first_faults, first_pass, holder}
-use Rattle.descriptor_pool.specs.Linking.{declared_with, linked_with, name_faults, reference_faults, setting_with, with_items, with_names}
+use Rattle.descriptor_pool.specs.Build.{declared_with, with_batch, name_faults, reference_faults, setting_with, with_items, with_names}
 use Rattle.descriptor_pool.specs.Extensions.{ListsAreWhole, bare}
 use Rattle.descriptor_pool.specs.Invariant.{IsPool}
 use Rattle.descriptor_pool.specs.Pool.{Made, empty, linked_to, new_files}
@@ -90,10 +90,10 @@ seen-kept q was =
     ∙ each-same (λ n f. (file_item (reread q) n f).transitive_dependencies) (λ n _. seen_in q n) 0 (files_of q) (λ n f _ to. sees-is q n (omega (arith, to)))
 
 -- a pool that is relinked, and new files that break nothing behind it
-module _ (q : Contents) (new : List FileDescriptorProto) (before : Known q) (was : Relinked q) (after : Known (linked_with q new))
+module _ (q : Contents) (new : List FileDescriptorProto) (before : Known q) (was : Relinked q) (after : Known (with_batch q new))
     (first : name_faults q new ≡ []) (second : reference_faults q new ≡ []) where
   abbrev p : Contents
-  p = linked_with q new
+  p = with_batch q new
 
   abbrev s : Setting
   s = setting_with q new
@@ -227,7 +227,7 @@ all-new (f ∷ fs) =
     ∙ ap (λ gs. f ∷ gs) (all-new fs)
 
 -- what linking makes of the files of a pool behind nothing is the pool
-linked-again : (p : Contents) → Known p → ListsAreWhole p → Relinked p → linked_with no_contents (files_of p) ≡ p
+linked-again : (p : Contents) → Known p → ListsAreWhole p → Relinked p → with_batch no_contents (files_of p) ≡ p
 linked-again p known lists again =
     let ds = declared p in
     let setting = setting-again p known in
@@ -256,5 +256,5 @@ relinked p pool =
     let second = ap (λ s. second_pass s [] (declared p)) (setting-again p known) ∙ owners-tell (reread p) [] no_counts fs ∙ owners-behind (reread p) [] (declared p) again.second new in (
       (ap (name_faults no_contents) (all-new fs) ∙ again.first, ap (reference_faults no_contents) (all-new fs) ∙ second),
       subst (λ new. IsOk (counts_with no_counts new)) (sym (all-new fs)) (fits_again p pool),
-      ap (linked_with no_contents) (all-new fs) ∙ linked-again p known whole.lists again,
+      ap (with_batch no_contents) (all-new fs) ∙ linked-again p known whole.lists again,
     )

@@ -7,14 +7,14 @@ use Rattle.std.specs.FinMap as finite
 use Rattle.std.specs.List.{Contains, flat_map}
 use Rattle.std.specs.Option.{IfSome, option_and_then, option_or}
 use Rattle.plain_data.specs.Lists.{only_if}
-use Rattle.proto_types.specs.EmptyFile.{no_file}
+use Rattle.proto_types.specs.File.{no_file, file_at}
 use Rattle.proto_types.specs.declared.file.FileDescriptorProto.{FileDescriptorProto}
 use Rattle.pool_types.specs.Contents.{ByText, Contents, files_of, no_contents}
 use Rattle.pool_types.specs.declared.contents.definition.Definition.{Definition}
 use Rattle.pool_faults.specs.declared.fault.DescriptorErrorKind.{DescriptorErrorKind}
 use Rattle.name_tables.specs.Entries.{first_of, names_with}
 use Rattle.name_tables.proofs.Entries.{get-with, with-names}
-use Rattle.name_resolution.specs.Visibility.{file_at, seen_from}
+use Rattle.name_resolution.specs.Visibility.{seen_from}
 use Rattle.record_walk.specs.declared.counts.Counts.{Counts}
 use Rattle.record_walk.specs.Changed.{changed_files}
 use Rattle.record_walk.specs.Counts.{counted, no_counts}
@@ -23,18 +23,18 @@ use Rattle.record_walk.specs.Leads.{leads}
 use Rattle.record_walk.specs.Protos.{as_enum, as_message}
 use Rattle.record_walk.specs.Shown.{Shown}
 use Rattle.record_walk.proofs.Paths.{one-file}
-use Rattle.name_pass.specs.Syntaxes.{syntax_of}
+use Rattle.pool_types.specs.Syntaxes.{syntax_of}
 use Rattle.plain_data.specs.Each.{map_enumerated}
 use Rattle.reference_pass.specs.SecondPass.{owner_faults}
-use Rattle.reference_pass.specs.Definitions.{declaration_path, message_record, record_of}
+use Rattle.reference_pass.specs.Declared.{declaration_path, message_record, record_of}
 use Rattle.reference_pass.specs.Imports.{import_faults, missing_file}
 use Rattle.reference_pass.specs.Linked.{linking}
 use Rattle.reference_pass.specs.Setting.{Setting, seen_by}
 use Rattle.pool_laws.specs.SettingLaws.{ImportsStay, NamesFiles, RangesStay, Rereads}
 use Rattle.reference_pass.proofs.Unbroken.{both-empty}
 use Rattle.pool_laws.proofs.SeenStays.{seen-stays}
-use Rattle.name_pass.specs.Entered.{entries, file_entries}
-use Rattle.descriptor_pool.specs.Linking.{declared_with, linked_with, setting_with, with_names}
+use Rattle.name_pass.specs.Names.{entries, file_entries}
+use Rattle.descriptor_pool.specs.Build.{declared_with, with_batch, setting_with, with_names}
 use Rattle.descriptor_pool.proofs.Declared.{files-linked, known_file_names, known_names}
 use Rattle.descriptor_pool.proofs.Files.{file-names-before, names-before}
 use Rattle.descriptor_pool.proofs.Sound.{Known}
@@ -176,9 +176,9 @@ first-kept None other some = absurd (cc)
 first-kept (Some x) other some = refl
 
 -- a pool, and what new files make of it
-module _ (q : Contents) (new : List FileDescriptorProto) (before : Known q) (after : Known (linked_with q new)) where
+module _ (q : Contents) (new : List FileDescriptorProto) (before : Known q) (after : Known (with_batch q new)) where
   abbrev p : Contents
-  p = linked_with q new
+  p = with_batch q new
 
   abbrev s : Setting
   s = setting_with q new

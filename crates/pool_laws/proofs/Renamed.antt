@@ -8,7 +8,7 @@ use Rattle.std.specs.Ordering.{nat_cmp}
 use Rattle.std.specs.Prelude.{slice_get}
 use Rattle.proto_types.specs.Names.{first_part, is_dot, join}
 use Rattle.pool_types.specs.Contents.{ByText}
-use Rattle.pool_types.specs.DefinitionKinds.{is_parent}
+use Rattle.pool_types.specs.Definition.{is_parent}
 use Rattle.pool_types.specs.declared.contents.definition.Definition.{Definition}
 use Rattle.pool_types.specs.declared.contents.definition.DefinitionKind.{DefinitionKind}
 use Rattle.pool_types.specs.declared.contents.definition.DefinitionKind.TheVariants as definition
@@ -16,11 +16,11 @@ use Rattle.record_walk.specs.declared.declaration.DeclarationKind.{DeclarationKi
 use Rattle.record_walk.specs.declared.declaration.DeclarationKind.TheVariants as declaration
 use Rattle.name_resolution.specs.declared.filter.ResolveNameFilter.{ResolveNameFilter}
 use Rattle.name_resolution.specs.declared.filter.ResolveNameFilter.TheVariants as filter
-use Rattle.name_resolution.specs.Kinds.{is_match}
+use Rattle.name_resolution.specs.Filter.{is_match}
 use Rattle.name_resolution.specs.Parents.{outer}
 use Rattle.name_resolution.specs.Resolution.{Resolution, found, invalid_type, not_imported, not_found, is_found, is_not_found, or_shadowed, has_dot, look, simple, holds_first, dotted, relative, resolution}
 use Rattle.name_resolution.proofs.Outward.{answers}
-use Rattle.reference_pass.specs.Definitions.{found_as}
+use Rattle.reference_pass.specs.Declared.{found_as}
 use Rattle.reference_pass.specs.Setting.{Setting, resolve, seen_by}
 use Rattle.pool_laws.proofs.Fewer.{none-later}
 use Rattle.pool_laws.proofs.Looked.{answer}

@@ -33,18 +33,18 @@ use Rattle.record_walk.specs.Protos.{Proto, as_enum, as_message, of_file, of_mes
 use Rattle.record_walk.specs.Shown.{Shown, inside}
 use Rattle.name_resolution.specs.declared.filter.ResolveNameFilter.{ResolveNameFilter}
 use Rattle.name_resolution.specs.declared.filter.ResolveNameFilter.TheVariants as filter
-use Rattle.name_resolution.specs.Kinds.{named_kind, simple_kind}
+use Rattle.pool_types.specs.Kinds.{named_kind, simple_kind}
 use Rattle.name_resolution.specs.References.{reference_fault}
 use Rattle.name_resolution.specs.Resolution.{Resolution, found, is_found, kind_found}
 use Rattle.field_rules.specs.Defaults.{DefaultEnum, default_faults}
 use Rattle.field_rules.specs.Duplicates.{duplicate_faults}
-use Rattle.field_rules.specs.Places.{field_at}
-use Rattle.reference_pass.specs.Defaults.{enum_found, no_enum_meant, type_enum, field_default_faults}
-use Rattle.reference_pass.specs.Definitions.{found_as, declaration_path, record_of, message_record}
-use Rattle.reference_pass.specs.Extensions.{number_faults}
-use Rattle.reference_pass.specs.FieldTypes.{field_kind, type_faults, resolve_type}
+use Rattle.record_walk.specs.Place.{field_at}
+use Rattle.reference_pass.specs.Defaults.{enum_found, no_default_enum, type_enum, field_default_faults}
+use Rattle.reference_pass.specs.Declared.{found_as, declaration_path, record_of, message_record}
+use Rattle.reference_pass.specs.Extension.{number_faults}
+use Rattle.reference_pass.specs.Types.{field_kind, type_faults, resolve_type}
 use Rattle.reference_pass.specs.Imports.{import_faults, missing_file}
-use Rattle.reference_pass.specs.Messages.{method_at, resolve_message}
+use Rattle.reference_pass.specs.References.{method_at, resolve_message}
 use Rattle.reference_pass.specs.SecondPass.{Faults, extension_faults, field_faults, method_faults, owner_faults}
 use Rattle.reference_pass.specs.Setting.{Setting, resolve, seen_by}
 use Rattle.reference_pass.proofs.Unbroken.{all-parts, both-empty, extension-parts, untaken}
@@ -208,8 +208,8 @@ module _ (s t : Setting) (many : ℕ) (number : ℕ → ℕ) (renames : Renames 
           | [] ↦ only_if (not (is_some (simple_kind (type_of f.type_)))) (MissingRequiredField (label_in s.files d.file at))
           | _ ∷ _ ↦ listed (reference_fault s.files name d.file at (resolve_type s d f))
         ] in
-            let old : DefaultEnum = elim text [ [] ↦ no_enum_meant | _ ∷ _ ↦ enum_found s (resolve_type s d f) ] in
-            let new : DefaultEnum = elim text [ [] ↦ no_enum_meant | _ ∷ _ ↦ enum_found t (resolve_type t e f) ] in faults ≡ [] → new ≡ old
+            let old : DefaultEnum = elim text [ [] ↦ no_default_enum | _ ∷ _ ↦ enum_found s (resolve_type s d f) ] in
+            let new : DefaultEnum = elim text [ [] ↦ no_default_enum | _ ∷ _ ↦ enum_found t (resolve_type t e f) ] in faults ≡ [] → new ≡ old
         by-name [] none = refl
         by-name (c ∷ cs) none =
             found-meant (resolve_type s d f) (resolve_type t e f) (faultless s.files name d.file at (resolve_type s d f) none)

@@ -10,7 +10,7 @@ use Rattle.record_walk.specs.Declarations.{declarations}
 use Rattle.record_walk.specs.Fits.{counts_with}
 use Rattle.record_walk.proofs.Counted.{both, both-assoc, both-comm, both-nothing}
 use Rattle.record_walk.proofs.Tallies.{declarations-tally, file_tally, files_tally}
-use Rattle.descriptor_pool.specs.Linking.{linked_with, name_faults, reference_faults}
+use Rattle.descriptor_pool.specs.Build.{with_batch, name_faults, reference_faults}
 use Rattle.descriptor_pool.specs.Pool.{Accepts, Batch, Fits, Made, has_file, link, new_files}
 use Rattle.pool_laws.specs.Order.{Reorders, SameButNumbers}
 use Rattle.pool_laws.proofs.ExchangedBatch.{by-exchanges}
@@ -91,7 +91,7 @@ module _ (p : Contents) where
   record Onward (fs gs : List FileDescriptorProto) : Type 0 where
     names : name_faults p gs ≡ []
     references : reference_faults p gs ≡ []
-    same : SameButNumbers (linked_with p fs) (linked_with p gs)
+    same : SameButNumbers (with_batch p fs) (with_batch p gs)
 
   module _ (made : Made p) where
     -- new files of which two parts are exchanged

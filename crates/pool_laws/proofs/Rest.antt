@@ -20,7 +20,7 @@ use Rattle.record_walk.specs.Shown.{Shown}
 use Rattle.name_resolution.specs.Resolution.{resolution}
 use Rattle.plain_data.specs.Each.{map_enumerated}
 use Rattle.reference_pass.specs.SecondPass.{owner_faults, owners_faults}
-use Rattle.reference_pass.specs.Definitions.{declaration_path}
+use Rattle.reference_pass.specs.Declared.{declaration_path}
 use Rattle.reference_pass.specs.Items.{extension_item, extension_items, file_item}
 use Rattle.reference_pass.specs.Linked.{linking}
 use Rattle.reference_pass.specs.Setting.{Setting, seen_by}
@@ -31,9 +31,9 @@ use Rattle.pool_laws.proofs.AsGiven.{given-carried}
 use Rattle.pool_laws.proofs.Declarations.{all-mean}
 use Rattle.pool_laws.proofs.Unchanged.{declarations-unchanged, unchanged-keeps}
 use Rattle.pool_contents.proofs.Each.{each-map, each-same}
-use Rattle.name_pass.specs.Entered.{entries, file_entries}
+use Rattle.name_pass.specs.Names.{entries, file_entries}
 use Rattle.name_pass.specs.FirstPass.{first_faults}
-use Rattle.descriptor_pool.specs.Linking.{declared_with, linked_with, name_faults, reference_faults, setting_with, with_items, with_names}
+use Rattle.descriptor_pool.specs.Build.{declared_with, with_batch, name_faults, reference_faults, setting_with, with_items, with_names}
 use Rattle.descriptor_pool.proofs.Declared.{counts-with, entries-append, items-of-files}
 use Rattle.descriptor_pool.proofs.Files.{counted-files, lie-between}
 use Rattle.descriptor_pool.proofs.Listed.{counts-extended}
@@ -52,7 +52,7 @@ module _ (p : Contents) (entered : Known p) (again : Relinked p) (front back : L
     (closed : AllKnown front (finite.get (with_names p (declared_with p front)).file_names)) where
   -- the pool with the first part, and what the second is read against behind it
   abbrev pub grown : Contents
-  grown = linked_with p front
+  grown = with_batch p front
 
   abbrev pub behind : Setting
   behind = setting_with grown back

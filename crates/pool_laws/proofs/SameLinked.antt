@@ -3,17 +3,16 @@ use Rattle.std.proofs.Common.{◌≡◌, ◌≤◌, ◌<◌, ◌+◌, inl, inr, 
 use Rattle.std.proofs.lemmas.Bool.{cases_lt}
 use Rattle.std.specs.FinMap as finite
 use Rattle.std.specs.Option.{option_and_then, option_map}
-use Rattle.proto_types.specs.EmptyFile.{no_file}
+use Rattle.proto_types.specs.File.{no_file, file_at}
 use Rattle.proto_types.specs.Readers.{text_of}
 use Rattle.proto_types.specs.declared.file.FileDescriptorProto.{FileDescriptorProto}
 use Rattle.pool_types.specs.Contents.{Contents, files_of}
 use Rattle.pool_types.specs.declared.contents.definition.Definition.{Definition}
 use Rattle.record_walk.specs.declared.declaration.DeclarationKind.{DeclarationKind}
 use Rattle.record_walk.specs.Changed.{Changes, changed_file, changed_files}
-use Rattle.name_resolution.specs.Visibility.{file_at}
 use Rattle.reference_pass.specs.Linked.{linked, linking}
 use Rattle.reference_pass.specs.Setting.{Setting}
-use Rattle.descriptor_pool.specs.Linking.{linked_with, setting_with}
+use Rattle.descriptor_pool.specs.Build.{with_batch, setting_with}
 use Rattle.descriptor_pool.specs.Pool.{Made}
 use Rattle.descriptor_pool.proofs.Sound.{Known, link-known, made-sound}
 use Rattle.pool_laws.specs.Order.{SameButNumbers, kind_alone, record_named, without_numbers}
@@ -46,18 +45,18 @@ changed-behind c i (f ∷ before) fs (suc n) from =
 
 -- the files of a pool with new ones: those that it had, and behind them the new ones linked
 module _ (p : Contents) (before : Known p) (new : List FileDescriptorProto) where
-  abbrev after : Known (linked_with p new)
+  abbrev after : Known (with_batch p new)
   after = link-known p new before
 
   abbrev against : Setting
   against = setting_with p new
 
-  old-at : (n : ℕ) → n < length p.files → slice_get (files_of (linked_with p new)) n ≡ slice_get (files_of p) n
+  old-at : (n : ℕ) → n < length p.files → slice_get (files_of (with_batch p new)) n ≡ slice_get (files_of p) n
   old-at n below =
       let long = long-pool p in
       ap (λ gs. slice_get gs n) (files-are p new before after) ∙ slice-front (files_of p) (changed_files (linking against) (length p.files) new) n (omega (arith, below, long))
 
-  new-at : (n : ℕ) → length p.files ≤ n → slice_get (files_of (linked_with p new)) n ≡ option_map (linked against n) (slice_get against.files n)
+  new-at : (n : ℕ) → length p.files ≤ n → slice_get (files_of (with_batch p new)) n ≡ option_map (linked against n) (slice_get against.files n)
   new-at n from =
       let long = long-pool p in
       let start : length p.files ≡ 0 + length (files_of p) = omega (arith, long) in
@@ -87,10 +86,10 @@ module _ (p : Contents) (made : Made p) (fs gs : List FileDescriptorProto) (numb
   many = length p.files + length fs
 
   abbrev one : Contents
-  one = linked_with p fs
+  one = with_batch p fs
 
   abbrev other : Contents
-  other = linked_with p gs
+  other = with_batch p gs
 
   abbrev known : Known p
   known = (made-sound p made).known

@@ -8,10 +8,10 @@ use Rattle.std.specs.Cmp.{nat_cmp_is}
 use Rattle.std.specs.List.{Contains, cons_option, filter, filter_map, list_any, range_with_len}
 use Rattle.std.specs.Option.{option_map}
 use Rattle.std.specs.Ordering.{is_eq, nat_cmp}
-use Rattle.proto_types.specs.EmptyFile.{no_file}
+use Rattle.proto_types.specs.File.{no_file, file_at}
 use Rattle.proto_types.specs.declared.file.FileDescriptorProto.{FileDescriptorProto}
 use Rattle.plain_data.specs.Lists.{at}
-use Rattle.name_resolution.specs.Visibility.{file_at, imports_of, public_imports_of, leads_publicly, sees, seen_from}
+use Rattle.name_resolution.specs.Visibility.{imports_of, public_imports_of, leads_publicly, sees, seen_from}
 use Rattle.name_resolution.proofs.Chains.{import-within}
 use Rattle.pool_laws.specs.SettingLaws.{NamesFiles}
 

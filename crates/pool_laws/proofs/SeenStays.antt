@@ -3,10 +3,10 @@ use Rattle.std.proofs.Common.{◌≡◌, ◌≤◌, ◌<◌, ◌+◌, ℕ, ℤ, 
 use Rattle.std.proofs.lemmas.List.{get_or_append_left, length-append}
 use Rattle.std.proofs.lemmas.Option.{slice_get_within, get_or_from_slice_get, unwrap_or-slice_get}
 use Rattle.std.specs.List.{filter, filter_map, range_with_len, Contains, cons_option}
-use Rattle.proto_types.specs.EmptyFile.{no_file}
+use Rattle.proto_types.specs.File.{no_file, file_at}
 use Rattle.proto_types.specs.declared.file.FileDescriptorProto.{FileDescriptorProto}
 use Rattle.plain_data.specs.Lists.{at}
-use Rattle.name_resolution.specs.Visibility.{file_at, imports_of, public_imports_of, Sees, sees, seen_from}
+use Rattle.name_resolution.specs.Visibility.{imports_of, public_imports_of, Sees, sees, seen_from}
 use Rattle.pool_laws.specs.SettingLaws.{ImportsStay, NamesFiles}
 use Rattle.name_resolution.proofs.Chains.{Sees-itself, Sees-import, Sees-public, Sees-least, Sees-from_test, Sees-tested, import-within}
 

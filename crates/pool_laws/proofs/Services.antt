@@ -12,7 +12,7 @@ use Rattle.name_resolution.specs.References.{reference_fault}
 use Rattle.reference_pass.specs.SecondPass.{Faults, method_faults, service_faults}
 use Rattle.reference_pass.specs.Items.{method_item, service_item}
 use Rattle.reference_pass.specs.Linked.{linked_method, linking}
-use Rattle.reference_pass.specs.Messages.{resolve_message, method_at, index_or_max}
+use Rattle.reference_pass.specs.References.{resolve_message, method_at, index_or_max}
 use Rattle.reference_pass.specs.Setting.{Setting}
 use Rattle.pool_laws.specs.SettingLaws.{IsService, service_at_place}
 use Rattle.pool_laws.proofs.Carries.{CarriesMethods}

@@ -17,17 +17,16 @@ use Rattle.pool_types.specs.declared.contents.oneof.OneofDescriptorInner.{OneofD
 use Rattle.record_walk.specs.Changed.{Changes}
 use Rattle.record_walk.specs.Protos.{of_oneof}
 use Rattle.record_walk.specs.Shown.{Shown, Surrounding, inside}
-use Rattle.name_pass.specs.Syntaxes.{is_proto3}
+use Rattle.pool_types.specs.Syntaxes.{is_proto3}
 use Rattle.plain_data.specs.Each.{map_enumerated}
 use Rattle.field_rules.specs.Identities.{identity, named_at}
-use Rattle.field_rules.specs.Places.{field_at, part_inside}
+use Rattle.record_walk.specs.Place.{field_at, part_inside}
 use Rattle.field_rules.specs.Encoding.{is_packed, supports_presence}
-use Rattle.field_rules.specs.Maps.{by_json_name, by_name, by_number}
-use Rattle.field_rules.specs.DuplicateNumbers.{item_number}
+use Rattle.field_rules.specs.Maps.{by_json_name, by_name, by_number, item_number}
 use Rattle.field_rules.specs.Oneofs.{members}
 use Rattle.reference_pass.specs.SecondPass.{Faults, field_faults}
 use Rattle.reference_pass.specs.Defaults.{field_default, field_default_faults}
-use Rattle.reference_pass.specs.FieldTypes.{field_kind, type_faults}
+use Rattle.reference_pass.specs.Types.{field_kind, type_faults}
 use Rattle.reference_pass.specs.Items.{field_item, item_of_kind, oneof_items}
 use Rattle.reference_pass.specs.Setting.{Setting}
 use Rattle.pool_laws.proofs.Carries.{Carries}

@@ -27,12 +27,12 @@ use Rattle.record_walk.specs.Walking.{Room, WithinLimits, within_file}
 use Rattle.record_walk.proofs.Counted.{counted-append, counted-plus}
 use Rattle.record_walk.proofs.Room.{room-fits}
 use Rattle.record_walk.proofs.Tallies.{declarations-tally}
-use Rattle.name_pass.specs.Syntaxes.{syntax_faults}
+use Rattle.name_pass.specs.Syntax.{syntax_faults}
 use Rattle.pool_laws.proofs.FirstPass.{holder-more}
 use Rattle.reference_pass.proofs.Unbroken.{both-empty}
-use Rattle.name_pass.specs.Entered.{entries, entries_of, file_entries, file_entries_of}
+use Rattle.name_pass.specs.Names.{entries, entries_of, file_entries, file_entries_of}
 use Rattle.name_pass.specs.FirstPass.{clashes, file_faults, file_name_faults, first_faults, holder, shape_faults}
-use Rattle.descriptor_pool.specs.Linking.{linked_with, name_faults, reference_faults}
+use Rattle.descriptor_pool.specs.Build.{with_batch, name_faults, reference_faults}
 use Rattle.descriptor_pool.specs.Invariant.{IsPool}
 use Rattle.descriptor_pool.specs.Pool.{Batch, has_file, link, new_files}
 use Rattle.descriptor_pool.proofs.Extendees.{made-whole}
@@ -168,7 +168,7 @@ splits p pool front back plain closed accepts =
     (held-as q gs is_new (λ name. ap is_some (get-with p.file_names (file_entries first) name))) in (
       (front_part.names-fine p entered again fs gs known alone names, front_part.references-fine p entered again fs gs known alone references),
       (ap (name_faults q) same ∙ rest_part.names-fine p entered again fs gs known names, ap (reference_faults q) same ∙ rest_part.references-fine p entered again fs gs known (front_part.extensions-same p entered again fs gs known alone references) references),
-      ap (linked_with q) same ∙ linked-joined p entered again fs gs known alone references (made-whole p pool.made) ∙ ap (linked_with p) (sym both),
+      ap (with_batch q) same ∙ linked-joined p entered again fs gs known alone references (made-whole p pool.made) ∙ ap (with_batch p) (sym both),
       λ fits.
           let room = room-fits (counts_in p) (fs ++ gs) (subst (λ new. IsOk (counts_with (counts_in p) new)) both fits) in
           let rooms = room-parts (counts_in p) first second (subst (Room (counts_in p)) (declared-both p entered again fs gs known) room) in (

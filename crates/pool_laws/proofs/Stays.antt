@@ -6,9 +6,10 @@ use Rattle.pool_types.specs.Contents.{Contents}
 use Rattle.name_resolution.proofs.Fronts.{no_dot}
 use Rattle.plain_data.specs.Each.{map_enumerated}
 use Rattle.reference_pass.specs.Items.{extension_items, message_items}
-use Rattle.pool_contents.specs.Extended.{extended_by, extending}
-use Rattle.name_pass.specs.Entered.{entries, file_entries}
-use Rattle.descriptor_pool.specs.Linking.{declared_with, setting_with}
+use Rattle.pool_contents.specs.Extended.{extended_by}
+use Rattle.pool_types.specs.Extension.{extending}
+use Rattle.name_pass.specs.Names.{entries, file_entries}
+use Rattle.descriptor_pool.specs.Build.{declared_with, setting_with}
 use Rattle.descriptor_pool.specs.Pool.{new_files}
 use Rattle.pool_laws.specs.Laws.{DotSaysNothing, EarlierStays}
 use Rattle.pool_laws.proofs.Relinks.{stays-known}

@@ -16,7 +16,7 @@ use Rattle.record_walk.specs.Counts.{counted, counting}
 use Rattle.record_walk.specs.Declarations.{enums_walk, file_walk, in_file, message_end, message_front, message_walk, messages_walk, nested_walk, service_walk, services_walk}
 use Rattle.record_walk.specs.Protos.{of_extension, of_message, of_service}
 use Rattle.record_walk.specs.Shown.{Shown, Surrounding, inside, row, shown}
-use Rattle.field_rules.specs.Places.{field_at}
+use Rattle.record_walk.specs.Place.{field_at}
 use Rattle.reference_pass.specs.SecondPass.{Faults, field_faults, owner_faults}
 use Rattle.reference_pass.specs.Linked.{linked, linked_extension, linked_field, linking}
 use Rattle.reference_pass.specs.Setting.{Setting}

@@ -18,10 +18,11 @@ use Rattle.pool_types.specs.declared.contents.definition.DefinitionKind.TheVaria
 use Rattle.record_walk.specs.Shown.{Shown}
 use Rattle.name_resolution.specs.declared.filter.ResolveNameFilter.{ResolveNameFilter}
 use Rattle.name_resolution.specs.declared.filter.ResolveNameFilter.TheVariants.{FieldType as AnyType}
-use Rattle.name_resolution.specs.Kinds.{is_match, named_kind, simple_kind}
+use Rattle.name_resolution.specs.Filter.{is_match}
+use Rattle.pool_types.specs.Kinds.{named_kind, simple_kind}
 use Rattle.name_resolution.specs.References.{reference_fault}
 use Rattle.name_resolution.specs.Resolution.{Resolution, found, kind_found, look}
-use Rattle.reference_pass.specs.FieldTypes.{field_kind, type_faults, resolve_type}
+use Rattle.reference_pass.specs.Types.{field_kind, type_faults, resolve_type}
 use Rattle.reference_pass.specs.Linked.{linked_field, type_number, typed}
 use Rattle.reference_pass.specs.Setting.{Setting, resolve, seen_by}
 use Rattle.pool_laws.specs.SettingLaws.{Grows, IsTyped}

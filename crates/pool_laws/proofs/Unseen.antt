@@ -24,8 +24,8 @@ use Rattle.record_walk.specs.Walking.{within_file}
 use Rattle.record_walk.proofs.Appended.{declarations-append}
 use Rattle.record_walk.proofs.Walks.{IsInside, within-all}
 use Rattle.pool_laws.specs.SettingLaws.{SeenAmong}
-use Rattle.name_pass.specs.Entered.{entries, entries_of, package_entry, packages}
-use Rattle.descriptor_pool.specs.Linking.{declared_with}
+use Rattle.name_pass.specs.Names.{entries, entries_of, package_entry, packages}
+use Rattle.descriptor_pool.specs.Build.{declared_with}
 use Rattle.descriptor_pool.specs.Invariant.{IsPool}
 use Rattle.descriptor_pool.proofs.Declared.{declared-behind, entries-append, known_names}
 use Rattle.descriptor_pool.proofs.Files.{counted-files, first-has, lie-from}

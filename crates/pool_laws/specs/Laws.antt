@@ -17,11 +17,12 @@ use Rattle.record_walk.specs.Counts.{counted, no_counts}
 use Rattle.record_walk.specs.Declarations.{file_walk}
 use Rattle.record_walk.specs.Protos.{name_of}
 use Rattle.record_walk.specs.Walking.{within_file}
-use Rattle.name_pass.specs.Entered.{entries}
+use Rattle.name_pass.specs.Names.{entries}
 use Rattle.pool_laws.specs.SettingLaws.{SeenAmong}
-use Rattle.descriptor_pool.specs.Linking.{declared_with, with_names}
+use Rattle.descriptor_pool.specs.Build.{declared_with, with_names}
 use Rattle.descriptor_pool.specs.Pool.{Accepts, Batch, Fits, has_file, link, new_files}
-use Rattle.pool_contents.specs.Extended.{Indexed, with_extensions}
+use Rattle.pool_contents.specs.Extended.{with_extensions}
+use Rattle.pool_types.specs.Extension.{Indexed}
 
 -- law: the linked files of a pool, linked at once from nothing, break nothing, fit, and make an
 -- equal pool
@@ -30,17 +31,17 @@ Relinks p = Accepts no_contents (files_of p) × Fits no_contents (files_of p)
     × (link no_contents (files_of p) ≡ p)
 
 -- a list, and what comes behind it
-abbrev pub Begins : {X : Type 0} → List X → List X → Type 0
-Begins {X} xs ys = (rest : List X) × (ys ≡ xs ++ rest)
+abbrev pub IsFrontOf : {X : Type 0} → List X → List X → Type 0
+IsFrontOf {X} xs ys = (rest : List X) × (ys ≡ xs ++ rest)
 
 -- what is in contents is in others as it was, save that further extensions extend a message
 pub record Keeps (p q : Contents) : Type 0 where
-  pub files : Begins p.files q.files
+  pub files : IsFrontOf p.files q.files
   pub messages : (n : ℕ) (m : MessageDescriptorInner) → slice_get p.messages n ≡ Some m
       → (more : List Indexed) × (slice_get q.messages n ≡ Some (with_extensions more m))
-  pub enums : Begins p.enums q.enums
-  pub services : Begins p.services q.services
-  pub extensions : Begins p.extensions q.extensions
+  pub enums : IsFrontOf p.enums q.enums
+  pub services : IsFrontOf p.services q.services
+  pub extensions : IsFrontOf p.extensions q.extensions
   pub names : (name : List ℕ) (def : Definition) → finite.get p.names name ≡ Some def
       → finite.get q.names name ≡ Some def
   pub file_names : (name : List ℕ) (n : ℕ) → finite.get p.file_names name ≡ Some n

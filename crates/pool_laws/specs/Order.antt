@@ -13,7 +13,7 @@ use Rattle.pool_types.specs.declared.contents.definition.DefinitionKind.{Definit
 use Rattle.pool_types.specs.declared.contents.definition.DefinitionKind.TheVariants as definition
 use Rattle.record_walk.specs.declared.declaration.DeclarationKind.{DeclarationKind}
 use Rattle.record_walk.specs.declared.declaration.DeclarationKind.TheVariants as declaration
-use Rattle.name_resolution.specs.Visibility.{file_at}
+use Rattle.proto_types.specs.File.{file_at}
 use Rattle.descriptor_pool.specs.Pool.{Accepts, Batch, Fits, link}
 
 -- the linked record of the file with a name

@@ -25,20 +25,21 @@ use Rattle.record_walk.specs.Declarations.{file_walk}
 use Rattle.record_walk.specs.Changed.{Changes, changed, changed_message, changed_service}
 use Rattle.record_walk.specs.Protos.{Proto, of_extension, of_file, of_message, of_service}
 use Rattle.record_walk.specs.Shown.{Shown}
-use Rattle.name_pass.specs.Syntaxes.{syntax_at}
+use Rattle.pool_types.specs.Syntaxes.{syntax_at}
 use Rattle.name_resolution.specs.declared.filter.ResolveNameFilter.{ResolveNameFilter}
 use Rattle.name_resolution.specs.References.{reference_fault}
 use Rattle.name_resolution.specs.Resolution.{found, resolution}
-use Rattle.name_resolution.specs.Visibility.{file_at, seen_from}
+use Rattle.name_resolution.specs.Visibility.{seen_from}
+use Rattle.proto_types.specs.File.{file_at}
 use Rattle.reference_pass.specs.Defaults.{field_default, field_default_faults}
-use Rattle.reference_pass.specs.Definitions.{enum_record, message_record}
-use Rattle.reference_pass.specs.FieldTypes.{field_kind, type_faults}
+use Rattle.reference_pass.specs.Declared.{enum_record, message_record}
+use Rattle.reference_pass.specs.Types.{field_kind, type_faults}
 use Rattle.field_rules.specs.EnumValues.{values_faults}
 use Rattle.reference_pass.specs.SecondPass.{extension_faults, message_faults, owner_faults, owners_faults, service_faults}
 use Rattle.reference_pass.specs.Imports.{import_faults}
 use Rattle.reference_pass.specs.Items.{extension_item, file_item, message_item, service_item}
 use Rattle.reference_pass.specs.Linked.{linked, linked_extension, linked_field, linking, resolved}
-use Rattle.reference_pass.specs.Messages.{message_found, resolve_message}
+use Rattle.reference_pass.specs.References.{message_found, resolve_message}
 use Rattle.reference_pass.specs.Setting.{Setting, resolve, seen_by}
 
 -- each name that means a file means one of them

@@ -1,5 +1,15 @@
--- What the kind of a field says.
+-- What the kind of a field says, and what kind a type has.
 use Rattle.std.specs.Prelude.{ℕ, Bool, true, false, List, codes}
+use Rattle.std.specs.declared.option.Option.{Option}
+use Rattle.std.specs.declared.option.Option.TheVariants.{None, Some}
+use Rattle.proto_types.specs.declared.records.field.FieldLabel.{FieldLabel}
+use Rattle.proto_types.specs.declared.records.field.FieldLabel.TheVariants as label
+use Rattle.proto_types.specs.declared.records.field.FieldType.{FieldType}
+use Rattle.proto_types.specs.declared.records.field.FieldType.TheVariants as written
+use Rattle.pool_types.specs.declared.contents.definition.DefinitionKind.{DefinitionKind}
+use Rattle.pool_types.specs.declared.contents.definition.DefinitionKind.TheVariants as definition
+use Rattle.pool_types.specs.declared.kinds.Cardinality.{Cardinality}
+use Rattle.pool_types.specs.declared.kinds.Cardinality.TheVariants as cardinality
 use Rattle.pool_types.specs.declared.kinds.KindIndex.{KindIndex}
 use Rattle.pool_types.specs.declared.kinds.KindIndex.TheVariants as index
 use Rattle.pool_types.specs.declared.kinds.Kind.{Kind}
@@ -60,3 +70,43 @@ kind_name index.Bytes = codes "bytes"
 kind_name (index.Message _) = codes "message"
 kind_name (index.Group _) = codes "message"
 kind_name (index.Enum _) = codes "enum"
+
+-- the kind of a type that names nothing else
+abbrev pub simple_kind : FieldType → Option KindIndex
+simple_kind written.Double = Some index.Double
+simple_kind written.Float = Some index.Float
+simple_kind written.Int64 = Some index.Int64
+simple_kind written.Uint64 = Some index.Uint64
+simple_kind written.Int32 = Some index.Int32
+simple_kind written.Fixed64 = Some index.Fixed64
+simple_kind written.Fixed32 = Some index.Fixed32
+simple_kind written.Bool = Some index.Bool
+simple_kind written.String = Some index.String
+simple_kind written.Group = None
+simple_kind written.Message = None
+simple_kind written.Bytes = Some index.Bytes
+simple_kind written.Uint32 = Some index.Uint32
+simple_kind written.Enum = None
+simple_kind written.Sfixed32 = Some index.Sfixed32
+simple_kind written.Sfixed64 = Some index.Sfixed64
+simple_kind written.Sint32 = Some index.Sint32
+simple_kind written.Sint64 = Some index.Sint64
+
+-- the kind of a type that names this definition, which wins over the type as it is written
+abbrev pub named_kind : FieldType → DefinitionKind → Option KindIndex
+named_kind written.Group (definition.Message m) = Some (index.Group m)
+named_kind _ (definition.Message m) = Some (index.Message m)
+named_kind _ (definition.Enum e) = Some (index.Enum e)
+named_kind _ _ = None
+
+-- how often a field with the label stands in a message
+abbrev pub cardinality_of : FieldLabel → Cardinality
+cardinality_of label.Optional = cardinality.Optional
+cardinality_of label.Required = cardinality.Required
+cardinality_of label.Repeated = cardinality.Repeated
+
+-- how often a field stands in a message, as a number: greater for what may stand more often
+abbrev pub rank : Cardinality → ℕ
+rank cardinality.Optional = 0
+rank cardinality.Required = 1
+rank cardinality.Repeated = 2

@@ -1,6 +1,7 @@
 pub mod Kinds
-pub mod Ranks
-pub mod DefinitionKinds
+pub mod Definition
+pub mod Syntaxes
 pub mod Contents
 pub mod ContentsCode
-pub mod Equality
+pub mod Extension
+pub mod Exact

@@ -1,7 +1,9 @@
 ghost use Rattle.std.specs.Prelude.{◌≡◌, ⊤};
-ghost use Rattle.pool_types.specs.Kinds.{is_packable, is_message, kind_of, kind_name};
+ghost use Rattle.pool_types.specs.Kinds.{is_packable, is_message, kind_of, kind_name, simple_kind, named_kind, cardinality_of};
 
+use crate::contents::DefinitionKind;
 use crate::indexes::{EnumDescriptor, MessageDescriptor};
+use proto_types::{FieldLabel, FieldType};
 use std::alloc::AllocError;
 use std::cmp::Ordering;
 use std::fmt;
@@ -22,7 +24,7 @@ pub enum Cardinality {
 }
 
 impl Cardinality {
-    ghost use Rattle.pool_types.specs.Ranks.{rank};
+    ghost use Rattle.pool_types.specs.Kinds.{rank};
 
     fn rank(self) -> u8
         ensures { result ≡ rank self }
@@ -39,7 +41,7 @@ impl Ord for Cardinality {
     ghost use Rattle.std.proofs.Common.{rules};
     ghost use Rattle.std.specs.Cmp.Rules.{comparing};
     ghost use Rattle.std.specs.Ordering.{nat_cmp, on};
-    ghost use Rattle.pool_types.specs.Ranks.{rank};
+    ghost use Rattle.pool_types.specs.Kinds.{rank};
 
     ghost cmp = { on rank nat_cmp };
 
@@ -59,7 +61,7 @@ impl PartialOrd for Cardinality {
     ghost use Rattle.std.specs.Cmp.{partial_order_from_own_ties};
     ghost use Rattle.std.specs.Cmp.Rules.{comparing};
     ghost use Rattle.std.specs.Ordering.{nat_cmp, on, as_partial_cmp};
-    ghost use Rattle.pool_types.specs.Ranks.{rank};
+    ghost use Rattle.pool_types.specs.Kinds.{rank};
 
     ghost partial_cmp = { as_partial_cmp (on rank nat_cmp) };
 
@@ -206,5 +208,55 @@ impl fmt::Debug for KindIndex {
     fn fmt<W: fmt::Write>(&self, f: &mut fmt::Formatter<W>) -> fmt::Result {
         let name = self.name();
         write!(f, "{name}")
+    }
+}
+
+/// The kind of a type that names nothing else; none of a group, a message or an enum.
+pub fn simple_kind(written: FieldType) -> Option<KindIndex>
+    ensures { result ≡ simple_kind written }
+{
+    match written {
+        FieldType::Double => Some(KindIndex::Double),
+        FieldType::Float => Some(KindIndex::Float),
+        FieldType::Int64 => Some(KindIndex::Int64),
+        FieldType::Uint64 => Some(KindIndex::Uint64),
+        FieldType::Int32 => Some(KindIndex::Int32),
+        FieldType::Fixed64 => Some(KindIndex::Fixed64),
+        FieldType::Fixed32 => Some(KindIndex::Fixed32),
+        FieldType::Bool => Some(KindIndex::Bool),
+        FieldType::String => Some(KindIndex::String),
+        FieldType::Bytes => Some(KindIndex::Bytes),
+        FieldType::Uint32 => Some(KindIndex::Uint32),
+        FieldType::Sfixed32 => Some(KindIndex::Sfixed32),
+        FieldType::Sfixed64 => Some(KindIndex::Sfixed64),
+        FieldType::Sint32 => Some(KindIndex::Sint32),
+        FieldType::Sint64 => Some(KindIndex::Sint64),
+        FieldType::Group | FieldType::Message | FieldType::Enum => None,
+    }
+}
+
+/// The kind of a type that names this definition, which wins over the type as it is written; none
+/// where the definition is no message and no enum.
+pub fn named_kind(written: FieldType, definition: DefinitionKind) -> Option<KindIndex>
+    ensures { result ≡ named_kind written definition }
+{
+    match definition {
+        DefinitionKind::Message(index) => match written {
+            FieldType::Group => Some(KindIndex::Group(index)),
+            _ => Some(KindIndex::Message(index)),
+        },
+        DefinitionKind::Enum(index) => Some(KindIndex::Enum(index)),
+        _ => None,
+    }
+}
+
+/// How often a field with the label stands in a message.
+pub fn cardinality_of(label: FieldLabel) -> Cardinality
+    ensures { result ≡ cardinality_of label }
+{
+    match label {
+        FieldLabel::Optional => Cardinality::Optional,
+        FieldLabel::Required => Cardinality::Required,
+        FieldLabel::Repeated => Cardinality::Repeated,
     }
 }

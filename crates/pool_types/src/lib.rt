@@ -7,6 +7,7 @@ mod default_value;
 mod exact;
 mod indexes;
 mod kinds;
+mod syntaxes;
 
 pub use contents::{
     Definition, DefinitionKind, EnumDescriptorInner, EnumValueDescriptorInner,
@@ -18,4 +19,7 @@ pub use indexes::{
     EnumDescriptor, EnumValueDescriptor, ExtensionDescriptor, FieldDescriptor, FileDescriptor,
     MessageDescriptor, MethodDescriptor, OneofDescriptor, ServiceDescriptor,
 };
-pub use kinds::{Cardinality, Kind, KindIndex, Syntax};
+pub use kinds::{
+    Cardinality, Kind, KindIndex, Syntax, cardinality_of, named_kind, simple_kind,
+};
+pub use syntaxes::{known_syntax, syntax_at, syntax_of};

@@ -1,6 +1,11 @@
 pub mod Names
+pub mod Paths
 pub mod Readers
-pub mod Empty
-pub mod Equality
-pub mod EmptyFile
+pub mod File
+pub mod Message
+pub mod Field
+pub mod Enumeration
+pub mod Service
+pub mod Source
+pub mod Exact
 pub mod Computed

@@ -1,5 +1,5 @@
 ghost use Rattle.std.specs.Prelude.{◌≡◌, IfOk};
-ghost use Rattle.proto_types.specs.EmptyFile.{no_file, no_file_set};
+ghost use Rattle.proto_types.specs.File.{no_file, no_file_set};
 ghost use Rattle.proto_types.specs.Readers.{text_of};
 
 use crate::message::DescriptorProto;

@@ -1,5 +1,5 @@
 ghost use Rattle.std.specs.Prelude.{◌≡◌, IfOk};
-ghost use Rattle.proto_types.specs.EmptyFile.{no_message, no_extension_range, no_reserved_range, no_oneof};
+ghost use Rattle.proto_types.specs.Message.{no_message, no_extension_range, no_reserved_range, no_oneof};
 ghost use Rattle.proto_types.specs.Readers.{text_of, number_of};
 
 use crate::{EnumDescriptorProto, FieldDescriptorProto, Options, Unread, or_empty};

@@ -1,4 +1,4 @@
-ghost use Rattle.std.specs.Prelude.{◌≡◌, IfOk, string_bytes};
+ghost use Rattle.std.specs.Prelude.{◌≡◌, IfOk, OnOk, string_bytes};
 ghost use Rattle.proto_types.specs.Names.{join};
 
 use std::alloc::{AllocError, Global};
@@ -11,12 +11,22 @@ use std::alloc::{AllocError, Global};
 pub fn join(alloc: Global, scope: &str, name: &str) -> Result<String, AllocError>
     ensures { IfOk result (λ full. string_bytes full ≡ join scope.now name.now) }
 {
-    if scope.is_empty() {
-        return String::from_str(alloc, name);
-    }
     let mut full = String::with_capacity(alloc, scope.len() + 1 + name.len())?;
-    full.push_str(scope)?;
-    full.push('.')?;
-    full.push_str(name)?;
+    write_joined(&mut full, scope, name)?;
     Ok(full)
+}
+
+/// Makes a text the full name of a name inside a scope, in the room that it has.
+///
+/// # Errors
+/// `AllocError` where memory was refused. The text may be any then.
+pub fn write_joined(full_name: &mut String, scope: &str, name: &str) -> Result<(), AllocError>
+    ensures { OnOk result (string_bytes full_name.new ≡ join scope.now name.now) }
+{
+    full_name.clear();
+    if !scope.is_empty() {
+        full_name.push_str(scope)?;
+        full_name.push('.')?;
+    }
+    full_name.push_str(name)
 }

@@ -4,11 +4,11 @@ use Rattle.proto_types.specs.Readers.{text_of}
 use Rattle.proto_types.specs.declared.records.service.MethodDescriptorProto.{MethodDescriptorProto}
 use Rattle.record_walk.specs.declared.declaration.Declaration.{Declaration}
 use Rattle.record_walk.specs.declared.declaration.DeclarationKind.TheVariants as declared
-use Rattle.record_walk.specs.Listed.{declaration_of}
+use Rattle.record_walk.specs.Declaration.{declaration_of}
 use Rattle.record_walk.specs.Protos.{Proto, of_file, of_message, of_field, of_oneof, of_service, of_method, of_enum, of_value, of_extension}
 use Rattle.record_walk.specs.Shown.{Shown}
 use Rattle.record_walk.proofs.Listings.{on-ok}
-use Rattle.record_lists.specs.References.{Reference, reference, references_in}
+use Rattle.record_lists.specs.Reference.{Reference, reference, references_in}
 
 -- two references behind others, by the declaration of a method to whose record its path leads
 module _ {U E : Type 0} (r : Result U E) (x : Declaration) (led : Option Proto) (input output : List ℕ) (before middle more : List Reference) where

@@ -7,10 +7,10 @@ use Rattle.record_walk.specs.declared.declaration.Declaration.{Declaration}
 use Rattle.record_walk.specs.Counts.{no_counts}
 use Rattle.record_walk.specs.Declarations.{declarations, file_walk}
 use Rattle.record_walk.specs.Leads.{leads}
-use Rattle.record_walk.specs.Listed.{declaration_of}
+use Rattle.record_walk.specs.Declaration.{declaration_of}
 use Rattle.record_walk.specs.Shown.{Shown}
 use Rattle.record_walk.proofs.Leading.{paths-lead}
-use Rattle.record_lists.specs.References.{Reference, references_in, references}
+use Rattle.record_lists.specs.Reference.{Reference, references_in, references}
 
 -- the path of a declaration leads to its record
 abbrev Leads : FileDescriptorProto → Shown → Type 0

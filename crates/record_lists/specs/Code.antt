@@ -1,5 +1,5 @@
 -- A reference as the code holds it, as the definitions have it.
-use Rattle.record_lists.specs.References.{Reference}
+use Rattle.record_lists.specs.Reference.{Reference}
 use Rattle.record_lists.specs.declared.reference.Reference.{Reference as FoundReference}
 
 abbrev pub reference_of : FoundReference → Reference

@@ -1,3 +1,3 @@
-pub mod Records
-pub mod References
+pub mod Record
+pub mod Reference
 pub mod Code

@@ -1,7 +1,7 @@
 ghost use Rattle.std.specs.Prelude.{◌≡◌, [], ◌∷◌, ◌++◌, map, IsOk, IfOk, OnOk};
 ghost use Rattle.record_walk.specs.Fits.{counts_with};
 ghost use Rattle.record_walk.specs.Declarations.{declarations};
-ghost use Rattle.record_walk.specs.Listed.{declaration_of};
+ghost use Rattle.record_walk.specs.Declaration.{declaration_of};
 
 use plain_data::{Items, Text};
 use proto_types::{
@@ -85,7 +85,7 @@ impl Lister {
 impl Visitor for Lister {
     ghost use Rattle.std.specs.Prelude.{[], ◌++◌, map};
     ghost use Rattle.pool_types.specs.Contents.{no_contents};
-    ghost use Rattle.record_walk.specs.Listed.{declaration_of};
+    ghost use Rattle.record_walk.specs.Declaration.{declaration_of};
 
     ghost after = { λ l ds.
         record { contents = no_contents; faults = []; listed = l ++ map declaration_of ds } };

@@ -7,10 +7,10 @@ ghost use Rattle.proto_types.specs.Readers.{text_of};
 ghost use Rattle.record_walk.specs.Counts.{no_counts};
 ghost use Rattle.record_walk.specs.Fits.{counts_with};
 ghost use Rattle.record_walk.specs.Leads.{leads};
-ghost use Rattle.record_walk.specs.Listed.{declaration_of};
+ghost use Rattle.record_walk.specs.Declaration.{declaration_of};
 ghost use Rattle.record_walk.specs.Protos.{of_extension, of_field, of_method};
 ghost use Rattle.record_walk.specs.Shown.{Shown};
-ghost use Rattle.record_lists.specs.References.{reference, reference_in, references_in, references};
+ghost use Rattle.record_lists.specs.Reference.{reference, reference_in, references_in, references};
 ghost use Rattle.record_lists.specs.Code.{reference_of};
 
 use crate::{find_field_proto, find_method_proto, list_declarations};

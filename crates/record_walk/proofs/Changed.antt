@@ -20,7 +20,8 @@ use Rattle.std.specs.List.{list_all}
 use Rattle.record_walk.specs.Counts.{counted, counting, fits_list, list_limit, lists_fit}
 use Rattle.record_walk.specs.Declarations.{in_file, enum_walk, enums_walk, service_walk, services_walk, message_front, message_end, message_walk, nested_walk, messages_walk, file_walk, declarations}
 use Rattle.record_walk.specs.Protos.{Proto, of_file, of_message, of_field, of_oneof, of_service, of_method, of_enum, of_value, of_extension, name_of}
-use Rattle.record_walk.specs.Shown.{Shown, Surrounding, shown, file_shown, row, parts, inside, beside, step}
+use Rattle.record_walk.specs.Shown.{Shown, Surrounding, shown, file_shown, row, parts, inside, beside}
+use Rattle.proto_types.specs.Paths.{entry_path}
 use Rattle.record_walk.proofs.Paths.{one-file}
 
 -- a changed message by its parts
@@ -71,7 +72,7 @@ module _ (c : Changes) (keep : KeepNames c) where
     file = here.file;
     parent = here.parent;
     index = n;
-    path = step here.path tag i;
+    path = entry_path here.path tag i;
     full_name = join here.scope (name j);
     proto = is j;
   }

@@ -6,8 +6,11 @@ use Rattle.std.specs.declared.option.Option.TheVariants.{None, Some}
 use Rattle.std.specs.declared.result.Result.TheVariants.{Ok}
 use Rattle.proto_types.specs.Computed.{literals}
 use Rattle.proto_types.specs.Names.{join, fronts}
-use Rattle.proto_types.specs.Empty.{no_field, no_enum, no_value, no_service, no_method}
-use Rattle.proto_types.specs.EmptyFile.{no_file, no_oneof}
+use Rattle.proto_types.specs.Service.{no_service, no_method}
+use Rattle.proto_types.specs.Enumeration.{no_enum, no_value}
+use Rattle.proto_types.specs.Field.{no_field}
+use Rattle.proto_types.specs.Message.{no_oneof}
+use Rattle.proto_types.specs.File.{no_file}
 use Rattle.record_walk.specs.Shown.{Shown}
 use Rattle.record_walk.specs.Declarations.{declarations}
 use Rattle.record_walk.specs.Counts.{no_counts, counts_of}

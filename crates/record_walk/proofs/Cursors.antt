@@ -17,12 +17,13 @@ use Rattle.proto_types.specs.declared.message.DescriptorProto.{out-DescriptorPro
 use Rattle.record_walk.specs.declared.counts.Counts.{Counts}
 use Rattle.record_walk.specs.declared.walking.cursor.Cursor.{Cursor}
 use Rattle.record_walk.specs.declared.walking.row.Depth.{Depth}
-use Rattle.record_walk.specs.declared.walking.row.Place.{Place}
+use Rattle.record_walk.specs.declared.walking.row.EntryPosition.{EntryPosition}
 use Rattle.record_walk.specs.declared.walking.row.Row.{Row}
 use Rattle.record_walk.specs.Counts.{counted, counting, fits_list, list_limit, lists_fit}
 use Rattle.record_walk.specs.Protos.{Proto, name_of, of_file, of_message, of_field, of_oneof, of_service, of_method, of_enum, of_value, of_extension}
 use Rattle.record_walk.specs.Declarations.{in_file}
-use Rattle.record_walk.specs.Shown.{Shown, Surrounding, shown, shown_as, inside, step}
+use Rattle.record_walk.specs.Shown.{Shown, Surrounding, shown, shown_as, inside}
+use Rattle.proto_types.specs.Paths.{entry_path}
 use Rattle.record_walk.specs.Walking.{Room, WithinLimits, index_at, located, parent_in, parent_of, proto_of, protos_in, within_file}
 use Rattle.record_walk.specs.Cursor.{AreNested, Begins, Comes, IsSound, Line, Stands, depth_of, file_lines, inner_lines, left, left_of, line, line_in, lines, protos_walk, rest_at, stacked, stacked_all, stacked_by, whole}
 use Rattle.record_walk.proofs.Listings.{first-true, room-back, second-true, within-first}
@@ -217,16 +218,16 @@ take-scope : (k : ℕ) (name last : List ℕ) → k ≤ length name → take k (
 take-scope k name last within = (λ j. take (sym (length-front k name within) j) (join (take k name) last)) ∙ take-join (take k name) last
 
 -- the lists that are left behind a record: those in it, and then the others of its own
-abbrev pub behind : Place → Option ℕ → List Proto → Line
+abbrev pub behind : EntryPosition → Option ℕ → List Proto → Line
 behind at parent ps = line (record at { position = at.position + 1 }) parent ps
 
-abbrev pub coming : List ℤ → List ℕ → Counts → Place → Option ℕ → Proto → List Proto → List Line → List Line
+abbrev pub coming : List ℤ → List ℕ → Counts → EntryPosition → Option ℕ → Proto → List Proto → List Line → List Line
 coming path name c at parent p ps ls = stacked_all (inner_lines (depth_of path name) at.depth.scope (index_at c at.position p) p) (stacked (behind at parent ps) ls)
 
 -- a cursor comes to the first record of the first list
-module _ (index : ℕ) (path path' : List ℤ) (name name' : List ℕ) (c : Counts) (at : Place) (parent : Option ℕ) (p : Proto) (ps : List Proto) (ls : List Line)
+module _ (index : ℕ) (path path' : List ℤ) (name name' : List ℕ) (c : Counts) (at : EntryPosition) (parent : Option ℕ) (p : Proto) (ps : List Proto) (ls : List Line)
     (nested : AreNested (depth_of path name) name (line at parent (p ∷ ps) ∷ ls))
-    (paths : path' ≡ step (take at.depth.path path) at.tag at.position) (names : name' ≡ join (take at.depth.scope name) (name_of p)) where
+    (paths : path' ≡ entry_path (take at.depth.path path) at.tag at.position) (names : name' ≡ join (take at.depth.scope name) (name_of p)) where
   abbrev n : ℕ
   n = index_at c at.position p
 
@@ -292,16 +293,16 @@ first-within c row ls sound popped =
     let at = rest_at c.site.file c.site.path.items (string_bytes c.site.name) in
     let here = (at (line_in row)).here in
     let first = (λ j. left_of c.counts (map at (popped j)))
-    ∙ left-next c.counts here row.place.tag row.place.position (proto_of row.part) (protos_in row.rest) (map at ls) in
+    ∙ left-next c.counts here row.at.tag row.at.position (proto_of row.part) (protos_in row.rest) (map at ls) in
     within-first (subst (Room c.counts) first sound.room)
 
 -- so the first of what is left comes
 pub comes : (old new : Cursor) (row : Row) (index : ℕ) (ls : List Line) → IsSound old → lines old.rows ≡ line_in row ∷ ls
-    → new.site.file ≡ old.site.file → new.site.path.items ≡ step (take row.place.depth.path old.site.path.items) row.place.tag row.place.position
-    → string_bytes new.site.name ≡ join (take row.place.depth.scope (string_bytes old.site.name)) (name_of (proto_of row.part))
-    → new.counts ≡ counting old.counts (proto_of row.part) → index ≡ index_at old.counts row.place.position (proto_of row.part)
-    → lines new.rows ≡ stacked_all (inner_lines (depth_of new.site.path.items (string_bytes new.site.name)) row.place.depth.scope index (proto_of row.part))
-    (stacked (behind row.place (parent_in row.rest) (protos_in row.rest)) ls)
+    → new.site.file ≡ old.site.file → new.site.path.items ≡ entry_path (take row.at.depth.path old.site.path.items) row.at.tag row.at.position
+    → string_bytes new.site.name ≡ join (take row.at.depth.scope (string_bytes old.site.name)) (name_of (proto_of row.part))
+    → new.counts ≡ counting old.counts (proto_of row.part) → index ≡ index_at old.counts row.at.position (proto_of row.part)
+    → lines new.rows ≡ stacked_all (inner_lines (depth_of new.site.path.items (string_bytes new.site.name)) row.at.depth.scope index (proto_of row.part))
+    (stacked (behind row.at (parent_in row.rest) (protos_in row.rest)) ls)
     → Comes old new (located new.site (record { index = index; part = row.part }))
 comes old new row index ls sound popped files paths names counts is rows =
     let p = proto_of row.part in
@@ -310,13 +311,13 @@ comes old new row index ls sound popped files paths names counts is rows =
     let name = string_bytes old.site.name in
     let name' = string_bytes new.site.name in
     let nested = subst (AreNested (depth_of path name) name) popped sound.nested in
-    let n = index_at old.counts row.place.position p in
-    let next = coming path' name' old.counts row.place (parent_of row.part) p (protos_in row.rest) ls in
-    let rows-are : lines new.rows ≡ next = rows ∙ (λ j. stacked_all (inner_lines (depth_of path' name') row.place.depth.scope (is j) p)
-    (stacked (behind row.place (row.same j) (protos_in row.rest)) ls)) in
+    let n = index_at old.counts row.at.position p in
+    let next = coming path' name' old.counts row.at (parent_of row.part) p (protos_in row.rest) ls in
+    let rows-are : lines new.rows ≡ next = rows ∙ (λ j. stacked_all (inner_lines (depth_of path' name') row.at.depth.scope (is j) p)
+    (stacked (behind row.at (row.same j) (protos_in row.rest)) ls)) in
     let left-is : left old ≡ shown_as path' name' new.site.file (parent_of row.part) index p ∷ left new =
     (λ j. left_of old.counts (map (rest_at old.site.file path name) (popped j)))
-    ∙ comes-left old.site.file path path' name name' old.counts row.place (parent_of row.part) p (protos_in row.rest) ls nested paths names
+    ∙ comes-left old.site.file path path' name name' old.counts row.at (parent_of row.part) p (protos_in row.rest) ls nested paths names
     ∙ (λ j. shown_as path' name' (sym files j) (parent_of row.part) (sym is j) p
     ∷ left_of (sym counts j) (map (rest_at (sym files j) path' name') (sym rows-are j))) in
     let room = subst (Room old.counts) left-is sound.room in
@@ -324,7 +325,7 @@ comes old new row index ls sound popped files paths names counts is rows =
     record {
       sound = record {
         nested = subst (AreNested (depth_of path' name') name') (sym rows-are)
-            (comes-nested old.site.file path path' name name' old.counts row.place (parent_of row.part) p (protos_in row.rest) ls nested paths names (fits-first room));
+            (comes-nested old.site.file path path' name name' old.counts row.at (parent_of row.part) p (protos_in row.rest) ls nested paths names (fits-first room));
         room = subst (λ k. Room k (left new)) (sym counts) (room-back (d ∷ []) (left new) room);
       };
       left_is = left-is;

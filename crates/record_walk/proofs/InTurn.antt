@@ -1,7 +1,7 @@
 -- A list of which one after another becomes something else.
 use Rattle.std.proofs.Common.{◌≡◌, ℕ, zero, suc, ◌+◌, ◌<◌, ◌≤◌, List, [], ◌∷◌, length, get_or, set, refl, ap, ◌∙◌, subst, arith, add-one, Result, Ok, Err, OnErr}
 use Rattle.std.specs.List.{AllByRecursion, AllZip}
-use Rattle.record_walk.specs.Progress.{StopsAt}
+use Rattle.record_walk.specs.Visitor.{StopsAt}
 
 -- the first n became what R says, and the others are as they were
 abbrev pub FirstBecame : {X : Type 0} → (X → X → Type 0) → ℕ → List X → List X → Type 0

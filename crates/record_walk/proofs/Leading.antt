@@ -16,7 +16,8 @@ use Rattle.proto_types.specs.declared.tag.message.TheConstants as message
 use Rattle.proto_types.specs.declared.tag.enum_.TheConstants as enumeration
 use Rattle.proto_types.specs.declared.tag.service.TheConstants as service
 use Rattle.record_walk.specs.Protos.{Proto, of_message, of_field, of_oneof, of_service, of_method, of_enum, of_value, of_extension}
-use Rattle.record_walk.specs.Shown.{Shown, Surrounding, row, parts, shown, file_shown, step, inside, beside}
+use Rattle.record_walk.specs.Shown.{Shown, Surrounding, row, parts, shown, file_shown, inside, beside}
+use Rattle.proto_types.specs.Paths.{entry_path}
 use Rattle.record_walk.specs.Counts.{counted, counting}
 use Rattle.record_walk.specs.Declarations.{in_file, enum_walk, enums_walk, service_walk, services_walk, message_front, message_end, message_walk, nested_walk, messages_walk, MessageWalkOpens}
 use Rattle.record_walk.specs.Leads.{leads, leads_in_message, leads_in_enum, leads_in_service, PathsLead}
@@ -69,12 +70,12 @@ module _ (f : FileDescriptorProto) where
   itself path on known = ap (leads f) (sym (append-nil path)) ∙ known []
 
   entry : {X : Type 0} (on : X → List ℤ → Option Proto) (here : Surrounding) (tag : ℤ) (all : List X) → LeadsInto on here tag all
-      → (position : ℕ) (x : X) (rest : List X) → From all position (x ∷ rest) → LeadsOn (step here.path tag position) (on x)
+      → (position : ℕ) (x : X) (rest : List X) → From all position (x ∷ rest) → LeadsOn (entry_path here.path tag position) (on x)
   entry on here tag all known position x rest from path =
       ap (leads f) (append_assoc here.path (tag ∷ pos position ∷ []) path) ∙ known position path ∙ ap (option_and_then (λ y. on y path)) (first-of all position x rest from)
 
   -- entries that nothing more stands in
-  row-leads : {X : Type 0} (of : X → Proto) (here : Surrounding) (tag : ℤ) (all : List X) → ((k : ℕ) → leads f (step here.path tag k) ≡ option_map of (slice_get all k))
+  row-leads : {X : Type 0} (of : X → Proto) (here : Surrounding) (tag : ℤ) (all : List X) → ((k : ℕ) → leads f (entry_path here.path tag k) ≡ option_map of (slice_get all k))
       → (position index : ℕ) (rest : List X) → From all position rest → All Leads (row of here tag position index rest)
   row-leads of here tag all known position index [] from = All-nil Leads
   row-leads of here tag all known position index (x ∷ rest) from =
@@ -112,7 +113,7 @@ module _ (f : FileDescriptorProto) where
       → (position : ℕ) (base : Counts) (rest : List DescriptorProto) → most size-DescriptorProto rest < n → From all position rest → All Leads (messages_walk here tag position base rest)
 
   message-leads : (n : ℕ) → MessagesLead n → (here : Surrounding) (tag : ℤ) (position : ℕ) (base : Counts) (m : DescriptorProto) → size-DescriptorProto m < suc n
-      → LeadsOn (step here.path tag position) (leads_in_message m) → All Leads (message_walk here tag position base m)
+      → LeadsOn (entry_path here.path tag position) (leads_in_message m) → All Leads (message_walk here tag position base m)
   message-leads n smaller here tag position base m small on =
       let o = out-DescriptorProto m in
       let size = size_is-DescriptorProto m in

@@ -17,3 +17,4 @@ pub mod Changed
 pub mod Reached
 pub mod Rests
 pub mod Cursors
+pub mod Faults

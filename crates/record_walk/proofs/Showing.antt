@@ -1,7 +1,7 @@
 -- What is left to be shown to a visitor.
 use Rattle.std.proofs.Common.{◌≡◌, ◌↔◌, List, [], ◌++◌, refl, ap, sym, subst, ◌∙◌, append_assoc, append-nil}
 use Rattle.record_walk.specs.Shown.{Shown}
-use Rattle.record_walk.specs.Progress.{Progress, HasSeen}
+use Rattle.record_walk.specs.Visitor.{Progress, HasSeen}
 
 -- it has been shown all of a list but the rest
 pub record Remains (after : List Shown → Progress) (ready : List Shown → Type 0) (after-now : List Shown → Progress) (ready-now : List Shown → Type 0) (all rest : List Shown) : Type 0 where

@@ -13,7 +13,7 @@ use Rattle.record_walk.specs.declared.counts.Counts.{Counts}
 use Rattle.record_walk.specs.declared.walking.cursor.Cursor.{Cursor}
 use Rattle.record_walk.specs.declared.walking.located.Located.{Located}
 use Rattle.record_walk.specs.declared.walking.row.Depth.{Depth}
-use Rattle.record_walk.specs.declared.walking.row.Place.{Place}
+use Rattle.record_walk.specs.declared.walking.row.EntryPosition.{EntryPosition}
 use Rattle.record_walk.specs.declared.walking.row.Row.{Row}
 use Rattle.record_walk.specs.declared.walking.rows.Rows.{Rows}
 use Rattle.record_walk.specs.Counts.{counted, counting, list_limit}
@@ -30,7 +30,7 @@ pub record Line : Type 0 where
   pub position : ℕ
   pub protos : List Proto
 
-abbrev pub line : Place → Option ℕ → List Proto → Line
+abbrev pub line : EntryPosition → Option ℕ → List Proto → Line
 line at parent protos = record {
   depth = at.depth;
   parent = parent;
@@ -40,7 +40,7 @@ line at parent protos = record {
 }
 
 abbrev pub line_in : Row → Line
-line_in r = line r.place (parent_of r.part) (proto_of r.part ∷ protos_in r.rest)
+line_in r = line r.at (parent_of r.part) (proto_of r.part ∷ protos_in r.rest)
 
 -- the lists that are left, the next one first
 abbrev pub lines : Rows → List Line

@@ -10,6 +10,9 @@ pub mod Changed
 pub mod InTurn
 pub mod Totals
 pub mod Walking
-pub mod Progress
-pub mod Listed
+pub mod Visitor
+pub mod Declaration
 pub mod Cursor
+pub mod Short
+pub mod Faults
+pub mod Place

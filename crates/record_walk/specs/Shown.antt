@@ -5,6 +5,7 @@ use Rattle.std.specs.Option.{option_map}
 use Rattle.std.specs.declared.option.Option.{Option}
 use Rattle.std.specs.declared.option.Option.TheVariants.{None, Some}
 use Rattle.proto_types.specs.Names.{join}
+use Rattle.proto_types.specs.Paths.{entry_path}
 use Rattle.record_walk.specs.Protos.{Proto, of_file, name_of}
 use Rattle.proto_types.specs.Readers.{text_of}
 use Rattle.proto_types.specs.declared.file.FileDescriptorProto.{FileDescriptorProto}
@@ -26,17 +27,13 @@ pub record Surrounding : Type 0 where
   pub scope : List ℕ
   pub parent : Option ℕ
 
--- the path of an entry of a list
-abbrev pub step : List ℤ → ℤ → ℕ → List ℤ
-step path tag position = path ++ tag ∷ pos position ∷ []
-
 -- an entry of the list with this field number
 abbrev pub shown : Surrounding → ℤ → ℕ → ℕ → Proto → Shown
 shown here tag position index proto = record {
   file = here.file;
   parent = here.parent;
   index = index;
-  path = step here.path tag position;
+  path = entry_path here.path tag position;
   full_name = join here.scope (name_of proto);
   proto = proto;
 }

@@ -1,6 +1,6 @@
 ghost use Rattle.std.specs.Prelude.{◌≡◌, ℕ, List, [], ◌∷◌, ◌++◌, OnOk, None, Some};
 ghost use Rattle.pool_types.specs.Contents.{Contents};
-ghost use Rattle.record_walk.specs.Progress.{Progress, HasSeen};
+ghost use Rattle.record_walk.specs.Visitor.{Progress, HasSeen};
 ghost use Rattle.record_walk.specs.Protos.{of_message, of_field, of_oneof, of_service, of_method, of_enum, of_value, of_extension};
 ghost use Rattle.record_walk.specs.Shown.{Shown, file_shown, shown_as};
 

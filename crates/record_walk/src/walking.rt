@@ -4,7 +4,7 @@ ghost use Rattle.record_walk.specs.Counts.{counted};
 ghost use Rattle.record_walk.specs.Cursor.{IsSound, left};
 ghost use Rattle.record_walk.specs.Fits.{counts_with};
 ghost use Rattle.record_walk.specs.Declarations.{declarations, file_walk};
-ghost use Rattle.record_walk.specs.Progress.{HasSeen, StopsAt};
+ghost use Rattle.record_walk.specs.Visitor.{HasSeen, StopsAt};
 ghost use Rattle.record_walk.specs.Walking.{Room};
 
 mod cursor;
@@ -21,7 +21,6 @@ use cursor::Cursor;
 use located::show_file;
 use pool_types::FileDescriptorInner;
 use proto_types::FileDescriptorProto;
-pub use site::entry_path;
 use std::alloc::{AllocError, Global};
 
 /// Shows a visitor what files declare, in order, numbered on from the counts of a pool.

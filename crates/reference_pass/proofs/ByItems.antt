@@ -44,17 +44,17 @@ use Rattle.record_walk.proofs.Paths.{one-file}
 use Rattle.record_walk.proofs.Leading.{message-walk-opens}
 use Rattle.record_walk.proofs.Turns.{counted-enum, counted-front, counted-service, services-keep}
 use Rattle.name_resolution.specs.declared.filter.ResolveNameFilter.TheVariants.{Message, FieldType as AnyType}
-use Rattle.name_resolution.specs.Kinds.{is_match, named_kind, simple_kind}
+use Rattle.name_resolution.specs.Filter.{is_match}
+use Rattle.pool_types.specs.Kinds.{named_kind, simple_kind}
 use Rattle.name_resolution.specs.Resolution.{Resolution, found, invalid_type, not_imported, shadowed, not_found, kind_found}
-use Rattle.name_resolution.proofs.Named.{IsNamed, resolution-named}
-use Rattle.name_resolution.proofs.Wanted.{IsWanted, resolution-wanted}
+use Rattle.name_resolution.proofs.Found.{IsNamed, resolution-named, IsWanted, resolution-wanted}
 use Rattle.plain_data.specs.Each.{map_enumerated}
-use Rattle.field_rules.specs.Places.{field_at}
+use Rattle.record_walk.specs.Place.{field_at}
 use Rattle.reference_pass.specs.Linked.{linked, linked_extension, linked_field, linked_method, linking, resolved, type_number, typed}
 use Rattle.reference_pass.specs.Setting.{Setting, seen_by}
-use Rattle.reference_pass.specs.FieldTypes.{field_kind, resolve_type}
+use Rattle.reference_pass.specs.Types.{field_kind, resolve_type}
 use Rattle.reference_pass.specs.Items.{extension_item, field_item, field_items, method_item, method_items}
-use Rattle.reference_pass.specs.Messages.{message_found, resolve_message, method_at, index_or_max}
+use Rattle.reference_pass.specs.References.{message_found, resolve_message, method_at, index_or_max}
 use Rattle.reference_pass.specs.declared.linking.NextItems.{NextItems}
 use Rattle.reference_pass.specs.Linking.{ItemLists, HasItem, IsNamedBy, ItemsAre, Links, LinksFields, LinksFile, LinksFiles, LinksMethods, NamesMeanItems, enum_name, kind_name, kind_number, linked_item, message_name, method_by, next_of, reference_by, typed_by, with_type}
 

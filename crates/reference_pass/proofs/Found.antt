@@ -6,9 +6,9 @@ use Rattle.proto_types.specs.declared.message.DescriptorProto.{DescriptorProto}
 use Rattle.record_walk.specs.Counts.{no_counts, lists_fit}
 use Rattle.record_walk.specs.Protos.{Proto, of_file, of_message, of_field, of_oneof, of_service, of_method, of_enum, of_value, of_extension, as_message}
 use Rattle.record_walk.proofs.Reached.{found-fits}
-use Rattle.reference_pass.specs.Definitions.{declaration_path, message_record, record_of}
+use Rattle.reference_pass.specs.Declared.{declaration_path, message_record, record_of}
 use Rattle.reference_pass.specs.Setting.{Setting}
-use Rattle.field_rules.specs.Short.{ShortFiles}
+use Rattle.record_walk.specs.Short.{ShortFiles}
 
 -- a record that is read as a message is one
 as-message-of : (p : Option Proto) (m : DescriptorProto) → option_and_then as_message p ≡ Some m → p ≡ Some (of_message m)

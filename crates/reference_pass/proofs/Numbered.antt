@@ -10,8 +10,8 @@ use Rattle.std.specs.Ordering.{eq_by_cmp, is_eq, nat_cmp, ordering_then}
 use Rattle.std.specs.declared.cmp.Ordering.{Ordering}
 use Rattle.std.specs.declared.cmp.Ordering.TheVariants.{Less, Equal, Greater}
 use Rattle.pool_types.specs.declared.contents.extension.ExtensionDescriptorInner.{ExtensionDescriptorInner}
-use Rattle.pool_contents.specs.Extended.{extension_numbered, has_number}
-use Rattle.pool_contents.proofs.Numbered.{position-append}
+use Rattle.pool_types.specs.Extension.{extension_numbered, has_number}
+use Rattle.plain_data.proofs.Positions.{position-append}
 use Rattle.reference_pass.specs.Numbered.{EntersFirst, LeadsToFirst, pair_cmp}
 
 both-tied : (a b : Ordering) → is_eq (ordering_then a b) ≡ (is_eq a && is_eq b)

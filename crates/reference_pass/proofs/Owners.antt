@@ -2,8 +2,8 @@
 use Rattle.std.proofs.Common.{◌≡◌, ℕ, ℤ, suc, Option, Some, List, [], ◌∷◌, ◌++◌, refl, ap, sym, ◌∙◌, append-nil, append_assoc}
 use Rattle.std.specs.List.{flat_map}
 use Rattle.std.specs.Option.{unwrap_or}
-use Rattle.proto_types.specs.Empty.{no_enum}
-use Rattle.proto_types.specs.EmptyFile.{no_message}
+use Rattle.proto_types.specs.Enumeration.{no_enum}
+use Rattle.proto_types.specs.Message.{no_message}
 use Rattle.proto_types.specs.declared.tag.file.TheConstants as file
 use Rattle.proto_types.specs.declared.tag.message.TheConstants as message
 use Rattle.proto_types.specs.declared.tag.enum_.TheConstants as enumeration
@@ -25,8 +25,8 @@ use Rattle.record_walk.specs.Shown.{Shown, Surrounding, shown, file_shown, row, 
 use Rattle.field_rules.specs.EnumValues.{value_faults, values_faults}
 use Rattle.reference_pass.specs.SecondPass.{Faults, Owner, last, field_faults, faults_of_fields, method_faults, faults_of_methods, second_faults, second_pass, owner_faults, owners_faults}
 use Rattle.plain_data.specs.Each.{map_enumerated}
-use Rattle.field_rules.specs.Places.{field_at}
-use Rattle.reference_pass.specs.Messages.{method_at}
+use Rattle.record_walk.specs.Place.{field_at}
+use Rattle.reference_pass.specs.References.{method_at}
 use Rattle.reference_pass.specs.Items.{extension_item, extension_items}
 use Rattle.reference_pass.specs.Setting.{Setting}
 use Rattle.reference_pass.proofs.Steps.{made-behind, kind-append, owners-append}

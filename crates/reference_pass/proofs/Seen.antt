@@ -2,9 +2,9 @@
 use Rattle.std.proofs.Common.{◌≡◌, List, [], ◌∷◌, ◌++◌, refl, ap, sym, ◌∙◌, append-nil, append_assoc}
 use Rattle.std.specs.List.{fold}
 use Rattle.pool_types.specs.declared.contents.extension.ExtensionDescriptorInner.{ExtensionDescriptorInner}
-use Rattle.field_rules.specs.declared.faults.Faults.{Faults as PassFaults}
+use Rattle.record_walk.specs.declared.faults.Faults.{Faults as PassFaults}
 use Rattle.record_walk.specs.FullNames.{CanBeRead}
-use Rattle.record_walk.specs.Progress.{HasSeen, Progress}
+use Rattle.record_walk.specs.Visitor.{HasSeen, Progress}
 use Rattle.record_walk.specs.Shown.{Shown}
 use Rattle.reference_pass.specs.SecondPass.{owner_faults}
 use Rattle.reference_pass.specs.Setting.{Setting}
@@ -13,7 +13,7 @@ use Rattle.reference_pass.specs.declared.resolve.ResolveVisitor.{ResolveVisitor}
 use Rattle.reference_pass.specs.declared.reading.Reading.{Reading}
 use Rattle.reference_pass.specs.Reading.{setting_of}
 use Rattle.reference_pass.specs.State.{state_of}
-use Rattle.reference_pass.specs.Steps.{ReferenceState, reference_progress, reference_step, with_declarations}
+use Rattle.reference_pass.specs.Resolve.{ReferenceState, reference_progress, reference_step, with_declarations}
 use Rattle.reference_pass.proofs.Steps.{with-none}
 
 -- what further declarations make of a state

@@ -10,7 +10,7 @@ use Rattle.field_rules.specs.EnumItems.{enum_item}
 use Rattle.reference_pass.specs.Items.{made_of, message_item, service_item, extension_item, extension_items}
 use Rattle.reference_pass.specs.SecondPass.{owner_faults, owners_faults}
 use Rattle.reference_pass.specs.Setting.{Setting}
-use Rattle.reference_pass.specs.Steps.{ReferenceState, with_declarations}
+use Rattle.reference_pass.specs.Resolve.{ReferenceState, with_declarations}
 
 pub kind-append : {X : Type 0} (pick : Proto → Option X) (ds es : List Shown) → of_kind pick (ds ++ es) ≡ of_kind pick ds ++ of_kind pick es
 kind-append pick ds es = filter_map-append (λ d. option_map (λ x. (d, x)) (pick d.proto)) ds es

@@ -10,15 +10,15 @@ use Rattle.pool_faults.specs.declared.fault.DescriptorErrorKind.{DescriptorError
 use Rattle.pool_types.specs.declared.contents.extension.ExtensionDescriptorInner.{ExtensionDescriptorInner}
 use Rattle.record_walk.specs.Protos.{Proto, of_file, of_message, of_field, of_oneof, of_service, of_method, of_enum, of_value, of_extension, as_extension}
 use Rattle.record_walk.specs.Shown.{Shown}
-use Rattle.field_rules.specs.DuplicateNumbers.{item_number}
+use Rattle.field_rules.specs.Maps.{item_number}
 use Rattle.name_resolution.specs.References.{reference_fault}
 use Rattle.name_resolution.specs.Resolution.{Resolution, found, invalid_type, not_imported, shadowed, not_found}
-use Rattle.pool_contents.specs.Extended.{has_number}
+use Rattle.pool_types.specs.Extension.{has_number}
 use Rattle.reference_pass.specs.Defaults.{field_default_faults}
-use Rattle.reference_pass.specs.Extensions.{extendee_faults, number_faults, taken_fault, taken_faults}
-use Rattle.reference_pass.specs.FieldTypes.{type_faults}
+use Rattle.reference_pass.specs.Extension.{extendee_faults, number_faults, duplicate_extension_fault, duplicate_extension_faults}
+use Rattle.reference_pass.specs.Types.{type_faults}
 use Rattle.reference_pass.specs.Items.{extension_item, extension_items}
-use Rattle.reference_pass.specs.Messages.{index_or_max, message_found, resolve_message}
+use Rattle.reference_pass.specs.References.{index_or_max, message_found, resolve_message}
 use Rattle.reference_pass.specs.SecondPass.{extension_faults, owner_faults, owners_faults}
 use Rattle.reference_pass.specs.Setting.{Setting}
 use Rattle.reference_pass.proofs.Steps.{made-append}
@@ -60,13 +60,13 @@ pub record BreaksNothing (s : Setting) (d : Shown) (x : FieldDescriptorProto) (t
   pub default : field_default_faults s d x ≡ []
 
 abbrev pub Unbroken : Setting → Shown → FieldDescriptorProto → List ExtensionDescriptorInner → Type 0
-Unbroken s d x earlier = BreaksNothing s d x (taken_faults s earlier d x (resolve_message s d x.extendee))
+Unbroken s d x earlier = BreaksNothing s d x (duplicate_extension_faults s earlier d x (resolve_message s d x.extendee))
 
 pub extension-parts : (s : Setting) (d : Shown) (x : FieldDescriptorProto) (earlier : List ExtensionDescriptorInner) → extension_faults s earlier d x ≡ [] → Unbroken s d x earlier
 extension-parts s d x earlier none =
     let extendee = extendee_faults s d x in
     let number = number_faults s d x (resolve_message s d x.extendee) in
-    let told = taken_faults s earlier d x (resolve_message s d x.extendee) in
+    let told = duplicate_extension_faults s earlier d x (resolve_message s d x.extendee) in
     let type = type_faults s d x in
     let four = both-empty (((extendee ++ number) ++ told) ++ type) (field_default_faults s d x) none in
     let three = both-empty ((extendee ++ number) ++ told) type four.0 in
@@ -79,7 +79,7 @@ all-parts s d x earlier parts = λ i. parts.extendee i ++ parts.number i ++ part
 
 module _ (s : Setting) (d : Shown) (x : FieldDescriptorProto) where
   -- behind no extensions none has the number
-  none-taken : (r : Resolution) → taken_faults s [] d x r ≡ []
+  none-taken : (r : Resolution) → duplicate_extension_faults s [] d x r ≡ []
   none-taken (found name def) = refl
   none-taken (invalid_type name def filter) = refl
   none-taken (not_imported name other) = refl
@@ -88,8 +88,8 @@ module _ (s : Setting) (d : Shown) (x : FieldDescriptorProto) where
 
   -- one whose extendee was found has a new number if none is told
   new-number : (earlier : List ExtensionDescriptorInner) (r : Resolution) → listed (reference_fault s.files (text_of x.extendee) d.file (d.path ++ field.EXTENDEE ∷ []) r) ≡ []
-      → taken_faults s earlier d x r ≡ [] → find (has_number (index_or_max (message_found r)) (item_number (number_of x.number))) earlier ≡ None
-  new-number earlier (found name def) fine none = none-listed (taken_fault s d (number_of x.number) name) (find (has_number (index_or_max (message_found (found name def))) (item_number (number_of x.number))) earlier) none
+      → duplicate_extension_faults s earlier d x r ≡ [] → find (has_number (index_or_max (message_found r)) (item_number (number_of x.number))) earlier ≡ None
+  new-number earlier (found name def) fine none = none-listed (duplicate_extension_fault s d (number_of x.number) name) (find (has_number (index_or_max (message_found (found name def))) (item_number (number_of x.number))) earlier) none
   new-number earlier (invalid_type name def filter) fine none = absurd (cc)
   new-number earlier (not_imported name other) fine none = absurd (cc)
   new-number earlier (shadowed name other) fine none = absurd (cc)
@@ -97,8 +97,8 @@ module _ (s : Setting) (d : Shown) (x : FieldDescriptorProto) where
 
   -- and none is told if it has
   pub untaken : (earlier : List ExtensionDescriptorInner) (r : Resolution) → find (has_number (index_or_max (message_found r)) (item_number (number_of x.number))) earlier ≡ None
-      → taken_faults s earlier d x r ≡ []
-  untaken earlier (found name def) new = ap (λ first. listed (option_map (taken_fault s d (number_of x.number) name) first)) new
+      → duplicate_extension_faults s earlier d x r ≡ []
+  untaken earlier (found name def) new = ap (λ first. listed (option_map (duplicate_extension_fault s d (number_of x.number) name) first)) new
   untaken earlier (invalid_type name def filter) new = refl
   untaken earlier (not_imported name other) new = refl
   untaken earlier (shadowed name other) new = refl

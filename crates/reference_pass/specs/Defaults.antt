@@ -12,13 +12,13 @@ use Rattle.pool_faults.specs.declared.fault.DescriptorErrorKind.{DescriptorError
 use Rattle.record_walk.specs.Shown.{Shown}
 use Rattle.name_resolution.specs.Resolution.{Resolution}
 use Rattle.field_rules.specs.Defaults.{DefaultEnum, default_value, default_faults}
-use Rattle.reference_pass.specs.Definitions.{found_as, enum_record}
-use Rattle.reference_pass.specs.FieldTypes.{field_kind, resolve_type}
+use Rattle.reference_pass.specs.Declared.{found_as, enum_record}
+use Rattle.reference_pass.specs.Types.{field_kind, resolve_type}
 use Rattle.reference_pass.specs.Setting.{Setting}
 
 -- no enum
-abbrev pub no_enum_meant : DefaultEnum
-no_enum_meant = record { full_name = []; values = [] }
+abbrev pub no_default_enum : DefaultEnum
+no_default_enum = record { full_name = []; values = [] }
 
 -- the enum with a definition: its full name, and the values in its record
 abbrev pub enum_defined : Setting → List ℕ × Definition → DefaultEnum
@@ -29,12 +29,12 @@ enum_defined s e = record {
 
 -- the enum that was found
 abbrev pub enum_found : Setting → Resolution → DefaultEnum
-enum_found s r = option_map_or (enum_defined s) (found_as r) no_enum_meant
+enum_found s r = option_map_or (enum_defined s) (found_as r) no_default_enum
 
 -- the enum that a type name means
 abbrev pub type_enum : Setting → Shown → FieldDescriptorProto → DefaultEnum
 type_enum s d f = elim (text_of f.type_name) [
-  | [] ↦ no_enum_meant
+  | [] ↦ no_default_enum
   | _ ∷ _ ↦ enum_found s (resolve_type s d f)
 ]
 

@@ -6,7 +6,7 @@ use Rattle.std.specs.List.{flat_map}
 use Rattle.proto_types.specs.declared.tag.file.TheConstants as file
 use Rattle.plain_data.specs.Lists.{at, only_if}
 use Rattle.proto_types.specs.declared.file.FileDescriptorProto.{FileDescriptorProto}
-use Rattle.record_walk.specs.Shown.{step}
+use Rattle.proto_types.specs.Paths.{entry_path}
 use Rattle.pool_faults.specs.Labels.{label_in}
 use Rattle.pool_faults.specs.declared.fault.DescriptorErrorKind.{DescriptorErrorKind}
 use Rattle.pool_faults.specs.declared.fault.DescriptorErrorKind.TheVariants.{FileNotFound, InvalidImportIndex}
@@ -17,7 +17,7 @@ use Rattle.reference_pass.specs.Setting.{Setting}
 abbrev pub missing_file : Setting → ℕ → ℕ → List ℕ → List DescriptorErrorKind
 missing_file s index place name =
     only_if (not (is_some (finite.get s.file_names name)))
-    (FileNotFound name (label_in s.files index (step [] file.DEPENDENCY place)))
+    (FileNotFound name (label_in s.files index (entry_path [] file.DEPENDENCY place)))
 
 -- of imports, one after another
 abbrev pub missing_files : Setting → ℕ → List (List ℕ) → List DescriptorErrorKind

@@ -26,19 +26,18 @@ use Rattle.proto_types.specs.Readers.{number_of, label_of}
 use Rattle.reference_pass.specs.Defaults.{field_default}
 use Rattle.record_walk.specs.Protos.{Proto, of_oneof, as_file, as_message, as_enum, as_service, as_extension}
 use Rattle.record_walk.specs.Shown.{Shown, Surrounding, inside, of_kind}
-use Rattle.name_resolution.specs.Kinds.{cardinality_of}
-use Rattle.name_pass.specs.Syntaxes.{syntax_of, syntax_at, is_proto3}
+use Rattle.pool_types.specs.Kinds.{cardinality_of}
+use Rattle.pool_types.specs.Syntaxes.{syntax_of, syntax_at, is_proto3}
 use Rattle.field_rules.specs.Encoding.{is_packed, supports_presence}
-use Rattle.field_rules.specs.Maps.{by_number, by_name, by_json_name}
-use Rattle.field_rules.specs.DuplicateNumbers.{item_number}
+use Rattle.field_rules.specs.Maps.{by_number, by_name, by_json_name, item_number}
 use Rattle.field_rules.specs.Oneofs.{members, oneof_of}
 use Rattle.plain_data.specs.Each.{map_enumerated}
 use Rattle.field_rules.specs.EnumItems.{enum_item}
 use Rattle.field_rules.specs.Identities.{identity}
-use Rattle.reference_pass.specs.FieldTypes.{field_kind}
+use Rattle.reference_pass.specs.Types.{field_kind}
 use Rattle.reference_pass.specs.Linked.{linked}
-use Rattle.reference_pass.specs.Messages.{message_found, index_or_max, method_at, resolve_message}
-use Rattle.field_rules.specs.Places.{field_at, part_inside}
+use Rattle.reference_pass.specs.References.{message_found, index_or_max, method_at, resolve_message}
+use Rattle.record_walk.specs.Place.{field_at, part_inside}
 use Rattle.reference_pass.specs.Setting.{Setting, seen_by}
 
 -- the file with an index: its syntax, its linked record, the files that it imports, in order, and

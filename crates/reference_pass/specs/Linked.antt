@@ -21,15 +21,15 @@ abbrev pub resolved : Resolution → Option (List ℕ) → Option (List ℕ)
 resolved r given = option_or (option_map (λ name. 46 ∷ name) (name_found r)) given
 
 -- the number of the type that a definition is, by descriptor.proto; or as it was
-abbrev pub kind_number : DefinitionKind → Option ℤ → Option ℤ
-kind_number (definition.Message _) given = Some (pos 11)
-kind_number (definition.Enum _) given = Some (pos 14)
-kind_number _ given = given
+abbrev pub definition_number : DefinitionKind → Option ℤ → Option ℤ
+definition_number (definition.Message _) given = Some (pos 11)
+definition_number (definition.Enum _) given = Some (pos 14)
+definition_number _ given = given
 
 -- the number of the type that a type name means; a group keeps its own
 abbrev pub type_number : FieldType → DefinitionKind → Option ℤ → Option ℤ
 type_number written.Group kind given = given
-type_number _ kind given = kind_number kind given
+type_number _ kind given = definition_number kind given
 
 -- a field with its type name resolved, and its type as that says
 abbrev pub typed : Resolution → FieldDescriptorProto → FieldDescriptorProto

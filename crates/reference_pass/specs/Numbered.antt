@@ -6,7 +6,7 @@ use Rattle.std.specs.Ordering.{nat_cmp, ordering_then}
 use Rattle.std.specs.declared.cmp.Ordering.{Ordering}
 use Rattle.std.specs.declared.option.Option.TheVariants.{None, Some}
 use Rattle.pool_types.specs.declared.contents.extension.ExtensionDescriptorInner.{ExtensionDescriptorInner}
-use Rattle.pool_contents.specs.Extended.{extension_numbered}
+use Rattle.pool_types.specs.Extension.{extension_numbered}
 
 -- pairs in the order of their first and then of their second numbers
 abbrev pub pair_cmp : ℕ × ℕ → ℕ × ℕ → Ordering

@@ -1,7 +1,7 @@
 -- What declarations are read with, and the faults that reading appends, where all else stays.
 use Rattle.std.specs.Prelude.{◌≡◌, List, map}
 use Rattle.pool_faults.specs.declared.fault.DescriptorErrorKind.{DescriptorErrorKind}
-use Rattle.field_rules.specs.Tells.{Tells, named_files}
+use Rattle.record_walk.specs.Faults.{Tells, named_files}
 use Rattle.reference_pass.specs.Setting.{Setting}
 use Rattle.reference_pass.specs.declared.reading.Reading.{Reading}
 
@@ -15,7 +15,7 @@ setting_of r = record {
 }
 
 -- that faults were appended to those found before, and no more
-pub record Reads (old new : Reading) (faults : List DescriptorErrorKind) : Type 0 where
+pub record ReadingTells (old new : Reading) (faults : List DescriptorErrorKind) : Type 0 where
   pub told : Tells old.faults new.faults faults
   pub names : new.names ≡ old.names
   pub file_names : new.file_names ≡ old.file_names

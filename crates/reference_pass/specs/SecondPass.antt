@@ -10,10 +10,10 @@ use Rattle.proto_types.specs.declared.records.field.FieldDescriptorProto.{FieldD
 use Rattle.proto_types.specs.declared.records.service.MethodDescriptorProto.{MethodDescriptorProto}
 use Rattle.proto_types.specs.declared.records.service.ServiceDescriptorProto.{ServiceDescriptorProto}
 use Rattle.proto_types.specs.declared.message.DescriptorProto.{DescriptorProto, out-DescriptorProto}
-use Rattle.proto_types.specs.EmptyFile.{no_message}
+use Rattle.proto_types.specs.Message.{no_message}
 use Rattle.pool_types.specs.declared.contents.extension.ExtensionDescriptorInner.{ExtensionDescriptorInner}
 use Rattle.pool_faults.specs.declared.fault.DescriptorErrorKind.{DescriptorErrorKind}
-use Rattle.proto_types.specs.Empty.{no_enum}
+use Rattle.proto_types.specs.Enumeration.{no_enum}
 use Rattle.plain_data.specs.Lists.{flat_map_after, listed}
 use Rattle.proto_types.specs.Readers.{text_of}
 use Rattle.record_walk.specs.Protos.{of_file, of_message, of_field, of_service, of_method, of_enum, of_value, of_extension, as_message, as_enum}
@@ -25,12 +25,12 @@ use Rattle.field_rules.specs.Oneofs.{oneof_faults}
 use Rattle.field_rules.specs.EnumValues.{value_faults, values_faults}
 use Rattle.plain_data.specs.Each.{map_enumerated}
 use Rattle.reference_pass.specs.Defaults.{field_default_faults}
-use Rattle.reference_pass.specs.Extensions.{extendee_faults, number_faults, taken_faults}
-use Rattle.reference_pass.specs.FieldTypes.{type_faults}
+use Rattle.reference_pass.specs.Extension.{extendee_faults, number_faults, duplicate_extension_faults}
+use Rattle.reference_pass.specs.Types.{type_faults}
 use Rattle.reference_pass.specs.Imports.{import_faults}
 use Rattle.reference_pass.specs.Items.{extension_items}
-use Rattle.reference_pass.specs.Messages.{method_at, resolve_message}
-use Rattle.field_rules.specs.Places.{field_at}
+use Rattle.reference_pass.specs.References.{method_at, resolve_message}
+use Rattle.record_walk.specs.Place.{field_at}
 use Rattle.reference_pass.specs.Setting.{Setting}
 
 abbrev pub Faults : Type 0
@@ -59,7 +59,7 @@ abbrev pub extension_faults : Setting → List ExtensionDescriptorInner → Show
     → FieldDescriptorProto → Faults
 extension_faults s earlier d x =
     let extendee = resolve_message s d x.extendee in
-    extendee_faults s d x ++ number_faults s d x extendee ++ taken_faults s earlier d x extendee
+    extendee_faults s d x ++ number_faults s d x extendee ++ duplicate_extension_faults s earlier d x extendee
     ++ type_faults s d x ++ field_default_faults s d x
 
 -- of an input, then of an output, that isn't found

@@ -1,7 +1,7 @@
 -- What the second pass holds, as its definitions have it.
 use Rattle.std.specs.Prelude.{◌++◌}
 use Rattle.reference_pass.specs.declared.resolve.ResolveVisitor.{ResolveVisitor}
-use Rattle.reference_pass.specs.Steps.{ReferenceState}
+use Rattle.reference_pass.specs.Resolve.{ReferenceState}
 
 abbrev pub state_of : ResolveVisitor → ReferenceState
 state_of v = record {

@@ -3,7 +3,7 @@
 ghost use Rattle.std.specs.Prelude.{◌≡◌};
 ghost use Rattle.std.specs.List.{find};
 ghost use Rattle.std.specs.Option.{option_copied};
-ghost use Rattle.pool_contents.specs.Extended.{has_number};
+ghost use Rattle.pool_types.specs.Extension.{has_number};
 ghost use Rattle.reference_pass.specs.Earlier.{earlier_in};
 
 use crate::items::NewItems;

@@ -4,15 +4,15 @@ ghost use Rattle.record_walk.specs.FullNames.{EndsWithName};
 ghost use Rattle.record_walk.specs.Protos.{of_extension};
 ghost use Rattle.reference_pass.specs.SecondPass.{extension_faults};
 ghost use Rattle.reference_pass.specs.Earlier.{earlier_in};
-ghost use Rattle.reference_pass.specs.Extensions.{extendee_faults, number_faults, taken_faults};
+ghost use Rattle.reference_pass.specs.Extension.{extendee_faults, number_faults, duplicate_extension_faults};
 ghost use Rattle.reference_pass.specs.Items.{bracketed, extension_item};
-ghost use Rattle.reference_pass.specs.Messages.{message_found, resolve_message, index_or_max};
+ghost use Rattle.reference_pass.specs.References.{message_found, resolve_message, index_or_max};
 ghost use Rattle.reference_pass.specs.NamesBegin.{ExtensionNameBegins};
-ghost use Rattle.reference_pass.specs.Reading.{Reads, setting_of};
+ghost use Rattle.reference_pass.specs.Reading.{ReadingTells, setting_of};
 ghost use Rattle.proto_types.specs.declared.tag.field.TheConstants as field;
-ghost use Rattle.field_rules.specs.Labels.{part_label};
-ghost use Rattle.field_rules.specs.Places.{shown_at};
-ghost use Rattle.field_rules.specs.Tells.{named_files};
+ghost use Rattle.pool_faults.specs.Labels.{part_label};
+ghost use Rattle.record_walk.specs.Place.{shown_at};
+ghost use Rattle.record_walk.specs.Faults.{named_files};
 
 use crate::declared::{declaration_path, message_record};
 use crate::earlier::EarlierExtensions;
@@ -20,11 +20,12 @@ use crate::field::is_proto3;
 use crate::reading::Reading;
 use crate::references::message_index_or_max;
 use crate::types::type_and_default;
-use field_rules::{Faults, Owner, Place, check_extension_number, identity, is_packed, item_number};
-use name_resolution::{ResolveNameResult, cardinality_of};
+use field_rules::{Owner, check_extension_number, identity, is_packed, item_number};
+use record_walk::{Faults, Place};
+use name_resolution::ResolveNameResult;
+use pool_types::{ExtensionDescriptorInner, Identity, KindIndex, cardinality_of};
 use plain_data::Text;
 use pool_faults::{DescriptorErrorKind, Label};
-use pool_types::{ExtensionDescriptorInner, Identity, KindIndex};
 use proto_types::{FieldDescriptorProto, tag};
 use std::alloc::{AllocError, Global};
 
@@ -46,7 +47,7 @@ pub fn read_extension(
     ensures begins { IfOk result (λ item.
         EndsWithName (shown_at place.entry (of_extension extension.now))
         → ExtensionNameBegins item) }
-    ensures faults { OnOk result (Reads reading.old reading.new
+    ensures faults { OnOk result (ReadingTells reading.old reading.new
         (extension_faults (setting_of reading.old) (earlier_in earlier.entry)
         (shown_at place.entry (of_extension extension.now)) extension.now)) }
 {
@@ -80,14 +81,14 @@ fn read_extendee(
     ensures index { IfOk result (λ index. index
         ≡ index_or_max (message_found (resolve_message (setting_of reading.old)
         (shown_at place.entry (of_extension extension.now)) extension.now.extendee))) }
-    ensures faults { OnOk result (Reads reading.old reading.new
+    ensures faults { OnOk result (ReadingTells reading.old reading.new
         (extendee_faults (setting_of reading.old)
         (shown_at place.entry (of_extension extension.now)) extension.now
         ++ number_faults (setting_of reading.old)
         (shown_at place.entry (of_extension extension.now)) extension.now
         (resolve_message (setting_of reading.old)
         (shown_at place.entry (of_extension extension.now)) extension.now.extendee)
-        ++ taken_faults (setting_of reading.old) (earlier_in earlier.entry)
+        ++ duplicate_extension_faults (setting_of reading.old) (earlier_in earlier.entry)
         (shown_at place.entry (of_extension extension.now)) extension.now
         (resolve_message (setting_of reading.old)
         (shown_at place.entry (of_extension extension.now)) extension.now.extendee))) }
@@ -95,7 +96,7 @@ fn read_extendee(
     let extendee = extension.extendee();
     let meaning = reading.resolve_message(place, tag::field::EXTENDEE, extendee)?;
     check_number(reading, &meaning, place, extension)?;
-    check_taken(reading, &meaning, place, extension, earlier)?;
+    check_duplicate_extension(reading, &meaning, place, extension, earlier)?;
     Ok(message_index_or_max(&meaning))
 }
 
@@ -107,7 +108,7 @@ fn check_number(
     place: Place,
     extension: &FieldDescriptorProto,
 ) -> Result<(), AllocError>
-    ensures { OnOk result (Reads reading.old reading.new
+    ensures { OnOk result (ReadingTells reading.old reading.new
         (number_faults (setting_of reading.old)
         (shown_at place.entry (of_extension extension.now)) extension.now
         (resolution_in extendee.now))) }
@@ -133,15 +134,15 @@ fn check_number(
 }
 
 /// Appends to `faults` that an earlier extension of the message that was found has the number.
-fn check_taken(
+fn check_duplicate_extension(
     reading: &mut Reading,
     extendee: &ResolveNameResult,
     place: Place,
     extension: &FieldDescriptorProto,
     earlier: EarlierExtensions,
 ) -> Result<(), AllocError>
-    ensures { OnOk result (Reads reading.old reading.new
-        (taken_faults (setting_of reading.old) (earlier_in earlier.entry)
+    ensures { OnOk result (ReadingTells reading.old reading.new
+        (duplicate_extension_faults (setting_of reading.old) (earlier_in earlier.entry)
         (shown_at place.entry (of_extension extension.now)) extension.now
         (resolution_in extendee.now))) }
 {

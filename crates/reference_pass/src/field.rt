@@ -1,29 +1,25 @@
 ghost use Rattle.std.specs.Prelude.{◌≡◌, ◌<◌, true, IfOk, OnOk, length, get_or, unwrap_or};
 ghost use Rattle.pool_types.specs.declared.kinds.KindIndex.TheVariants.{Double};
-ghost use Rattle.proto_types.specs.Empty.{no_field};
+ghost use Rattle.proto_types.specs.Field.{no_field};
 ghost use Rattle.proto_types.specs.declared.message.DescriptorProto.{out-DescriptorProto};
 ghost use Rattle.record_walk.specs.Counts.{lists_fit};
 ghost use Rattle.record_walk.specs.Protos.{of_field, of_message};
 ghost use Rattle.field_rules.specs.Bounds.{AreRangesOf};
 ghost use Rattle.reference_pass.specs.SecondPass.{field_record_faults};
 ghost use Rattle.reference_pass.specs.Defaults.{field_default};
-ghost use Rattle.reference_pass.specs.FieldTypes.{field_kind};
+ghost use Rattle.reference_pass.specs.Types.{field_kind};
 ghost use Rattle.reference_pass.specs.Items.{field_item, item_at};
-ghost use Rattle.reference_pass.specs.Reading.{Reads, setting_of};
+ghost use Rattle.reference_pass.specs.Reading.{ReadingTells, setting_of};
 ghost use Rattle.field_rules.specs.NamesBegin.{BeginsAtBoundary};
-ghost use Rattle.field_rules.specs.Places.{field_at, inside_of, message_at, shown_at};
-ghost use Rattle.name_pass.specs.Syntaxes.{is_proto3, syntax_at};
+ghost use Rattle.record_walk.specs.Place.{field_at, inside_of, message_at, shown_at};
+ghost use Rattle.pool_types.specs.Syntaxes.{is_proto3, syntax_at};
 
 use crate::reading::Reading;
 use crate::types::type_and_default;
-use field_rules::{
-    MessageRanges, Owner, Place, check_field_number, check_oneof_index, identity_inside, is_packed,
-    item_number, oneof_of, supports_presence,
-};
-use name_pass::syntax_at;
-use name_resolution::cardinality_of;
+use field_rules::{MessageRanges, Owner, check_field_number, check_oneof_index, identity_inside, is_packed, item_number, oneof_of, supports_presence};
+use record_walk::Place;
+use pool_types::{DefaultValue, FieldDescriptorInner, Identity, KindIndex, Syntax, cardinality_of, syntax_at};
 use plain_data::duplicate_option;
-use pool_types::{DefaultValue, FieldDescriptorInner, Identity, KindIndex, Syntax};
 use proto_types::{FieldDescriptorProto, OneofDescriptorProto, tag};
 use std::alloc::AllocError;
 
@@ -45,7 +41,7 @@ pub(crate) fn read_field(
         (get_or (out-DescriptorProto owner.entry.message.now).field position no_field))
         (get_or (out-DescriptorProto owner.entry.message.now).field position no_field)) }
     ensures begins { IfOk result (λ item. BeginsAtBoundary item.id) }
-    ensures faults { OnOk result (Reads reading.old reading.new
+    ensures faults { OnOk result (ReadingTells reading.old reading.new
         (field_record_faults (setting_of reading.old)
         (message_at owner.entry.place owner.entry.message.now, owner.entry.message.now)
         (field_at (inside_of owner.entry.place) position
@@ -86,7 +82,7 @@ fn check_field(
     ensures default { IfOk result (λ t. t.1
         ≡ field_default (setting_of reading.old)
         (shown_at place.entry (of_field field.now)) field.now) }
-    ensures faults { OnOk result (Reads reading.old reading.new
+    ensures faults { OnOk result (ReadingTells reading.old reading.new
         (field_record_faults (setting_of reading.old)
         (message_at owner.entry.place owner.entry.message.now, owner.entry.message.now)
         (shown_at place.entry (of_field field.now)) field.now)) }

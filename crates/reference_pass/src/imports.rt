@@ -4,15 +4,14 @@ ghost use Rattle.plain_data.specs.Lists.{at};
 ghost use Rattle.record_walk.specs.Counts.{fits_list, lists_fit};
 ghost use Rattle.record_walk.specs.Protos.{of_file};
 ghost use Rattle.reference_pass.specs.Imports.{missing_file, missing_files, index_fault, import_faults};
-ghost use Rattle.reference_pass.specs.Reading.{Reads, setting_of};
-ghost use Rattle.field_rules.specs.Tells.{Tells};
+ghost use Rattle.reference_pass.specs.Reading.{ReadingTells, setting_of};
+ghost use Rattle.record_walk.specs.Faults.{Tells};
 
 use crate::reading::Reading;
-use field_rules::Faults;
+use record_walk::Faults;
 use plain_data::Text;
 use pool_faults::DescriptorErrorKind;
-use proto_types::{FileDescriptorProto, tag};
-use record_walk::entry_path;
+use proto_types::{FileDescriptorProto, entry_path, tag};
 use std::alloc::{AllocError, Global};
 
 /// Appends to `faults` one for each import of the file with an index that names no file, and then
@@ -27,7 +26,7 @@ pub fn check_imports(
     file: &FileDescriptorProto,
 ) -> Result<(), AllocError>
     requires { lists_fit (of_file file.now) ≡ true }
-    ensures { OnOk result (Reads reading.old reading.new
+    ensures { OnOk result (ReadingTells reading.old reading.new
         (import_faults (setting_of reading.old) index file.now)) }
 {
     let imports = file.dependency.as_slice();
@@ -46,7 +45,7 @@ pub fn check_imports(
 
 fn check_names(reading: &mut Reading, index: u32, imports: &[Text]) -> Result<(), AllocError>
     requires { fits_list imports.now ≡ true }
-    ensures { OnOk result (Reads reading.old reading.new
+    ensures { OnOk result (ReadingTells reading.old reading.new
         (missing_files (setting_of reading.old) index imports.now)) }
 {
     for (position, name) in imports.iter().enumerate() {
@@ -63,7 +62,7 @@ fn check_name(
     name: &Text,
 ) -> Result<(), AllocError>
     requires { position < 2 ^ 31 }
-    ensures { OnOk result (Reads reading.old reading.new
+    ensures { OnOk result (ReadingTells reading.old reading.new
         (missing_file (setting_of reading.old) index position name.now)) }
 {
     if reading.file_names.get(name.as_str()).is_some() {

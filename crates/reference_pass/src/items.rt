@@ -3,7 +3,7 @@
 ghost use Rattle.std.specs.Prelude.{◌≡◌, ◌++◌, ◌∷◌, [], OnOk, OnErr};
 ghost use Rattle.std.specs.List.{find};
 ghost use Rattle.std.specs.Option.{option_copied};
-ghost use Rattle.pool_contents.specs.Extended.{has_number};
+ghost use Rattle.pool_types.specs.Extension.{has_number};
 ghost use Rattle.field_rules.specs.NamesBegin.{EnumNamesBegin};
 ghost use Rattle.reference_pass.specs.NamesBegin.{ExtensionNameBegins, MessageNamesBegin, NamesBegin, ServiceNamesBegin};
 ghost use Rattle.reference_pass.specs.Numbered.{EntersFirst, LeadsToFirst};

@@ -10,12 +10,13 @@ ghost use Rattle.reference_pass.specs.SecondPass.{faults_of_fields, message_faul
 ghost use Rattle.reference_pass.specs.Items.{field_items, message_item, oneof_items};
 ghost use Rattle.field_rules.specs.NamesBegin.{BeginsAtBoundary};
 ghost use Rattle.reference_pass.specs.NamesBegin.{MessageNamesBegin};
-ghost use Rattle.field_rules.specs.Places.{inside_of, message_at};
-ghost use Rattle.reference_pass.specs.Reading.{Reads, setting_of};
+ghost use Rattle.record_walk.specs.Place.{inside_of, message_at};
+ghost use Rattle.reference_pass.specs.Reading.{ReadingTells, setting_of};
 
 use crate::field::read_field;
 use crate::reading::Reading;
-use field_rules::{FieldMaps, MessageRanges, Owner, Place, identity, identity_inside, members};
+use field_rules::{FieldMaps, MessageRanges, Owner, identity, identity_inside, members};
+use record_walk::Place;
 use plain_data::{Items, NumberMap};
 use pool_types::{FieldDescriptorInner, MessageDescriptorInner, OneofDescriptorInner};
 use proto_types::{DescriptorProto, tag};
@@ -38,7 +39,7 @@ pub fn read_message(
         (message_at place.entry message.now) message.now) }
     ensures begins { IfOk result (λ item.
         EndsWithName (message_at place.entry message.now) → MessageNamesBegin item) }
-    ensures faults { OnOk result (Reads reading.old reading.new
+    ensures faults { OnOk result (ReadingTells reading.old reading.new
         (message_faults (setting_of reading.old)
         (message_at place.entry message.now) message.now)) }
 {
@@ -78,7 +79,7 @@ fn read_fields(
     ensures begin { IfOk result (λ items. All (λ f. BeginsAtBoundary f.id) items.items) }
     ensures maps { OnOk result (AreMapsOf maps.new
         (out-DescriptorProto owner.entry.message.now).field) }
-    ensures faults { OnOk result (Reads reading.old reading.new
+    ensures faults { OnOk result (ReadingTells reading.old reading.new
         (faults_of_fields (setting_of reading.old)
         (message_at owner.entry.place owner.entry.message.now, owner.entry.message.now)
         (out-DescriptorProto owner.entry.message.now).field)) }

@@ -1,7 +1,7 @@
 ghost use Rattle.std.specs.Prelude.{◌≡◌};
 ghost use Rattle.std.specs.List.{find};
 ghost use Rattle.std.specs.Option.{option_copied};
-ghost use Rattle.pool_contents.specs.Extended.{NumbersLead, has_number};
+ghost use Rattle.pool_types.specs.Extension.{NumbersLead, has_number};
 
 use pool_types::{ExtensionDescriptorInner, MessageDescriptorInner};
 

@@ -4,9 +4,9 @@ ghost use Rattle.plain_data.specs.Lists.{listed};
 ghost use Rattle.name_resolution.specs.References.{reference_fault};
 ghost use Rattle.name_resolution.specs.Resolution.{resolution_in};
 ghost use Rattle.reference_pass.specs.Setting.{resolve};
-ghost use Rattle.field_rules.specs.Tells.{Tells, named_files};
+ghost use Rattle.record_walk.specs.Faults.{Tells, named_files};
 
-use field_rules::{Faults, Place};
+use record_walk::{Faults, Place};
 use name_resolution::{ResolveNameFilter, ResolveNameResult, resolve_in_parts};
 use name_tables::{FileNames, PoolNames};
 use std::alloc::AllocError;
@@ -22,7 +22,7 @@ pub struct Reading<'f> {
 }
 
 impl<'f> Reading<'f> {
-    ghost use Rattle.reference_pass.specs.Reading.{Reads, setting_of};
+    ghost use Rattle.reference_pass.specs.Reading.{ReadingTells, setting_of};
 
     /// What a name means that a declaration writes.
     ///
@@ -67,7 +67,7 @@ impl<'f> Reading<'f> {
         ensures meaning { IfOk result (λ r. resolution_in r
             ≡ resolve (setting_of self.old) place.entry.file place.entry.full_name.now
             filter written.now) }
-        ensures faults { OnOk result (Reads self.old self.new
+        ensures faults { OnOk result (ReadingTells self.old self.new
             (listed (reference_fault (setting_of self.old).files written.now place.entry.file
             (place.entry.path.now ++ tag ∷ []) (resolve (setting_of self.old)
             place.entry.file place.entry.full_name.now filter written.now)))) }
@@ -91,7 +91,7 @@ impl<'f> Reading<'f> {
         ensures meaning { IfOk result (λ r. resolution_in r
             ≡ resolve (setting_of self.old) place.entry.file place.entry.full_name.now
             ResolveNameFilter.Message written.now) }
-        ensures faults { OnOk result (Reads self.old self.new
+        ensures faults { OnOk result (ReadingTells self.old self.new
             (listed (reference_fault (setting_of self.old).files written.now place.entry.file
             (place.entry.path.now ++ tag ∷ []) (resolve (setting_of self.old)
             place.entry.file place.entry.full_name.now ResolveNameFilter.Message written.now)))) }

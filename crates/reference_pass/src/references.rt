@@ -1,6 +1,6 @@
 ghost use Rattle.std.specs.Prelude.{◌≡◌};
 ghost use Rattle.name_resolution.specs.Resolution.{resolution_in};
-ghost use Rattle.reference_pass.specs.Messages.{message_found, message_index, index_or_max};
+ghost use Rattle.reference_pass.specs.References.{message_found, message_index, index_or_max};
 
 use name_resolution::ResolveNameResult;
 use pool_types::DefinitionKind;

@@ -5,12 +5,12 @@ use crate::{
     EarlierExtensions, PoolExtensions, Reading, check_imports, read_extension, read_message,
     read_service,
 };
-use field_rules::{Place, read_enum};
+use field_rules::read_enum;
+use record_walk::{Place, Visitor};
 use proto_types::{
     DescriptorProto, EnumDescriptorProto, EnumValueDescriptorProto, FieldDescriptorProto,
     FileDescriptorProto, MethodDescriptorProto, OneofDescriptorProto, ServiceDescriptorProto,
 };
-use record_walk::Visitor;
 use std::alloc::AllocError;
 
 /// The second pass: it reads a batch against a pool whose files and names are those of the batch as
@@ -34,7 +34,7 @@ impl Visitor for ResolveVisitor<'_> {
     ghost use Rattle.std.specs.Prelude.{[]};
     ghost use Rattle.pool_types.specs.Contents.{no_contents};
     ghost use Rattle.record_walk.specs.FullNames.{CanBeRead, front-read};
-    ghost use Rattle.reference_pass.specs.Steps.{reference_progress, reference_step};
+    ghost use Rattle.reference_pass.specs.Resolve.{reference_progress, reference_step};
     ghost use Rattle.reference_pass.specs.Reading.{setting_of};
     ghost use Rattle.reference_pass.specs.State.{state_of};
 

@@ -7,16 +7,17 @@ ghost use Rattle.record_walk.specs.Protos.{of_service};
 ghost use Rattle.name_resolution.specs.References.{reference_fault};
 ghost use Rattle.reference_pass.specs.SecondPass.{faults_of_methods, method_faults, service_faults};
 ghost use Rattle.reference_pass.specs.Items.{service_item, method_item, method_items};
-ghost use Rattle.reference_pass.specs.Messages.{message_found, message_index, method_at, index_or_max};
+ghost use Rattle.reference_pass.specs.References.{message_found, message_index, method_at, index_or_max};
 ghost use Rattle.field_rules.specs.NamesBegin.{BeginsAtBoundary};
-ghost use Rattle.field_rules.specs.Places.{inside_of, service_at};
+ghost use Rattle.record_walk.specs.Place.{inside_of, service_at};
 ghost use Rattle.reference_pass.specs.NamesBegin.{ServiceNamesBegin};
 ghost use Rattle.reference_pass.specs.Setting.{resolve};
-ghost use Rattle.reference_pass.specs.Reading.{Reads, setting_of};
+ghost use Rattle.reference_pass.specs.Reading.{ReadingTells, setting_of};
 
 use crate::reading::Reading;
 use crate::references::message_index_or_max;
-use field_rules::{Place, identity, identity_inside};
+use field_rules::{identity, identity_inside};
+use record_walk::Place;
 use name_resolution::ResolveNameFilter;
 use plain_data::Items;
 use pool_types::{MethodDescriptorInner, ServiceDescriptorInner};
@@ -39,7 +40,7 @@ pub fn read_service(
         (service_at place.entry service.now) service.now) }
     ensures begins { IfOk result (λ item.
         EndsWithName (service_at place.entry service.now) → ServiceNamesBegin item) }
-    ensures faults { OnOk result (Reads reading.old reading.new
+    ensures faults { OnOk result (ReadingTells reading.old reading.new
         (service_faults (setting_of reading.old)
         (service_at place.entry service.now) service.now)) }
 {
@@ -59,7 +60,7 @@ fn read_methods(
     ensures items { IfOk result (λ items. items.items
         ≡ method_items (setting_of reading.old) (inside_of service.entry) methods.now) }
     ensures begin { IfOk result (λ items. All (λ m. BeginsAtBoundary m.id) items.items) }
-    ensures faults { OnOk result (Reads reading.old reading.new
+    ensures faults { OnOk result (ReadingTells reading.old reading.new
         (faults_of_methods (setting_of reading.old) (inside_of service.entry) methods.now)) }
 {
     let mut items = Vec::with_capacity(reading.faults.alloc, methods.len())?;
@@ -82,7 +83,7 @@ fn read_method(
         ≡ method_item (setting_of reading.old)
         (method_at (inside_of service.entry) position method.now) method.now) }
     ensures begins { IfOk result (λ item. BeginsAtBoundary item.id) }
-    ensures faults { OnOk result (Reads reading.old reading.new
+    ensures faults { OnOk result (ReadingTells reading.old reading.new
         (method_faults (setting_of reading.old)
         (method_at (inside_of service.entry) position method.now) method.now)) }
 {
@@ -122,7 +123,7 @@ fn message_index(
     ensures index { IfOk result (λ index. index
         ≡ index_or_max (message_found (resolve (setting_of reading.old)
         place.entry.file place.entry.full_name.now ResolveNameFilter.Message written.now))) }
-    ensures faults { OnOk result (Reads reading.old reading.new
+    ensures faults { OnOk result (ReadingTells reading.old reading.new
         (listed (reference_fault (setting_of reading.old).files written.now place.entry.file
         (place.entry.path.now ++ tag ∷ []) (resolve (setting_of reading.old)
         place.entry.file place.entry.full_name.now ResolveNameFilter.Message written.now)))) }

@@ -4,27 +4,28 @@ ghost use Rattle.proto_types.specs.declared.tag.field.TheConstants.{TYPE_NAME};
 ghost use Rattle.plain_data.specs.Lists.{listed, only_if};
 ghost use Rattle.proto_types.specs.Readers.{text_of, type_of};
 ghost use Rattle.pool_faults.specs.declared.fault.DescriptorErrorKind.TheVariants.{MissingRequiredField};
-ghost use Rattle.field_rules.specs.Labels.{part_label};
-ghost use Rattle.field_rules.specs.Tells.{Tells, named_files};
+ghost use Rattle.pool_faults.specs.Labels.{part_label};
+ghost use Rattle.record_walk.specs.Faults.{Tells, named_files};
 ghost use Rattle.record_walk.specs.Protos.{of_field};
-ghost use Rattle.name_resolution.specs.Kinds.{named_kind, simple_kind};
+ghost use Rattle.pool_types.specs.Kinds.{named_kind, simple_kind};
 ghost use Rattle.name_resolution.specs.References.{reference_fault};
 ghost use Rattle.name_resolution.specs.Resolution.{kind_found, resolution_in};
-ghost use Rattle.field_rules.specs.DefaultEnumCode.{meant_in};
+ghost use Rattle.field_rules.specs.DefaultEnum.{default_enum_in};
 ghost use Rattle.field_rules.specs.Defaults.{default_faults};
 ghost use Rattle.reference_pass.specs.Defaults.{default_by, enum_found, field_default};
-ghost use Rattle.reference_pass.specs.Defaults.{field_default_faults, no_enum_meant};
-ghost use Rattle.reference_pass.specs.FieldTypes.{field_kind, type_faults, resolve_type};
-ghost use Rattle.reference_pass.specs.Reading.{Reads, setting_of};
-ghost use Rattle.field_rules.specs.Places.{shown_at};
+ghost use Rattle.reference_pass.specs.Defaults.{field_default_faults, no_default_enum};
+ghost use Rattle.reference_pass.specs.Types.{field_kind, type_faults, resolve_type};
+ghost use Rattle.reference_pass.specs.Reading.{ReadingTells, setting_of};
+ghost use Rattle.record_walk.specs.Place.{shown_at};
 
 use crate::declared::enum_record;
 use crate::reading::Reading;
-use field_rules::{DefaultEnum, Faults, Place, read_default};
-use name_resolution::{ResolveNameFilter, ResolveNameResult, named_kind, simple_kind};
+use field_rules::{DefaultEnum, read_default};
+use record_walk::{Faults, Place};
+use name_resolution::{ResolveNameFilter, ResolveNameResult};
+use pool_types::{DefaultValue, KindIndex, named_kind, simple_kind};
 use plain_data::Text;
 use pool_faults::DescriptorErrorKind;
-use pool_types::{DefaultValue, KindIndex};
 use proto_types::{FieldDescriptorProto, FieldType, tag};
 use std::alloc::AllocError;
 
@@ -41,7 +42,7 @@ pub(crate) fn type_and_default(
     ensures default { IfOk result (λ t. t.1
         ≡ field_default (setting_of reading.old)
         (shown_at place.entry (of_field field.now)) field.now) }
-    ensures faults { OnOk result (Reads reading.old reading.new
+    ensures faults { OnOk result (ReadingTells reading.old reading.new
         (type_faults (setting_of reading.old)
         (shown_at place.entry (of_field field.now)) field.now
         ++ field_default_faults (setting_of reading.old)
@@ -62,14 +63,14 @@ fn written_type(
 ) -> Result<(Option<KindIndex>, Option<DefaultValue>), AllocError>
     ensures kind { IfOk result (λ t. t.0 ≡ simple_kind (type_of field.now.type_)) }
     ensures default { IfOk result (λ t. t.1
-        ≡ default_by (simple_kind (type_of field.now.type_)) no_enum_meant
+        ≡ default_by (simple_kind (type_of field.now.type_)) no_default_enum
         field.now.default_value) }
     ensures faults { OnOk result (Tells faults.old faults.new
         (only_if (not (is_some (simple_kind (type_of field.now.type_))))
         (MissingRequiredField (part_label (named_files faults.old) place.entry.file
         place.entry.path.now TYPE_NAME))
         ++ option_map_or (λ k. default_faults (named_files faults.old) place.entry.file
-        place.entry.path.now k no_enum_meant field.now.default_value)
+        place.entry.path.now k no_default_enum field.now.default_value)
         (simple_kind (type_of field.now.type_)) [])) }
 {
     let kind = simple_kind(field.field_type());
@@ -97,7 +98,7 @@ fn named_type(
         (shown_at place.entry (of_field field.now)) field.now)))
         (enum_found (setting_of reading.old) (resolve_type (setting_of reading.old)
         (shown_at place.entry (of_field field.now)) field.now)) field.now.default_value) }
-    ensures faults { OnOk result (Reads reading.old reading.new
+    ensures faults { OnOk result (ReadingTells reading.old reading.new
         (listed (reference_fault (setting_of reading.old).files (text_of field.now.type_name)
         place.entry.file (place.entry.path.now ++ TYPE_NAME ∷ [])
         (resolve_type (setting_of reading.old)
@@ -112,13 +113,13 @@ fn named_type(
 {
     let (tag, filter) = (tag::field::TYPE_NAME, ResolveNameFilter::FieldType);
     let meaning = reading.resolve_checked(place, tag, filter, field.type_name())?;
-    let kind = meant_kind(field.field_type(), &meaning);
+    let kind = kind_by_meaning(field.field_type(), &meaning);
     let default = named_default(reading, place, kind, &meaning, &field.default_value)?;
     Ok((kind, default))
 }
 
 /// The kind of a field of a written type whose type name has a meaning.
-fn meant_kind(written: FieldType, meaning: &ResolveNameResult) -> Option<KindIndex>
+fn kind_by_meaning(written: FieldType, meaning: &ResolveNameResult) -> Option<KindIndex>
     ensures { result ≡ option_and_then (named_kind written)
         (kind_found (resolution_in meaning.now)) }
 {
@@ -139,7 +140,7 @@ fn named_default(
     ensures value { IfOk result (λ value. value
         ≡ default_by kind (enum_found (setting_of reading.old) (resolution_in meaning.now))
         given.now) }
-    ensures faults { OnOk result (Reads reading.old reading.new
+    ensures faults { OnOk result (ReadingTells reading.old reading.new
         (option_map_or (λ k. default_faults (setting_of reading.old).files place.entry.file
         place.entry.path.now k
         (enum_found (setting_of reading.old) (resolution_in meaning.now)) given.now) kind [])) }
@@ -161,10 +162,10 @@ fn kind_default(
     given: &Option<Text>,
 ) -> Result<Option<DefaultValue>, AllocError>
     ensures value { IfOk result (λ value. value
-        ≡ default_by kind (meant_in meant.entry) given.now) }
+        ≡ default_by kind (default_enum_in meant.entry) given.now) }
     ensures faults { OnOk result (Tells faults.old faults.new
         (option_map_or (λ k. default_faults (named_files faults.old) place.entry.file
-        place.entry.path.now k (meant_in meant.entry) given.now) kind [])) }
+        place.entry.path.now k (default_enum_in meant.entry) given.now) kind [])) }
 {
     match kind {
         Some(kind) => read_default(faults, place, kind, meant, given),
@@ -174,7 +175,7 @@ fn kind_default(
 
 /// The enum that was found, or none.
 fn enum_found<'n, 'v>(reading: &Reading<'v>, meaning: &'n ResolveNameResult) -> DefaultEnum<'n, 'v>
-    ensures { meant_in result
+    ensures { default_enum_in result
         ≡ enum_found (setting_of reading.now) (resolution_in meaning.now) }
 {
     let ResolveNameResult::Found { name, def } = meaning else {
@@ -192,7 +193,7 @@ fn enum_found<'n, 'v>(reading: &Reading<'v>, meaning: &'n ResolveNameResult) -> 
 
 /// No enum.
 fn no_enum<'n, 'v>() -> DefaultEnum<'n, 'v>
-    ensures { meant_in result ≡ no_enum_meant }
+    ensures { default_enum_in result ≡ no_default_enum }
 {
     DefaultEnum {
         full_name: "",

@@ -5,7 +5,7 @@ use Rattle.std.specs.Option.{option_map, option_map_or}
 use Rattle.std.specs.Str.{bytes_eq}
 use Rattle.proto_types.specs.Readers.{text_of}
 use Rattle.pool_types.specs.declared.contents.file.FileDescriptorInner.{FileDescriptorInner}
-use Rattle.record_lists.specs.References.{references}
+use Rattle.record_lists.specs.Reference.{references}
 use Rattle.script_answers.specs.Answers.{none_line, reference_lines, refs_answer}
 
 -- the first of some values, by what they are mapped to

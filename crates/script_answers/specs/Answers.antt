@@ -10,7 +10,7 @@ use Rattle.proto_types.specs.declared.file.FileDescriptorProto.{FileDescriptorPr
 use Rattle.pool_types.specs.declared.contents.definition.Definition.{Definition}
 use Rattle.pool_types.specs.declared.contents.definition.DefinitionKind.{DefinitionKind}
 use Rattle.pool_types.specs.declared.contents.definition.DefinitionKind.TheVariants as definition
-use Rattle.pool_faults.specs.Texts.{path_text, labelled_text}
+use Rattle.pool_faults.specs.Fault.{path_text, labelled_text}
 use Rattle.pool_faults.specs.declared.fault.DescriptorErrorKind.{DescriptorErrorKind}
 use Rattle.record_walk.specs.declared.counts.Counts.{Counts}
 use Rattle.record_walk.specs.declared.counts.CountKind.{CountKind}
@@ -20,10 +20,10 @@ use Rattle.record_walk.specs.declared.declaration.DeclarationKind.{DeclarationKi
 use Rattle.record_walk.specs.declared.declaration.DeclarationKind.TheVariants as declared
 use Rattle.record_walk.specs.Counts.{no_counts}
 use Rattle.record_walk.specs.Declarations.{declarations}
-use Rattle.record_walk.specs.Listed.{declaration_of}
+use Rattle.record_walk.specs.Declaration.{declaration_of}
 use Rattle.link_script.specs.declared.script.statement.ScriptFault.{ScriptFault}
 use Rattle.link_script.specs.Script.Faults.{fault_words}
-use Rattle.record_lists.specs.References.{Reference, references}
+use Rattle.record_lists.specs.Reference.{Reference, references}
 
 -- words with a space between each two, and the line's end
 abbrev pub line : List (List ℕ) → List ℕ

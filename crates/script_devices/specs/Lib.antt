@@ -1,3 +1,3 @@
-pub mod Devices
+pub mod Device
 pub mod Memory
 pub mod Streams

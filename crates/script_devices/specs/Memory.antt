@@ -1,7 +1,7 @@
 -- What a reader and a writer over memory tell, and which of their calls fails.
 use Rattle.std.specs.Prelude.{◌≡◌, ℕ, ◌-◌, ◌^◌, ◌<◌, ◌⊎◌, List, length}
 use Rattle.std.specs.declared.option.Option.TheVariants.{Some}
-use Rattle.script_devices.specs.Devices.{Source, Sink}
+use Rattle.script_devices.specs.Device.{Source, Sink}
 
 -- bytes to be read, of which the reads that failed are counted
 abbrev pub source_over : List ℕ → ℕ → Source

@@ -1,7 +1,7 @@
 -- What a reader and a writer of the library tell: none of their bytes, and the counts alone.
 use Rattle.std.specs.Prelude.{ℕ}
 use Rattle.std.specs.declared.option.Option.TheVariants.{None}
-use Rattle.script_devices.specs.Devices.{Source, Sink}
+use Rattle.script_devices.specs.Device.{Source, Sink}
 
 abbrev pub untold_source : ℕ → ℕ → Source
 untold_source failures reads_left = record {

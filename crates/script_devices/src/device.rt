@@ -1,5 +1,5 @@
 ghost use Rattle.std.specs.Prelude.{◌<◌};
-ghost use Rattle.script_devices.specs.Devices.{Source, Sink, Reads, Writes, failure_limit};
+ghost use Rattle.script_devices.specs.Device.{Source, Sink, Reads, Writes, failure_limit};
 
 use std::io;
 

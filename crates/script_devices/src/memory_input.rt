@@ -1,5 +1,5 @@
 ghost use Rattle.std.specs.Prelude.{◌≡◌, ◌-◌, ◌↔◌, ◌<◌, length, min, IfOk, OnErr, IsErr};
-ghost use Rattle.script_devices.specs.Devices.{Reads, failure_limit};
+ghost use Rattle.script_devices.specs.Device.{Reads, failure_limit};
 ghost use Rattle.script_devices.specs.Memory.{source_over};
 
 use crate::ScriptInput;

@@ -1,5 +1,5 @@
 ghost use Rattle.std.specs.Prelude.{◌≡◌, ◌-◌, ◌↔◌, ◌<◌, [], length, min, IfOk, OnErr, IsErr};
-ghost use Rattle.script_devices.specs.Devices.{Writes, failure_limit};
+ghost use Rattle.script_devices.specs.Device.{Writes, failure_limit};
 ghost use Rattle.script_devices.specs.Memory.{sink_over, MustFail};
 
 use crate::ReportOutput;

@@ -1,5 +1,5 @@
 ghost use Rattle.std.specs.Prelude.{◌≡◌, ◌-◌, ◌^◌, ◌<◌, IsErr};
-ghost use Rattle.script_devices.specs.Devices.{Reads, failure_limit};
+ghost use Rattle.script_devices.specs.Device.{Reads, failure_limit};
 ghost use Rattle.script_devices.specs.Streams.{untold_source};
 
 use crate::ScriptInput;
@@ -15,7 +15,7 @@ pub struct ReaderInput<R: Read> {
 }
 
 impl<R: Read> Model for ReaderInput<R> {
-    ghost use Rattle.script_devices.specs.Devices.{Source};
+    ghost use Rattle.script_devices.specs.Device.{Source};
     ghost use Rattle.script_devices.specs.Streams.{untold_source};
 
     ghost Value = { Source };

@@ -15,7 +15,7 @@ pub struct WriterOutput<W: Write> {
 }
 
 impl<W: Write> Model for WriterOutput<W> {
-    ghost use Rattle.script_devices.specs.Devices.{Sink};
+    ghost use Rattle.script_devices.specs.Device.{Sink};
     ghost use Rattle.script_devices.specs.Streams.{untold_sink};
 
     ghost Value = { Sink };

@@ -5,11 +5,11 @@ use Rattle.std.specs.declared.option.Option.{Option}
 use Rattle.std.specs.declared.option.Option.TheVariants.{None}
 use Rattle.proto_types.specs.Readers.{text_of}
 use Rattle.pool_types.specs.Contents.{Contents, no_contents, files_of}
-use Rattle.pool_faults.specs.Labels.{file_at}
-use Rattle.reference_pass.specs.Messages.{message_index}
+use Rattle.proto_types.specs.File.{file_at}
+use Rattle.reference_pass.specs.References.{message_index}
 use Rattle.reference_pass.specs.SecondPass.{Faults}
-use Rattle.pool_contents.specs.Equality.{contents_eq}
-use Rattle.pool_contents.specs.Extended.{extension_numbered}
+use Rattle.pool_contents.specs.Same.{contents_eq}
+use Rattle.pool_types.specs.Extension.{extension_numbered}
 use Rattle.pool_contents.specs.LookUps.{definition_named}
 use Rattle.script_answers.specs.Answers.{line, none_line, definition_line, extension_line}
 use Rattle.descriptor_pool.specs.Pool.{faults, counts_after, link}

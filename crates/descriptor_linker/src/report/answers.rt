@@ -3,7 +3,7 @@
 ghost use Rattle.std.specs.Prelude.{◌≡◌, ◌++◌, OnOk, string_bytes};
 ghost use Rattle.std.specs.Option.{option_map};
 ghost use Rattle.pool_types.specs.Contents.{files_of};
-ghost use Rattle.pool_faults.specs.Labels.{file_at};
+ghost use Rattle.proto_types.specs.File.{file_at};
 ghost use Rattle.proto_types.specs.Readers.{text_of};
 ghost use Rattle.script_answers.specs.Answers.{walk_answer, refs_answer};
 ghost use Rattle.descriptor_linker.specs.Report.Answers as spec;

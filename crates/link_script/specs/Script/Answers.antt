@@ -11,10 +11,10 @@ use Rattle.link_script.specs.declared.script.line_error.LineError.TheVariants.{F
 use Rattle.link_script.specs.declared.script.standing.Standing.{Standing as Code}
 use Rattle.link_script.specs.declared.script.words.Words.{Words}
 use Rattle.link_script.specs.Script.Words.{words}
-use Rattle.link_script.specs.Script.Keywords.{Standing, standing_after}
+use Rattle.link_script.specs.Script.Keyword.{Standing, standing_after}
 use Rattle.link_script.specs.declared.script.statement.Keyword.{Keyword}
 use Rattle.link_script.specs.Script.Arguments.{said_in, and_then}
-use Rattle.link_script.specs.Script.Reading.{Line, of_words}
+use Rattle.link_script.specs.Script.Reading.{Saying, of_words}
 
 -- the answer that is meant, unless memory was refused
 abbrev pub IsAnswer : {X : Type 0} → Result X ScriptFault → Result X LineError → Type 0
@@ -23,7 +23,7 @@ IsAnswer meant (Err (Fault fault)) = meant ≡ Err fault
 IsAnswer meant (Err OutOfMemory) = Unit {0}
 
 -- the statement that a line says, if it says one, and what stands before the next line
-abbrev pub after_line : Line → Standing → Result (Option Statement × Standing) ScriptFault
+abbrev pub after_line : Saying → Standing → Result (Option Statement × Standing) ScriptFault
 after_line (Err fault) here = Err fault
 after_line (Ok None) here = Ok (None, here)
 after_line (Ok (Some s)) here = Ok (Some s.1, standing_after here s.0)
@@ -33,7 +33,7 @@ abbrev pub standing_in : Code → Standing
 standing_in h = record { blocks = reverse h.blocks.items; more = h.more }
 
 -- the line's fault, unless memory was refused; a fact holds behind either
-abbrev pub IsFaultOf : Line → Type 0 → LineError → Type 0
+abbrev pub IsFaultOf : Saying → Type 0 → LineError → Type 0
 IsFaultOf read kept (Fault fault) = (read ≡ Err fault) × kept
 IsFaultOf read kept OutOfMemory = kept
 
@@ -42,11 +42,11 @@ abbrev pub words_left : Words → List (List ℕ)
 words_left w = words w.rest.now
 
 -- what a line of text says behind other statements
-abbrev pub text_said : Standing → List ℕ → Line
+abbrev pub text_said : Standing → List ℕ → Saying
 text_said here line = of_words here line (words line)
 
 -- what a line says, by its keyword and the words behind it, where it has them
-abbrev pub IsBegun : List ℕ → Line → Result (Option (Keyword × Words)) ScriptFault → Type 0
+abbrev pub IsBegun : List ℕ → Saying → Result (Option (Keyword × Words)) ScriptFault → Type 0
 IsBegun line read (Err fault) = read ≡ Err fault
 IsBegun line read (Ok None) = read ≡ Ok None
 IsBegun line read (Ok (Some b)) =

@@ -7,10 +7,13 @@ use Rattle.std.specs.declared.option.Option.{Option}
 use Rattle.std.specs.declared.option.Option.TheVariants.{None, Some}
 use Rattle.std.specs.declared.result.Result.{Result}
 use Rattle.std.specs.declared.result.Result.TheVariants.{Ok, Err}
-use Rattle.default_values.specs.TruthValues.{truth_value}
-use Rattle.default_values.specs.WholeNumbers.{whole_signed}
+use Rattle.plain_data.specs.TruthValues.{truth_value}
+use Rattle.plain_data.specs.WholeNumbers.{whole_signed}
 use Rattle.proto_types.specs.Readers.{text_of}
-use Rattle.proto_types.specs.Empty.{no_field, no_value, no_method, no_location}
+use Rattle.proto_types.specs.Source.{no_location}
+use Rattle.proto_types.specs.Service.{no_method}
+use Rattle.proto_types.specs.Enumeration.{no_value}
+use Rattle.proto_types.specs.Field.{no_field}
 use Rattle.proto_types.specs.declared.records.field.FieldDescriptorProto.{FieldDescriptorProto}
 use Rattle.link_script.specs.declared.script.statement.Keyword.{Keyword}
 use Rattle.link_script.specs.declared.script.statement.Keyword.TheVariants as word

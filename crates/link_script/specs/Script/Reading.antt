@@ -12,28 +12,28 @@ use Rattle.link_script.specs.declared.script.statement.Script.{Script}
 use Rattle.link_script.specs.declared.script.statement.ScriptFault.{ScriptFault}
 use Rattle.link_script.specs.declared.script.statement.ScriptFault.TheVariants.{BadText, UnknownWord, Misplaced, MissingEnd}
 use Rattle.link_script.specs.Script.Words.{lines, words, says_nothing}
-use Rattle.link_script.specs.Script.Keywords.{Standing, at_start, keyword_of, may_stand, standing_after}
+use Rattle.link_script.specs.Script.Keyword.{Standing, at_start, keyword_of, may_stand, standing_after}
 use Rattle.link_script.specs.Script.Arguments.{said_in, and_then}
 
 -- what a line says: a keyword and its statement, or nothing, or its fault
-abbrev pub Line : Type 0
-Line = Result (Option (Keyword × Statement)) ScriptFault
+abbrev pub Saying : Type 0
+Saying = Result (Option (Keyword × Statement)) ScriptFault
 
-abbrev placed : List ℕ → Keyword → List (List ℕ) → Bool → Line
+abbrev placed : List ℕ → Keyword → List (List ℕ) → Bool → Saying
 placed line keyword rest may = if may
     then and_then (said_in line keyword rest) (λ s. Ok (Some (keyword, s))) else Err Misplaced
 
-abbrev known : Standing → List ℕ → List (List ℕ) → Option Keyword → Line
+abbrev known : Standing → List ℕ → List (List ℕ) → Option Keyword → Saying
 known here line rest None = Err UnknownWord
 known here line rest (Some keyword) = placed line keyword rest (may_stand here keyword)
 
-abbrev pub of_words : Standing → List ℕ → List (List ℕ) → Line
+abbrev pub of_words : Standing → List ℕ → List (List ℕ) → Saying
 of_words here line [] = Ok None
 of_words here line (w ∷ ws) = if says_nothing (w ∷ ws) then Ok None
     else known here line ws (keyword_of w)
 
 -- what a line says behind other statements
-abbrev pub line_said : Standing → List ℕ → Line
+abbrev pub line_said : Standing → List ℕ → Saying
 line_said here line = if not (is_utf8 line) then Err BadText else of_words here line (words line)
 
 abbrev pub after_statement : Statement → Script → Script

@@ -1,7 +1,7 @@
 //! The words that begin statements, and where these stand.
 
 ghost use Rattle.std.specs.Prelude.{◌≡◌, map, reverse, OnOk, OnErr};
-ghost use Rattle.link_script.specs.Script.Keywords as spec;
+ghost use Rattle.link_script.specs.Script.Keyword as spec;
 
 use super::statement::{Block, Keyword};
 use std::alloc::AllocError;

@@ -14,7 +14,7 @@ pub(crate) struct Standing {
 impl Standing {
     ghost use Rattle.std.specs.Prelude.{◌≡◌, ◌≢◌, OnOk, OnErr, [], true, false};
     ghost use Rattle.link_script.specs.Script.Answers.{standing_in};
-    ghost use Rattle.link_script.specs.Script.Keywords as spec;
+    ghost use Rattle.link_script.specs.Script.Keyword as spec;
 
     /// Before the first statement.
     pub(super) fn new(alloc: Global) -> Standing

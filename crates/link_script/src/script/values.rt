@@ -9,8 +9,7 @@ ghost use Rattle.link_script.specs.Script.Answers.{IsAnswer};
 use super::cuts::cut_at;
 use super::line_error::LineError;
 use super::statement::ScriptFault;
-use default_values::{parse_bool, parse_int32};
-use plain_data::{Items, Text};
+use plain_data::{Items, Text, parse_bool, parse_int32};
 use std::alloc::{AllocError, Global};
 
 /// The labels, in the order of their numbers from 1 on.

@@ -1,6 +1,6 @@
 ghost use Rattle.std.specs.Prelude.{◌≡◌, IfOk, drop};
 ghost use Rattle.std.specs.Str.{IsCharBoundary};
-ghost use Rattle.pool_types.specs.DefinitionKinds.{is_parent};
+ghost use Rattle.pool_types.specs.Definition.{is_package, is_parent};
 
 use crate::FileDescriptor;
 use plain_data::{Items, Text};
@@ -85,6 +85,13 @@ impl Identity {
 }
 
 impl DefinitionKind {
+    /// Whether it is a package.
+    pub fn is_package(&self) -> bool
+        ensures { result ≡ is_package self.now }
+    {
+        matches!(self, DefinitionKind::Package)
+    }
+
     /// Whether other declarations may stand in it.
     pub fn is_parent(&self) -> bool
         ensures { result ≡ is_parent self.now }

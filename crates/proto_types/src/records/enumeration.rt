@@ -1,5 +1,5 @@
 ghost use Rattle.std.specs.Prelude.{◌≡◌, IfOk};
-ghost use Rattle.proto_types.specs.Empty.{no_enum, no_enum_range, no_value};
+ghost use Rattle.proto_types.specs.Enumeration.{no_enum, no_enum_range, no_value};
 ghost use Rattle.proto_types.specs.Readers.{text_of, number_of};
 
 use super::options::{EnumOptions, Options, Unread};

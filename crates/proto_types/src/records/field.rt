@@ -1,6 +1,6 @@
 ghost use Rattle.std.specs.Prelude.{◌≡◌, ◌≤ℤ◌, pos, IfOk};
 ghost use Rattle.proto_types.specs.Readers.{text_of, number_of, flag_of, label_of, type_of};
-ghost use Rattle.proto_types.specs.Empty.{no_field};
+ghost use Rattle.proto_types.specs.Field.{no_field};
 
 use super::options::{FieldOptions, Options};
 use crate::text;

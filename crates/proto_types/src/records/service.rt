@@ -1,5 +1,5 @@
 ghost use Rattle.std.specs.Prelude.{◌≡◌, IfOk};
-ghost use Rattle.proto_types.specs.Empty.{no_service, no_method};
+ghost use Rattle.proto_types.specs.Service.{no_service, no_method};
 ghost use Rattle.proto_types.specs.Readers.{text_of};
 
 use super::options::{Options, Unread};

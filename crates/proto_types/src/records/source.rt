@@ -1,5 +1,5 @@
 ghost use Rattle.std.specs.Prelude.{◌≡◌, IfOk};
-ghost use Rattle.proto_types.specs.Empty.{no_source, no_location};
+ghost use Rattle.proto_types.specs.Source.{no_source, no_location};
 
 use plain_data::{Duplicate, Items, Text, duplicate_option};
 use std::alloc::{AllocError, Global};

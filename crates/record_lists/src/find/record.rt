@@ -27,7 +27,7 @@ pub(crate) enum Record<'a> {
 impl<'a> Record<'a> {
     ghost use Rattle.std.specs.Option.{option_map};
     ghost use Rattle.record_walk.specs.Leads.{leads, leads_in_message, leads_in_enum, leads_in_service};
-    ghost use Rattle.record_lists.specs.Records.{proto_in};
+    ghost use Rattle.record_lists.specs.Record.{proto_in};
 
     /// The record at a path of a file, or none where nothing stands there.
     pub(super) fn at(root: &'a FileDescriptorProto, path: &[i32]) -> Option<Record<'a>>

@@ -66,14 +66,14 @@ impl<'a> Cursor<'a> {
         let Some(row) = self.rows.pop() else {
             return Ok(None);
         };
-        let Row { part, rest, place } = row;
-        let index = part.index(self.counts, place.position);
+        let Row { part, rest, at } = row;
+        let index = part.index(self.counts, at.position);
         self.counts = part.counted(self.counts);
-        self.site.cut(place.depth);
-        self.site.enter(place, part.name())?;
-        self.rows.push(rest, place.next())?;
+        self.site.cut(at.depth);
+        self.site.enter(at, part.name())?;
+        self.rows.push(rest, at.next())?;
         self.rows
-            .push_inner(part, index, self.site.depth(), place.depth.scope)?;
+            .push_inner(part, index, self.site.depth(), at.depth.scope)?;
         Ok(Some(Located { index, part }))
     }
 }

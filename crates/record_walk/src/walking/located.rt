@@ -1,5 +1,5 @@
 ghost use Rattle.std.specs.Prelude.{◌≡◌, [], ◌∷◌, OnOk};
-ghost use Rattle.record_walk.specs.Progress.{HasSeen};
+ghost use Rattle.record_walk.specs.Visitor.{HasSeen};
 ghost use Rattle.record_walk.specs.Shown.{file_shown};
 ghost use Rattle.record_walk.specs.Walking.{located};
 

@@ -11,21 +11,21 @@ pub(crate) struct Depth {
     pub(crate) scope: usize,
 }
 
-/// Where a record stands: in the list with this field number, at this position.
+/// The position of an entry: in the list with this field number, at this position.
 #[derive(Clone, Copy)]
-pub(crate) struct Place {
+pub(crate) struct EntryPosition {
     pub(crate) tag: i32,
     pub(crate) position: usize,
     pub(crate) depth: Depth,
 }
 
-impl Place {
-    /// The place of the record behind it.
-    pub(crate) fn next(self) -> Place
+impl EntryPosition {
+    /// The position of the entry behind it.
+    pub(crate) fn next(self) -> EntryPosition
         requires { self.position < 2 ^ 31 }
         ensures { result ≡ record self { position = self.position + 1 } }
     {
-        Place {
+        EntryPosition {
             position: self.position + 1,
             ..self
         }
@@ -33,11 +33,11 @@ impl Place {
 }
 
 impl Depth {
-    /// The place of the first record of a list.
-    pub(crate) fn start(self, tag: i32) -> Place
+    /// The position of the first entry of a list.
+    pub(crate) fn start(self, tag: i32) -> EntryPosition
         ensures { result ≡ record { tag = tag; position = 0; depth = self } }
     {
-        Place {
+        EntryPosition {
             tag,
             position: 0,
             depth: self,
@@ -45,12 +45,12 @@ impl Depth {
     }
 }
 
-/// What is left of a list: its first record, those behind it, and the place of the first.
+/// What is left of a list: its first record, those behind it, and the position of the first.
 #[derive(Clone, Copy)]
 pub(crate) struct Row<'a> {
     pub(crate) part: Part<'a>,
     pub(crate) rest: Records<'a>,
-    pub(crate) place: Place,
+    pub(crate) at: EntryPosition,
     /// Both stand in the same.
     ghost same: { parent_in rest ≡ parent_of part },
 }

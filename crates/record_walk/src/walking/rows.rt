@@ -4,7 +4,7 @@ ghost use Rattle.record_walk.specs.Cursor.{file_lines, inner_lines, line, line_i
 
 use super::part::Part;
 use super::records::Records;
-use super::row::{Depth, Place, Row};
+use super::row::{Depth, EntryPosition, Row};
 use proto_types::{DescriptorProto, FileDescriptorProto, tag};
 use std::alloc::{AllocError, Global};
 
@@ -40,13 +40,13 @@ impl<'a> Rows<'a> {
     }
 
     /// Adds a list, which is the next one, unless it is empty.
-    pub(crate) fn push(&mut self, records: Records<'a>, place: Place) -> Result<(), AllocError>
+    pub(crate) fn push(&mut self, records: Records<'a>, at: EntryPosition) -> Result<(), AllocError>
         ensures { OnOk result (lines self.new
-            ≡ stacked (line place (parent_in records.entry) (protos_in records.entry))
+            ≡ stacked (line at (parent_in records.entry) (protos_in records.entry))
             (lines self.old)) }
     {
         if let Some((part, rest)) = records.split_first() {
-            self.list.push(Row { part, rest, place })?;
+            self.list.push(Row { part, rest, at })?;
         }
         Ok(())
     }

@@ -1,9 +1,9 @@
-ghost use Rattle.std.specs.Prelude.{◌≡◌, ◌<◌, ◌^◌, [], IfOk, OnOk, length, take, string_bytes};
+ghost use Rattle.std.specs.Prelude.{◌≡◌, ◌<◌, ◌^◌, [], OnOk, length, take, string_bytes};
 ghost use Rattle.std.specs.String.Boundary.{IsSplitPoint};
 ghost use Rattle.proto_types.specs.Names.{join};
-ghost use Rattle.record_walk.specs.Shown.{step};
+ghost use Rattle.proto_types.specs.Paths.{entry_path};
 
-use super::row::{Depth, Place};
+use super::row::{Depth, EntryPosition};
 use std::alloc::{AllocError, Global};
 
 /// The site of a declaration: the file and path at which it stands, and its full name, which is the
@@ -58,41 +58,20 @@ impl Site {
         self.name.truncate(depth.scope);
     }
 
-    /// Goes on to the record at a place.
-    pub(crate) fn enter(&mut self, place: Place, name: &str) -> Result<(), AllocError>
-        requires { place.position < 2 ^ 31 }
+    /// Goes on to the record at a position.
+    pub(crate) fn enter(&mut self, at: EntryPosition, name: &str) -> Result<(), AllocError>
+        requires { at.position < 2 ^ 31 }
         ensures file { self.new.file ≡ self.old.file }
         ensures path { OnOk result
-            (self.new.path.items ≡ step self.old.path.items place.tag place.position) }
+            (self.new.path.items ≡ entry_path self.old.path.items at.tag at.position) }
         ensures name { OnOk result (string_bytes self.new.name
             ≡ join (string_bytes self.old.name) name.now) }
     {
-        self.path.push(place.tag)?;
-        self.path.push(place.position as i32)?;
+        self.path.push(at.tag)?;
+        self.path.push(at.position as i32)?;
         if !self.name.is_empty() {
             self.name.push('.')?;
         }
         self.name.push_str(name)
     }
-}
-
-/// The path of an entry of a list: the path of what has the list, the list's field number, and the
-/// entry's position, from 0 (descriptor.proto's `SourceCodeInfo.Location.path`).
-///
-/// # Errors
-/// `AllocError` where memory was refused.
-pub fn entry_path(
-    alloc: Global,
-    path: &[i32],
-    tag: i32,
-    position: usize,
-) -> Result<Vec<i32>, AllocError>
-    requires { position < 2 ^ 31 }
-    ensures { IfOk result (λ entry. entry.items ≡ step path.now tag position) }
-{
-    let mut entry = Vec::with_capacity(alloc, path.len() + 2)?;
-    entry.extend_from_slice(path)?;
-    entry.push(tag)?;
-    entry.push(position as i32)?;
-    Ok(entry)
 }

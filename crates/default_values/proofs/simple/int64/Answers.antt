@@ -1,7 +1,7 @@
 use Rattle.std.proofs.Common.{ap, ◌∙◌}
 use Rattle.std.specs.Option.{ok_or}
 use Rattle.default_values.specs.declared.faults.ValueFault.TheVariants.{Number}
-use Rattle.default_values.proofs.Numbers.{parsed-int64}
+use Rattle.plain_data.proofs.WholeNumbers.{parsed-int64}
 use Rattle.default_values.proofs.simple.int64.Goals as goal
 
 pub returns : goal.returns

@@ -4,9 +4,9 @@ use Rattle.record_walk.proofs.Listings.{after-ok, on-ok}
 use Rattle.reference_pass.specs.NamesBegin.{AllNamesBegin}
 use Rattle.pool_contents.specs.declared.growing.GrowingPool.{GrowingPool}
 use Rattle.pool_contents.specs.declared.inner.DescriptorPoolInner.{DescriptorPoolInner}
-use Rattle.descriptor_pool.specs.Linking.{batch_faults, linked_with}
+use Rattle.descriptor_pool.specs.Build.{batch_faults, with_batch}
 use Rattle.pool_contents.specs.Inner.{contents_in}
-use Rattle.descriptor_pool.specs.Tells.{TellsAll}
+use Rattle.descriptor_pool.specs.Error.{TellsAll}
 use Rattle.descriptor_pool.proofs.Passed.{after-err}
 use Rattle.descriptor_pool.proofs.build.link.Goals as goal
 use Rattle.descriptor_pool.proofs.build.link.Goals.{then-is_err, else-is_err}
@@ -41,5 +41,5 @@ returns-clause-ok c =
       | then-is_err w ↦ no-ok linked.result _ w.if-is_err.ensures.value
       | else-is_err w ↦
           let same = ap (λ (g : GrowingPool). contents_in g.inner) w.growing-is in
-          on-ok linked.result (λ is. same ∙ is ∙ ap (λ p. linked_with p c.args.new.items) start) linked.ensures.ok
+          on-ok linked.result (λ is. same ∙ is ∙ ap (λ p. with_batch p c.args.new.items) start) linked.ensures.ok
     ]

@@ -1,6 +1,6 @@
 use Rattle.std.proofs.Common.{subst, sym, ◌∙◌, rules}
-use Rattle.descriptor_pool.specs.Linking.{name_faults, reference_faults}
-use Rattle.descriptor_pool.specs.Tells.{TellsAll, TellsFaults}
+use Rattle.descriptor_pool.specs.Build.{name_faults, reference_faults}
+use Rattle.descriptor_pool.specs.Error.{TellsAll, TellsFaults}
 use Rattle.pool_contents.specs.Inner.{contents_in}
 use Rattle.descriptor_pool.proofs.Passed.{ok-is, tells-err}
 use Rattle.descriptor_pool.proofs.Stages.{before-seen, begin-seen, counts-added, counts-seen, few-files, imports-seen, items-seen, made-seen, names-told, numbers-seen, places-lie, references-told, short-added, short-seen, told-first, told-second}

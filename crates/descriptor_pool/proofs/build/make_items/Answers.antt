@@ -10,8 +10,8 @@ use Rattle.record_walk.specs.Declarations.{declarations}
 use Rattle.record_walk.proofs.Room.{room-fits}
 use Rattle.pool_contents.specs.Extended.{NumbersLieBefore, with_extended}
 use Rattle.pool_contents.specs.Growing.{before_items, first_extension, new_records}
-use Rattle.reference_pass.specs.Against.{setting_against}
-use Rattle.descriptor_pool.specs.Linking.{with_items}
+use Rattle.descriptor_pool.specs.Against.{setting_against}
+use Rattle.descriptor_pool.specs.Build.{with_items}
 use Rattle.descriptor_pool.proofs.Declared.{counts-with}
 use Rattle.std.proofs.lemmas.List.{length-take-le}
 use Rattle.record_walk.specs.Protos.{as_message}

@@ -9,11 +9,11 @@ use Rattle.record_walk.proofs.FullNames.{declarations-read}
 use Rattle.reference_pass.specs.Setting.{Setting}
 use Rattle.pool_contents.specs.declared.inner.DescriptorPoolInner.{DescriptorPoolInner}
 use Rattle.reference_pass.specs.SecondPass.{second_pass}
-use Rattle.reference_pass.specs.Against.{setting_against}
+use Rattle.descriptor_pool.specs.Against.{setting_against}
 use Rattle.reference_pass.proofs.Seen.{held}
 use Rattle.pool_contents.specs.Growing.{new_records}
 use Rattle.descriptor_pool.specs.Items.{HasItems}
-use Rattle.descriptor_pool.specs.Tells.{TellsFaults}
+use Rattle.descriptor_pool.specs.Error.{TellsFaults}
 use Rattle.descriptor_pool.proofs.Bases.{rest-records}
 use Rattle.descriptor_pool.proofs.Passed.{no_items, nothing-held, references-end, tells-err}
 use Rattle.descriptor_pool.proofs.build.read_items.Goals as goal

@@ -9,11 +9,11 @@ use Rattle.proto_types.specs.declared.records.enumeration.EnumValueDescriptorPro
 use Rattle.pool_types.specs.declared.contents.definition.Identity.{Identity}
 use Rattle.pool_types.specs.declared.contents.enumeration.EnumValueDescriptorInner.{EnumValueDescriptorInner}
 use Rattle.record_walk.specs.Protos.{of_enum, of_value}
-use Rattle.record_walk.specs.Shown.{step}
+use Rattle.proto_types.specs.Paths.{entry_path}
 use Rattle.field_rules.specs.Identities.{named_at}
 use Rattle.field_rules.specs.EnumItems.{value_item}
 use Rattle.field_rules.specs.NamesBegin.{BeginsAtBoundary}
-use Rattle.field_rules.specs.Places.{shown_at, part_beside}
+use Rattle.record_walk.specs.Place.{shown_at, part_beside}
 use Rattle.field_rules.proofs.Each.{each-next}
 use Rattle.field_rules.proofs.enum_items.read_values.Goals as goal
 
@@ -23,7 +23,7 @@ loop-position-preserved c =
     let d = shown_at c.args.place (of_enum c.args.enumeration.now) in
     let i = c.loop-position.position in
     let v = c.value-item.result in
-    let named : List ℕ → List ℕ → Identity = λ own name. named_at d.file (step d.path VALUE i) (take (length d.full_name - length own) d.full_name ++ name) name in
+    let named : List ℕ → List ℕ → Identity = λ own name. named_at d.file (entry_path d.path VALUE i) (take (length d.full_name - length own) d.full_name ++ name) name in
     let id = c.in_ok-id.ensures.id ∙ ap (λ own. named own c.name.result.now) c.name-own_name.ensures ∙ ap (λ name. named (text_of c.args.enumeration.now.name) name) c.name.ensures in
     let number : to_z w32 (of_z w32 c.number.result) ≡ number_of v.number = grind (arith, to_z-of_z, c.number.ensures) in
     let below = subst (λ (xs : List EnumValueDescriptorProto). i < length xs) c.as_slice-value-items.ensures c.loop-position-test.true in

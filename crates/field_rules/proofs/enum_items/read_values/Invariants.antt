@@ -6,7 +6,7 @@ use Rattle.record_walk.specs.Protos.{of_enum, of_value}
 use Rattle.plain_data.specs.Each.{map_enumerated}
 use Rattle.field_rules.specs.EnumItems.{value_item}
 use Rattle.field_rules.specs.NamesBegin.{BeginsAtBoundary}
-use Rattle.field_rules.specs.Places.{shown_at, part_beside}
+use Rattle.record_walk.specs.Place.{shown_at, part_beside}
 use Rattle.field_rules.proofs.enum_items.read_values.Given as goal
 
 -- the values so far are read

@@ -3,10 +3,11 @@ use Rattle.std.proofs.Common.{◌≡◌, ◌+◌, ◌∷◌, [], List, take, get
 use Rattle.std.proofs.lemmas.List.{get_or_default}
 use Rattle.proto_types.specs.declared.records.enumeration.EnumReservedRange.{EnumReservedRange}
 use Rattle.pool_faults.specs.declared.fault.DescriptorErrorKind.{DescriptorErrorKind}
-use Rattle.field_rules.specs.declared.faults.Faults.{Faults}
-use Rattle.field_rules.specs.Places.{enum_at}
-use Rattle.field_rules.specs.Tells.{Tells, named_files}
-use Rattle.field_rules.proofs.Tells.{tells-as, tells-from, tells-next, tells-none}
+use Rattle.record_walk.specs.declared.faults.Faults.{Faults}
+use Rattle.record_walk.specs.Place.{enum_at}
+use Rattle.record_walk.specs.Faults.{Tells, named_files}
+use Rattle.field_rules.proofs.Tells.{tells-next}
+use Rattle.record_walk.proofs.Faults.{tells-as, tells-from, tells-none}
 use Rattle.field_rules.specs.EnumValues.{reserved_fault, reserved_faults}
 use Rattle.field_rules.proofs.Told.{told-held, told-free}
 use Rattle.field_rules.proofs.enum_ranges.check_reserved.Goals as goal

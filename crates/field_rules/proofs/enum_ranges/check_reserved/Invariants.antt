@@ -1,6 +1,6 @@
 use Rattle.std.proofs.Common.{take}
-use Rattle.field_rules.specs.Places.{enum_at}
-use Rattle.field_rules.specs.Tells.{Tells, named_files}
+use Rattle.record_walk.specs.Place.{enum_at}
+use Rattle.record_walk.specs.Faults.{Tells, named_files}
 use Rattle.field_rules.specs.EnumValues.{reserved_faults}
 use Rattle.field_rules.proofs.enum_ranges.check_reserved.Given as goal
 

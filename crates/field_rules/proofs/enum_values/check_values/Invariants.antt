@@ -5,8 +5,8 @@ use Rattle.std.specs.Option.{option_map}
 use Rattle.std.specs.Ordering.{int_cmp, int_eq}
 use Rattle.proto_types.specs.Readers.{number_of}
 use Rattle.plain_data.specs.Each.{map_enumerated}
-use Rattle.field_rules.specs.Places.{enum_at}
-use Rattle.field_rules.specs.Tells.{Tells, named_files}
+use Rattle.record_walk.specs.Place.{enum_at}
+use Rattle.record_walk.specs.Faults.{Tells, named_files}
 use Rattle.field_rules.specs.EnumValues.{value_faults}
 use Rattle.field_rules.proofs.enum_values.check_values.Given as goal
 

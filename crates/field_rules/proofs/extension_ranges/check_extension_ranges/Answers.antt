@@ -3,13 +3,13 @@ use Rattle.std.proofs.lemmas.Int.{to_z-of_z}
 use Rattle.proto_types.specs.declared.message.DescriptorProto.{out-DescriptorProto}
 use Rattle.proto_types.specs.Readers.{number_of}
 use Rattle.record_walk.proofs.Listings.{on-ok}
-use Rattle.field_rules.specs.Tells.{named_files}
-use Rattle.field_rules.proofs.Tells.{tells-as}
-use Rattle.field_rules.specs.Places.{inside_of}
-use Rattle.field_rules.specs.Numbers.{outside_faults, extension_range_faults}
+use Rattle.record_walk.specs.Faults.{named_files}
+use Rattle.record_walk.proofs.Faults.{tells-as}
+use Rattle.record_walk.specs.Place.{inside_of}
+use Rattle.field_rules.specs.Numbers.{out_of_range_faults, extension_range_faults}
 use Rattle.std.specs.Prelude.{ℕ, ℤ, List, Option}
 use Rattle.proto_types.specs.declared.message.ExtensionRange.{ExtensionRange}
-use Rattle.number_ranges.specs.Holds.{holds, first_from}
+use Rattle.number_ranges.specs.Ranges.{holds, first_from}
 use Rattle.number_ranges.proofs.Firsts.{first-any, first-map, position-first, option_map-id}
 use Rattle.field_rules.specs.Bounds.{extension_bounds}
 use Rattle.field_rules.specs.Ranges.{extends}
@@ -42,8 +42,8 @@ returns-then-is_some c =
     let same : to_z w32 (of_z w32 c.number-number.result) ≡ n = grind (arith, to_z-of_z, c.number-number.ensures) in
     let here : is_some c.args.field.now.extendee ≡ true = search rules in
     on-ok c.check_in_some_range.result (λ told.
-    tells-as (ap (λ m. outside_faults files d.file d.path.now m owner ranges) same
-    ∙ ap (λ b. if b then outside_faults files d.file d.path.now n owner ranges else extension_range_faults files d.file d.path.now n owner ranges) (sym here)) told)
+    tells-as (ap (λ m. out_of_range_faults files d.file d.path.now m owner ranges) same
+    ∙ ap (λ b. if b then out_of_range_faults files d.file d.path.now n owner ranges else extension_range_faults files d.file d.path.now n owner ranges) (sym here)) told)
     c.check_in_some_range.ensures
 
 pub returns-else-is_some : goal.returns-else-is_some
@@ -57,5 +57,5 @@ returns-else-is_some c =
     let absent : is_some c.args.field.now.extendee ≡ false = search rules in
     on-ok c.check_not_in_ranges.result (λ told.
     tells-as (ap (λ m. extension_range_faults files d.file d.path.now m owner ranges) same
-    ∙ ap (λ b. if b then outside_faults files d.file d.path.now n owner ranges else extension_range_faults files d.file d.path.now n owner ranges) (sym absent)) told)
+    ∙ ap (λ b. if b then out_of_range_faults files d.file d.path.now n owner ranges else extension_range_faults files d.file d.path.now n owner ranges) (sym absent)) told)
     c.check_not_in_ranges.ensures

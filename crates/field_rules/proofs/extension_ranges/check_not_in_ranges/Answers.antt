@@ -5,9 +5,9 @@ use Rattle.std.specs.Option.{option_map}
 use Rattle.plain_data.specs.Lists.{listed}
 use Rattle.proto_types.specs.declared.message.ExtensionRange.{ExtensionRange}
 use Rattle.pool_faults.specs.declared.fault.DescriptorErrorKind.{DescriptorErrorKind}
-use Rattle.field_rules.specs.Tells.{named_files}
-use Rattle.field_rules.proofs.Tells.{tells-as, tells-from, tells-none}
-use Rattle.field_rules.specs.Places.{inside_of}
+use Rattle.record_walk.specs.Faults.{named_files}
+use Rattle.record_walk.proofs.Faults.{tells-as, tells-from, tells-none}
+use Rattle.record_walk.specs.Place.{inside_of}
 use Rattle.field_rules.specs.Numbers.{extension_range_fault}
 use Rattle.field_rules.specs.Ranges.{extends}
 use Rattle.field_rules.proofs.First.{first-from, none-from}

@@ -1,5 +1,5 @@
 use Rattle.std.proofs.Common.{rules}
-use Rattle.field_rules.specs.Places.{before_ending}
+use Rattle.field_rules.specs.Identities.{before_ending}
 use Rattle.field_rules.proofs.identities.identity_beside.Goals as goal
 
 pub returns-clause-id : goal.returns-clause-id

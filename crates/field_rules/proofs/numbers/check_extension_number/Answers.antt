@@ -3,10 +3,10 @@ use Rattle.std.proofs.lemmas.Int.{to_z-of_z}
 use Rattle.proto_types.specs.declared.message.DescriptorProto.{out-DescriptorProto}
 use Rattle.proto_types.specs.Readers.{number_of}
 use Rattle.record_walk.proofs.Listings.{on-ok}
-use Rattle.field_rules.specs.Tells.{Tells, named_files}
-use Rattle.field_rules.proofs.Tells.{same-files, tells-as, tells-three, tells-two}
-use Rattle.field_rules.specs.Places.{inside_of}
-use Rattle.field_rules.specs.Numbers.{invalid_faults, reserved_faults, outside_faults}
+use Rattle.record_walk.specs.Faults.{Tells, named_files}
+use Rattle.record_walk.proofs.Faults.{same-files, tells-as, tells-three, tells-two}
+use Rattle.record_walk.specs.Place.{inside_of}
+use Rattle.field_rules.specs.Numbers.{invalid_faults, reserved_faults, out_of_range_faults}
 use Rattle.field_rules.proofs.numbers.check_extension_number.Goals as goal
 
 -- the number is looked at by itself, by the reserved ranges and by the extension ranges
@@ -25,5 +25,5 @@ returns c =
     let files = same-files (tells-two first second) in
     on-ok c.check_in_some_range.result (λ third.
     tells-three first second
-    (tells-as (λ j. outside_faults (files j) d.file d.path.now (same j) owner m.extension_range) third))
+    (tells-as (λ j. out_of_range_faults (files j) d.file d.path.now (same j) owner m.extension_range) third))
     c.check_in_some_range.ensures

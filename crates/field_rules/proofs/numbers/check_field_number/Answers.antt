@@ -3,10 +3,10 @@ use Rattle.std.proofs.lemmas.Int.{to_z-of_z}
 use Rattle.proto_types.specs.declared.message.DescriptorProto.{out-DescriptorProto}
 use Rattle.proto_types.specs.Readers.{number_of}
 use Rattle.record_walk.proofs.Listings.{on-ok}
-use Rattle.field_rules.specs.Tells.{Tells, named_files}
-use Rattle.field_rules.proofs.Tells.{same-files, tells-as, tells-three, tells-two}
-use Rattle.field_rules.specs.Places.{inside_of}
-use Rattle.field_rules.specs.Numbers.{invalid_faults, reserved_faults, outside_faults, extension_range_faults}
+use Rattle.record_walk.specs.Faults.{Tells, named_files}
+use Rattle.record_walk.proofs.Faults.{same-files, tells-as, tells-three, tells-two}
+use Rattle.record_walk.specs.Place.{inside_of}
+use Rattle.field_rules.specs.Numbers.{invalid_faults, reserved_faults, out_of_range_faults, extension_range_faults}
 use Rattle.field_rules.proofs.numbers.check_field_number.Goals as goal
 
 -- the number is looked at by itself, by the reserved ranges and by the extension ranges
@@ -26,5 +26,5 @@ returns c =
     let files = same-files (tells-two first second) in
     on-ok c.check_extension_ranges.result (λ third.
     tells-three first second
-    (tells-as (ap (λ fs. if is_some f.extendee then outside_faults fs d.file d.path.now n owner m.extension_range else extension_range_faults fs d.file d.path.now n owner m.extension_range) files) third))
+    (tells-as (ap (λ fs. if is_some f.extendee then out_of_range_faults fs d.file d.path.now n owner m.extension_range else extension_range_faults fs d.file d.path.now n owner m.extension_range) files) third))
     c.check_extension_ranges.ensures

@@ -5,11 +5,12 @@ use Rattle.plain_data.specs.Lists.{only_if}
 use Rattle.proto_types.specs.Readers.{number_of}
 use Rattle.proto_types.specs.declared.message.DescriptorProto.{out-DescriptorProto}
 use Rattle.proto_types.specs.declared.message.ReservedRange.{ReservedRange}
-use Rattle.field_rules.specs.Tells.{named_files}
-use Rattle.field_rules.proofs.Tells.{tells-as, tells-next}
-use Rattle.number_ranges.specs.Holds.{holds, first_from}
+use Rattle.record_walk.specs.Faults.{named_files}
+use Rattle.field_rules.proofs.Tells.{tells-next}
+use Rattle.record_walk.proofs.Faults.{tells-as}
+use Rattle.number_ranges.specs.Ranges.{holds, first_from}
 use Rattle.number_ranges.proofs.Firsts.{first-below, first-map}
-use Rattle.field_rules.specs.Places.{inside_of}
+use Rattle.record_walk.specs.Place.{inside_of}
 use Rattle.field_rules.specs.Bounds.{reserved_bounds}
 use Rattle.field_rules.specs.Numbers.{reserved_fault, reserved_faults}
 use Rattle.field_rules.specs.Ranges.{reserves}

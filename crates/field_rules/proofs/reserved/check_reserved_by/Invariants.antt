@@ -1,7 +1,7 @@
 use Rattle.std.proofs.Common.{◌≤◌, ◌-◌, length, take}
 use Rattle.proto_types.specs.declared.message.DescriptorProto.{out-DescriptorProto}
-use Rattle.field_rules.specs.Tells.{Tells, named_files}
-use Rattle.field_rules.specs.Places.{inside_of}
+use Rattle.record_walk.specs.Faults.{Tells, named_files}
+use Rattle.record_walk.specs.Place.{inside_of}
 use Rattle.field_rules.specs.Numbers.{reserved_faults}
 use Rattle.field_rules.proofs.reserved.check_reserved_by.Given as goal
 

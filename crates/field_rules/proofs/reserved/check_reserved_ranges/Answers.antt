@@ -1,9 +1,10 @@
 use Rattle.std.proofs.Common.{◌+◌, ℤ, None, get_or, ap, sym, take, to_z, of_z, w32, refl}
 use Rattle.std.proofs.lemmas.List.{get_or_default}
 use Rattle.proto_types.specs.declared.message.ReservedRange.{ReservedRange}
-use Rattle.field_rules.specs.Tells.{named_files}
-use Rattle.field_rules.proofs.Tells.{tells-as, tells-next}
-use Rattle.field_rules.specs.Places.{inside_of}
+use Rattle.record_walk.specs.Faults.{named_files}
+use Rattle.field_rules.proofs.Tells.{tells-next}
+use Rattle.record_walk.proofs.Faults.{tells-as}
+use Rattle.record_walk.specs.Place.{inside_of}
 use Rattle.field_rules.specs.Numbers.{reserved_fault, reserved_faults}
 use Rattle.field_rules.proofs.reserved.check_reserved_ranges.Goals as goal
 

@@ -3,7 +3,7 @@ use Rattle.std.specs.HashMap.{get_by_text}
 use Rattle.std.specs.List.{enumerate_from}
 use Rattle.std.specs.Option.{option_map}
 use Rattle.std.specs.Str.{bytes_eq}
-use Rattle.field_rules.specs.Tells.{Tells, named_files}
+use Rattle.record_walk.specs.Faults.{Tells, named_files}
 use Rattle.name_pass.specs.CamelCase.{key_at, camel_case_faults}
 use Rattle.name_pass.proofs.camel_case.check_keys.Given as goal
 

@@ -1,7 +1,7 @@
 use Rattle.std.proofs.Common.{◌≡◌, Some, ap, sym, ◌∙◌}
 use Rattle.std.specs.Option.{option_copied}
 use Rattle.std.proofs.lemmas.Option.{same_Some}
-use Rattle.pool_types.specs.Equality.{definition-exact}
+use Rattle.pool_types.specs.Exact.{definition-exact}
 use Rattle.name_tables.specs.Branches.{meaning}
 use Rattle.name_tables.proofs.within.means.Goals as goal
 

@@ -1,5 +1,5 @@
 use Rattle.std.proofs.lemmas.Bool.Decides.{same_from_decides}
-use Rattle.pool_contents.specs.Equality.{file_names-exact}
+use Rattle.pool_contents.specs.Same.{file_names-exact}
 use Rattle.pool_contents.proofs.same.same_file_names.Goals as goal
 
 pub returns : goal.returns

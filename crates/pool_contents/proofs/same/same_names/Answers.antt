@@ -1,5 +1,5 @@
 use Rattle.std.proofs.lemmas.Bool.Decides.{same_from_decides}
-use Rattle.pool_contents.specs.Equality.{names-exact}
+use Rattle.pool_contents.specs.Same.{names-exact}
 use Rattle.pool_contents.proofs.same.same_names.Goals as goal
 
 pub returns : goal.returns

@@ -1,7 +1,7 @@
 use Rattle.std.proofs.Common.{[], ◌++◌, map, ap, sym, ◌∙◌, append-nil}
 use Rattle.record_walk.specs.Declarations.{declarations}
-use Rattle.record_walk.specs.Listed.{declaration_of}
-use Rattle.record_walk.specs.Progress.{Progress}
+use Rattle.record_walk.specs.Declaration.{declaration_of}
+use Rattle.record_walk.specs.Visitor.{Progress}
 use Rattle.record_lists.proofs.lister.list_declarations.Goals as goal
 
 pub returns : goal.returns

@@ -1,7 +1,7 @@
 use Rattle.std.proofs.Common.{◌≡◌, length}
 use Rattle.std.specs.List.{AllZip}
 use Rattle.record_walk.specs.Declarations.{declarations}
-use Rattle.record_walk.specs.Progress.{HasSeen}
+use Rattle.record_walk.specs.Visitor.{HasSeen}
 use Rattle.record_walk.proofs.InTurn.{FirstBecame}
 use Rattle.record_walk.proofs.walking.visit_each.Given as goal
 

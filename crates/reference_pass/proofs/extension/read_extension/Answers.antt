@@ -3,16 +3,16 @@ use Rattle.pool_types.specs.declared.kinds.KindIndex.TheVariants.{Double}
 use Rattle.record_walk.specs.Protos.{of_extension}
 use Rattle.record_walk.specs.Shown.{Shown}
 use Rattle.field_rules.specs.Encoding.{is_packed}
-use Rattle.field_rules.specs.DuplicateNumbers.{item_number}
+use Rattle.field_rules.specs.Maps.{item_number}
 use Rattle.field_rules.specs.Identities.{named_at}
-use Rattle.field_rules.specs.Places.{shown_at}
-use Rattle.name_resolution.specs.Kinds.{cardinality_of}
-use Rattle.name_pass.specs.Syntaxes.{is_proto3, syntax_at}
+use Rattle.record_walk.specs.Place.{shown_at}
+use Rattle.pool_types.specs.Kinds.{cardinality_of}
+use Rattle.pool_types.specs.Syntaxes.{is_proto3, syntax_at}
 use Rattle.reference_pass.specs.Defaults.{field_default, field_default_faults}
-use Rattle.reference_pass.specs.Extensions.{extendee_faults, number_faults, taken_faults}
+use Rattle.reference_pass.specs.Extension.{extendee_faults, number_faults, duplicate_extension_faults}
 use Rattle.reference_pass.specs.Earlier.{earlier_in}
-use Rattle.reference_pass.specs.FieldTypes.{field_kind, type_faults}
-use Rattle.reference_pass.specs.Messages.{resolve_message}
+use Rattle.reference_pass.specs.Types.{field_kind, type_faults}
+use Rattle.reference_pass.specs.References.{resolve_message}
 use Rattle.reference_pass.specs.Reading.{setting_of}
 use Rattle.reference_pass.proofs.Readings.{reads-as, reads-two, same-setting}
 use Rattle.reference_pass.proofs.extension.read_extension.Goals as goal
@@ -49,5 +49,5 @@ returns-clause-faults c =
     let first = c.in_ok-extendee.ensures.faults in
     let rest = reads-as (ap (λ t. type_faults t d x ++ field_default_faults t d x) (same-setting first)) c.in_ok-kind.ensures.faults in
     let extendee = resolve_message s d x.extendee in
-    reads-as (sym (append_assoc (extendee_faults s d x ++ number_faults s d x extendee ++ taken_faults s (earlier_in c.args.earlier) d x extendee) (type_faults s d x) (field_default_faults s d x)))
+    reads-as (sym (append_assoc (extendee_faults s d x ++ number_faults s d x extendee ++ duplicate_extension_faults s (earlier_in c.args.earlier) d x extendee) (type_faults s d x) (field_default_faults s d x)))
     (reads-two first rest)

@@ -5,10 +5,10 @@ use Rattle.record_walk.specs.Protos.{of_field}
 use Rattle.record_walk.specs.Shown.{Shown}
 use Rattle.field_rules.specs.Oneofs.{oneof_faults}
 use Rattle.field_rules.specs.Numbers.{field_number_faults}
-use Rattle.field_rules.specs.Places.{message_at, shown_at}
+use Rattle.record_walk.specs.Place.{message_at, shown_at}
 use Rattle.reference_pass.specs.SecondPass.{Faults}
 use Rattle.reference_pass.specs.Defaults.{field_default, field_default_faults}
-use Rattle.reference_pass.specs.FieldTypes.{field_kind, type_faults}
+use Rattle.reference_pass.specs.Types.{field_kind, type_faults}
 use Rattle.reference_pass.specs.Reading.{setting_of}
 use Rattle.reference_pass.proofs.Readings.{reads-as, reads-told, reads-two, same-setting}
 use Rattle.reference_pass.proofs.field.check_field.Goals as goal

@@ -1,7 +1,7 @@
 use Rattle.std.proofs.Common.{rules, FitsSigned, w32, to_z-of_z, ap, ◌∙◌}
 use Rattle.field_rules.specs.Encoding.{is_packed, supports_presence}
-use Rattle.field_rules.specs.DuplicateNumbers.{item_number}
-use Rattle.name_resolution.specs.Kinds.{cardinality_of}
+use Rattle.field_rules.specs.Maps.{item_number}
+use Rattle.pool_types.specs.Kinds.{cardinality_of}
 use Rattle.reference_pass.proofs.field.item_at.Goals as goal
 
 -- each part of the item is as it is read

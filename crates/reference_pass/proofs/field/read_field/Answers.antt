@@ -3,20 +3,21 @@ use Rattle.std.proofs.lemmas.List.{get_or_default}
 use Rattle.std.proofs.lemmas.Result.{IfOk-weaker}
 use Rattle.pool_types.specs.declared.kinds.KindIndex.TheVariants.{Double}
 use Rattle.pool_types.specs.declared.contents.definition.Identity.{Identity}
-use Rattle.proto_types.specs.Empty.{no_field}
+use Rattle.proto_types.specs.Field.{no_field}
 use Rattle.proto_types.specs.declared.records.field.FieldDescriptorProto.{FieldDescriptorProto}
 use Rattle.proto_types.specs.declared.tag.message.TheConstants.{FIELD}
 use Rattle.proto_types.specs.declared.message.DescriptorProto.{out-DescriptorProto}
 use Rattle.proto_types.specs.Names.{join}
 use Rattle.proto_types.specs.Readers.{text_of}
 use Rattle.record_walk.specs.Protos.{of_field}
-use Rattle.record_walk.specs.Shown.{Shown, step}
+use Rattle.record_walk.specs.Shown.{Shown}
+use Rattle.proto_types.specs.Paths.{entry_path}
 use Rattle.field_rules.specs.Identities.{identity, named_at}
 use Rattle.field_rules.specs.NamesBegin.{BeginsAtBoundary}
-use Rattle.field_rules.specs.Places.{field_at, inside_of, message_at}
+use Rattle.record_walk.specs.Place.{field_at, inside_of, message_at}
 use Rattle.reference_pass.specs.SecondPass.{Owner, field_record_faults}
 use Rattle.reference_pass.specs.Defaults.{field_default}
-use Rattle.reference_pass.specs.FieldTypes.{field_kind}
+use Rattle.reference_pass.specs.Types.{field_kind}
 use Rattle.reference_pass.specs.Items.{item_at}
 use Rattle.reference_pass.specs.Reading.{setting_of}
 use Rattle.reference_pass.proofs.Made.{known-ok}
@@ -40,7 +41,7 @@ returns-clause-item c =
     let is = subst (λ (fs : List FieldDescriptorProto). g ≡ get_or fs i g) c.as_slice.ensures c.index-as_slice-position.is in
     let own : g ≡ f = is ∙ get_or_default m.field i g no_field c.requires.there in
     let name = c.name.ensures ∙ ap (λ h. text_of h.name) own in
-    let id : c.in_ok-id.id ≡ identity (field_at (inside_of place) i f) = c.in_ok-id.ensures.id ∙ ap (λ n. named_at place.file (step place.path.now FIELD i) (join place.full_name.now n) n) name in
+    let id : c.in_ok-id.id ≡ identity (field_at (inside_of place) i f) = c.in_ok-id.ensures.id ∙ ap (λ n. named_at place.file (entry_path place.path.now FIELD i) (join place.full_name.now n) n) name in
     let there : Shown = record { file = place.file; parent = Some place.index; index = i; path = c.as_slice-2.result.now; full_name = c.as_str.result.now; proto = of_field g } in
     let same : there ≡ field_at (inside_of place) i f = λ j. record {
       file = place.file;
@@ -67,7 +68,7 @@ returns-clause-faults c =
     let is = subst (λ (fs : List FieldDescriptorProto). g ≡ get_or fs i g) c.as_slice.ensures c.index-as_slice-position.is in
     let own : g ≡ f = is ∙ get_or_default m.field i g no_field c.requires.there in
     let name = c.name.ensures ∙ ap (λ h. text_of h.name) own in
-    let id : c.in_ok-id.id ≡ identity (field_at (inside_of place) i f) = c.in_ok-id.ensures.id ∙ ap (λ n. named_at place.file (step place.path.now FIELD i) (join place.full_name.now n) n) name in
+    let id : c.in_ok-id.id ≡ identity (field_at (inside_of place) i f) = c.in_ok-id.ensures.id ∙ ap (λ n. named_at place.file (entry_path place.path.now FIELD i) (join place.full_name.now n) n) name in
     let there : Shown = record { file = place.file; parent = Some place.index; index = i; path = c.as_slice-2.result.now; full_name = c.as_str.result.now; proto = of_field g } in
     let same : there ≡ field_at (inside_of place) i f = λ j. record {
       file = place.file;

@@ -1,6 +1,6 @@
 use Rattle.std.proofs.Common.{take}
 use Rattle.std.specs.List.{flat_map}
-use Rattle.field_rules.specs.Tells.{Tells}
+use Rattle.record_walk.specs.Faults.{Tells}
 use Rattle.reference_pass.specs.Imports.{index_fault}
 use Rattle.reference_pass.proofs.imports.check_indexes.Given as goal
 

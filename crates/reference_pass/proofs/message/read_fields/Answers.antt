@@ -2,7 +2,7 @@ use Rattle.std.proofs.lemmas.Grind.{common_steps}
 use Rattle.std.proofs.Common.{List, ◌<◌, length, get_or, subst, ◌++◌, ◌∷◌, [], ap, ◌∙◌, sym, refl, take, arith}
 use Rattle.std.proofs.lemmas.List.Elements.{All-push}
 use Rattle.std.specs.List.{All}
-use Rattle.proto_types.specs.Empty.{no_field}
+use Rattle.proto_types.specs.Field.{no_field}
 use Rattle.proto_types.specs.declared.records.field.FieldDescriptorProto.{FieldDescriptorProto}
 use Rattle.proto_types.specs.declared.message.DescriptorProto.{out-DescriptorProto}
 use Rattle.pool_types.specs.declared.contents.field.FieldDescriptorInner.{FieldDescriptorInner}
@@ -11,7 +11,7 @@ use Rattle.reference_pass.specs.SecondPass.{Owner, field_faults}
 use Rattle.reference_pass.specs.Items.{field_item}
 use Rattle.reference_pass.specs.Reading.{setting_of}
 use Rattle.field_rules.specs.NamesBegin.{BeginsAtBoundary}
-use Rattle.field_rules.specs.Places.{field_at, inside_of, message_at}
+use Rattle.record_walk.specs.Place.{field_at, inside_of, message_at}
 use Rattle.field_rules.proofs.Each.{each-next}
 use Rattle.reference_pass.proofs.Entries.{found-again}
 use Rattle.reference_pass.proofs.Readings.{reads-as, reads-next, reads-told, reads-two, same-setting}

@@ -4,9 +4,9 @@ use Rattle.proto_types.specs.declared.message.DescriptorProto.{out-DescriptorPro
 use Rattle.field_rules.specs.MapsOf.{AreMapsOf}
 use Rattle.reference_pass.specs.SecondPass.{faults_of_fields}
 use Rattle.reference_pass.specs.Items.{field_items}
-use Rattle.reference_pass.specs.Reading.{Reads, setting_of}
+use Rattle.reference_pass.specs.Reading.{ReadingTells, setting_of}
 use Rattle.field_rules.specs.NamesBegin.{BeginsAtBoundary}
-use Rattle.field_rules.specs.Places.{inside_of, message_at}
+use Rattle.record_walk.specs.Place.{inside_of, message_at}
 use Rattle.reference_pass.proofs.message.read_fields.Given as goal
 
 -- the fields so far are read, and entered
@@ -19,5 +19,5 @@ invariant-loop-position l =
       items : l.items.items ≡ field_items s (out-DescriptorProto m).oneof_decl (inside_of l.owner.place) so_far;
       begin : All (λ f. BeginsAtBoundary f.id) l.items.items;
       maps : AreMapsOf l.maps so_far;
-      faults : Reads l.initial.reading l.reading (faults_of_fields s (message_at l.owner.place m, m) so_far);
+      faults : ReadingTells l.initial.reading l.reading (faults_of_fields s (message_at l.owner.place m, m) so_far);
     }

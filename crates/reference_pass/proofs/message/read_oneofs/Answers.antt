@@ -8,12 +8,12 @@ use Rattle.proto_types.specs.declared.message.OneofDescriptorProto.{OneofDescrip
 use Rattle.proto_types.specs.declared.tag.message.TheConstants.{ONEOF_DECL}
 use Rattle.proto_types.specs.Names.{join}
 use Rattle.record_walk.specs.Protos.{of_oneof}
-use Rattle.record_walk.specs.Shown.{step}
+use Rattle.proto_types.specs.Paths.{entry_path}
 use Rattle.field_rules.specs.Oneofs.{members}
 use Rattle.reference_pass.specs.Items.{oneof_item}
 use Rattle.field_rules.specs.Identities.{named_at}
 use Rattle.field_rules.specs.NamesBegin.{BeginsAtBoundary}
-use Rattle.field_rules.specs.Places.{inside_of, part_inside}
+use Rattle.record_walk.specs.Place.{inside_of, part_inside}
 use Rattle.field_rules.proofs.Each.{each-next}
 use Rattle.field_rules.proofs.Listed.{length-each}
 use Rattle.reference_pass.proofs.Entries.{made-at}
@@ -37,7 +37,7 @@ loop-position-preserved c =
     let below = subst (λ (xs : List OneofDescriptorProto). i < length xs) slice c.loop-position-test.true in
     let is = subst (λ (xs : List OneofDescriptorProto). o ≡ get_or xs i o) slice c.index-oneofs-position.is in
     let Begins : OneofDescriptorInner → Type 0 = λ g. BeginsAtBoundary g.id in
-    let id = c.in_ok-id.ensures.id ∙ ap (λ name. named_at here.file (step here.path ONEOF_DECL i) (join here.scope name) name) c.name.ensures in
+    let id = c.in_ok-id.ensures.id ∙ ap (λ name. named_at here.file (entry_path here.path ONEOF_DECL i) (join here.scope name) name) c.name.ensures in
     let d = c.index.result.now in
     let list = ap (λ lists. get_or lists i d) c.in_ok-lists.ensures ∙ made-at (members c.as_slice.result.now) c.as_slice-oneofs.result.now i d c.loop-position-test.true in
     let fields = c.in_ok-fields.ensures ∙ c.as_slice-in-loop-position.ensures ∙ c.index.ensures ∙ list ∙ ap (λ fs. members fs i) c.as_slice.ensures in

@@ -3,7 +3,7 @@ use Rattle.std.specs.List.{All}
 use Rattle.proto_types.specs.declared.message.DescriptorProto.{out-DescriptorProto}
 use Rattle.reference_pass.specs.Items.{oneof_items}
 use Rattle.field_rules.specs.NamesBegin.{BeginsAtBoundary}
-use Rattle.field_rules.specs.Places.{inside_of}
+use Rattle.record_walk.specs.Place.{inside_of}
 use Rattle.reference_pass.proofs.message.read_oneofs.Given as goal
 
 -- the oneofs so far are read

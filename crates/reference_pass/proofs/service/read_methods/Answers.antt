@@ -5,10 +5,10 @@ use Rattle.std.specs.List.{All}
 use Rattle.pool_types.specs.declared.contents.service.MethodDescriptorInner.{MethodDescriptorInner}
 use Rattle.reference_pass.specs.SecondPass.{method_faults}
 use Rattle.reference_pass.specs.Items.{method_item}
-use Rattle.reference_pass.specs.Messages.{method_at}
+use Rattle.reference_pass.specs.References.{method_at}
 use Rattle.reference_pass.specs.Reading.{setting_of}
 use Rattle.field_rules.specs.NamesBegin.{BeginsAtBoundary}
-use Rattle.field_rules.specs.Places.{inside_of}
+use Rattle.record_walk.specs.Place.{inside_of}
 use Rattle.field_rules.proofs.Each.{each-next, short-list}
 use Rattle.reference_pass.proofs.Readings.{reads-next, same-setting}
 use Rattle.reference_pass.proofs.service.read_methods.Goals as goal

@@ -2,9 +2,9 @@ use Rattle.std.proofs.Common.{◌≡◌, take}
 use Rattle.std.specs.List.{All}
 use Rattle.reference_pass.specs.SecondPass.{faults_of_methods}
 use Rattle.reference_pass.specs.Items.{method_items}
-use Rattle.reference_pass.specs.Reading.{Reads, setting_of}
+use Rattle.reference_pass.specs.Reading.{ReadingTells, setting_of}
 use Rattle.field_rules.specs.NamesBegin.{BeginsAtBoundary}
-use Rattle.field_rules.specs.Places.{inside_of}
+use Rattle.record_walk.specs.Place.{inside_of}
 use Rattle.reference_pass.proofs.service.read_methods.Given as goal
 
 -- the methods so far are read
@@ -15,5 +15,5 @@ invariant-loop-position l =
     record {
       items : l.items.items ≡ method_items s here (take l.position l.methods);
       begin : All (λ m. BeginsAtBoundary m.id) l.items.items;
-      faults : Reads l.initial.reading l.reading (faults_of_methods s here (take l.position l.methods));
+      faults : ReadingTells l.initial.reading l.reading (faults_of_methods s here (take l.position l.methods));
     }

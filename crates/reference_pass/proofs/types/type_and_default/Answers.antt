@@ -5,12 +5,12 @@ use Rattle.proto_types.specs.declared.records.field.FieldDescriptorProto.{FieldD
 use Rattle.proto_types.specs.Readers.{text_of, type_of}
 use Rattle.record_walk.specs.Protos.{of_field}
 use Rattle.record_walk.specs.Shown.{Shown}
-use Rattle.name_resolution.specs.Kinds.{named_kind, simple_kind}
+use Rattle.pool_types.specs.Kinds.{named_kind, simple_kind}
 use Rattle.name_resolution.specs.Resolution.{kind_found}
-use Rattle.field_rules.specs.Places.{shown_at}
+use Rattle.record_walk.specs.Place.{shown_at}
 use Rattle.reference_pass.specs.Setting.{Setting}
-use Rattle.reference_pass.specs.Defaults.{default_by, enum_found, field_default, no_enum_meant}
-use Rattle.reference_pass.specs.FieldTypes.{resolve_type}
+use Rattle.reference_pass.specs.Defaults.{default_by, enum_found, field_default, no_default_enum}
+use Rattle.reference_pass.specs.Types.{resolve_type}
 use Rattle.reference_pass.specs.Reading.{setting_of}
 use Rattle.reference_pass.proofs.types.type_and_default.Goals as goal
 
@@ -18,7 +18,7 @@ use Rattle.reference_pass.proofs.types.type_and_default.Goals as goal
 by-name : (s : Setting) (d : Shown) (f : FieldDescriptorProto) (name : List ℕ) → (length name == 0) ≡ false
     → default_by (option_and_then (named_kind (type_of f.type_)) (kind_found (resolve_type s d f))) (enum_found s (resolve_type s d f)) f.default_value
     ≡ default_by (elim name [ [] ↦ simple_kind (type_of f.type_) | _ ∷ _ ↦ option_and_then (named_kind (type_of f.type_)) (kind_found (resolve_type s d f)) ])
-    (elim name [ [] ↦ no_enum_meant | _ ∷ _ ↦ enum_found s (resolve_type s d f) ]) f.default_value
+    (elim name [ [] ↦ no_default_enum | _ ∷ _ ↦ enum_found s (resolve_type s d f) ]) f.default_value
 by-name s d f [] named = absurd (cc)
 by-name s d f (x ∷ xs) named = refl
 

@@ -1,6 +1,6 @@
 use Rattle.std.proofs.Common.{◌≡◌, ◌++◌, [], ◌∷◌, string_bytes, take}
 use Rattle.std.specs.List.{flat_map}
-use Rattle.pool_faults.specs.Texts.{labelled_text}
+use Rattle.pool_faults.specs.Fault.{labelled_text}
 use Rattle.script_answers.specs.Answers.{line}
 use Rattle.script_answers.proofs.answers.write_refused.Given as goal
 

@@ -1,8 +1,8 @@
 use Rattle.std.proofs.Common.{◌≡◌, [], ◌++◌, OnOk, map, string_bytes, subst, ap, sym, ◌∙◌, append-nil}
 use Rattle.record_walk.specs.Counts.{no_counts}
 use Rattle.record_walk.specs.Declarations.{declarations}
-use Rattle.record_walk.specs.Listed.{declaration_of}
-use Rattle.record_walk.specs.Progress.{Progress}
+use Rattle.record_walk.specs.Declaration.{declaration_of}
+use Rattle.record_walk.specs.Visitor.{Progress}
 use Rattle.script_answers.specs.Answers.{declaration_lines}
 use Rattle.script_answers.proofs.answers.write_walk.Goals as goal
 

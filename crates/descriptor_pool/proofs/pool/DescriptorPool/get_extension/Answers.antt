@@ -1,6 +1,6 @@
 use Rattle.std.proofs.Common.{ap, ◌∙◌}
 use Rattle.pool_types.specs.Contents.{Contents}
-use Rattle.pool_contents.specs.Extended.{extension_numbered}
+use Rattle.pool_types.specs.Extension.{extension_numbered}
 use Rattle.pool_contents.specs.Inner.{contents_in}
 use Rattle.descriptor_pool.proofs.Extendees.{numbers_lead}
 use Rattle.descriptor_pool.proofs.pool.DescriptorPool.get_extension.Goals as goal

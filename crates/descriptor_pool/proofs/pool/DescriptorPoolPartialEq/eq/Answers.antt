@@ -1,5 +1,5 @@
 use Rattle.std.proofs.Common.{◌∙◌}
-use Rattle.pool_contents.specs.Equality.{contents_eq}
+use Rattle.pool_contents.specs.Same.{contents_eq}
 use Rattle.descriptor_pool.proofs.pool.DescriptorPoolPartialEq.eq.Goals as goal
 
 pub returns : goal.returns

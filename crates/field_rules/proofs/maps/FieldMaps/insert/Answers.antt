@@ -5,14 +5,14 @@ use Rattle.std.specs.Option.{option_map, option_map_or}
 use Rattle.std.proofs.lemmas.Int.{to_z-of_z}
 use Rattle.std.proofs.lemmas.List.{get_or_default}
 use Rattle.proto_types.specs.declared.records.field.FieldDescriptorProto.{FieldDescriptorProto}
-use Rattle.proto_types.specs.Empty.{no_field}
+use Rattle.proto_types.specs.Field.{no_field}
 use Rattle.plain_data.specs.Lists.{listed}
 use Rattle.proto_types.specs.declared.message.DescriptorProto.{out-DescriptorProto}
 use Rattle.record_walk.proofs.Listings.{on-ok}
-use Rattle.field_rules.specs.Tells.{Tells, named_files}
-use Rattle.field_rules.proofs.Tells.{same-files, tells-as, tells-two}
+use Rattle.record_walk.specs.Faults.{Tells, named_files}
+use Rattle.record_walk.proofs.Faults.{same-files, tells-as, tells-two}
 use Rattle.field_rules.specs.Duplicates.{duplicate_faults, number_duplicate, same_number, same_json_name}
-use Rattle.field_rules.specs.DuplicateNumbers.{item_number}
+use Rattle.field_rules.specs.Maps.{item_number}
 use Rattle.field_rules.proofs.Duplicates.{number-told, json_name-told, next-maps, short-numbers, short-json_names}
 use Rattle.field_rules.proofs.maps.FieldMaps.insert.Goals as goal
 

@@ -1,5 +1,5 @@
 use Rattle.std.proofs.Common.{◌≡◌, map, drop}
-use Rattle.link_script.specs.Script.Keywords.{spelled}
+use Rattle.link_script.specs.Script.Keyword.{spelled}
 use Rattle.link_script.proofs.script.keyword.spelled.Given as goal
 
 -- the word is spelled by none of those before

@@ -4,7 +4,7 @@ use Rattle.proto_types.specs.Names.{fronts, is_dot}
 use Rattle.name_pass.specs.State.{records_of, state_of}
 use Rattle.std.proofs.lemmas.List.{take_all}
 use Rattle.std.proofs.lemmas.Result.{on_ok_weaker}
-use Rattle.name_pass.specs.Entered.{package_entry}
+use Rattle.name_pass.specs.Names.{package_entry}
 use Rattle.name_pass.specs.Steps.{entered}
 use Rattle.name_tables.proofs.Entries.{with-nothing}
 use Rattle.name_pass.proofs.Packages.{packages_more, packages_whole}

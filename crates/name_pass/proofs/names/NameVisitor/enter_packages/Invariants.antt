@@ -1,6 +1,6 @@
 use Rattle.std.proofs.Common.{◌≡◌, map, take}
 use Rattle.proto_types.specs.Names.{fronts}
-use Rattle.name_pass.specs.Entered.{package_entry}
+use Rattle.name_pass.specs.Names.{package_entry}
 use Rattle.name_pass.specs.State.{records_of, state_of, Stays}
 use Rattle.name_pass.specs.Steps.{entered}
 use Rattle.name_pass.proofs.names.NameVisitor.enter_packages.Given as goal

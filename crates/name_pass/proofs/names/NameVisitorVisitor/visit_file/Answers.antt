@@ -1,7 +1,7 @@
 use Rattle.std.proofs.Common.{map, ◌∙◌, append_assoc, append-nil}
 use Rattle.std.proofs.lemmas.Result.{on_ok_weaker}
 use Rattle.proto_types.specs.Readers.{text_of}
-use Rattle.name_pass.specs.Entered.{package_entry, packages}
+use Rattle.name_pass.specs.Names.{package_entry, packages}
 use Rattle.name_pass.specs.State.{records_of, state_of}
 use Rattle.name_pass.specs.Steps.{entered, file_named}
 use Rattle.name_pass.proofs.Showing.{shown, stays-on, stays-told}

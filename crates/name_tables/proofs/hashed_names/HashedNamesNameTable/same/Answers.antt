@@ -1,7 +1,7 @@
 use Rattle.std.proofs.Common.{sym, ◌∙◌}
 use Rattle.std.specs.String.{string_eq_equiv}
 use Rattle.std.proofs.lemmas.Map.Lookups.{hash_map_eq-Decides}
-use Rattle.pool_types.specs.Equality.{definition-exact}
+use Rattle.pool_types.specs.Exact.{definition-exact}
 use Rattle.name_tables.proofs.Texts.{by_text-same, get-from_same}
 use Rattle.name_tables.proofs.hashed_names.HashedNamesNameTable.same.Goals as goal
 

@@ -1,5 +1,5 @@
 use Rattle.std.proofs.Common.{◌≡◌, ◌<◌, ◌∙◌, ℕ, ℤ, List, Option, Some, None, IfSome, length, ap, sym, to_z, of_z, w32}
-use Rattle.number_ranges.specs.Holds.{holds, first_from}
+use Rattle.number_ranges.specs.Ranges.{holds, first_from}
 use Rattle.number_ranges.proofs.Firsts.{first-below}
 use Rattle.number_ranges.proofs.ranges.NumberRanges.first_from.Goals as goal
 

@@ -2,7 +2,8 @@ use Rattle.std.proofs.Common.{◌≡◌, ◌∙◌, ap, sym, subst, map, find}
 use Rattle.std.specs.Cmp.Lexicographic.{pointwise}
 use Rattle.std.specs.Option.{IfSome, option_and_then, option_copied}
 use Rattle.std.specs.Ordering.{int_eq}
-use Rattle.pool_faults.specs.Labels.{file_at, locations, span_of}
+use Rattle.pool_faults.specs.Labels.{locations, span_of}
+use Rattle.proto_types.specs.File.{file_at}
 use Rattle.pool_faults.proofs.labels.Labels.span.Goals as goal
 
 pub returns-in-Some-clause-span : goal.returns-in-Some-clause-span

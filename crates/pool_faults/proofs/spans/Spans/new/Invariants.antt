@@ -1,5 +1,5 @@
 use Rattle.std.proofs.Common.{take}
-use Rattle.pool_faults.specs.Indexed.{HasFirstSpans}
+use Rattle.pool_faults.specs.Spans.{HasFirstSpans}
 use Rattle.pool_faults.proofs.spans.Spans.new.Given as goal
 
 abbrev pub invariant-loop-location : goal.invariant-loop-location

@@ -2,7 +2,7 @@ use Rattle.std.proofs.Common.{ap, sym, ◌∙◌}
 use Rattle.std.specs.List.{find}
 use Rattle.std.specs.Option.{option_copied, option_or}
 use Rattle.std.proofs.lemmas.List.Folds.{find-append}
-use Rattle.pool_contents.specs.Extended.{has_number}
+use Rattle.pool_types.specs.Extension.{has_number}
 use Rattle.reference_pass.proofs.earlier.EarlierExtensions.extension.Goals as goal
 
 -- the first of the pool, or else the first of the new ones

@@ -3,8 +3,8 @@ use Rattle.std.specs.FinMap as finite
 use Rattle.std.specs.Option.{option_and_then, option_copied}
 use Rattle.std.specs.Prelude.{slice_get}
 use Rattle.pool_types.specs.declared.contents.message.MessageDescriptorInner.{MessageDescriptorInner}
-use Rattle.pool_contents.specs.Extended.{has_number}
-use Rattle.pool_contents.proofs.Numbered.{find-position}
+use Rattle.pool_types.specs.Extension.{has_number}
+use Rattle.plain_data.proofs.Positions.{find-position}
 use Rattle.reference_pass.proofs.Entries.{got-at}
 use Rattle.reference_pass.proofs.pool_extensions.PoolExtensions.extension.Goals as goal
 

@@ -1,5 +1,0 @@
-use Rattle.std.proofs.Common.{rules}
-use Rattle.name_resolution.proofs.resolve.is_parent.Goals as goal
-
-pub returns : goal.returns
-returns c = search rules
