@@ -1,11 +1,11 @@
 -- Laws of pools.
-use Rattle.std.specs.Prelude.{◌≡◌, ◌⊎◌, ◌≢◌, ◌<◌, ◌+◌, ℕ, Bool, true, false, IsTrue, Some, List, [], ◌∷◌, ◌++◌, length, map, slice_get}
+use Rattle.std.specs.Prelude.{◌≡◌, ◌⊎◌, ◌≢◌, ◌<◌, ◌+◌, ℕ, Bool, true, false, IsSome, IsTrue, Some, List, [], ◌∷◌, ◌++◌, length, map, slice_get}
 use Rattle.std.specs.FinMap as finite
 use Rattle.std.specs.List.{All, Contains}
 use Rattle.proto_types.specs.Names.{fronts}
 use Rattle.proto_types.specs.Readers.{text_of}
 use Rattle.proto_types.specs.declared.file.FileDescriptorProto.{FileDescriptorProto}
-use Rattle.pool_types.specs.Contents.{Contents, files_of, no_contents}
+use Rattle.pool_types.specs.Contents.{ByText, Contents, files_of, no_contents}
 use Rattle.pool_types.specs.declared.contents.definition.Definition.{Definition}
 use Rattle.pool_types.specs.declared.contents.definition.DefinitionKind.{DefinitionKind}
 use Rattle.pool_types.specs.declared.contents.definition.DefinitionKind.TheVariants as definition
@@ -18,7 +18,6 @@ use Rattle.record_walk.specs.Declarations.{file_walk}
 use Rattle.record_walk.specs.Protos.{name_of}
 use Rattle.record_walk.specs.Walking.{within_file}
 use Rattle.name_pass.specs.Entered.{entries}
-use Rattle.pool_laws.specs.SettingLaws.{SeenAmong}
 use Rattle.descriptor_pool.specs.Linking.{declared_with, with_names}
 use Rattle.descriptor_pool.specs.Pool.{Accepts, Batch, Fits, has_file, link, new_files}
 use Rattle.pool_contents.specs.Extended.{Indexed, with_extensions}
@@ -86,6 +85,16 @@ PrefixesEntered f =
 abbrev pub ArePlain : Counts → List FileDescriptorProto → Type 0
 ArePlain base [] = Unit {0}
 ArePlain base (f ∷ fs) = IsPlain base f × ArePlain (counted base (file_walk base f)) fs
+
+-- some names of others: what they mean stays, they have all that mean what is seen, and the texts
+-- before the dots of these
+pub record SeenAmong (names more : ByText Definition) (seen : ℕ → Bool) : Type 0 where
+  pub stay : (name : List ℕ) (def : Definition) → finite.get names name ≡ Some def
+      → finite.get more name ≡ Some def
+  pub sees : (name : List ℕ) (def : Definition) → finite.get more name ≡ Some def
+      → seen def.file ≡ true → finite.get names name ≡ Some def
+  pub prefixes : (name : List ℕ) (def : Definition) → finite.get more name ≡ Some def
+      → seen def.file ≡ true → All (λ front. IsSome (finite.get names front)) (fronts name)
 
 -- law: behind a pool, where names are plain, the names without those of later files have all that
 -- is seen where no later file is
