@@ -5,9 +5,10 @@ use Rattle.proto_types.specs.declared.message.ExtensionRange.{ExtensionRange}
 use Rattle.proto_types.specs.declared.message.ReservedRange.{ReservedRange}
 use Rattle.proto_types.specs.Readers.{number_of}
 
--- those from its start on and below its end
+-- a reserved range of a message holds the numbers from its start on and below its end
 abbrev pub reserves : ℤ → ReservedRange → Bool
 reserves n range = int_le (number_of range.start) n && int_lt n (number_of range.«end»)
 
+-- an extension range of a message holds the numbers from its start on and below its end
 abbrev pub extends : ℤ → ExtensionRange → Bool
 extends n range = int_le (number_of range.start) n && int_lt n (number_of range.«end»)

@@ -18,11 +18,11 @@ Indexed = ℕ × ExtensionDescriptorInner
 abbrev pub extending : ℕ → ℕ → List ExtensionDescriptorInner → List Indexed
 extending message first xs = filter (λ e. e.1.extendee == message) (enumerate_from first xs)
 
--- an extension of the message with an index, that has a number
+-- whether an extension extends the message with an index, and has a number
 abbrev pub has_number : ℕ → ℕ → ExtensionDescriptorInner → Bool
 has_number message number x = x.extendee == message && x.number == number
 
--- the index of the first of these
+-- the index of the first extension of a message that has a number
 abbrev pub extension_numbered : List ExtensionDescriptorInner → ℕ → ℕ → Option ℕ
 extension_numbered xs message number = position_from (has_number message number) 0 xs
 
@@ -31,12 +31,12 @@ abbrev pub number_held : List MessageDescriptorInner → ℕ → ℕ → Option 
 number_held ms message number =
     option_and_then (λ m. finite.get m.extension_numbers number) (slice_get ms message)
 
--- messages lead from numbers to the first of these extensions
+-- each message leads from a number to the first of its extensions that has it
 abbrev pub NumbersLead : List ExtensionDescriptorInner → List MessageDescriptorInner → Type 0
 NumbersLead xs ms = (message number : ℕ)
     → number_held ms message number ≡ extension_numbered xs message number
 
--- from numbers to extensions, with one more; a number that has an extension keeps it
+-- a map from numbers to extensions with one more; a number that has an extension keeps it
 abbrev pub with_number : ByNumber ℕ → ℕ × ℕ → ByNumber ℕ
 with_number numbers e = if finite.contains_key numbers e.1 then numbers
     else finite.insert numbers e.1 e.0
@@ -54,22 +54,24 @@ abbrev pub extended_by : ℕ → List ExtensionDescriptorInner → ℕ → Messa
     → MessageDescriptorInner
 extended_by first xs message m = with_extensions (extending message first xs) m
 
--- contents whose messages have the extensions from a first index on too
+-- contents whose messages have the extensions from a first index on, besides those that they have
+-- already
 abbrev pub with_extended : ℕ → Contents → Contents
 with_extended first p =
     record p {
       messages = map_enumerated (extended_by first (drop first p.extensions)) 0 p.messages;
     }
 
--- messages that have the extensions from one index up to another besides
+-- messages that have the extensions from one index up to another, besides those that they have
+-- already
 abbrev pub extended_between : ℕ → ℕ → List ExtensionDescriptorInner → List MessageDescriptorInner
     → List MessageDescriptorInner
 extended_between first end xs ms = map_enumerated (extended_by first (between first end xs)) 0 ms
 
--- numbers that lead to extensions before an index
+-- a map leads from numbers to extensions before an index
 abbrev pub LieBefore : ℕ → ByNumber ℕ → Type 0
 LieBefore end numbers = (number : ℕ) → IfSome (finite.get numbers number) (λ e. e < end)
 
--- the numbers of messages do
+-- the maps of messages lead from numbers to extensions before an index
 abbrev pub NumbersLieBefore : ℕ → List MessageDescriptorInner → Type 0
 NumbersLieBefore end ms = AllByRecursion (λ m. LieBefore end m.extension_numbers) ms

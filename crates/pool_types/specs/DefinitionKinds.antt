@@ -3,7 +3,8 @@ use Rattle.std.specs.Prelude.{Bool, true, false}
 use Rattle.pool_types.specs.declared.contents.definition.DefinitionKind.{DefinitionKind}
 use Rattle.pool_types.specs.declared.contents.definition.DefinitionKind.TheVariants as kind
 
--- whether other declarations may stand in it
+-- whether other declarations may stand in a definition: it is a package, a message, a service or an
+-- enum
 abbrev pub is_parent : DefinitionKind → Bool
 is_parent kind.Package = true
 is_parent (kind.Message _) = true

@@ -5,7 +5,7 @@ use Rattle.pool_types.specs.declared.kinds.KindIndex.TheVariants as index
 use Rattle.pool_types.specs.declared.kinds.Kind.{Kind}
 use Rattle.pool_types.specs.declared.kinds.Kind.TheVariants as kind
 
--- whether a list of such values may be packed
+-- whether a list of values of a kind may be packed: all but texts, bytes, messages and groups
 abbrev pub is_packable : KindIndex → Bool
 is_packable index.String = false
 is_packable index.Bytes = false
@@ -13,13 +13,13 @@ is_packable (index.Message _) = false
 is_packable (index.Group _) = false
 is_packable _ = true
 
--- whether a value is a message
+-- whether a value of a kind is a message: those of messages and groups are
 abbrev pub is_message : KindIndex → Bool
 is_message (index.Message _) = true
 is_message (index.Group _) = true
 is_message _ = false
 
--- the kind with its typed index; a group is a message
+-- a kind with the typed index of what it means, where a group is a message
 abbrev pub kind_of : KindIndex → Kind
 kind_of index.Double = kind.Double
 kind_of index.Float = kind.Float
@@ -40,7 +40,7 @@ kind_of (index.Message m) = kind.Message (record { index = m })
 kind_of (index.Group m) = kind.Message (record { index = m })
 kind_of (index.Enum e) = kind.Enum (record { index = e })
 
--- the word for it
+-- the word for a kind: `message` for a group too
 abbrev pub kind_name : KindIndex → List ℕ
 kind_name index.Double = codes "double"
 kind_name index.Float = codes "float"

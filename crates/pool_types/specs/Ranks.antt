@@ -3,7 +3,7 @@ use Rattle.std.specs.Prelude.{ℕ}
 use Rattle.pool_types.specs.declared.kinds.Cardinality.{Cardinality}
 use Rattle.pool_types.specs.declared.kinds.Cardinality.TheVariants as cardinality
 
--- greater for what may stand more often
+-- how often a field may stand in a message, as a number that rises: optional, required, repeated
 abbrev pub rank : Cardinality → ℕ
 rank cardinality.Optional = 0
 rank cardinality.Required = 1

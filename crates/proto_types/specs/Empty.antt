@@ -10,6 +10,7 @@ use Rattle.proto_types.specs.declared.records.service.MethodDescriptorProto.{Met
 use Rattle.proto_types.specs.declared.records.source.SourceCodeInfo.{SourceCodeInfo}
 use Rattle.proto_types.specs.declared.records.source.Location.{Location}
 
+-- a field or an extension with all parts absent
 abbrev pub no_field : FieldDescriptorProto
 no_field = record {
   name = None;
@@ -25,6 +26,7 @@ no_field = record {
   proto3_optional = None;
 }
 
+-- an enum with all parts absent or empty
 abbrev pub no_enum : EnumDescriptorProto
 no_enum = record {
   name = None;
@@ -34,15 +36,19 @@ no_enum = record {
   reserved_name = [];
 }
 
+-- a reserved range of an enum with both ends absent
 abbrev pub no_enum_range : EnumReservedRange
 no_enum_range = record { start = None; «end» = None }
 
+-- a value of an enum with all parts absent
 abbrev pub no_value : EnumValueDescriptorProto
 no_value = record { name = None; number = None; options = None }
 
+-- a service with all parts absent or empty
 abbrev pub no_service : ServiceDescriptorProto
 no_service = record { name = None; method = []; options = None }
 
+-- a method with all parts absent
 abbrev pub no_method : MethodDescriptorProto
 no_method = record {
   name = None;
@@ -53,9 +59,11 @@ no_method = record {
   server_streaming = None;
 }
 
+-- the source of a file without locations
 abbrev pub no_source : SourceCodeInfo
 no_source = record { location = [] }
 
+-- a location with all parts absent or empty
 abbrev pub no_location : Location
 no_location = record {
   path = [];

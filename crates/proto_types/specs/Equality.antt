@@ -32,27 +32,31 @@ use Rattle.proto_types.specs.contracts.message.DescriptorProtoPartialEq.TheImpl.
 use Rattle.proto_types.specs.contracts.file.FileDescriptorProtoPartialEq.TheImpl as file
 use Rattle.proto_types.specs.contracts.file.FileDescriptorSetPartialEq.TheImpl as file_set
 
--- options
+-- `==` of a field's options is exact
 pub field_options-exact : Exact field_options.ghosts.eq
 field_options-exact a b = search rules
 
+-- `==` of an enum's options is exact
 pub enum_options-exact : Exact enum_options.ghosts.eq
 enum_options-exact a b = search rules
 
+-- `==` of options of which nothing is read is exact
 pub unread-exact : Exact unread.ghosts.eq
 unread-exact a b = search rules
 
+-- a test of options by their bytes and by what is read of them is exact where the test of that is
 pub options-exact : {X : Type 0} {test : X → X → Bool} → Exact test
     → Exact (λ (a b : Options X). pointwise nat_eq a.encoded b.encoded && test a.value b.value)
 options-exact exact = by-parts (λ o. (o.encoded, o.value)) (λ a b e. search rules)
     (text-exact and exact)
 
+-- the test of options that may be missing, and of which nothing is read, is exact
 pub given-unread : Exact
     (option_eq (λ (a b : Options Unread). pointwise nat_eq a.encoded b.encoded
     && unread.ghosts.eq a.value b.value))
 given-unread = given (options-exact unread-exact)
 
--- fields
+-- `==` of fields and extensions is exact
 pub field-exact : Exact field.ghosts.eq
 field-exact =
     by-parts (λ f. (
@@ -79,22 +83,24 @@ field-exact =
     given-text and given (options-exact field_options-exact)
     and given-number and given-text and given-flag)
 
--- enums
+-- `==` of an enum's reserved ranges is exact
 pub enum_range-exact : Exact enum_range.ghosts.eq
 enum_range-exact = by-parts (λ r. (r.start, r.«end»)) (λ a b e. search rules)
     (given-number and given-number)
 
+-- `==` of an enum's values is exact
 pub value-exact : Exact value.ghosts.eq
 value-exact = by-parts (λ v. (v.name, (v.number, v.options))) (λ a b e. search rules)
     (given-text and given-number and given-unread)
 
+-- `==` of enums is exact
 pub enum-exact : Exact enumeration.ghosts.eq
 enum-exact = by-parts (λ e. (e.name, (e.value, (e.options, (e.reserved_range, e.reserved_name)))))
     (λ a b e. search rules)
     (given-text and items-exact value-exact and given
     (options-exact enum_options-exact) and items-exact enum_range-exact and texts-exact)
 
--- services
+-- `==` of methods is exact
 pub method-exact : Exact method.ghosts.eq
 method-exact =
     by-parts (λ m. (
@@ -107,11 +113,12 @@ method-exact =
     (λ a b e. search rules)
     (given-text and given-text and given-text and given-unread and given-flag and given-flag)
 
+-- `==` of services is exact
 pub service-exact : Exact service.ghosts.eq
 service-exact = by-parts (λ s. (s.name, (s.method, s.options))) (λ a b e. search rules)
     (given-text and items-exact method-exact and given-unread)
 
--- locations in a source
+-- `==` of locations in a source is exact
 pub location-exact : Exact location.ghosts.eq
 location-exact =
     by-parts (λ l.
@@ -119,18 +126,21 @@ location-exact =
     (λ a b e. search rules)
     (numbers-exact and numbers-exact and given-text and given-text and texts-exact)
 
+-- `==` of sources is exact
 pub source-exact : Exact source.ghosts.eq
 source-exact = by-parts (λ s. s.location) (λ a b e. search rules) (items-exact location-exact)
 
--- parts of a message
+-- `==` of a message's extension ranges is exact
 pub extension_range-exact : Exact extension_range.ghosts.eq
 extension_range-exact = by-parts (λ r. (r.start, (r.«end», r.options))) (λ a b e. search rules)
     (given-number and given-number and given-unread)
 
+-- `==` of a message's reserved ranges is exact
 pub reserved_range-exact : Exact reserved_range.ghosts.eq
 reserved_range-exact = by-parts (λ r. (r.start, r.«end»)) (λ a b e. search rules)
     (given-number and given-number)
 
+-- `==` of oneofs is exact
 pub oneof-exact : Exact oneof.ghosts.eq
 oneof-exact = by-parts (λ o. (o.name, o.options)) (λ a b e. search rules)
     (given-text and given-unread)
@@ -197,11 +207,12 @@ below (suc n) a b p q =
     texts-exact)
     (after_nested a) (after_nested b))))))
 
+-- `==` of messages is exact
 pub message-exact : Exact message.ghosts.eq
 message-exact a b = below (suc (max (size-DescriptorProto a) (size-DescriptorProto b))) a b
     (omega arith) (omega arith)
 
--- files
+-- `==` of files is exact
 pub file-exact : Exact file.ghosts.eq
 file-exact =
     by-parts (λ f. (
@@ -231,5 +242,6 @@ file-exact =
     enum-exact and items-exact service-exact and items-exact field-exact
     and given-unread and given source-exact and numbers-exact and numbers-exact and given-text)
 
+-- `==` of sets of files is exact
 pub file_set-exact : Exact file_set.ghosts.eq
 file_set-exact = by-parts (λ s. s.file) (λ a b e. search rules) (items-exact file-exact)
