@@ -15,7 +15,7 @@ use proto_types::{FileDescriptorProto, tag};
 use record_walk::entry_path;
 use std::alloc::{AllocError, Global};
 
-/// Appends to `faults` one for each import of the file with an index that names no file, and then
+/// Appends to `reading` one for each import of the file with an index that names no file, and then
 /// one for each public and each weak index that is no place of the list of imports. The index
 /// counts from 0 in the order of linking.
 ///
@@ -55,7 +55,7 @@ fn check_names(reading: &mut Reading, index: u32, imports: &[Text]) -> Result<()
     Ok(())
 }
 
-/// Appends to `faults` that of an import, by its place, which names no file.
+/// Appends to `reading` that of an import, by its place, which names no file.
 fn check_name(
     reading: &mut Reading,
     index: u32,
