@@ -22,7 +22,7 @@ DEFINITION = re.compile(r" *abbrev pub (\S+)|pub (?:record |data )?(?!mod )(\S+)
 PREFACE = """\
 # The definitions
 
-The contracts of the public calls cite these definitions. `tools/definitions.py` makes this page of their comments: a section for each crate, a part for each file of its `specs/`, and the public definitions as they stand there. What the rules say to a user stands in [RULES.md](RULES.md), what a script says and a report tells in [SCRIPT.md](SCRIPT.md), which contract cites which word in [PROVED.md](PROVED.md), and where each rule is code in [ARCHITECTURE.md](ARCHITECTURE.md#each-rule-twice).
+The contracts of the public calls cite these definitions. `tools/definitions.py` makes this page of their comments: a section for each crate, a part for each file of its `specs/`, and the public definitions as they stand there. What the rules say to a user stands in [RULES.md](RULES.md), what a script says and a report tells in [SCRIPT.md](SCRIPT.md), what the pool, its laws and the program promise by them in [PROVED.md](PROVED.md), and where each rule is code in [ARCHITECTURE.md](ARCHITECTURE.md#each-rule-twice).
 
 A law is a statement that is proved: those that [PROVED.md](PROVED.md) lists are contracts of calls, the others are lemmas. A text is a list of bytes. A declaration is a file, or what in it has a full name: a message, a field, a oneof, an enum, a value of an enum, a service, a method or an extension. To be exact is, of a test, to be true exactly where two values are one; the lines that end so are proved lemmas, which stand among the definitions because the law of an implementation may cite these alone.
 

@@ -30,7 +30,8 @@ use std::alloc::{AllocError, Global};
 
 /// The item of an extension behind earlier ones. What it breaks is appended to `reading`: that its
 /// extendee is no message; else what its number breaks by the record of that message, and that an
-/// earlier extension of the message has it; its type; its default value.
+/// earlier extension of the message has it; its type; its default value. Where its name ends its
+/// full name, that begins there where a character begins.
 ///
 /// # Errors
 /// `AllocError` where memory was refused.

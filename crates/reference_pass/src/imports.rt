@@ -17,7 +17,7 @@ use std::alloc::{AllocError, Global};
 
 /// Appends to `reading` one for each import of the file with an index that names no file, and then
 /// one for each public and each weak index that is no place of the list of imports. The index
-/// counts from 0 in the order of linking.
+/// counts from 0 in the order of linking, and the lists of the file are short enough for a pool.
 ///
 /// # Errors
 /// `AllocError` where memory was refused.

@@ -24,7 +24,8 @@ use proto_types::{MethodDescriptorProto, ServiceDescriptorProto, tag};
 use std::alloc::AllocError;
 
 /// The item of a service, with its methods. What these break is appended to `reading`, one method
-/// after another, its input before its output.
+/// after another, its input before its output. Its list is short enough for a pool. Where its name
+/// ends its full name, the names of the item begin where a character begins.
 ///
 /// # Errors
 /// `AllocError` where memory was refused.
