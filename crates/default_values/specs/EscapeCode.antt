@@ -11,16 +11,16 @@ use Rattle.std.specs.declared.result.Result.TheVariants.{Ok}
 use Rattle.default_values.specs.declared.faults.EscapeFault.{EscapeFault}
 use Rattle.default_values.specs.Escapes.{One, is_backslash, is_octal, one_escape}
 
--- an octal digit that comes first, and what follows it
+-- the octal digit with which a text begins, and what follows it
 abbrev pub octal_digit : List ℕ → Option (ℕ × List ℕ)
 octal_digit [] = None
 octal_digit (c ∷ t) = if is_octal c then Some (digit_value c, t) else None
 
--- an escape as the code has it
+-- the answer of the code for one escape
 abbrev pub one_in : Result (ℕ × Bor (List ℕ)) EscapeFault → One
 one_in one = result_map_both (λ one. (one.0, one.1.now)) (λ f. f) one
 
--- a byte and what follows it, or none, or a fault
+-- the byte that comes next and what follows it, or none at the end, or a fault
 abbrev pub Next : Type 0
 Next = Result (Option (ℕ × List ℕ)) EscapeFault
 
@@ -30,7 +30,7 @@ next_byte [] = Ok None
 next_byte (c ∷ t) = if is_backslash c then result_map_both Some (λ f. f) (one_escape t)
     else Ok (Some (c, t))
 
--- and as the code has it
+-- the answer of the code for the byte that comes next
 abbrev pub next_in : Result (Option (ℕ × Bor (List ℕ))) EscapeFault → Next
 next_in next =
     result_map_both (λ (o : Option (ℕ × Bor (List ℕ))). option_map (λ one. (one.0, one.1.now)) o)

@@ -8,43 +8,49 @@ use Rattle.std.specs.declared.result.Result.TheVariants.{Ok, Err}
 use Rattle.default_values.specs.declared.faults.EscapeFault.{EscapeFault}
 use Rattle.default_values.specs.declared.faults.EscapeFault.TheVariants.{MissingEscape, HexTooShort, InvalidHex, OctalTooLarge, InvalidEscape, OutOfMemory}
 
+-- whether a byte is a backslash
 abbrev pub is_backslash : ℕ → Bool
 is_backslash c = c == 92
 
--- `x` and `X`
+-- whether a byte begins a hexadecimal escape behind a backslash: `x` and `X` do
 abbrev pub is_hex_mark : ℕ → Bool
 is_hex_mark c = c == 120 || c == 88
 
+-- whether a byte is an octal digit
 abbrev pub is_octal : ℕ → Bool
 is_octal c = is_digit c 8
 
+-- whether a byte is a hexadecimal digit
 abbrev pub is_hex : ℕ → Bool
 is_hex c = is_digit c 16
 
--- the letters `a b f n r t v` of C, and a backslash, `?`, `'` and `"` for themselves, each with its
--- byte
+-- the letters `a b f n r t v` of C, for 07 08 0c 0a 0d 09 0b, and a backslash, `?`, `'` and `"` for
+-- themselves, each with its byte
 abbrev pub letters : List (ℕ × ℕ)
 letters = (97, 7) ∷ (98, 8) ∷ (102, 12) ∷ (110, 10) ∷ (114, 13) ∷ (116, 9) ∷ (118, 11) ∷ (92, 92)
     ∷ (63, 63) ∷ (39, 39) ∷ (34, 34) ∷ []
 
--- what the first entry of a letter gives
+-- the byte that the first entry of a letter gives
 abbrev pub value_in : List (ℕ × ℕ) → ℕ → Option ℕ
 value_in [] c = None
 value_in (e ∷ es) c = if e.0 == c then Some e.1 else value_in es c
 
+-- the byte that a letter stands for behind a backslash
 abbrev pub letter_value : ℕ → Option ℕ
 letter_value c = value_in letters c
 
--- the number of one octal or hexadecimal digit more
+-- a number with one octal or hexadecimal digit more
 abbrev pub onto : ℕ → ℕ → ℕ → ℕ
 onto base n c = n * base + digit_value c
 
--- whether an octal digit comes first
+-- whether a text begins with an octal digit
 abbrev pub starts_octal : List ℕ → Bool
 starts_octal [] = false
 starts_octal (c ∷ _) = is_octal c
 
--- a text, and the bytes that it stands for
+-- a text stands for bytes: any byte but a backslash for itself, and behind a backslash a letter for
+-- its byte, one to three octal digits, as many as there are, for their number up to 255, and `x` or
+-- `X` and two hexadecimal digits for theirs
 pub data Escaped : List ℕ → List ℕ → Type 0 where
   nothing : Escaped [] []
   itself : {c : ℕ} {t out : List ℕ} → IsFalse (is_backslash c) → Escaped t out
@@ -65,35 +71,38 @@ pub data Escaped : List ℕ → List ℕ → Type 0 where
       → IsTrue (is_hex a) → IsTrue (is_hex b)
       → v ≡ onto 16 (digit_value a) b → Escaped t out → Escaped (s ∷ x ∷ a ∷ b ∷ t) (v ∷ out)
 
--- the byte of an escape and what follows it
+-- the byte of an escape and what follows it, or its fault
 abbrev pub One : Type 0
 One = Result (ℕ × List ℕ) EscapeFault
 
--- behind `x`: two hexadecimal digits
+-- the escape of what stands behind `x`: two hexadecimal digits, or the fault `HexTooShort` where
+-- there are fewer bytes, or `InvalidHex` where these are others
 abbrev pub hex_escape : List ℕ → One
 hex_escape [] = Err HexTooShort
 hex_escape (_ ∷ []) = Err HexTooShort
 hex_escape (a ∷ b ∷ t) = if is_hex a && is_hex b then Ok (onto 16 (digit_value a) b, t)
     else Err InvalidHex
 
--- behind two octal digits of the number n: one more, if there is one
+-- the escape of two octal digits with a number: one more is taken if there is one, and above 255
+-- the fault is `OctalTooLarge`
 abbrev pub octal_third : ℕ → List ℕ → One
 octal_third n [] = Ok (n, [])
 octal_third n (c ∷ t) = if is_octal c
     then (if nat_le (onto 8 n c) 255 then Ok (onto 8 n c, t) else Err OctalTooLarge)
     else Ok (n, c ∷ t)
 
--- behind one octal digit n: up to two more
+-- the escape of one octal digit with a number: up to two more are taken
 abbrev pub octal_second : ℕ → List ℕ → One
 octal_second n [] = Ok (n, [])
 octal_second n (c ∷ t) = if is_octal c then octal_third (onto 8 n c) t else Ok (n, c ∷ t)
 
--- behind a letter, which may have a value
+-- the escape of a letter, or the fault `InvalidEscape` where the letter has no value
 abbrev pub letter_escape : Option ℕ → List ℕ → One
 letter_escape None t = Err InvalidEscape
 letter_escape (Some v) t = Ok (v, t)
 
--- behind a backslash: one escape
+-- the escape that stands behind a backslash, with what follows it, or its fault: `MissingEscape`
+-- where nothing stands there
 abbrev pub one_escape : List ℕ → One
 one_escape [] = Err MissingEscape
 one_escape (c ∷ t) =
@@ -101,7 +110,8 @@ one_escape (c ∷ t) =
     else (if is_octal c then octal_second (digit_value c) t
     else letter_escape (letter_value c) t)
 
--- the fault f stands behind the first backslash that starts no escape
+-- a text is refused with a fault: its front stands for bytes, and behind it a backslash begins no
+-- escape, but this fault
 abbrev pub EscapeRefused : List ℕ → EscapeFault → Type 0
 EscapeRefused t f = (u v out : List ℕ) × (s : ℕ) × (t ≡ u ++ s ∷ v) × IsTrue (is_backslash s)
     × Escaped u out × (one_escape v ≡ Err f)
@@ -110,17 +120,17 @@ EscapeRefused t f = (u v out : List ℕ) × (s : ℕ) × (t ≡ u ++ s ∷ v) ×
 abbrev pub Bytes : Type 0
 Bytes = Result (List ℕ) EscapeFault
 
--- a byte in front of those of the rest
+-- bytes with one more in front of them
 abbrev pub byte_before : ℕ → Bytes → Bytes
 byte_before v (Ok out) = Ok (v ∷ out)
 byte_before v (Err f) = Err f
 
--- an escape, and then what the rest gives
+-- the byte of an escape, and then what the rest gives
 abbrev pub escape_then : (List ℕ → Bytes) → One → Bytes
 escape_then after (Err f) = Err f
 escape_then after (Ok one) = byte_before one.0 (after one.1)
 
--- what a text of at most so many bytes gives
+-- the bytes that a text of at most so many bytes stands for, or its fault
 abbrev pub unescaped_within : ℕ → List ℕ → Bytes
 unescaped_within zero t = Ok []
 unescaped_within (suc n) [] = Ok []
@@ -128,11 +138,12 @@ unescaped_within (suc n) (c ∷ t) =
     if is_backslash c then escape_then (λ rest. unescaped_within n rest) (one_escape t)
     else byte_before c (unescaped_within n t)
 
--- what a text gives
+-- the bytes that a text stands for, or its leftmost fault
 abbrev pub unescaped : List ℕ → Bytes
 unescaped t = unescaped_within (length t) t
 
--- law: the function is the relation
+-- law: `unescaped` gives bytes exactly where the text stands for them, and a fault exactly where
+-- the text is refused so
 abbrev pub UnescapedIsEscaped : Type 0
 UnescapedIsEscaped = (t out : List ℕ) (f : EscapeFault)
     → ((unescaped t ≡ Ok out) ↔ Escaped t out) × ((unescaped t ≡ Err f) ↔ EscapeRefused t f)
@@ -147,7 +158,7 @@ abbrev pub RefusedIsOne : Type 0
 RefusedIsOne = (t : List ℕ) (f : EscapeFault) → EscapeRefused t f
     → ((other : EscapeFault) → EscapeRefused t other → other ≡ f) × (f ≢ OutOfMemory)
 
--- a refusal: of memory, or the leftmost fault
+-- a text is refused so, or memory was refused, which may be told of any text
 abbrev pub IsRefusal : List ℕ → EscapeFault → Type 0
 IsRefusal t OutOfMemory = Unit {0}
 IsRefusal t f = EscapeRefused t f

@@ -4,8 +4,10 @@ use Rattle.plain_data.specs.Exact.{Exact}
 use Rattle.default_values.specs.contracts.faults.EscapeFaultPartialEq.TheImpl as escape_fault
 use Rattle.default_values.specs.contracts.faults.ValueFaultPartialEq.TheImpl as value_fault
 
+-- `==` of the faults of escapes is exact
 pub escape_fault-exact : Exact escape_fault.ghosts.eq
 escape_fault-exact a b = search rules
 
+-- `==` of the faults of values is exact
 pub value_fault-exact : Exact value_fault.ghosts.eq
 value_fault-exact a b = search (rules, escape_fault-exact)

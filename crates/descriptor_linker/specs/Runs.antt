@@ -28,7 +28,7 @@ pub record HasBrokenIn (old new : Source) (before after : Sink) : Type 0 where
   pub failed : old.failures < new.failures
   pub nothing : after.bytes ≡ before.bytes
 
--- a write failed, or took no byte, and a beginning of the report was written
+-- a write failed, or took no byte of some, and a beginning of the report was written
 pub record HasBrokenOut (bytes : List ℕ) (before after : Sink) : Type 0 where
   pub stopped : (before.failures < after.failures) ⊎ (before.idle < after.idle)
   pub began : (front rest : List ℕ) × (report (script bytes) ≡ front ++ rest)
@@ -39,7 +39,8 @@ abbrev pub HasStopped : Source → Source → Sink → Sink → Type 0
 HasStopped old new before after = (old.failures < new.failures)
     ⊎ ((before.failures < after.failures) ⊎ (before.idle < after.idle))
 
--- how a run over these bytes may end
+-- how a run over bytes may end, by its ending: the whole report of a script without a fault or of
+-- one with a fault; refused memory; or a device that failed, in reading or in writing
 abbrev pub RunsTo : List ℕ → Source → Source → Sink → Sink → Ending → Type 0
 RunsTo bytes old new before after ending.Whole = IsWhole bytes new before after
     × ((script bytes).fault ≡ None)

@@ -3,7 +3,7 @@ use Rattle.std.specs.Prelude.{map}
 use Rattle.pool_contents.specs.declared.inner.DescriptorPoolInner.{DescriptorPoolInner}
 use Rattle.reference_pass.specs.Setting.{Setting}
 
--- what is read against the files and the names of a pool, each file with those that it sees
+-- the setting of the files and the names of a pool, where each file sees what its item says
 abbrev pub setting_against : DescriptorPoolInner → Setting
 setting_against p = record {
   files = map (λ f. f.raw) p.files.items;

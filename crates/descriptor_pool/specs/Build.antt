@@ -18,11 +18,11 @@ use Rattle.name_pass.specs.Names.{entries, file_entries}
 use Rattle.pool_contents.specs.Extended.{with_extended}
 use Rattle.name_pass.specs.FirstPass.{first_pass}
 
--- numbered on from the pool's counts
+-- what new files declare, numbered on from the counts of the pool
 abbrev pub declared_with : Contents → List FileDescriptorProto → List Shown
 declared_with p new = declarations (counts_in p) new
 
--- the pool with the names of declarations
+-- the pool with the names of declarations behind those that it has; what is known stays
 abbrev pub with_names : Contents → List Shown → Contents
 with_names p ds = record p {
   names = names_with p.names (entries ds);
@@ -30,7 +30,7 @@ with_names p ds = record p {
 }
 
 -- which files each file sees: one of the pool those that it saw, and each new one by the imports of
--- all
+-- all, the pool's and the new ones
 abbrev pub seen_with : Contents → List FileDescriptorProto → List (BTreeSet ℕ)
 seen_with p new =
     let names = (with_names p (declared_with p new)).file_names in
@@ -38,7 +38,8 @@ seen_with p new =
     ++ map_enumerated (λ n _. record { keys = seen_from (files_of p ++ new) (finite.get names) n })
     (length p.files) new
 
--- the pool's files and these, what their names mean, and which of them each sees
+-- what the new files are read against: the pool's files and the new ones behind them, the names of
+-- both, and which of them each sees
 abbrev pub setting_with : Contents → List FileDescriptorProto → Setting
 setting_with p new =
     let named = with_names p (declared_with p new) in
@@ -49,23 +50,25 @@ setting_with p new =
       seen = seen_with p new;
     }
 
--- faults of the first pass
+-- the faults of the first pass over new files; labels are read in all files, the pool's and the new
+-- ones
 abbrev pub name_faults : Contents → List FileDescriptorProto → Faults
 name_faults p new = first_pass (files_of p ++ new) p (declared_with p new)
 
--- faults of the second pass
+-- the faults of the second pass over new files
 abbrev pub reference_faults : Contents → List FileDescriptorProto → Faults
 reference_faults p new = second_pass (setting_with p new) p.extensions (declared_with p new)
 
--- the faults of the first pass that has any
+-- the first of two lists of faults if it has any, else the second
 abbrev pub first_of_both : Faults → Faults → Faults
 first_of_both [] second = second
 first_of_both (f ∷ fs) second = f ∷ fs
 
+-- the faults of new files: those of the first pass if there are any, else those of the second
 abbrev pub batch_faults : Contents → List FileDescriptorProto → Faults
 batch_faults p new = first_of_both (name_faults p new) (reference_faults p new)
 
--- the pool with the items of declarations added
+-- the pool with the items of declarations behind those that it has
 abbrev pub with_items : Contents → Setting → List Shown → Contents
 with_items p s ds = record p {
   files = p.files ++ file_items s ds;
@@ -75,8 +78,8 @@ with_items p s ds = record p {
   extensions = p.extensions ++ extension_items s ds;
 }
 
--- the pool with the new files: their names, their items, and their extensions in the lists of
--- messages
+-- the pool with new files: with their names, their items, and their extensions in the lists of the
+-- messages that they extend
 abbrev pub with_batch : Contents → List FileDescriptorProto → Contents
 with_batch p new =
     let ds = declared_with p new in

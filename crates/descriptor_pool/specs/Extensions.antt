@@ -13,11 +13,12 @@ use Rattle.pool_types.specs.Extension.{Indexed, extending}
 abbrev pub extensions_of : Contents → ℕ → List Indexed
 extensions_of p message = extending message 0 p.extensions
 
--- a message that none extends
+-- a message as no extension extends it
 abbrev pub bare : MessageDescriptorInner → MessageDescriptorInner
 bare m = record m { extensions = []; extension_numbers = finite.empty }
 
--- a message, by its index, with exactly these in its list and in its map of numbers
+-- a message, by its index, with exactly the extensions that extend it in its list and in its map of
+-- numbers
 abbrev pub listing_all : Contents → ℕ → MessageDescriptorInner → MessageDescriptorInner
 listing_all p message m = with_extensions (extensions_of p message) (bare m)
 

@@ -9,9 +9,9 @@ use Rattle.name_pass.specs.Names.{entries, file_entries}
 use Rattle.reference_pass.specs.NamesBegin.{AllNamesBegin}
 use Rattle.descriptor_pool.specs.Pool.{Made}
 
--- the contents are made, their counts are those of what the files declare and are within the
--- limits, their names are those that the files enter, and the name of each item begins where a
--- character begins
+-- what is true of the contents of every pool: they are made, their counts are those of what the
+-- files declare and are within the limits, their names are those that the files enter, and the name
+-- of each item begins where a character begins
 pub record IsPool (p : Contents) : Type 0 where
   pub made : Made p
   pub counts_are : counts_in p ≡ counted no_counts (declarations no_counts (files_of p))

@@ -16,7 +16,7 @@ use Rattle.reference_pass.specs.Items.{message_items, enum_items, service_items,
 use Rattle.reference_pass.specs.Setting.{Setting}
 use Rattle.reference_pass.specs.declared.items.NewItems.{NewItems}
 
--- these are the items of declarations
+-- new items are those of declarations
 pub record HasItems (items : NewItems) (s : Setting) (ds : List Shown) : Type 0 where
   pub messages : items.messages.items ≡ message_items s ds
   pub enums : items.enums.items ≡ enum_items ds
@@ -42,7 +42,7 @@ abbrev pub with_linked : Setting → GrowingPool → List FileDescriptorInner
 with_linked s p = take p.base.files p.inner.files.items
     ++ map_enumerated (linked_item s) p.base.files (drop p.base.files p.inner.files.items)
 
--- the files that came are linked, where the items are those of what they declare
+-- the files that came become linked, where the items are those of what they declare
 pub record LinksNew (old new : GrowingPool) : Type 0 where
   pub by : (s : Setting)
       → ItemsAre s (lists_in (contents_in old.inner)) (declarations old.base (new_records old))

@@ -9,7 +9,7 @@ use Rattle.descriptor_pool.specs.declared.error.BuildError.{BuildError}
 use Rattle.descriptor_pool.specs.declared.error.BuildError.TheVariants.{TooMany, Descriptor, OutOfMemory}
 use Rattle.descriptor_pool.specs.Pool.{Batch, faults, counts_after, Accepts, Fits, link}
 
--- the batch breaks no rule, and the pool is the one that the definitions give
+-- the batch fits and breaks no rule, and the pool is the one that the definitions give
 pub record IsLinked (old : Contents) (batch : Batch) (new : Contents) : Type 0 where
   pub fits : Fits old batch
   pub accepted : Accepts old batch
@@ -21,18 +21,22 @@ pub record IsTooMany (old : Contents) (batch : Batch) (kind : CountKind)
   pub first : counts_after old batch ≡ Err kind
   pub unchanged : new ≡ old
 
--- these are all faults of the first failing pass, in order, and the pool is as it was
+-- the batch fits, the error tells all faults of the first pass that finds any, in order, and the
+-- pool is as it was
 pub record IsRefused (old : Contents) (batch : Batch) (error : DescriptorError)
     (new : Contents) : Type 0 where
   pub fits : Fits old batch
   pub all : error.errors ≡ faults old batch
   pub unchanged : new ≡ old
 
--- memory was refused, and the pool is as it was
+-- the batch fits, memory was refused, and the pool is as it was
 pub record IsOutOfMemory (old : Contents) (batch : Batch) (new : Contents) : Type 0 where
   pub fits : Fits old batch
   pub unchanged : new ≡ old
 
+-- what linking a batch into a pool ends in, by the answer: one of the four, so that too much is
+-- told exactly where the batch does not fit, and a batch that is accepted is never refused with
+-- faults
 abbrev pub Outcome : {U : Type 0} → Contents → Batch → Result U BuildError → Contents → Type 0
 Outcome old batch (Ok _) new = IsLinked old batch new
 Outcome old batch (Err (TooMany kind)) new = IsTooMany old batch kind new

@@ -21,15 +21,15 @@ use Rattle.record_walk.specs.Declarations.{declarations}
 use Rattle.record_walk.specs.Protos.{of_message, of_service, of_extension}
 use Rattle.record_walk.specs.Shown.{Shown}
 
--- a reference that is a dot and a full name of the pool
+-- a reference is a dot and a full name that the pool has
 abbrev pub NamesDefinition : Contents → Reference → Type 0
 NamesDefinition p r = (name : List ℕ) × (r.text ≡ 46 ∷ name) × IsSome (finite.get p.names name)
 
--- each reference of the pool's files names its definition
+-- each reference of the pool's files is a dot and a full name that the pool has
 abbrev pub AllResolved : Contents → Type 0
 AllResolved p = AllByRecursion (NamesDefinition p) (references (files_of p))
 
--- a text is a dot and a name that means a definition of this kind, with this index
+-- a text is a dot and a name that means a definition of a kind, with its index
 abbrev pub NamesKind : ByText Definition → DefinitionKind → List ℕ → Type 0
 NamesKind names kind text = (name : List ℕ) × (text ≡ 46 ∷ name)
     × IsSomeAnd (finite.get names name) (λ def. def.kind ≡ kind)
@@ -41,24 +41,24 @@ NamesType names (index.Group n) text = NamesKind names (definition.Message n) te
 NamesType names (index.Enum n) text = NamesKind names (definition.Enum n) text
 NamesType names _ text = text ≡ []
 
--- the type of a field is that of its item
+-- the type name of a field names the type of its item
 abbrev pub FieldNames : ByText Definition → FieldDescriptorInner → FieldDescriptorProto → Type 0
 FieldNames names item f = NamesType names item.kind (text_of f.type_name)
 
--- a method takes the message that its item takes, and gives the one that its item gives
+-- the input and the output of a method name the messages that its item holds
 pub record MethodNames (names : ByText Definition) (item : MethodDescriptorInner)
     (m : MethodDescriptorProto) : Type 0 where
   pub input : NamesKind names (definition.Message item.input) (text_of m.input_type)
   pub output : NamesKind names (definition.Message item.output) (text_of m.output_type)
 
--- an extension extends the message that its item extends, and its type is that of its item
+-- the extendee and the type name of an extension name the message and the type that its item holds
 pub record ExtensionNames (names : ByText Definition) (item : ExtensionDescriptorInner)
     (x : FieldDescriptorProto) : Type 0 where
   pub extendee : NamesKind names (definition.Message item.extendee) (text_of x.extendee)
   pub type_ : NamesType names item.kind (text_of x.type_name)
 
--- a declaration names what its item holds: the fields of a message, the methods of a service, place
--- by place, and an extension
+-- a declaration names what its item holds: the fields of a message and the methods of a service,
+-- place by place, and an extension
 abbrev pub NamesOwn : Contents → Shown → Type 0
 NamesOwn p d = elim d.proto [
   | of_message m ↦ IsSomeAnd (slice_get p.messages d.index)

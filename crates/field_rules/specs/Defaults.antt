@@ -21,7 +21,7 @@ use Rattle.pool_faults.specs.declared.fault.DescriptorErrorKind.TheVariants as f
 use Rattle.default_values.specs.Simple.{simple_value}
 use Rattle.pool_faults.specs.Labels.{part_label}
 
--- an enum that the type of a field names
+-- an enum that the type of a field names: its full name and its values
 pub record DefaultEnum : Type 0 where
   pub full_name : List ℕ
   pub values : List EnumValueDescriptorProto
@@ -31,33 +31,36 @@ abbrev pub value_named : List EnumValueDescriptorProto → List ℕ → Option �
 value_named values name =
     option_map (λ v. number_of v.number) (find (λ v. bytes_eq (text_of v.name) name) values)
 
--- the value that a text writes, if it writes one; of a message or a group none does
+-- the value that a text writes, by a kind: of an enum the number of the value with that name; of a
+-- message or a group no text writes one
 abbrev pub value_of : KindIndex → List EnumValueDescriptorProto → List ℕ → Option DefaultValue
 value_of (index.Enum _) values text = option_map value.EnumNumber (value_named values text)
 value_of kind values text = result_ok (simple_value kind text)
 
--- the word for the type in a fault
+-- the word for a type in a fault: of an enum its full name, of a message or a group `message type`,
+-- of any other kind the word for it
 abbrev pub kind_named : KindIndex → List ℕ → List ℕ
 kind_named (index.Enum _) full_name = full_name
 kind_named (index.Message _) full_name = codes "message type"
 kind_named (index.Group _) full_name = codes "message type"
 kind_named kind full_name = kind_name kind
 
--- the default of a field, if one is given
+-- the value that the default of a field writes, if one is given
 abbrev pub default_value : KindIndex → DefaultEnum → Option (List ℕ) → Option DefaultValue
 default_value kind meant given = option_and_then (value_of kind meant.values) given
 
 module _ (files : List FileDescriptorProto) (file : ℕ) (path : List ℤ) (kind : KindIndex)
     (meant : DefaultEnum) where
-  -- the fault of a text that writes no value
+  -- the fault of a default whose text writes no value, with the text and the word for the type, at
+  -- the path followed by 7
   abbrev pub default_fault : List ℕ → DescriptorErrorKind
   default_fault text = fault.InvalidFieldDefault text (kind_named kind meant.full_name)
       (part_label files file path field.DEFAULT_VALUE)
 
-  -- what a text breaks
+  -- the faults of the text of a default: one where it writes no value
   abbrev pub text_faults : List ℕ → List DescriptorErrorKind
   text_faults text = only_if (is_none (value_of kind meant.values text)) (default_fault text)
 
-  -- what a default breaks, if one is given
+  -- the faults of a default: none where none is given
   abbrev pub default_faults : Option (List ℕ) → List DescriptorErrorKind
   default_faults given = option_map_or text_faults given []

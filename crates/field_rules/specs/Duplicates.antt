@@ -23,23 +23,25 @@ abbrev pub latest : (FieldDescriptorProto → Bool) → List FieldDescriptorProt
 latest test fields = find (λ e. test e.1) (reverse (enumerate_from 0 fields))
 
 module _ (files : List FileDescriptorProto) (file : ℕ) (path : List ℤ) where
-  -- where the number of a field stands, by its position in the message at a path, and its name
+  -- the label of the number of the field with a position, in the message at a path
   abbrev pub number_label : ℕ → Label
   number_label position = entry_part_label files file path message.FIELD position field.NUMBER
 
+  -- the label of the name of the field with a position, in the message at a path
   abbrev pub name_label : ℕ → Label
   name_label position = entry_part_label files file path message.FIELD position field.NAME
 
-  -- of two fields with one number, or one JSON name, by their positions, the earlier first
+  -- the fault of two fields with one number, by their positions, the earlier first
   abbrev pub same_number : ℤ → ℕ → ℕ → DescriptorErrorKind
   same_number number first second =
       fault.DuplicateFieldNumber number (number_label first) (number_label second)
 
+  -- the fault of two fields with one JSON name, by their positions, the earlier first
   abbrev pub same_json_name : List ℕ → ℕ → ℕ → DescriptorErrorKind
   same_json_name name first second =
       fault.DuplicateFieldJsonName name (name_label first) (name_label second)
 
-  -- of a number that earlier fields have: the latest of them is told
+  -- the fault of a field whose number earlier fields have: the latest of these is told
   abbrev pub number_duplicate : List FieldDescriptorProto → ℕ → FieldDescriptorProto
       → List DescriptorErrorKind
   number_duplicate earlier position f =
@@ -47,7 +49,7 @@ module _ (files : List FileDescriptorProto) (file : ℕ) (path : List ℤ) where
       (λ e. same_number (number_of f.number) e.0 position)
       (latest (λ g. int_eq (number_of g.number) (number_of f.number)) earlier))
 
-  -- of a given JSON name that earlier fields have: the latest of them is told
+  -- the fault of a field whose given JSON name earlier fields have: the latest of these is told
   abbrev pub json_name_duplicate : List FieldDescriptorProto → ℕ → FieldDescriptorProto
       → List DescriptorErrorKind
   json_name_duplicate earlier position f =
@@ -56,7 +58,8 @@ module _ (files : List FileDescriptorProto) (file : ℕ) (path : List ℤ) where
       (option_map (λ e. same_json_name name e.0 position)
       (latest (λ g. option_map_or (bytes_eq name) g.json_name false) earlier))) f.json_name []
 
-  -- of the field with a position, behind these
+  -- the faults of the field with a position, behind earlier fields: that one has its number, and
+  -- that one has its JSON name
   abbrev pub duplicate_faults : List FieldDescriptorProto → ℕ → FieldDescriptorProto
       → List DescriptorErrorKind
   duplicate_faults earlier position f = number_duplicate earlier position f

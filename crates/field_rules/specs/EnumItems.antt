@@ -20,7 +20,7 @@ use Rattle.plain_data.specs.Each.{map_enumerated}
 use Rattle.field_rules.specs.Identities.{identity}
 use Rattle.record_walk.specs.Place.{part_beside}
 
--- by number, and then by position
+-- whether a pair comes before another: by its number, and then by its position
 abbrev pub is_before : ℤ × ℕ → ℤ × ℕ → Bool
 is_before a b = is_le (ordering_then (int_cmp a.0 b.0) (nat_cmp a.1 b.1))
 
@@ -34,29 +34,30 @@ abbrev pub sorted : List (ℤ × ℕ) → List (ℤ × ℕ)
 sorted [] = []
 sorted (p ∷ ps) = put p (sorted ps)
 
--- the number of each value with its position, in order
+-- the number of each value of an enum with its position, by number and then by position
 abbrev pub numbers_of : List EnumValueDescriptorProto → List (ℤ × ℕ)
 numbers_of vs = sorted (map (λ e. (number_of e.1.number, e.0)) (enumerate_from 0 vs))
 
--- the name of each value with its position
+-- the name of each value of an enum with its position
 abbrev pub names_of : List EnumValueDescriptorProto → List (List ℕ × ℕ)
 names_of vs = map (λ e. (text_of e.1.name, e.0)) (enumerate_from 0 vs)
 
--- whether two values may have one number
+-- whether the options of an enum say that two values may have one number
 abbrev pub allows_alias : Option (Options EnumOptions) → Bool
 allows_alias options = option_map_or (λ o. flag_of o.value.allow_alias) options false
 
--- a value by its number
+-- the item of a value: its identity and its number
 abbrev pub value_item : Shown → ℤ → EnumValueDescriptorInner
 value_item d number = record { id = identity d; number = number }
 
--- those of the values of an enum, which stand beside it
+-- the items of the values of an enum, which stand beside it, in the order of their positions
 abbrev pub value_items : Shown → List EnumValueDescriptorProto → List EnumValueDescriptorInner
 value_items d vs =
     map_enumerated (λ i v. value_item (part_beside d enumeration.VALUE i (of_value v))
     (number_of v.number)) 0 vs
 
--- an enum with its values
+-- the item of an enum: its identity, the index of the message around it, its values, both tables of
+-- these, and whether aliases are allowed
 abbrev pub enum_item : Shown → EnumDescriptorProto → EnumDescriptorInner
 enum_item d e = record {
   id = identity d;

@@ -22,12 +22,12 @@ use Rattle.field_rules.specs.EnumItems.{allows_alias}
 use Rattle.field_rules.specs.EnumRanges.{reserves}
 
 module _ (files : List FileDescriptorProto) (owner : Shown) where
-  -- where the number stands of the value with a position
+  -- the label of the number of the value with a position
   abbrev pub number_label : ℕ → Label
   number_label position =
       entry_part_label files owner.file owner.path enumeration.VALUE position value.NUMBER
 
-  -- of a reserved range, by its position, that holds the number of a value
+  -- the fault of a reserved range of an enum, by its position, that holds the number of a value
   abbrev pub reserved_fault : ℕ → ℤ → ℕ → EnumReservedRange → List DescriptorErrorKind
   reserved_fault position n place range =
       let defined = entry_label files owner.file owner.path enumeration.RESERVED_RANGE place in
@@ -35,19 +35,20 @@ module _ (files : List FileDescriptorProto) (owner : Shown) where
       (fault.EnumNumberInReservedRange n (number_of range.start) (number_of range.«end») defined
       (number_label position))
 
-  -- of each of these
+  -- the faults of each reserved range of an enum that holds the number of a value
   abbrev pub reserved_faults : ℕ → ℤ → List EnumReservedRange → List DescriptorErrorKind
   reserved_faults position n ranges =
       flat_map (λ faults. faults) (map_enumerated (reserved_fault position n) 0 ranges)
 
-  -- of a number that an earlier value has: the earliest is told
+  -- the fault of a value whose number an earlier value has: the earliest of these is told
   abbrev pub duplicate_faults : ℕ → ℤ → List EnumValueDescriptorProto → List DescriptorErrorKind
   duplicate_faults position n earlier =
       listed (option_map
       (λ e. fault.DuplicateEnumNumber n (number_label e.0) (number_label position))
       (find (λ e. int_eq (number_of e.1.number) n) (enumerate_from 0 earlier)))
 
-  -- of the value of an enum with a position
+  -- the faults of the value with a position: that reserved ranges hold its number, and, unless
+  -- aliases are allowed, that an earlier value has it
   abbrev pub value_faults : EnumDescriptorProto → ℕ → EnumValueDescriptorProto
       → List DescriptorErrorKind
   value_faults e position v =
@@ -56,6 +57,6 @@ module _ (files : List FileDescriptorProto) (owner : Shown) where
       ++ (if allows_alias e.options then []
       else duplicate_faults position n (take position e.value))
 
-  -- of all values of an enum, one after another
+  -- the faults of all values of an enum, one value after another
   abbrev pub values_faults : EnumDescriptorProto → List DescriptorErrorKind
   values_faults e = flat_map (λ faults. faults) (map_enumerated (value_faults e) 0 e.value)

@@ -7,6 +7,7 @@ use Rattle.proto_types.specs.Readers.{number_of}
 use Rattle.field_rules.specs.declared.maps.FieldMaps.{FieldMaps}
 use Rattle.field_rules.specs.Maps.{by_number, by_name, by_json_name}
 
+-- three maps are those of fields, whose numbers are of 32 bits
 pub record AreMapsOf (maps : FieldMaps) (fields : List FieldDescriptorProto) : Type 0 where
   pub numbers : maps.numbers ≡ by_number fields
   pub names : maps.names ≡ by_name fields

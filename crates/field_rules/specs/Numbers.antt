@@ -22,15 +22,15 @@ use Rattle.pool_faults.specs.Labels.{part_label, entry_label}
 use Rattle.field_rules.specs.Ranges.{reserves, extends}
 
 module _ (files : List FileDescriptorProto) (file : ℕ) (path : List ℤ) (n : ℤ) where
-  -- where the number stands of the field at a path
+  -- the label of the number of the field at a path
   abbrev pub number_label : Label
   number_label = part_label files file path field.NUMBER
 
-  -- of a number that no field may have
+  -- the fault of a number that no field may have
   abbrev pub invalid_faults : List DescriptorErrorKind
   invalid_faults = only_if (not (is_valid_number n)) (fault.InvalidFieldNumber n number_label)
 
-  -- of a reserved range of a message, by its position, that holds the number
+  -- the fault of a reserved range of a message, by its position, that holds the number
   abbrev pub reserved_fault : Surrounding → ℕ → ReservedRange → List DescriptorErrorKind
   reserved_fault owner position range =
       let defined = entry_label files owner.file owner.path message.RESERVED_RANGE position in
@@ -38,32 +38,32 @@ module _ (files : List FileDescriptorProto) (file : ℕ) (path : List ℤ) (n : 
       (fault.FieldNumberInReservedRange n (number_of range.start)
       (number_of range.«end») defined number_label)
 
-  -- of each of these
+  -- the faults of each reserved range of a message that holds the number
   abbrev pub reserved_faults : Surrounding → List ReservedRange → List DescriptorErrorKind
   reserved_faults owner ranges =
       flat_map (λ faults. faults) (map_enumerated (reserved_fault owner) 0 ranges)
 
-  -- of an extension range, by its position, that holds the number of a field
+  -- the fault of an extension range of a message, by its position, that holds the number of a field
   abbrev pub extension_range_fault : Surrounding → ℕ × ExtensionRange → DescriptorErrorKind
   extension_range_fault owner e =
       let defined = entry_label files owner.file owner.path message.EXTENSION_RANGE e.0 in
       fault.FieldNumberInExtensionRange n (number_of e.1.start)
       (number_of e.1.«end») defined number_label
 
-  -- of the first of these
+  -- the fault of the first extension range of a message that holds the number of a field
   abbrev pub extension_range_faults : Surrounding → List ExtensionRange → List DescriptorErrorKind
   extension_range_faults owner ranges =
       listed (option_map (extension_range_fault owner)
       (find (λ e. extends n e.1) (enumerate_from 0 ranges)))
 
-  -- of an extension's number that no extension range holds
+  -- the fault of an extension's number that no extension range of its message holds
   abbrev pub out_of_range_faults : Surrounding → List ExtensionRange → List DescriptorErrorKind
   out_of_range_faults owner ranges =
       only_if (not (list_any (extends n) ranges))
       (fault.ExtensionNumberOutOfRange n owner.scope number_label)
 
-  -- of a field's number by the record of its message; one with an extendee has the number of an
-  -- extension
+  -- the faults of a field's number by the record of its message; one with an extendee has the
+  -- number of an extension
   abbrev pub by_message : Surrounding → DescriptorProto → FieldDescriptorProto
       → List DescriptorErrorKind
   by_message owner m f =
@@ -72,19 +72,21 @@ module _ (files : List FileDescriptorProto) (file : ℕ) (path : List ℤ) (n : 
       ++ (if is_some f.extendee then out_of_range_faults owner ranges
       else extension_range_faults owner ranges)
 
-  -- of an extension's number by the record of the message that it extends
+  -- the faults of an extension's number by the record of the message that it extends
   abbrev pub by_extendee : Surrounding → DescriptorProto → List DescriptorErrorKind
   by_extendee owner m =
       invalid_faults ++ reserved_faults owner (out-DescriptorProto m).reserved_range
       ++ out_of_range_faults owner (out-DescriptorProto m).extension_range
 
--- of the number of a field that stands in a message
+-- the faults of the number of a field that stands in a message: that no field may have it, that a
+-- reserved range holds it, and that an extension range does
 abbrev pub field_number_faults : List FileDescriptorProto → Shown → DescriptorProto → Shown
     → FieldDescriptorProto → List DescriptorErrorKind
 field_number_faults files owner m d f =
     by_message files d.file d.path (number_of f.number) (inside owner) m f
 
--- of the number of an extension of a message
+-- the faults of the number of an extension of a message: that no field may have it, that a reserved
+-- range holds it, and that no extension range does
 abbrev pub extension_number_faults : List FileDescriptorProto → Shown → DescriptorProto → Shown
     → FieldDescriptorProto → List DescriptorErrorKind
 extension_number_faults files owner m d x =

@@ -12,13 +12,13 @@ use Rattle.pool_faults.specs.declared.fault.DescriptorErrorKind.{DescriptorError
 use Rattle.pool_faults.specs.declared.fault.DescriptorErrorKind.TheVariants.{InvalidOneofIndex}
 use Rattle.field_rules.specs.Maps.{item_number}
 
--- of an index that is no position of the oneofs
+-- the fault of a oneof index that is no position of the oneofs
 abbrev pub oneof_faults : List OneofDescriptorProto → FieldDescriptorProto
     → List DescriptorErrorKind
 oneof_faults oneofs f =
     option_map_or (λ n. only_if (not (is_some (at oneofs n))) InvalidOneofIndex) f.oneof_index []
 
--- the oneof of a field, by its position, where there is one
+-- the position of the oneof that a field names, where there is one
 abbrev pub oneof_of : List OneofDescriptorProto → FieldDescriptorProto → Option ℕ
 oneof_of oneofs f =
     option_and_then (λ n. option_map (λ _. item_number n) (at oneofs n)) f.oneof_index

@@ -6,10 +6,10 @@ use Rattle.proto_types.specs.declared.message.ReservedRange.{ReservedRange}
 use Rattle.proto_types.specs.Readers.{number_of}
 use Rattle.number_ranges.specs.Ranges.{holds}
 
--- whether a reserved range of a message holds a number
+-- a reserved range of a message holds the numbers from its start on and below its end
 abbrev pub reserves : ℤ → ReservedRange → Bool
 reserves n range = holds n (number_of range.start, number_of range.«end»)
 
--- whether an extension range of a message holds a number
+-- an extension range of a message holds the numbers from its start on and below its end
 abbrev pub extends : ℤ → ExtensionRange → Bool
 extends n range = holds n (number_of range.start, number_of range.«end»)

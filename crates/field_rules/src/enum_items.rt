@@ -19,7 +19,8 @@ use proto_types::{EnumDescriptorProto, tag};
 use std::alloc::{AllocError, Global};
 
 /// The item of an enum, with its values, which are named beside it, and their tables. What the
-/// numbers of its values break is appended to `faults`, one value after another.
+/// numbers of its values break is appended to `faults`, one value after another. The name of the
+/// enum ends its full name, and its lists are short enough for a pool.
 ///
 /// # Errors
 /// `AllocError` where memory was refused.

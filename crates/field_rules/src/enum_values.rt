@@ -25,7 +25,7 @@ use std::collections::btree_map::Entry;
 /// Appends to `faults` what the numbers of an enum's values break, one value after another
 /// (descriptor.proto on `reserved_range` and `allow_alias`): each reserved range that holds the
 /// number, and then, unless aliases are allowed, that an earlier value has it, of which the
-/// earliest is cited.
+/// earliest is cited. The lists of the enum are short enough for a pool.
 ///
 /// # Errors
 /// `AllocError` where memory was refused.

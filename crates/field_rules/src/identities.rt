@@ -11,7 +11,8 @@ use pool_types::Identity;
 use proto_types::{entry_path, join};
 use std::alloc::{AllocError, Global};
 
-/// Where a declaration stands that has this name, which ends its full name.
+/// Where a declaration stands that has this name. Where that ends the full name, it begins there
+/// where a character begins.
 ///
 /// # Errors
 /// `AllocError` where memory was refused.
@@ -27,7 +28,8 @@ pub fn identity(alloc: Global, place: Place, name: &str) -> Result<Identity, All
 }
 
 /// Where an entry of a list of a declaration stands that is named inside it. The tag is the list's
-/// field number in descriptor.proto, and positions count from 0.
+/// field number in descriptor.proto, and positions count from 0 and are below 2 to the 31st. The
+/// name begins in the full name where a character begins.
 ///
 /// # Errors
 /// `AllocError` where memory was refused.
@@ -51,7 +53,8 @@ pub fn identity_inside(
 
 /// Where an entry of a list of a declaration stands that is named beside it. The declaration's own
 /// name ends its full name. The tag is the list's field number in descriptor.proto, and positions
-/// count from 0.
+/// count from 0 and are below 2 to the 31st. The name begins in the full name where a character
+/// begins.
 ///
 /// # Errors
 /// `AllocError` where memory was refused.

@@ -18,7 +18,8 @@ use std::alloc::AllocError;
 /// (descriptor.proto on `number`, `reserved_range` and `extension_range`, and the protobuf language
 /// rules on field numbers): that no field may have it, each reserved range of the message that
 /// holds it, and then the first extension range that does; or, of a field that has an extendee,
-/// even an empty one, that none does. The ranges are those of the message.
+/// even an empty one, that none does. The ranges are those of the message, whose lists are short
+/// enough for a pool.
 ///
 /// # Errors
 /// `AllocError` where memory was refused.
@@ -44,7 +45,7 @@ pub fn check_field_number(
 
 /// Appends to `faults` what the number of an extension breaks, by the record of the message that it
 /// extends: that no field may have it, each reserved range of the message that holds it, and that
-/// none of its extension ranges does.
+/// none of its extension ranges does. The lists of the message are short enough for a pool.
 ///
 /// # Errors
 /// `AllocError` where memory was refused.

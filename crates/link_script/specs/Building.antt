@@ -26,7 +26,8 @@ Parts = DescriptorProto-F DescriptorProto
 abbrev changed : (Parts → Parts) → DescriptorProto → DescriptorProto
 changed h m = roll-DescriptorProto (h (out-DescriptorProto m))
 
--- what a statement opens
+-- the record that a statement opens, of which nothing but the name is said: a file, a message, an
+-- enum or a service
 abbrev pub opened_by : Statement → Option Open
 opened_by (say.File name) = Some (opened.File (record no_file { name = name }))
 opened_by (say.Message name) =
@@ -35,13 +36,13 @@ opened_by (say.Enum name) = Some (opened.Enum (record no_enum { name = name }))
 opened_by (say.Service name) = Some (opened.Service (record no_service { name = name }))
 opened_by _ = None
 
--- the last of a list changed
+-- a list with its last element changed
 abbrev pub change_last : {X : Type 0} → (X → X) → List X → List X
 change_last h [] = []
 change_last h (x ∷ []) = h x ∷ []
 change_last h (x ∷ y ∷ ys) = x ∷ change_last h (y ∷ ys)
 
--- a field or an extension of which more is said
+-- a field or an extension with its JSON name, its `packed` or its default value set
 abbrev pub more_said : Statement → FieldDescriptorProto → FieldDescriptorProto
 more_said (say.Json name) f = record f { json_name = name }
 more_said (say.Packed packed) f =
@@ -49,10 +50,11 @@ more_said (say.Packed packed) f =
 more_said (say.Default text) f = record f { default_value = Some text }
 more_said _ f = f
 
--- the locations of a file
+-- the locations of the source of a file
 abbrev pub locations_of : Option SourceCodeInfo → List Location
 locations_of source = option_map_or (λ s. s.location) source []
 
+-- a file with what a statement says of it; lists grow at their end
 abbrev pub in_file : Statement → FileDescriptorProto → FileDescriptorProto
 in_file (say.Package name) f = record f { «package» = name }
 in_file (say.Syntax name) f = record f { syntax = name }
@@ -68,7 +70,8 @@ in_file (say.At location) f =
 in_file (say.Extend field) f = record f { extension = f.extension ++ field ∷ [] }
 in_file said f = record f { extension = change_last (more_said said) f.extension }
 
--- extends: whether an extension was stated last, of which more may be said then
+-- a message with what a statement says of it; of the last extension more is said where it was
+-- stated last, and else of the last field
 abbrev pub in_message : Bool → Statement → Parts → Parts
 in_message extends (say.Field field) m = record m { field = m.field ++ field ∷ [] }
 in_message extends (say.Extend field) m = record m { extension = m.extension ++ field ∷ [] }
@@ -87,6 +90,7 @@ in_message extends (say.Extensions start «end») m =
 in_message true said m = record m { extension = change_last (more_said said) m.extension }
 in_message false said m = record m { field = change_last (more_said said) m.field }
 
+-- an enum with what a statement says of it; lists grow at their end
 abbrev pub in_enum : Statement → EnumDescriptorProto → EnumDescriptorProto
 in_enum (say.Value value) e = record e { value = e.value ++ value ∷ [] }
 in_enum (say.Reserved start «end») e =
@@ -97,18 +101,19 @@ in_enum say.Alias e =
     }
 in_enum _ e = e
 
+-- a service with what a statement says of it; its methods grow at their end
 abbrev pub in_service : Statement → ServiceDescriptorProto → ServiceDescriptorProto
 in_service (say.Method method) s = record s { method = s.method ++ method ∷ [] }
 in_service _ s = s
 
--- a statement in the innermost open record
+-- the innermost open record with what a statement says of it
 abbrev pub applied : Bool → Statement → Open → Open
 applied extends said (opened.File f) = opened.File (in_file said f)
 applied extends said (opened.Message m) = opened.Message (changed (in_message extends said) m)
 applied extends said (opened.Enum e) = opened.Enum (in_enum said e)
 applied extends said (opened.Service s) = opened.Service (in_service said s)
 
--- a record, in the one around it, when its block closes
+-- the record around a record whose block closes, with that one at the end of its list
 abbrev pub closed_in : Open → Open → Open
 closed_in (opened.Message m) (opened.File f) =
     opened.File (record f { message_type = f.message_type ++ m ∷ [] })

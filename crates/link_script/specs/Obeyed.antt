@@ -11,8 +11,8 @@ use Rattle.link_script.specs.declared.script.statement.ScriptError.TheVariants.{
 use Rattle.link_script.specs.declared.script.statement.Statement.{Statement}
 use Rattle.link_script.specs.Records.{files_in}
 
--- all statements were obeyed, each by a step, and the fault behind them is told, unless memory was
--- refused
+-- all statements of a script were obeyed, each by a step, and the fault behind them is told, unless
+-- memory was refused
 abbrev pub IsObeyed : {S U : Type 0} → (S → Statement → S) → Script → S → Result U ScriptError → S
     → Type 0
 IsObeyed step script old (Ok _) new = (fold step old script.statements ≡ new) × (script.fault ≡ None)
@@ -20,7 +20,7 @@ IsObeyed step script old (Err (Fault line fault)) new = (fold step old script.st
     × (script.fault ≡ Some (line, fault))
 IsObeyed step script old (Err OutOfMemory) new = Unit {0}
 
--- the files that a script declares, or its fault, unless memory was refused
+-- an answer is the files that a script declares, or else its fault, unless memory was refused
 abbrev pub DeclaresFiles : Script → Result (List FileDescriptorProto) ScriptError → Type 0
 DeclaresFiles script (Ok files) = (files ≡ files_in script) × (script.fault ≡ None)
 DeclaresFiles script (Err (Fault line fault)) = script.fault ≡ Some (line, fault)

@@ -25,35 +25,36 @@ Placed = ℕ × FieldDescriptorProto
 abbrev pub camel_case_key : List ℕ → List ℕ
 camel_case_key name = str_to_ascii_lowercase (filter (λ c. not (c == 95)) name)
 
--- the same of a field
+-- what the name of a field is told apart by
 abbrev pub key_at : Placed → List ℕ
 key_at f = camel_case_key (text_of f.1.name)
 
--- the path of a field's name, from the path of its message and the field's position
+-- the path of the name of a field, by the path of its message and its position
 abbrev pub name_path : List ℤ → ℕ → List ℤ
 name_path path position = entry_path path message.FIELD position ++ field.NAME ∷ []
 
--- of two fields whose names have one key, the earlier first
+-- the fault of two fields of a message whose names have one key, the earlier first
 abbrev pub camel_case_fault : List FileDescriptorProto → ℕ → List ℤ → Placed → Placed
     → DescriptorErrorKind
 camel_case_fault files file path first second =
     DuplicateFieldCamelCaseName (text_of first.1.name) (text_of second.1.name)
     (label_in files file (name_path path first.0)) (label_in files file (name_path path second.0))
 
--- of a field after those before it: with the earliest that has its key
+-- the fault of a field behind others whose names have its key: the earliest of these is told
 abbrev pub shared_key_faults : List FileDescriptorProto → ℕ → List ℤ → List Placed → Placed
     → List DescriptorErrorKind
 shared_key_faults files file path before f =
     listed (option_map (λ first. camel_case_fault files file path first f)
     (find (λ first. bytes_eq (key_at f) (key_at first)) before))
 
--- of the fields of the message at a path, one after another
+-- the faults of the fields of the message at a path, one field after another
 abbrev pub camel_case_faults : List FileDescriptorProto → ℕ → List ℤ → List FieldDescriptorProto
     → List DescriptorErrorKind
 camel_case_faults files file path fields =
     flat_map_after (shared_key_faults files file path) (enumerate_from 0 fields)
 
--- what a message breaks by itself, which it does in proto3 alone
+-- the faults of a message by itself: in proto3 those of fields whose names have one key, and in
+-- proto2 none
 abbrev pub message_own_faults : List FileDescriptorProto → ℕ → List ℤ → DescriptorProto
     → List DescriptorErrorKind
 message_own_faults files file path m = if is_proto3 (syntax_at files file)

@@ -12,11 +12,12 @@ use Rattle.pool_faults.specs.declared.fault.DescriptorErrorKind.{DescriptorError
 use Rattle.pool_faults.specs.declared.fault.DescriptorErrorKind.TheVariants.{EmptyEnum, InvalidProto3EnumDefault}
 use Rattle.pool_types.specs.Syntaxes.{syntax_at, is_proto3}
 
--- the path of the number of an enum's first value, from the path of the enum
+-- the path of the number of an enum's first value, by the path of the enum
 abbrev pub first_number_path : List ℤ → List ℤ
 first_number_path path = path ++ enumeration.VALUE ∷ pos 0 ∷ enum_value.NUMBER ∷ []
 
--- of an enum without values, and of one in proto3 whose first value isn't 0
+-- the fault of an enum without values, at its path, or in proto3 of one whose first value isn't 0,
+-- at the number of that
 abbrev pub enum_faults : List FileDescriptorProto → ℕ → List ℤ → EnumDescriptorProto
     → List DescriptorErrorKind
 enum_faults files file path e = elim e.value [

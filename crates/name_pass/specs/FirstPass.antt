@@ -22,15 +22,16 @@ use Rattle.name_pass.specs.CamelCase.{message_own_faults}
 use Rattle.name_pass.specs.Enumeration.{enum_faults}
 use Rattle.name_pass.specs.Names.{entries_of, entries, file_entries}
 
--- what a name means already: what is known, else what the first entry before it says
+-- what a name means already: what is known of it, else what the first entry before it says
 abbrev pub holder : {X : Type 0} → ByText X → List (List ℕ × X) → List ℕ → Option X
 holder known before name = option_or (finite.get known name) (first_of before name)
 
--- of a file's name that a file has
+-- the fault of a new file whose name has a holder
 abbrev pub file_name_faults : Option ℕ → List ℕ → List DescriptorErrorKind
 file_name_faults held name = only_if (is_some held) (fault.DuplicateFileName name)
 
--- of an entry whose name has a holder, which is told; a package may be entered again as a package
+-- the fault of an entry whose name has a holder, which is told first; a package may be entered
+-- again as a package
 abbrev pub holder_faults : List FileDescriptorProto → Option Definition → Entry
     → List DescriptorErrorKind
 holder_faults files None e = []
@@ -39,14 +40,14 @@ holder_faults files (Some held) e =
     else fault.DuplicateName e.0 (label_in files held.file held.path)
     (label_in files e.1.file e.1.path) ∷ []
 
--- of entries in turn, behind known names and the entries before them
+-- the faults of entries in turn, behind known names and the entries before them
 abbrev pub clashes : List FileDescriptorProto → ByText Definition → List Entry → List Entry
     → List DescriptorErrorKind
 clashes files known before es =
     after_each (λ earlier e. holder_faults files (holder known earlier e.0) e) before es
 
--- what a file breaks before the clashes of its packages: its syntax is unknown, or its name is not
--- a new one
+-- what a file breaks before the clashes of its packages: that its syntax is unknown, and then that
+-- its name is a duplicate
 abbrev pub file_faults : List FileDescriptorProto → ByText ℕ → List (List ℕ × ℕ) → Shown
     → List DescriptorErrorKind
 file_faults files known before d = elim d.proto [
@@ -63,7 +64,7 @@ shape_faults files d = elim d.proto [
   | _ ↦ []
 ]
 
--- what a declaration breaks, behind a pool and after earlier declarations
+-- what a declaration breaks in the first pass, behind a pool and after earlier declarations
 abbrev pub first_faults : List FileDescriptorProto → Contents → List Shown → Shown
     → List DescriptorErrorKind
 first_faults files p earlier d =
@@ -71,6 +72,6 @@ first_faults files p earlier d =
     ++ clashes files p.names (entries earlier) (entries_of d)
     ++ shape_faults files d
 
--- all faults of the first pass over declarations behind a pool
+-- the faults of the first pass over declarations behind a pool, in a row
 abbrev pub first_pass : List FileDescriptorProto → Contents → List Shown → List DescriptorErrorKind
 first_pass files p ds = flat_map_after (first_faults files p) ds

@@ -12,7 +12,8 @@ use Rattle.proto_types.specs.Readers.{text_of}
 use Rattle.record_walk.specs.Protos.{of_file, of_message, of_field, of_oneof, of_service, of_method, of_enum, of_value, of_extension}
 use Rattle.record_walk.specs.Shown.{Shown}
 
--- what a declaration's name means; a part holds the index of its message, service or enum
+-- what the name of a declaration means: a message, enum, service or extension holds its own index,
+-- and any other the index of what it stands in
 abbrev pub definition_kind : Shown → DefinitionKind
 definition_kind d = elim d.proto [
   | of_file _ ↦ definition.Package
@@ -26,17 +27,17 @@ definition_kind d = elim d.proto [
   | of_extension _ ↦ definition.Extension d.index
 ]
 
--- a package's name, at the package of its file
+-- the entry of a package's name, at the package of its file
 abbrev pub package_entry : ℕ → List ℕ → Entry
 package_entry n name =
     (name, record { file = n; path = file.PACKAGE ∷ []; kind = definition.Package })
 
--- a package and those around it, from the outermost in
+-- the package of a file and those around it, from the outermost in; the empty package has none
 abbrev pub packages : List ℕ → List (List ℕ)
 packages [] = []
 packages (c ∷ cs) = fronts (c ∷ cs) ++ (c ∷ cs) ∷ []
 
--- a declaration's full name, at the name of its record
+-- the entry of a declaration's full name, at the name of its record
 abbrev pub own_entry : Shown → Entry
 own_entry d = (
   d.full_name,
@@ -47,18 +48,21 @@ own_entry d = (
   },
 )
 
+-- the entries of a declaration: of a file its packages, of any other its full name
 abbrev pub entries_of : Shown → List Entry
 entries_of d = elim d.proto [
   | of_file f ↦ map (package_entry d.file) (packages (text_of f.«package»))
   | _ ↦ own_entry d ∷ []
 ]
 
+-- the entries of all declarations, in a row
 abbrev pub entries : List Shown → List Entry
 entries ds = flat_map entries_of ds
 
--- a file's own name, and its index
+-- the entry of a file's own name, which means its index; any other declaration has none
 abbrev pub file_entries_of : Shown → List (List ℕ × ℕ)
 file_entries_of d = elim d.proto [ of_file f ↦ (text_of f.name, d.file) ∷ [] | _ ↦ [] ]
 
+-- the entries of the names of files among declarations, in a row
 abbrev pub file_entries : List Shown → List (List ℕ × ℕ)
 file_entries ds = flat_map file_entries_of ds

@@ -6,6 +6,7 @@ use Rattle.proto_types.specs.declared.file.FileDescriptorProto.{FileDescriptorPr
 use Rattle.name_pass.specs.declared.names.NameVisitor.{NameVisitor}
 use Rattle.name_pass.specs.Steps.{NameState}
 
+-- the state of the first pass that a visitor of the code has reached
 abbrev pub state_of : NameVisitor → NameState
 state_of v = record {
   names = v.names.now;
@@ -13,7 +14,7 @@ state_of v = record {
   faults = v.faults.now.found.items;
 }
 
--- the records that labels name
+-- the records of the files that the labels of a visitor name
 abbrev pub records_of : NameVisitor → List FileDescriptorProto
 records_of v = map (λ f. f.raw) v.faults.now.labels
 
@@ -21,7 +22,7 @@ records_of v = map (λ f. f.raw) v.faults.now.labels
 abbrev pub first_new : NameVisitor → ℕ
 first_new v = length (take v.first v.faults.now.labels)
 
--- what a roll-back leaves of files and names
+-- what a roll-back leaves of the files and the names that a visitor holds
 abbrev pub kept_of : NameVisitor → Contents
 kept_of v = record no_contents {
   files = take v.first v.faults.now.labels;
@@ -29,10 +30,11 @@ kept_of v = record no_contents {
   file_names = file_names_before (first_new v) v.file_names.now;
 }
 
+-- the names of what a visitor borrows
 abbrev pub borrows_of : NameVisitor → List ℕ
 borrows_of v = v.names.ghost_name ∷ v.file_names.ghost_name ∷ v.faults.ghost_name ∷ []
 
--- nothing changes but names and faults, and what a roll-back leaves stays
+-- nothing of a visitor changes but names and faults, and what a roll-back leaves stays
 pub record Stays (old new : NameVisitor) : Type 0 where
   pub files : new.faults.now.labels ≡ old.faults.now.labels
   pub kept : kept_of new ≡ kept_of old

@@ -13,12 +13,13 @@ use Rattle.record_walk.specs.Counts.{lists_fit}
 use Rattle.name_pass.specs.Names.{entries_of, file_entries_of}
 use Rattle.name_pass.specs.FirstPass.{clashes, file_name_faults, first_faults, holder}
 
--- what names and names of files mean by now, and the faults so far
+-- the state of the first pass: what names and names of files mean by now, and the faults so far
 pub record NameState : Type 0 where
   pub names : ByText Definition
   pub file_names : ByText ℕ
   pub faults : List DescriptorErrorKind
 
+-- the state of the first pass with these names and these faults
 abbrev pub state_at : ByText Definition → ByText ℕ → List DescriptorErrorKind → NameState
 state_at names file_names faults = record {
   names = names;
@@ -30,21 +31,22 @@ state_at names file_names faults = record {
 abbrev pub known : NameState → Contents
 known state = record no_contents { names = state.names; file_names = state.file_names }
 
--- after entries: their names, and the clashes of these; files are those that labels name
+-- the state after entries: their names are known, where they are new, and their clashes are faults
 abbrev pub entered : List FileDescriptorProto → NameState → List Entry → NameState
 entered files state es = record state {
   names = names_with state.names es;
   faults = state.faults ++ clashes files state.names [] es;
 }
 
--- after the name of one more file
+-- the state after the name of one more file
 abbrev pub file_named : NameState → List ℕ → ℕ → NameState
 file_named state name index = record state {
   file_names = names_with state.file_names ((name, index) ∷ []);
   faults = state.faults ++ file_name_faults (holder state.file_names [] name) name;
 }
 
--- after one more declaration: its entries, and what it breaks behind what is known
+-- the state after one more declaration: the names that it enters are known, and what it breaks
+-- behind what was known is a fault
 abbrev pub name_step : List FileDescriptorProto → NameState → Shown → NameState
 name_step files state d = record {
   names = names_with state.names (entries_of d);
@@ -52,15 +54,17 @@ name_step files state d = record {
   faults = state.faults ++ first_faults files (known state) [] d;
 }
 
--- declarations of files from an index on, whose lists are short enough
+-- declarations lie in files from an index on, and no list of these is too long; the first pass is
+-- shown such lists
 abbrev pub CanBeEntered : ℕ → List Shown → Type 0
 CanBeEntered first ds = AllByRecursion (λ d. (first ≤ d.file) × (lists_fit d.proto ≡ true)) ds
 
--- law: and of a front of them
+-- law: the front of a list of declarations that can be entered is such a list too
 pub front-entered : (first : ℕ) (ds es : List Shown) → CanBeEntered first (ds ++ es)
     → CanBeEntered first ds
 front-entered first [] es all = tt
 front-entered first (d ∷ ds) es all = (all.0, front-entered first ds es all.1)
 
+-- what a visitor shows in a state of the first pass
 abbrev pub name_progress : NameState → Progress
 name_progress state = record { contents = known state; faults = state.faults; listed = [] }

@@ -9,7 +9,7 @@ use Rattle.pool_faults.specs.Labels.{label_in}
 use Rattle.pool_faults.specs.declared.fault.DescriptorErrorKind.{DescriptorErrorKind}
 use Rattle.pool_faults.specs.declared.fault.DescriptorErrorKind.TheVariants.{UnknownSyntax}
 
--- of a file whose syntax isn't known
+-- the fault of a file whose syntax is unknown, at the path 12
 abbrev pub syntax_faults : List FileDescriptorProto → ℕ → FileDescriptorProto
     → List DescriptorErrorKind
 syntax_faults files index f = elim (known_syntax f.syntax) [

@@ -20,6 +20,9 @@ use std::alloc::{AllocError, Global};
 /// The first pass: it enters the names of declarations into the tables of a pool whose files are
 /// those of a batch as well, and gathers the faults of names, and of what a file, a message or an
 /// enum shows by itself.
+///
+/// What it shows once a list has been shown to it is the fold of one step over the list. What a
+/// roll-back would give stays, after a refusal too.
 #[derive(Drop)]
 pub struct NameVisitor<'a, 'f> {
     pub alloc: Global,

@@ -5,7 +5,8 @@ use Rattle.pool_types.specs.declared.contents.definition.DefinitionKind.TheVaria
 use Rattle.name_resolution.specs.declared.filter.ResolveNameFilter.{ResolveNameFilter}
 use Rattle.name_resolution.specs.declared.filter.ResolveNameFilter.TheVariants as filter
 
--- whether a reference wants a definition of the kind
+-- whether a definition is of the kind that a reference wants; for the type of a field that is a
+-- message or an enum
 abbrev pub is_match : ResolveNameFilter → DefinitionKind → Bool
 is_match filter.Message (definition.Message _) = true
 is_match filter.Extension (definition.Extension _) = true

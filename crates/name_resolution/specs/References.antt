@@ -9,7 +9,9 @@ use Rattle.name_resolution.specs.Filter.{filter_text}
 use Rattle.pool_faults.specs.Labels.{label_in}
 use Rattle.name_resolution.specs.Resolution.{Resolution, found, invalid_type, not_imported, shadowed, not_found}
 
--- of a reference as it is written, at a path of a file
+-- the fault of a reference at a path of a file: `NameNotFound` with the name as written where
+-- nothing was found, and with the full name where it isn't seen; `NameShadowed` with both;
+-- `InvalidType` with the full name and the words for what was wanted; none where it was found
 abbrev pub reference_fault : List FileDescriptorProto → List ℕ → ℕ → List ℤ → Resolution
     → Option DescriptorErrorKind
 reference_fault files written file path (found _ _) = None

@@ -6,7 +6,7 @@ use Rattle.std.specs.List.{list_any}
 use Rattle.std.specs.Ordering.{nat_cmp}
 use Rattle.name_resolution.specs.declared.visibility.Seen.{Seen}
 
--- each file of a list is seen, and waits if it was not seen before
+-- each file of a list is seen, and waits to be looked at if it was not seen before
 pub record SeesEach (list : List ℕ) (old new : Seen) : Type 0 where
   pub files : (b : ℕ) → contains nat_cmp new.files b
       ≡ (contains nat_cmp old.files b || list_any (nat_eq b) list)

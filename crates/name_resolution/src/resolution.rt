@@ -203,7 +203,7 @@ impl<'a> ResolveNameResult<'a> {
         self.labelled_fault(alloc, orig_name, &mut labels, found_file, path)
     }
 
-    /// The same, with labels that are made by an index of the locations of files.
+    /// The same, with labels that are made by an index of the locations of files, whose files stay.
     ///
     /// # Errors
     /// `AllocError` where memory was refused.

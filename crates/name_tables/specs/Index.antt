@@ -18,6 +18,7 @@ pub record Row : Type 0 where
   pub definition : Option Definition
   pub next : List ℕ
 
+-- the node of a part, and the part
 abbrev pub row : List ℕ → Node → Row
 row part node = record { part = part; digest = node.digest; parent = node.parent; definition = node.definition; next = node.next }
 
@@ -54,9 +55,11 @@ pub record Key : Type 0 where
   pub parent : ℕ
   pub part : List ℕ
 
+-- the key of a digest, the number of what a branch hangs below, and a part
 abbrev pub key : ℕ → ℕ → List ℕ → Key
 key digest parent part = record { digest = digest; parent = parent; part = part }
 
+-- the key by which a node is found
 abbrev pub key_of : Row → Key
 key_of node = key node.digest node.parent node.part
 
@@ -77,6 +80,7 @@ abbrev pub digest_from : ℕ → List ℕ → ℕ
 digest_from digest [] = digest
 digest_from digest (byte ∷ bytes) = digest_from (taken_in digest byte) bytes
 
+-- the digest of a name
 abbrev pub digest_of : List ℕ → ℕ
 digest_of text = digest_from first_digest text
 

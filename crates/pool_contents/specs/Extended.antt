@@ -10,7 +10,7 @@ use Rattle.pool_types.specs.declared.contents.extension.ExtensionDescriptorInner
 use Rattle.pool_types.specs.declared.contents.message.MessageDescriptorInner.{MessageDescriptorInner}
 use Rattle.plain_data.specs.Each.{map_enumerated}
 
--- from numbers to extensions, with one more; a number that has an extension keeps it
+-- a map from numbers to extensions with one more; a number that has an extension keeps it
 abbrev pub with_number : ByNumber ℕ → ℕ × ℕ → ByNumber ℕ
 with_number numbers e = if finite.contains_key numbers e.1 then numbers
     else finite.insert numbers e.1 e.0
@@ -28,22 +28,24 @@ abbrev pub extended_by : ℕ → List ExtensionDescriptorInner → ℕ → Messa
     → MessageDescriptorInner
 extended_by first xs message m = with_extensions (extending message first xs) m
 
--- contents whose messages have the extensions from a first index on too
+-- contents whose messages have the extensions from a first index on, besides those that they have
+-- already
 abbrev pub with_extended : ℕ → Contents → Contents
 with_extended first p =
     record p {
       messages = map_enumerated (extended_by first (drop first p.extensions)) 0 p.messages;
     }
 
--- messages that have the extensions from one index up to another besides
+-- messages that have the extensions from one index up to another, besides those that they have
+-- already
 abbrev pub extended_between : ℕ → ℕ → List ExtensionDescriptorInner → List MessageDescriptorInner
     → List MessageDescriptorInner
 extended_between first end xs ms = map_enumerated (extended_by first (between first end xs)) 0 ms
 
--- numbers that lead to extensions before an index
+-- a map leads from numbers to extensions before an index
 abbrev pub LieBefore : ℕ → ByNumber ℕ → Type 0
 LieBefore end numbers = (number : ℕ) → IfSome (finite.get numbers number) (λ e. e < end)
 
--- the numbers of each message lead to extensions before an index
+-- the maps of messages lead from numbers to extensions before an index
 abbrev pub NumbersLieBefore : ℕ → List MessageDescriptorInner → Type 0
 NumbersLieBefore end ms = AllByRecursion (λ m. LieBefore end m.extension_numbers) ms

@@ -11,7 +11,8 @@ use Rattle.name_tables.specs.NameTables.{without_files_from, file_names_before}
 use Rattle.pool_contents.specs.declared.growing.GrowingPool.{GrowingPool}
 use Rattle.pool_contents.specs.Inner.{contents_in}
 
--- what a roll-back leaves: as much as there was before
+-- what a roll-back leaves of a growing pool: of each list as much as there was before, and the
+-- names that mean something in the files that are left
 abbrev pub rolled_back : GrowingPool → Contents
 rolled_back p = record {
   files = take p.base.files p.inner.files.items;
@@ -50,16 +51,17 @@ seeing p n f = record f {
   transitive_dependencies = record { keys = seen_in p n };
 }
 
--- all files, where the one with an index has those that it sees
+-- all files, where the one with an index has the files that it imports and those that it sees
 abbrev pub file_seeing : GrowingPool → ℕ → List FileDescriptorInner
 file_seeing p file =
     map_enumerated (λ n f. if n == file then seeing p file f else f) 0 p.inner.files.items
 
--- all files, where each that came has those that it sees
+-- all files, where each that came has the files that it imports and those that it sees
 abbrev pub files_seeing : GrowingPool → List FileDescriptorInner
 files_seeing p = map_enumerated (λ n f. if nat_le (first_new p) n then seeing p n f
     else f) 0 p.inner.files.items
 
--- all that there is by now, but of files only those that were there before
+-- what the second pass begins with: all that there is by now, but of files only those that were
+-- there before
 abbrev pub before_items : GrowingPool → Contents
 before_items p = record (contents_in p.inner) { files = (rolled_back p).files }

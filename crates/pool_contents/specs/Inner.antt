@@ -4,6 +4,7 @@ use Rattle.pool_types.specs.Contents.{Contents}
 use Rattle.name_tables.specs.NameTables.{AllBefore, FileNamesBefore}
 use Rattle.pool_contents.specs.declared.inner.DescriptorPoolInner.{DescriptorPoolInner}
 
+-- the contents that the code of a pool holds
 abbrev pub contents_in : DescriptorPoolInner → Contents
 contents_in p = record {
   files = p.files.items;
@@ -15,6 +16,6 @@ contents_in p = record {
   file_names = p.file_names;
 }
 
--- what names mean lies in the pool's files
+-- what each name means lies in a file of the pool, and each name of a file means one of them
 abbrev pub NamesLieIn : Contents → Type 0
 NamesLieIn p = AllBefore (length p.files) p.names × FileNamesBefore (length p.files) p.file_names

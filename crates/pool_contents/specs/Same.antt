@@ -29,22 +29,25 @@ items_eq p q =
     && (pointwise service.ghosts.eq p.services q.services
     && pointwise extension.ghosts.eq p.extensions q.extensions)))
 
--- whether two maps give the same names the same definitions, or the same files
+-- whether two maps give the same names the same definitions
 abbrev pub names_eq : ByText Definition → ByText Definition → Bool
 names_eq = map_eq bytes_eq definition.ghosts.eq
 
+-- whether two maps give the same names of files the same indexes
 abbrev pub file_names_eq : ByText ℕ → ByText ℕ → Bool
 file_names_eq = map_eq bytes_eq nat_eq
 
--- whether two pools have the same contents
+-- whether two pools have the same contents: the same items of each kind, and the same entries of
+-- both maps
 abbrev pub contents_eq : Contents → Contents → Bool
 contents_eq p q =
     items_eq p q && (names_eq p.names q.names && file_names_eq p.file_names q.file_names)
 
--- that is so exactly where the contents are one
+-- the test of maps of names is exact
 pub names-exact : Exact names_eq
 names-exact = maps-exact text-exact definition-exact
 
+-- the test of maps of the names of files is exact
 pub file_names-exact : Exact file_names_eq
 file_names-exact = maps-exact text-exact unsigned_Decides
 
@@ -73,6 +76,7 @@ of_parts x =
       file_names = x.1.1;
     }
 
+-- the test of contents is exact
 pub contents-exact : Exact contents_eq
 contents-exact = by-parts parts_of (λ p q same. ap of_parts same)
     ((items-exact file_inner-exact and items-exact message_inner-exact and items-exact
@@ -87,5 +91,6 @@ exact-per {test = test} exact = record {
   trans = λ x y z e f. (exact x z).1 ((exact x y).0 e ∙ (exact y z).0 f);
 }
 
+-- the test of contents is symmetric and transitive
 pub contents-per : IsPartialEquivalence contents_eq
 contents-per = exact-per contents-exact

@@ -4,7 +4,7 @@ use Rattle.pool_types.specs.declared.contents.file.FileDescriptorInner.{FileDesc
 use Rattle.proto_types.specs.declared.file.FileDescriptorProto.{FileDescriptorProto}
 use Rattle.pool_types.specs.Syntaxes.{syntax_of}
 
--- a file as it is, of which nothing but its syntax is known
+-- a new file as it is, of which nothing but its syntax is known
 abbrev pub unlinked : FileDescriptorProto → FileDescriptorInner
 unlinked f = record {
   syntax = syntax_of f;

@@ -13,7 +13,9 @@ use record_walk::Counts;
 use std::alloc::{AllocError, Global};
 use std::collections::BTreeSet;
 
-/// What a pool holds while a batch is linked into it, and how much it had before.
+/// What a pool holds while a batch is linked into it, and how much it had before. What a roll-back
+/// would give stays at each call, after a refusal too, but where extensions have been put into
+/// messages.
 #[derive(Drop)]
 pub struct GrowingPool {
     pub inner: DescriptorPoolInner,

@@ -9,12 +9,13 @@ use Rattle.pool_faults.specs.contracts.fault.DescriptorErrorKindPartialEq.TheImp
 use mathlib.Core.Logic.{⊎_elim}
 use denote.Enum.Declared.{values_one, left_or, right_or}
 
+-- `==` of labels is exact
 pub label-exact : Exact label.ghosts.eq
 label-exact = by-parts (λ l. (l.file, (l.path, l.span))) (λ a b e. search rules)
     (text-exact and numbers-exact and given numbers-exact)
 
 infixr 30 ◌or◌
--- the tests of one variant and of the further ones
+-- a test of two variants is exact where the test of one is, and the test of the further ones
 pub ◌or◌ : {A B : Type 0} {E : A → A → Bool} {F : B → B → Bool} → Exact E → Exact F
     → Exact (λ (c d : A ⊎ B). ⊎_elim (λ x. ⊎_elim (λ y. E x y) (λ _. false) d)
     (λ x. ⊎_elim (λ _. false) (λ y. F x y) d) c)
@@ -36,6 +37,7 @@ last {E = E} exact p q = Decides-like (E p.0 q.0) (λ e i. (e i, tt)) (ap (λ r.
 alone : Exact (λ (p q : Unit {0}). true)
 alone p q = (λ e. refl, λ e. refl)
 
+-- `==` of faults is exact
 pub fault-exact : Exact fault.ghosts.eq
 fault-exact a b = Decides-like (fault.ghosts.eq a b) (values_one enum a b) (ap enum.as_values)
     ((

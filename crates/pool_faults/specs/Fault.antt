@@ -13,7 +13,7 @@ use Rattle.pool_faults.specs.declared.fault.DescriptorErrorKind.TheVariants as f
 abbrev pub between : List ℕ → List ℕ → List ℕ → List ℕ
 between front text back = front ++ (text ++ back)
 
--- numbers with a comma and a space before each
+-- numbers, each behind a comma and a space
 abbrev pub further_numbers : List ℤ → List ℕ
 further_numbers [] = []
 further_numbers (n ∷ ns) = 44 ∷ 32 ∷ (signed_decimal n ++ further_numbers ns)
@@ -23,10 +23,13 @@ abbrev pub numbers_text : List ℤ → List ℕ
 numbers_text [] = []
 numbers_text (n ∷ ns) = signed_decimal n ++ further_numbers ns
 
+-- a path as it is printed: its numbers in square brackets, with a comma and a space between each
+-- two
 abbrev pub path_text : List ℤ → List ℕ
 path_text path = between (codes "[") (numbers_text path) (codes "]")
 
--- the label that a fault shows
+-- the label that a fault shows: of a duplicate the second; of a duplicate file and of an index of
+-- an import or a oneof none
 abbrev pub shown_label : DescriptorErrorKind → Option Label
 shown_label (fault.MissingRequiredField label) = Some label
 shown_label (fault.UnknownSyntax _ found) = Some found
@@ -52,27 +55,28 @@ shown_label (fault.InvalidProto3EnumDefault found) = Some found
 shown_label (fault.DuplicateEnumNumber _ _ second) = Some second
 shown_label (fault.EnumNumberInReservedRange _ _ _ _ found) = Some found
 
--- a number that lies in a range, of which the first number and the last are shown
+-- the text of a fault of a number that lies in a range, of which the first number and the last are
+-- shown
 abbrev pub range_text : List ℕ → ℤ → List ℕ → ℤ → ℤ → List ℕ
 range_text what number range first last =
     between what (codes " number '") (between (signed_decimal number) (codes "' conflicts with ")
     (between range (codes " range '")
     (between (signed_decimal first) (codes " to ") (signed_decimal last ++ codes "'"))))
 
--- a number that a message does not leave to extensions
+-- the text of a fault of a number that a message does not leave to extensions
 abbrev pub out_of_range_text : List ℕ → ℤ → List ℕ
 out_of_range_text message number =
     between (codes "message '") message
     (between (codes "' does not define '") (signed_decimal number)
     (codes "' as an extension number"))
 
--- a number that an earlier extension of a message has
+-- the text of a fault of a number that an earlier extension of the message has
 abbrev pub taken_text : List ℕ → ℤ → List ℕ
 taken_text message number =
     between (codes "extension number '") (signed_decimal number)
     (between (codes "' of message '") message (codes "' is already used"))
 
--- of numbers that a value of an enum may not have
+-- the text of a fault of a number that a value of an enum may not have
 abbrev pub value_fault_text : DescriptorErrorKind → List ℕ
 value_fault_text (fault.DuplicateEnumNumber number _ _) =
     between (codes "enum number '") (signed_decimal number) (codes "' has already been used")
@@ -80,7 +84,7 @@ value_fault_text (fault.EnumNumberInReservedRange number start last _ _) =
     range_text (codes "enum") number (codes "reserved") start last
 value_fault_text _ = []
 
--- of numbers that a field or an extension may not have, and then of values
+-- the text of a fault of a number that a field or an extension may not have, or else of a value
 abbrev pub number_fault_text : DescriptorErrorKind → List ℕ
 number_fault_text (fault.DuplicateFieldNumber number _ _) =
     between (codes "field number '") (signed_decimal number) (codes "' is already used")
@@ -95,7 +99,7 @@ number_fault_text (fault.ExtensionNumberOutOfRange number message _) =
 number_fault_text (fault.DuplicateExtensionNumber number message _ _) = taken_text message number
 number_fault_text other = value_fault_text other
 
--- of references and defaults that mean nothing, and then of numbers
+-- the text of a fault of a reference or a default that means nothing, or else of a number
 abbrev pub reference_fault_text : DescriptorErrorKind → List ℕ
 reference_fault_text (fault.NameNotFound name _) =
     between (codes "name '") name (codes "' is not defined")
@@ -109,7 +113,8 @@ reference_fault_text (fault.InvalidFieldDefault value kind _) =
     (between (codes "' for type '") kind (codes "'"))
 reference_fault_text other = number_fault_text other
 
--- of names that are taken, and then of references
+-- the text of a fault of a duplicate name, or else of a reference; two labels of one file name give
+-- `is defined twice`, and else the text names the file of the first holder
 abbrev pub name_fault_text : DescriptorErrorKind → List ℕ
 name_fault_text (fault.DuplicateName name first second) =
     if bytes_eq first.file second.file
@@ -123,7 +128,7 @@ name_fault_text (fault.DuplicateFieldCamelCaseName first second _ _) =
     (between (codes "' conflicts with field '") second (codes "'"))
 name_fault_text other = reference_fault_text other
 
--- of files and their parts, and then of names
+-- the text of a fault: of files and their parts, or else of a name
 abbrev pub fault_text : DescriptorErrorKind → List ℕ
 fault_text (fault.MissingRequiredField label) =
     codes "missing required field at " ++ path_text label.path
@@ -138,12 +143,12 @@ fault_text (fault.EmptyEnum _) = codes "enums must have at least one value"
 fault_text (fault.InvalidProto3EnumDefault _) = codes "the first value for proto3 enums must be 0"
 fault_text other = name_fault_text other
 
--- a line and a column
+-- a line and a column as they are printed, each before a colon
 abbrev pub line_text : ℤ → ℤ → List ℕ
 line_text line column =
     between (signed_decimal line) (codes ":") (signed_decimal column ++ codes ":")
 
--- where a span begins, from 1
+-- the line and the column at which a span begins, which count from 1 here
 abbrev pub span_text : List ℤ → List ℕ
 span_text span = line_text (slice_index_or span 0 (pos 0) +ℤ pos 1)
     (slice_index_or span 1 (pos 0) +ℤ pos 1)
@@ -152,20 +157,24 @@ span_text span = line_text (slice_index_or span 0 (pos 0) +ℤ pos 1)
 abbrev pub place_text : Label → List ℕ
 place_text label = between label.file (codes ":") (option_map_or span_text label.span [])
 
--- a fault behind the label that it shows
+-- a fault behind the label that it shows: the file, the line and the column, if they are known,
+-- each with a colon, a space, and the text; or the text alone where no label is shown
 abbrev pub labelled_text : DescriptorErrorKind → List ℕ
 labelled_text kind = option_map_or (λ label. place_text label ++ codes " ") (shown_label kind) []
     ++ fault_text kind
 
--- of the first of some faults: its label, its text, and its text behind that label
+-- the first of some faults, if there is one
 abbrev first_fault : List DescriptorErrorKind → Option DescriptorErrorKind
 first_fault faults = slice_get faults 0
 
+-- the label that the first of some faults shows
 abbrev pub first_label : List DescriptorErrorKind → Option Label
 first_label faults = option_and_then shown_label (first_fault faults)
 
+-- the text of the first of some faults
 abbrev pub first_text : List DescriptorErrorKind → List ℕ
 first_text faults = option_map_or fault_text (first_fault faults) []
 
+-- the text of the first of some faults behind the label that it shows
 abbrev pub first_labelled_text : List DescriptorErrorKind → List ℕ
 first_labelled_text faults = option_map_or labelled_text (first_fault faults) []

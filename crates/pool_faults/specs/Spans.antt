@@ -11,13 +11,14 @@ use Rattle.proto_types.specs.declared.records.source.Location.{Location}
 use Rattle.pool_faults.specs.Labels.{locations, span_of}
 use Rattle.proto_types.specs.File.{file_at}
 
--- each path has the span of its first location, and a path of no location has nothing
+-- a table has under each path the span of the first of some locations with that path, and nothing
+-- under any other
 abbrev pub HasFirstSpans : {S : Type 0} → HashMap (Bor (List ℤ)) (Option (List ℤ)) S → List Location
     → Type 0
 HasFirstSpans table ls = (path : List ℤ) → get_by (λ k. pointwise int_eq path k.now) table
     ≡ option_map (λ l. span_of l.span) (find (λ l. pointwise int_eq l.path path) ls)
 
--- each index has all locations of the file with that index
+-- a table has under the index of a file all locations of that file, where it has something
 abbrev pub AreOfFiles : {S : Type 0} → HashMap ℕ (List Location) S → List FileDescriptorInner
     → Type 0
 AreOfFiles spans files = (n : ℕ)

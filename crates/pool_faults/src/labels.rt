@@ -58,10 +58,10 @@ impl<'f> Labels<'f> {
     }
 
     /// The label of a path in the file with an index, from 0 in the order of linking; where there
-    /// is no such file, of no file.
+    /// is no such file, of no file. It is the one of `label_at`, and the files stay.
     ///
     /// # Errors
-    /// `AllocError` where memory was refused.
+    /// `AllocError` where memory was refused. The files stay then too.
     pub fn label(&mut self, file: u32, path: &[i32]) -> Result<Label, AllocError>
         ensures label { IfOk result (λ l. l ≡ label_in (map (λ f. f.raw) self.old) file path.now) }
         ensures files { self.new ≡ self.old }

@@ -22,7 +22,7 @@ use Rattle.reference_pass.specs.Types.{field_kind, type_faults, resolve_type}
 use Rattle.reference_pass.specs.Linked.{linked_field, resolved, typed}
 use Rattle.reference_pass.specs.References.{message_found, resolve_message}
 use Rattle.reference_pass.specs.Setting.{Setting}
-use Rattle.pool_laws.specs.SettingLaws.{IsDefaulted, IsMessageName, IsTyped, Stands, unchanged}
+use Rattle.pool_laws.proofs.Settings.{IsDefaulted, IsMessageName, IsTyped, Stands, unchanged}
 use Rattle.pool_laws.proofs.Carries.{Carries, CarriesMethods, NamedThere}
 use Rattle.pool_laws.proofs.Numbered.{numbered-by}
 use Rattle.pool_laws.proofs.Typed.{no-fault}

@@ -13,7 +13,7 @@ use Rattle.reference_pass.specs.Extension.{number_faults}
 use Rattle.reference_pass.specs.Linked.{linking, resolved}
 use Rattle.reference_pass.specs.References.{resolve_message}
 use Rattle.reference_pass.specs.Setting.{Setting}
-use Rattle.pool_laws.specs.SettingLaws.{Grows, Rereads}
+use Rattle.pool_laws.proofs.Settings.{Grows, Rereads}
 use Rattle.pool_laws.proofs.Carries.{Carries, CarriesMethods}
 use Rattle.pool_laws.proofs.Defaulted.{defaulted-again}
 use Rattle.pool_laws.proofs.SettingStays.{field-kept}

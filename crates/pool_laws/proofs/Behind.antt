@@ -13,7 +13,7 @@ use Rattle.name_resolution.specs.Visibility.{seen_from, sees}
 use Rattle.record_walk.specs.Counts.{counts_in}
 use Rattle.plain_data.specs.Each.{map_enumerated}
 use Rattle.reference_pass.specs.Setting.{seen_by}
-use Rattle.pool_laws.specs.SettingLaws.{NamesFiles}
+use Rattle.pool_laws.proofs.Settings.{NamesFiles}
 use Rattle.descriptor_pool.specs.Build.{setting_with}
 use Rattle.descriptor_pool.proofs.Files.{names-behind-before}
 use Rattle.descriptor_pool.proofs.Sound.{Known}

@@ -15,7 +15,7 @@ use Rattle.reference_pass.specs.Types.{field_kind, type_faults}
 use Rattle.reference_pass.specs.Linked.{linked_field, resolved}
 use Rattle.reference_pass.specs.References.{message_found, resolve_message}
 use Rattle.reference_pass.specs.Setting.{Setting, seen_by}
-use Rattle.pool_laws.specs.SettingLaws.{IsDefaulted, IsMessageName, IsTyped}
+use Rattle.pool_laws.proofs.Settings.{IsDefaulted, IsMessageName, IsTyped}
 use Rattle.pool_laws.proofs.SettingStays.{retyped}
 
 -- the name of a message that broke nothing is carried as this one: it means the message that it meant

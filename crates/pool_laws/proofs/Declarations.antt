@@ -7,7 +7,7 @@ use Rattle.record_walk.specs.Protos.{Proto, of_file, of_message, of_service, of_
 use Rattle.record_walk.specs.Shown.{Shown}
 use Rattle.reference_pass.specs.SecondPass.{owner_faults}
 use Rattle.reference_pass.specs.Setting.{Setting}
-use Rattle.pool_laws.specs.SettingLaws.{ImportsMean}
+use Rattle.pool_laws.proofs.Settings.{ImportsMean}
 use Rattle.pool_laws.proofs.Carries.{Carries}
 use Rattle.pool_laws.proofs.Enums.{values-still}
 use Rattle.pool_laws.proofs.Extensions.{extension-carried}

@@ -20,7 +20,7 @@ use Rattle.reference_pass.specs.Defaults.{default_by, enum_found, field_default,
 use Rattle.reference_pass.specs.Types.{field_kind, type_faults, resolve_type}
 use Rattle.reference_pass.specs.Linked.{linked_field, typed}
 use Rattle.reference_pass.specs.Setting.{Setting}
-use Rattle.pool_laws.specs.SettingLaws.{EnumsStay, Grows, IsDefaulted}
+use Rattle.pool_laws.proofs.Settings.{EnumsStay, Grows, IsDefaulted}
 use Rattle.pool_laws.proofs.Looked.{IsLooked, looked-named, resolution-looked}
 use Rattle.pool_laws.proofs.Typed.{found-again, no-fault, seen, typed-again}
 use Rattle.pool_types.specs.declared.kinds.KindIndex.TheVariants as index

@@ -21,7 +21,7 @@ use Rattle.reference_pass.specs.Items.{extension_item}
 use Rattle.reference_pass.specs.Linked.{linked_extension, typed}
 use Rattle.reference_pass.specs.References.{resolve_message, index_or_max}
 use Rattle.reference_pass.specs.Setting.{Setting, resolve}
-use Rattle.pool_laws.specs.SettingLaws.{IsExtension, extension_at_place}
+use Rattle.pool_laws.proofs.Settings.{IsExtension, extension_at_place}
 use Rattle.pool_laws.proofs.Carries.{Carries}
 use Rattle.reference_pass.proofs.Unbroken.{all-parts, extension-apart, extension-parts, untaken}
 

@@ -13,7 +13,7 @@ use Rattle.name_resolution.specs.Filter.{is_match}
 use Rattle.name_resolution.specs.Parents.{outer}
 use Rattle.name_resolution.specs.Resolution.{Resolution, found, invalid_type, not_imported, not_found, is_found, is_not_found, or_shadowed, has_dot, look, simple, holds_first, dotted, relative, resolution}
 use Rattle.name_resolution.proofs.Outward.{answers}
-use Rattle.pool_laws.specs.SettingLaws.{SeenAmong}
+use Rattle.pool_laws.specs.Laws.{SeenAmong}
 use Rattle.pool_laws.proofs.Looked.{answer, look-again, looked-named}
 use Rattle.pool_laws.proofs.AllOf.{all-mapped}
 

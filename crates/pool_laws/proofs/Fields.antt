@@ -18,7 +18,7 @@ use Rattle.reference_pass.specs.SecondPass.{Faults, Owner, field_faults, field_r
 use Rattle.reference_pass.specs.Defaults.{field_default_faults}
 use Rattle.reference_pass.specs.Types.{type_faults}
 use Rattle.reference_pass.specs.Setting.{Setting}
-use Rattle.pool_laws.specs.SettingLaws.{SameRanges}
+use Rattle.pool_laws.proofs.Settings.{SameRanges}
 use Rattle.pool_laws.proofs.SettingRelinks.{again-still}
 use Rattle.pool_laws.proofs.Carries.{Carries}
 use Rattle.reference_pass.proofs.Unbroken.{both-empty}

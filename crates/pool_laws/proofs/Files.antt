@@ -12,7 +12,7 @@ use Rattle.reference_pass.specs.SecondPass.{owner_faults}
 use Rattle.reference_pass.specs.Imports.{missing_file}
 use Rattle.reference_pass.specs.Items.{file_item}
 use Rattle.reference_pass.specs.Setting.{Setting}
-use Rattle.pool_laws.specs.SettingLaws.{IsFile, NamesStay}
+use Rattle.pool_laws.proofs.Settings.{IsFile, NamesStay}
 use Rattle.pool_laws.proofs.Carries.{Carries}
 use Rattle.pool_laws.proofs.Imports.{import-parts, imports-still}
 use Rattle.pool_laws.proofs.Still.{all-unbroken, file-linked}

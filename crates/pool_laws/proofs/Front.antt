@@ -35,7 +35,7 @@ use Rattle.reference_pass.specs.Declared.{declaration_path, message_record, reco
 use Rattle.reference_pass.specs.Setting.{Setting, resolve, seen_by}
 use Rattle.reference_pass.proofs.Owners.{owners-tell}
 use Rattle.reference_pass.proofs.Unbroken.{AllNew, owners-behind}
-use Rattle.pool_laws.specs.SettingLaws.{ImportsMean, NamesStay, RangesStay, ReferenceCarriesOver, Stands, unchanged}
+use Rattle.pool_laws.proofs.Settings.{ImportsMean, NamesStay, RangesStay, ReferenceCarriesOver, Stands, unchanged}
 use Rattle.pool_laws.proofs.AsGiven.{given-carried}
 use Rattle.pool_laws.proofs.Fewer.{found-fewer}
 use Rattle.pool_laws.proofs.Items.{all-fine, kind-again, same-extension}

@@ -7,7 +7,7 @@ use Rattle.proto_types.specs.declared.file.FileDescriptorProto.{FileDescriptorPr
 use Rattle.pool_faults.specs.declared.fault.DescriptorErrorKind.{DescriptorErrorKind}
 use Rattle.reference_pass.specs.Imports.{import_faults, index_fault, missing_file, missing_files}
 use Rattle.reference_pass.specs.Setting.{Setting}
-use Rattle.pool_laws.specs.SettingLaws.{NamesStay}
+use Rattle.pool_laws.proofs.Settings.{NamesStay}
 use Rattle.reference_pass.proofs.Unbroken.{both-empty}
 use Rattle.pool_laws.proofs.Told.{told, told-parts}
 

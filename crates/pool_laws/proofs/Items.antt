@@ -15,7 +15,7 @@ use Rattle.plain_data.specs.Each.{map_enumerated}
 use Rattle.reference_pass.specs.SecondPass.{owner_faults}
 use Rattle.reference_pass.specs.Items.{extension_item, file_item, message_item, service_item, made_of}
 use Rattle.reference_pass.specs.Setting.{Setting}
-use Rattle.pool_laws.specs.SettingLaws.{NamesStay}
+use Rattle.pool_laws.proofs.Settings.{NamesStay}
 use Rattle.pool_laws.proofs.Carries.{Carries}
 use Rattle.pool_laws.proofs.Extensions.{extension-carried}
 use Rattle.pool_laws.proofs.Files.{file-carried}

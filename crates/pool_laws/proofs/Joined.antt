@@ -15,7 +15,7 @@ use Rattle.plain_data.specs.Each.{map_enumerated}
 use Rattle.reference_pass.specs.Items.{extension_item, file_item, message_item, service_item, made_of, file_items, message_items, enum_items, service_items, extension_items}
 use Rattle.reference_pass.specs.Setting.{Setting}
 use Rattle.reference_pass.proofs.Steps.{made-append}
-use Rattle.pool_laws.specs.SettingLaws.{unchanged}
+use Rattle.pool_laws.proofs.Settings.{unchanged}
 use Rattle.pool_laws.proofs.AsGiven.{given-carried}
 use Rattle.pool_laws.proofs.Carries.{Carries}
 use Rattle.pool_laws.proofs.Unchanged.{declarations-unchanged, files-unchanged}

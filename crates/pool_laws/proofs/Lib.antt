@@ -1,3 +1,4 @@
+pub mod Settings
 pub mod AllOf
 pub mod Paired
 pub mod Told

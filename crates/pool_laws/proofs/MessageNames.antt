@@ -10,7 +10,7 @@ use Rattle.name_resolution.specs.Resolution.{Resolution, found}
 use Rattle.reference_pass.specs.Linked.{resolved}
 use Rattle.reference_pass.specs.References.{message_found, resolve_message}
 use Rattle.reference_pass.specs.Setting.{Setting}
-use Rattle.pool_laws.specs.SettingLaws.{Grows, IsMessageName}
+use Rattle.pool_laws.proofs.Settings.{Grows, IsMessageName}
 use Rattle.pool_laws.proofs.Typed.{found-again}
 
 -- the name of a message that means what it meant

@@ -10,7 +10,7 @@ use Rattle.field_rules.specs.Maps.{by_json_name, by_name, by_number}
 use Rattle.reference_pass.specs.SecondPass.{message_faults}
 use Rattle.reference_pass.specs.Items.{field_items, message_item, oneof_items}
 use Rattle.reference_pass.specs.Setting.{Setting}
-use Rattle.pool_laws.specs.SettingLaws.{IsMessage, SameRanges, message_at_place}
+use Rattle.pool_laws.proofs.Settings.{IsMessage, SameRanges, message_at_place}
 use Rattle.pool_laws.proofs.Carries.{Carries}
 use Rattle.pool_laws.proofs.Fields.{fields-again}
 use Rattle.pool_laws.proofs.SettingItems.{items-again, json-names-again, names-again, numbers-again, oneofs-again}

@@ -16,7 +16,7 @@ use Rattle.field_rules.specs.Ranges.{extends, reserves}
 use Rattle.reference_pass.specs.Extension.{defined_at}
 use Rattle.reference_pass.proofs.Unbroken.{both-empty}
 use Rattle.reference_pass.specs.Setting.{Setting}
-use Rattle.pool_laws.specs.SettingLaws.{RangesStay, SameRanges}
+use Rattle.pool_laws.proofs.Settings.{RangesStay, SameRanges}
 use Rattle.pool_laws.proofs.Told.{listed-still, told-still}
 use Rattle.pool_laws.proofs.Typed.{no-fault}
 

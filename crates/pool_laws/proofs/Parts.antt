@@ -24,7 +24,7 @@ use Rattle.reference_pass.specs.Items.{extension_item, extension_items}
 use Rattle.reference_pass.specs.Setting.{Setting, seen_by}
 use Rattle.reference_pass.proofs.Owners.{owners-tell}
 use Rattle.reference_pass.proofs.Steps.{made-append}
-use Rattle.pool_laws.specs.SettingLaws.{ImportsStay, NamesFiles}
+use Rattle.pool_laws.proofs.Settings.{ImportsStay, NamesFiles}
 use Rattle.reference_pass.proofs.Unbroken.{AllNew, all-new-parts, both-empty, owners-apart}
 use Rattle.pool_laws.proofs.SeenStays.{seen-stays}
 use Rattle.pool_contents.proofs.Each.{each-append, each-same, length-each}

@@ -13,7 +13,7 @@ use Rattle.reference_pass.specs.SecondPass.{owner_faults}
 use Rattle.reference_pass.specs.Linked.{linking}
 use Rattle.reference_pass.specs.Setting.{Setting}
 use Rattle.reference_pass.proofs.Owners.{after-append}
-use Rattle.pool_laws.specs.SettingLaws.{ImportsMean, Rereads}
+use Rattle.pool_laws.proofs.Settings.{ImportsMean, Rereads}
 use Rattle.pool_laws.proofs.AsLinked.{linked-carried}
 use Rattle.pool_laws.proofs.Carries.{Carries}
 use Rattle.pool_laws.proofs.Declarations.{all-mean, declaration-carried}

@@ -16,7 +16,7 @@ use Rattle.proto_types.specs.declared.message.DescriptorProto.{DescriptorProto, 
 use Rattle.record_walk.specs.Changed.{Changes, changed_file, changed_message, changed_messages, changed_nested, changed_service}
 use Rattle.record_walk.specs.Leads.{last_entry, leaf, leads, leads_in_enum, leads_in_message, leads_in_service}
 use Rattle.record_walk.specs.Protos.{Proto, of_field, of_oneof, of_method, of_extension, as_enum, as_message}
-use Rattle.pool_laws.specs.SettingLaws.{RangesStay}
+use Rattle.pool_laws.proofs.Settings.{RangesStay}
 use Rattle.pool_laws.proofs.Messages.{parts-of}
 
 -- the same enum, if it is one, and a message with the same ranges

@@ -33,7 +33,7 @@ use Rattle.reference_pass.specs.Setting.{Setting}
 use Rattle.reference_pass.proofs.Owners.{owners-tell}
 use Rattle.reference_pass.proofs.Steps.{made-append}
 use Rattle.reference_pass.proofs.Unbroken.{AllNew, owners-apart, owners-behind}
-use Rattle.pool_laws.specs.SettingLaws.{Rereads}
+use Rattle.pool_laws.proofs.Settings.{Rereads}
 use Rattle.pool_laws.proofs.AsLinked.{linked-carried}
 use Rattle.pool_laws.proofs.Carries.{Carries}
 use Rattle.pool_contents.specs.Extended.{extended_by, with_extended}

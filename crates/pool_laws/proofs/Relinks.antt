@@ -30,7 +30,7 @@ use Rattle.reference_pass.specs.Declared.{declaration_path, message_record, reco
 use Rattle.reference_pass.specs.Imports.{import_faults, missing_file}
 use Rattle.reference_pass.specs.Linked.{linking}
 use Rattle.reference_pass.specs.Setting.{Setting, seen_by}
-use Rattle.pool_laws.specs.SettingLaws.{ImportsStay, NamesFiles, RangesStay, Rereads}
+use Rattle.pool_laws.proofs.Settings.{ImportsStay, NamesFiles, RangesStay, Rereads}
 use Rattle.reference_pass.proofs.Unbroken.{both-empty}
 use Rattle.pool_laws.proofs.SeenStays.{seen-stays}
 use Rattle.name_pass.specs.Names.{entries, file_entries}

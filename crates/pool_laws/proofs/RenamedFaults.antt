@@ -48,7 +48,7 @@ use Rattle.reference_pass.specs.References.{method_at, resolve_message}
 use Rattle.reference_pass.specs.SecondPass.{Faults, extension_faults, field_faults, method_faults, owner_faults}
 use Rattle.reference_pass.specs.Setting.{Setting, resolve, seen_by}
 use Rattle.reference_pass.proofs.Unbroken.{all-parts, both-empty, extension-parts, untaken}
-use Rattle.pool_laws.specs.SettingLaws.{RangesStay}
+use Rattle.pool_laws.proofs.Settings.{RangesStay}
 use Rattle.pool_laws.proofs.Enums.{values-still}
 use Rattle.pool_laws.proofs.Fields.{breaks-nothing, nothing-broken}
 use Rattle.pool_laws.proofs.Imports.{imports-by}

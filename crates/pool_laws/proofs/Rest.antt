@@ -26,7 +26,7 @@ use Rattle.reference_pass.specs.Linked.{linking}
 use Rattle.reference_pass.specs.Setting.{Setting, seen_by}
 use Rattle.reference_pass.proofs.Owners.{owners-tell}
 use Rattle.reference_pass.proofs.Unbroken.{AllNew, owners-behind}
-use Rattle.pool_laws.specs.SettingLaws.{Stands, unchanged}
+use Rattle.pool_laws.proofs.Settings.{Stands, unchanged}
 use Rattle.pool_laws.proofs.AsGiven.{given-carried}
 use Rattle.pool_laws.proofs.Declarations.{all-mean}
 use Rattle.pool_laws.proofs.Unchanged.{declarations-unchanged, unchanged-keeps}

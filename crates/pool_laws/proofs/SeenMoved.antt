@@ -13,7 +13,7 @@ use Rattle.proto_types.specs.declared.file.FileDescriptorProto.{FileDescriptorPr
 use Rattle.plain_data.specs.Lists.{at}
 use Rattle.name_resolution.specs.Visibility.{imports_of, public_imports_of, leads_publicly, sees, seen_from}
 use Rattle.name_resolution.proofs.Chains.{import-within}
-use Rattle.pool_laws.specs.SettingLaws.{NamesFiles}
+use Rattle.pool_laws.proofs.Settings.{NamesFiles}
 
 -- among the indexes from one on that pass a test, none before or behind them is found
 pub none-apart : (test : ℕ → Bool) (i k n : ℕ) → (n < i) ⊎ (i + k ≤ n) → list_any (is_at (nat_cmp n)) (filter test (range_with_len i k)) ≡ false

@@ -7,7 +7,7 @@ use Rattle.proto_types.specs.File.{no_file, file_at}
 use Rattle.proto_types.specs.declared.file.FileDescriptorProto.{FileDescriptorProto}
 use Rattle.plain_data.specs.Lists.{at}
 use Rattle.name_resolution.specs.Visibility.{imports_of, public_imports_of, Sees, sees, seen_from}
-use Rattle.pool_laws.specs.SettingLaws.{ImportsStay, NamesFiles}
+use Rattle.pool_laws.proofs.Settings.{ImportsStay, NamesFiles}
 use Rattle.name_resolution.proofs.Chains.{Sees-itself, Sees-import, Sees-public, Sees-least, Sees-from_test, Sees-tested, import-within}
 
 -- namings under which each of some names means the same

@@ -14,7 +14,7 @@ use Rattle.reference_pass.specs.Items.{method_item, service_item}
 use Rattle.reference_pass.specs.Linked.{linked_method, linking}
 use Rattle.reference_pass.specs.References.{resolve_message, method_at, index_or_max}
 use Rattle.reference_pass.specs.Setting.{Setting}
-use Rattle.pool_laws.specs.SettingLaws.{IsService, service_at_place}
+use Rattle.pool_laws.proofs.Settings.{IsService, service_at_place}
 use Rattle.pool_laws.proofs.Carries.{CarriesMethods}
 use Rattle.pool_laws.proofs.Told.{made-again, mapped-again, told-changed}
 use Rattle.reference_pass.proofs.Unbroken.{both-empty}

@@ -25,7 +25,7 @@ use Rattle.name_resolution.specs.Resolution.{Resolution, found, kind_found, look
 use Rattle.reference_pass.specs.Types.{field_kind, type_faults, resolve_type}
 use Rattle.reference_pass.specs.Linked.{linked_field, type_number, typed}
 use Rattle.reference_pass.specs.Setting.{Setting, resolve, seen_by}
-use Rattle.pool_laws.specs.SettingLaws.{Grows, IsTyped}
+use Rattle.pool_laws.proofs.Settings.{Grows, IsTyped}
 use Rattle.pool_laws.proofs.Looked.{IsLooked, look-again, resolution-looked}
 
 abbrev pub seen : Setting → ℕ → ℕ → Bool

@@ -10,7 +10,7 @@ use Rattle.proto_types.specs.declared.message.DescriptorProto.{DescriptorProto, 
 use Rattle.record_walk.specs.Changed.{KeepNames, changed, changed_file, changed_files, changed_message, changed_nested, changed_service}
 use Rattle.record_walk.specs.Protos.{Proto, of_file, of_message, of_service}
 use Rattle.record_walk.specs.Shown.{Shown}
-use Rattle.pool_laws.specs.SettingLaws.{unchanged}
+use Rattle.pool_laws.proofs.Settings.{unchanged}
 use Rattle.pool_laws.proofs.AllOf.{map-alike}
 
 map-same : {X : Type 0} (change : X → X) → ((x : X) → change x ≡ x) → (xs : List X) → map change xs ≡ xs

@@ -23,7 +23,7 @@ use Rattle.record_walk.specs.Shown.{Shown, file_shown}
 use Rattle.record_walk.specs.Walking.{within_file}
 use Rattle.record_walk.proofs.Appended.{declarations-append}
 use Rattle.record_walk.proofs.Walks.{IsInside, within-all}
-use Rattle.pool_laws.specs.SettingLaws.{SeenAmong}
+use Rattle.pool_laws.specs.Laws.{SeenAmong}
 use Rattle.name_pass.specs.Names.{entries, entries_of, package_entry, packages}
 use Rattle.descriptor_pool.specs.Build.{declared_with}
 use Rattle.descriptor_pool.specs.Invariant.{IsPool}

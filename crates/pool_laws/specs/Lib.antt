@@ -1,3 +1,2 @@
-pub mod SettingLaws
 pub mod Laws
 pub mod Order

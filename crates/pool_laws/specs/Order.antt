@@ -20,7 +20,7 @@ use Rattle.descriptor_pool.specs.Pool.{Accepts, Batch, Fits, link}
 abbrev pub record_named : Contents → List ℕ → Option FileDescriptorProto
 record_named p name = option_and_then (slice_get (files_of p)) (finite.get p.file_names name)
 
--- a definition's kind without its number, and none of a package
+-- the kind of a definition without its number, and none of a package
 abbrev pub kind_alone : DefinitionKind → Option DeclarationKind
 kind_alone definition.Package = None
 kind_alone (definition.Message _) = Some declaration.Message
@@ -38,15 +38,15 @@ without_numbers p def =
     option_map (λ kind. (kind, text_of (file_at (files_of p) def.file).name, def.path))
     (kind_alone def.kind)
 
--- two pools hold the same linked records, and know the same names: each means the same, but for
--- numbers
+-- two pools have the same linked record under each name of a file, and know the same names, each of
+-- which means the same but for numbers
 pub record SameButNumbers (p q : Contents) : Type 0 where
   pub records : (name : List ℕ) → record_named p name ≡ record_named q name
   pub names : (name : List ℕ) → option_map (without_numbers p) (finite.get p.names name)
       ≡ option_map (without_numbers q) (finite.get q.names name)
 
--- law: a batch in another order fits and is accepted as it was, and makes a pool that is the same
--- but for numbers
+-- law: a batch in another order fits exactly if it did, is accepted exactly if it was, and then
+-- makes a pool that is the same but for numbers
 abbrev pub Reorders : Contents → Batch → Batch → Type 0
 Reorders p b c =
     IsPermutation b c → (Fits p b ↔ Fits p c) × (Accepts p b ↔ Accepts p c)

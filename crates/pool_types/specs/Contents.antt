@@ -11,10 +11,12 @@ use Rattle.pool_types.specs.declared.contents.message.MessageDescriptorInner.{Me
 use Rattle.pool_types.specs.declared.contents.service.ServiceDescriptorInner.{ServiceDescriptorInner}
 use Rattle.proto_types.specs.declared.file.FileDescriptorProto.{FileDescriptorProto}
 
--- finite maps from texts
+-- a finite map from texts
 abbrev pub ByText : Type 0 → Type 0
 ByText X = map.FinMap (slice_cmp nat_cmp) X
 
+-- what a pool holds: the files, messages, enums, services and extensions, what each full name
+-- means, and the index of the file with each name; two pools are equal where these are
 pub record Contents : Type 0 where
   pub files : List FileDescriptorInner
   pub messages : List MessageDescriptorInner
@@ -24,6 +26,7 @@ pub record Contents : Type 0 where
   pub names : ByText Definition
   pub file_names : ByText ℕ
 
+-- the contents of a pool without files
 abbrev pub no_contents : Contents
 no_contents = record {
   files = [];
@@ -35,6 +38,6 @@ no_contents = record {
   file_names = map.empty;
 }
 
--- the linked records of a pool's files
+-- the linked records of the files of a pool
 abbrev pub files_of : Contents → List FileDescriptorProto
 files_of p = each (λ f. f.raw) p.files

@@ -43,6 +43,7 @@ abbrev items_code : Coded Items
 items_code = coded× (coded_list enumeration.the_row.coded)
     (coded× (coded_list service.the_row.coded) (coded_list extension.the_row.coded))
 
+-- a code of contents, by which two of them are told apart
 abbrev pub contents_code : Coded Contents
 contents_code = code_by Parts
     (coded× (coded_list file.the_row.coded) (coded× (coded_list message.the_row.coded)

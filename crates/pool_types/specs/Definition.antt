@@ -3,7 +3,8 @@ use Rattle.std.specs.Prelude.{Bool, true, false}
 use Rattle.pool_types.specs.declared.contents.definition.DefinitionKind.{DefinitionKind}
 use Rattle.pool_types.specs.declared.contents.definition.DefinitionKind.TheVariants as kind
 
--- whether other declarations may stand in it
+-- whether other declarations may stand in a definition: it is a package, a message, a service or an
+-- enum
 abbrev pub is_parent : DefinitionKind → Bool
 is_parent kind.Package = true
 is_parent (kind.Message _) = true
@@ -11,7 +12,7 @@ is_parent (kind.Service _) = true
 is_parent (kind.Enum _) = true
 is_parent _ = false
 
--- whether it is a package
+-- whether a kind of definition is a package
 abbrev pub is_package : DefinitionKind → Bool
 is_package kind.Package = true
 is_package _ = false

@@ -33,66 +33,81 @@ use Rattle.pool_types.specs.contracts.contents.extension.ExtensionDescriptorInne
 use Rattle.pool_types.specs.contracts.contents.service.ServiceDescriptorInnerPartialEq.TheImpl as service_inner
 use Rattle.pool_types.specs.contracts.contents.service.MethodDescriptorInnerPartialEq.TheImpl as method_inner
 
--- indexes: two are equal exactly where their numbers are
+-- `==` of the indexes of files is exact
 pub file-exact : Exact file.ghosts.eq
 file-exact = by-parts (λ d. d.index) (λ a b e. search rules) unsigned_Decides
 
+-- `==` of the indexes of messages is exact
 pub message-exact : Exact message.ghosts.eq
 message-exact = by-parts (λ d. d.index) (λ a b e. search rules) unsigned_Decides
 
+-- `==` of the indexes of enums is exact
 pub enum-exact : Exact enum.ghosts.eq
 enum-exact = by-parts (λ d. d.index) (λ a b e. search rules) unsigned_Decides
 
+-- `==` of the indexes of services is exact
 pub service-exact : Exact service.ghosts.eq
 service-exact = by-parts (λ d. d.index) (λ a b e. search rules) unsigned_Decides
 
+-- `==` of the indexes of extensions is exact
 pub extension-exact : Exact extension.ghosts.eq
 extension-exact = by-parts (λ d. d.index) (λ a b e. search rules) unsigned_Decides
 
+-- `==` of the indexes of fields is exact
 pub field-exact : Exact field.ghosts.eq
 field-exact = by-parts (λ d. (d.parent, d.index)) (λ a b e. search rules)
     (message-exact and unsigned_Decides)
 
+-- `==` of the indexes of oneofs is exact
 pub oneof-exact : Exact oneof.ghosts.eq
 oneof-exact = by-parts (λ d. (d.parent, d.index)) (λ a b e. search rules)
     (message-exact and unsigned_Decides)
 
+-- `==` of the indexes of an enum's values is exact
 pub value-exact : Exact value.ghosts.eq
 value-exact = by-parts (λ d. (d.parent, d.index)) (λ a b e. search rules)
     (enum-exact and unsigned_Decides)
 
+-- `==` of the indexes of methods is exact
 pub method-exact : Exact method.ghosts.eq
 method-exact = by-parts (λ d. (d.parent, d.index)) (λ a b e. search rules)
     (service-exact and unsigned_Decides)
 
--- kinds and default values
+-- `==` of syntaxes is exact
 pub syntax-exact : Exact syntax.ghosts.eq
 syntax-exact a b = search rules
 
+-- `==` of cardinalities is exact
 pub cardinality-exact : Exact cardinality.ghosts.eq
 cardinality-exact a b = search rules
 
+-- `==` of kinds with the indexes that they hold is exact
 pub kind_index-exact : Exact kind_index.ghosts.eq
 kind_index-exact a b = search rules
 
+-- `==` of kinds with typed indexes is exact
 pub kind-exact : Exact kind.ghosts.eq
 kind-exact a b = search (rules, message-exact, enum-exact)
 
+-- `==` of default values is exact
 pub default-exact : Exact default.ghosts.eq
 default-exact a b = search (rules, text-exact)
 
--- what a pool holds
+-- `==` of kinds of definitions is exact
 pub definition_kind-exact : Exact definition_kind.ghosts.eq
 definition_kind-exact a b = search rules
 
+-- `==` of identities is exact
 pub identity-exact : Exact identity.ghosts.eq
 identity-exact = by-parts (λ d. (d.file, (d.path, (d.full_name, d.name_index))))
     (λ a b e. search rules) (unsigned_Decides and numbers-exact and text-exact and unsigned_Decides)
 
+-- `==` of definitions is exact
 pub definition-exact : Exact definition.ghosts.eq
 definition-exact = by-parts (λ d. (d.file, (d.path, d.kind))) (λ a b e. search rules)
     (unsigned_Decides and numbers-exact and definition_kind-exact)
 
+-- `==` of the items of fields is exact
 pub field_inner-exact : Exact field_inner.ghosts.eq
 field_inner-exact =
     by-parts (λ f. (
@@ -114,15 +129,18 @@ field_inner-exact =
 indexes-exact : Exact (λ (s t : BTreeSet ℕ). pointwise nat_eq s.keys t.keys)
 indexes-exact = by-parts (λ s. s.keys) (λ a b e. search rules) (items-exact unsigned_Decides)
 
+-- `==` of the items of files is exact
 pub file_inner-exact : Exact file_inner.ghosts.eq
 file_inner-exact = by-parts (λ f. (f.syntax, (f.raw, (f.dependencies, f.transitive_dependencies))))
     (λ a b e. search rules)
     (syntax-exact and record-exact and items-exact unsigned_Decides and indexes-exact)
 
+-- `==` of the items of oneofs is exact
 pub oneof_inner-exact : Exact oneof_inner.ghosts.eq
 oneof_inner-exact = by-parts (λ o. (o.id, o.fields)) (λ a b e. search rules)
     (identity-exact and items-exact unsigned_Decides)
 
+-- `==` of the items of messages is exact
 pub message_inner-exact : Exact message_inner.ghosts.eq
 message_inner-exact =
     by-parts (λ m. (
@@ -143,10 +161,12 @@ message_inner-exact =
     number_map-exact and items-exact field_inner-exact and number_map-exact and text_map-exact and text_map-exact and items-exact
     oneof_inner-exact)
 
+-- `==` of the items of an enum's values is exact
 pub value_inner-exact : Exact value_inner.ghosts.eq
 value_inner-exact = by-parts (λ v. (v.id, v.number)) (λ a b e. search rules)
     (identity-exact and signed_Decides)
 
+-- `==` of the items of enums is exact
 pub enum_inner-exact : Exact enum_inner.ghosts.eq
 enum_inner-exact =
     by-parts (λ e.
@@ -155,6 +175,7 @@ enum_inner-exact =
     (identity-exact and given unsigned_Decides and items-exact value_inner-exact and items-exact
     (signed_Decides and unsigned_Decides) and text_map-exact and booleans_Decides)
 
+-- `==` of the items of extensions is exact
 pub extension_inner-exact : Exact extension_inner.ghosts.eq
 extension_inner-exact =
     by-parts (λ x. (
@@ -169,10 +190,12 @@ extension_inner-exact =
     unsigned_Decides and kind_index-exact and booleans_Decides and cardinality-exact and given
     default-exact)
 
+-- `==` of the items of methods is exact
 pub method_inner-exact : Exact method_inner.ghosts.eq
 method_inner-exact = by-parts (λ m. (m.id, (m.input, m.output))) (λ a b e. search rules)
     (identity-exact and unsigned_Decides and unsigned_Decides)
 
+-- `==` of the items of services is exact
 pub service_inner-exact : Exact service_inner.ghosts.eq
 service_inner-exact = by-parts (λ s. (s.id, s.methods)) (λ a b e. search rules)
     (identity-exact and items-exact method_inner-exact)

@@ -15,7 +15,7 @@ Indexed = ℕ × ExtensionDescriptorInner
 abbrev pub extending : ℕ → ℕ → List ExtensionDescriptorInner → List Indexed
 extending message first xs = filter (λ e. e.1.extendee == message) (enumerate_from first xs)
 
--- whether an extension extends the message with an index and has a number
+-- whether an extension extends the message with an index, and has a number
 abbrev pub has_number : ℕ → ℕ → ExtensionDescriptorInner → Bool
 has_number message number x = x.extendee == message && x.number == number
 
@@ -28,7 +28,7 @@ abbrev pub number_held : List MessageDescriptorInner → ℕ → ℕ → Option 
 number_held ms message number =
     option_and_then (λ m. finite.get m.extension_numbers number) (slice_get ms message)
 
--- the messages lead from numbers to the first extension of each that has the number
+-- each message leads from a number to the first of its extensions that has it
 abbrev pub NumbersLead : List ExtensionDescriptorInner → List MessageDescriptorInner → Type 0
 NumbersLead xs ms = (message number : ℕ)
     → number_held ms message number ≡ extension_numbered xs message number

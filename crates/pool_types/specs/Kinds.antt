@@ -15,7 +15,7 @@ use Rattle.pool_types.specs.declared.kinds.KindIndex.TheVariants as index
 use Rattle.pool_types.specs.declared.kinds.Kind.{Kind}
 use Rattle.pool_types.specs.declared.kinds.Kind.TheVariants as kind
 
--- whether a list of such values may be packed
+-- whether a list of values of a kind may be packed: all but texts, bytes, messages and groups
 abbrev pub is_packable : KindIndex → Bool
 is_packable index.String = false
 is_packable index.Bytes = false
@@ -23,13 +23,13 @@ is_packable (index.Message _) = false
 is_packable (index.Group _) = false
 is_packable _ = true
 
--- whether a value is a message
+-- whether a value of a kind is a message: those of messages and groups are
 abbrev pub is_message : KindIndex → Bool
 is_message (index.Message _) = true
 is_message (index.Group _) = true
 is_message _ = false
 
--- the kind with its typed index; a group is a message
+-- a kind with the typed index of what it means, where a group is a message
 abbrev pub kind_of : KindIndex → Kind
 kind_of index.Double = kind.Double
 kind_of index.Float = kind.Float
@@ -50,7 +50,7 @@ kind_of (index.Message m) = kind.Message (record { index = m })
 kind_of (index.Group m) = kind.Message (record { index = m })
 kind_of (index.Enum e) = kind.Enum (record { index = e })
 
--- the word for it
+-- the word for a kind: `message` for a group too
 abbrev pub kind_name : KindIndex → List ℕ
 kind_name index.Double = codes "double"
 kind_name index.Float = codes "float"
@@ -71,7 +71,7 @@ kind_name (index.Message _) = codes "message"
 kind_name (index.Group _) = codes "message"
 kind_name (index.Enum _) = codes "enum"
 
--- the kind of a type that names nothing else
+-- the kind of a type that names nothing else; a group, a message and an enum have none
 abbrev pub simple_kind : FieldType → Option KindIndex
 simple_kind written.Double = Some index.Double
 simple_kind written.Float = Some index.Float
@@ -92,20 +92,21 @@ simple_kind written.Sfixed64 = Some index.Sfixed64
 simple_kind written.Sint32 = Some index.Sint32
 simple_kind written.Sint64 = Some index.Sint64
 
--- the kind of a type that names this definition, which wins over the type as it is written
+-- the kind of a field whose type name means a definition: a message, or a group where the written
+-- type is group, or an enum; what the name means wins over the written type
 abbrev pub named_kind : FieldType → DefinitionKind → Option KindIndex
 named_kind written.Group (definition.Message m) = Some (index.Group m)
 named_kind _ (definition.Message m) = Some (index.Message m)
 named_kind _ (definition.Enum e) = Some (index.Enum e)
 named_kind _ _ = None
 
--- how often a field with the label stands in a message
+-- how often a field stands in a message, by its label
 abbrev pub cardinality_of : FieldLabel → Cardinality
 cardinality_of label.Optional = cardinality.Optional
 cardinality_of label.Required = cardinality.Required
 cardinality_of label.Repeated = cardinality.Repeated
 
--- how often a field stands in a message, as a number: greater for what may stand more often
+-- how often a field may stand in a message, as a number that rises: optional, required, repeated
 abbrev pub rank : Cardinality → ℕ
 rank cardinality.Optional = 0
 rank cardinality.Required = 1

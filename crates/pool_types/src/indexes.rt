@@ -61,12 +61,14 @@ pub struct MethodDescriptor {
 }
 
 impl FileDescriptor {
+    /// The file with an index.
     pub fn new(index: u32) -> FileDescriptor
         ensures { result ≡ record { index = index } }
     {
         FileDescriptor { index }
     }
 
+    /// The index of the file.
     pub fn index(self) -> u32
         ensures { result ≡ self.index }
     {
@@ -75,12 +77,14 @@ impl FileDescriptor {
 }
 
 impl MessageDescriptor {
+    /// The message with an index.
     pub fn new(index: u32) -> MessageDescriptor
         ensures { result ≡ record { index = index } }
     {
         MessageDescriptor { index }
     }
 
+    /// The index of the message.
     pub fn index(self) -> u32
         ensures { result ≡ self.index }
     {
@@ -89,12 +93,14 @@ impl MessageDescriptor {
 }
 
 impl EnumDescriptor {
+    /// The enum with an index.
     pub fn new(index: u32) -> EnumDescriptor
         ensures { result ≡ record { index = index } }
     {
         EnumDescriptor { index }
     }
 
+    /// The index of the enum.
     pub fn index(self) -> u32
         ensures { result ≡ self.index }
     {
@@ -103,12 +109,14 @@ impl EnumDescriptor {
 }
 
 impl ServiceDescriptor {
+    /// The service with an index.
     pub fn new(index: u32) -> ServiceDescriptor
         ensures { result ≡ record { index = index } }
     {
         ServiceDescriptor { index }
     }
 
+    /// The index of the service.
     pub fn index(self) -> u32
         ensures { result ≡ self.index }
     {
@@ -117,12 +125,14 @@ impl ServiceDescriptor {
 }
 
 impl ExtensionDescriptor {
+    /// The extension with an index.
     pub fn new(index: u32) -> ExtensionDescriptor
         ensures { result ≡ record { index = index } }
     {
         ExtensionDescriptor { index }
     }
 
+    /// The index of the extension.
     pub fn index(self) -> u32
         ensures { result ≡ self.index }
     {
@@ -131,18 +141,21 @@ impl ExtensionDescriptor {
 }
 
 impl FieldDescriptor {
+    /// The field at a position of a message.
     pub fn new(parent: MessageDescriptor, index: u32) -> FieldDescriptor
         ensures { result ≡ record { parent = parent; index = index } }
     {
         FieldDescriptor { parent, index }
     }
 
+    /// The message that the field stands in.
     pub fn parent(self) -> MessageDescriptor
         ensures { result ≡ self.parent }
     {
         self.parent
     }
 
+    /// The position of the field in its message.
     pub fn index(self) -> u32
         ensures { result ≡ self.index }
     {
@@ -151,18 +164,21 @@ impl FieldDescriptor {
 }
 
 impl OneofDescriptor {
+    /// The oneof at a position of a message.
     pub fn new(parent: MessageDescriptor, index: u32) -> OneofDescriptor
         ensures { result ≡ record { parent = parent; index = index } }
     {
         OneofDescriptor { parent, index }
     }
 
+    /// The message that the oneof stands in.
     pub fn parent(self) -> MessageDescriptor
         ensures { result ≡ self.parent }
     {
         self.parent
     }
 
+    /// The position of the oneof in its message.
     pub fn index(self) -> u32
         ensures { result ≡ self.index }
     {
@@ -171,18 +187,21 @@ impl OneofDescriptor {
 }
 
 impl EnumValueDescriptor {
+    /// The value at a position of an enum.
     pub fn new(parent: EnumDescriptor, index: u32) -> EnumValueDescriptor
         ensures { result ≡ record { parent = parent; index = index } }
     {
         EnumValueDescriptor { parent, index }
     }
 
+    /// The enum that the value stands in.
     pub fn parent(self) -> EnumDescriptor
         ensures { result ≡ self.parent }
     {
         self.parent
     }
 
+    /// The position of the value in its enum.
     pub fn index(self) -> u32
         ensures { result ≡ self.index }
     {
@@ -191,18 +210,21 @@ impl EnumValueDescriptor {
 }
 
 impl MethodDescriptor {
+    /// The method at a position of a service.
     pub fn new(parent: ServiceDescriptor, index: u32) -> MethodDescriptor
         ensures { result ≡ record { parent = parent; index = index } }
     {
         MethodDescriptor { parent, index }
     }
 
+    /// The service that the method stands in.
     pub fn parent(self) -> ServiceDescriptor
         ensures { result ≡ self.parent }
     {
         self.parent
     }
 
+    /// The position of the method in its service.
     pub fn index(self) -> u32
         ensures { result ≡ self.index }
     {

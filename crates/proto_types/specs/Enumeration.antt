@@ -5,6 +5,7 @@ use Rattle.proto_types.specs.declared.records.enumeration.EnumDescriptorProto.{E
 use Rattle.proto_types.specs.declared.records.enumeration.EnumReservedRange.{EnumReservedRange}
 use Rattle.proto_types.specs.declared.records.enumeration.EnumValueDescriptorProto.{EnumValueDescriptorProto}
 
+-- an enum with all parts absent or empty
 abbrev pub no_enum : EnumDescriptorProto
 no_enum = record {
   name = None;
@@ -14,8 +15,10 @@ no_enum = record {
   reserved_name = [];
 }
 
+-- a reserved range of an enum with both ends absent
 abbrev pub no_enum_range : EnumReservedRange
 no_enum_range = record { start = None; «end» = None }
 
+-- a value of an enum with all parts absent
 abbrev pub no_value : EnumValueDescriptorProto
 no_value = record { name = None; number = None; options = None }

@@ -2,6 +2,7 @@
 use Rattle.std.specs.declared.option.Option.TheVariants.{None}
 use Rattle.proto_types.specs.declared.records.field.FieldDescriptorProto.{FieldDescriptorProto}
 
+-- a field or an extension with all parts absent
 abbrev pub no_field : FieldDescriptorProto
 no_field = record {
   name = None;

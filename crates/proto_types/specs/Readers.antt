@@ -7,12 +7,15 @@ use Rattle.proto_types.specs.declared.records.field.FieldLabel.TheVariants.{Opti
 use Rattle.proto_types.specs.declared.records.field.FieldType.{FieldType}
 use Rattle.proto_types.specs.declared.records.field.FieldType.TheVariants.{Double, Float, Int64, Uint64, Int32, Fixed64, Fixed32, Bool as Boolean, String, Group, Message, Bytes, Uint32, Enum, Sfixed32, Sfixed64, Sint32, Sint64}
 
+-- a missing text reads as the empty text
 abbrev pub text_of : Option (List ℕ) → List ℕ
 text_of part = unwrap_or part []
 
+-- a missing number reads as 0
 abbrev pub number_of : Option ℤ → ℤ
 number_of part = unwrap_or part (pos 0)
 
+-- a missing truth value reads as false
 abbrev pub flag_of : Option Bool → Bool
 flag_of part = unwrap_or part false
 
@@ -34,8 +37,12 @@ numbered cases other (Some (negsuc n)) = other
 numbered cases other (Some (pos zero)) = other
 numbered cases other (Some (pos (suc n))) = unwrap_or (slice_get cases n) other
 
+-- the label with a number: 1 is optional, 2 required, 3 repeated; a missing label and any other
+-- number read as optional
 abbrev pub label_of : Option ℤ → FieldLabel
 label_of part = numbered labels Optional part
 
+-- the type with a number: 1 to 18 are the types of descriptor.proto in its order; a missing type
+-- and any other number read as double
 abbrev pub type_of : Option ℤ → FieldType
 type_of part = numbered types Double part

@@ -4,9 +4,11 @@ use Rattle.std.specs.declared.option.Option.TheVariants.{None}
 use Rattle.proto_types.specs.declared.records.service.ServiceDescriptorProto.{ServiceDescriptorProto}
 use Rattle.proto_types.specs.declared.records.service.MethodDescriptorProto.{MethodDescriptorProto}
 
+-- a service with all parts absent or empty
 abbrev pub no_service : ServiceDescriptorProto
 no_service = record { name = None; method = []; options = None }
 
+-- a method with all parts absent
 abbrev pub no_method : MethodDescriptorProto
 no_method = record {
   name = None;

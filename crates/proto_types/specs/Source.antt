@@ -4,9 +4,11 @@ use Rattle.std.specs.declared.option.Option.TheVariants.{None}
 use Rattle.proto_types.specs.declared.records.source.SourceCodeInfo.{SourceCodeInfo}
 use Rattle.proto_types.specs.declared.records.source.Location.{Location}
 
+-- the source of a file without locations
 abbrev pub no_source : SourceCodeInfo
 no_source = record { location = [] }
 
+-- a location with all parts absent or empty
 abbrev pub no_location : Location
 no_location = record {
   path = [];

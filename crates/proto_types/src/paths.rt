@@ -6,7 +6,8 @@ ghost use Rattle.proto_types.specs.Paths.{entry_path};
 use std::alloc::{AllocError, Global};
 
 /// The path of an entry of a list: the path of what has the list, the list's field number, and the
-/// entry's position, from 0 (descriptor.proto's `SourceCodeInfo.Location.path`).
+/// entry's position, from 0 and below 2 to the 31st (descriptor.proto's
+/// `SourceCodeInfo.Location.path`).
 ///
 /// # Errors
 /// `AllocError` where memory was refused.

@@ -2,5 +2,6 @@
 use Rattle.record_lists.specs.Reference.{Reference}
 use Rattle.record_lists.specs.declared.reference.Reference.{Reference as FoundReference}
 
+-- a reference as the definitions have it, of one that the code borrows
 abbrev pub reference_of : FoundReference → Reference
 reference_of r = record { full_name = r.full_name; part = r.part.now; text = r.text.now }

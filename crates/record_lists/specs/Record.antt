@@ -3,6 +3,7 @@ use Rattle.record_lists.specs.declared.find.record.Record.{Record}
 use Rattle.record_lists.specs.declared.find.record.Record.TheVariants as borrowed
 use Rattle.record_walk.specs.Protos.{Proto, of_file, of_message, of_field, of_oneof, of_service, of_method, of_enum, of_value, of_extension}
 
+-- a record that the code borrows, as one that declares something
 abbrev pub proto_in : Record → Proto
 proto_in (borrowed.File f) = of_file f.now
 proto_in (borrowed.Message m) = of_message m.now

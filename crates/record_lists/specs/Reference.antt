@@ -9,23 +9,25 @@ use Rattle.record_walk.specs.Declarations.{declarations}
 use Rattle.record_walk.specs.Protos.{of_field, of_method, of_extension}
 use Rattle.record_walk.specs.Shown.{Shown}
 
--- the full name of the declaration that refers, the part of its record, and the text there
+-- a text that names a definition, with the full name of the declaration that refers, and the part
+-- of its record where the text stands
 pub record Reference : Type 0 where
   pub full_name : List ℕ
   pub part : List ℕ
   pub text : List ℕ
 
--- the text of a part
+-- the reference of a declaration, by a part of its record and the text there
 abbrev pub reference : Shown → List ℕ → List ℕ → Reference
 reference d part text = record { full_name = d.full_name; part = part; text = text }
 
--- the same, unless it is empty
+-- the reference of a declaration by a part of its record, unless the text there is empty
 abbrev pub reference_in : Shown → List ℕ → List ℕ → List Reference
 reference_in d part [] = []
 reference_in d part (c ∷ cs) = reference d part (c ∷ cs) ∷ []
 
--- of a field its type name, of an extension its extendee before its type name, and of a method its
--- input before its output
+-- the references of a declaration: of a field its type name, of an extension its extendee and then
+-- its type name, each type name unless it is empty; of a method its input and its output; of any
+-- other none
 abbrev pub references_in : Shown → List Reference
 references_in d = elim d.proto [
   | of_field f ↦ reference_in d (codes "type_name") (text_of f.type_name)
@@ -36,6 +38,6 @@ references_in d = elim d.proto [
   | _ ↦ []
 ]
 
--- all references of files, at every depth
+-- the references of all declarations of files, at every depth
 abbrev pub references : List FileDescriptorProto → List Reference
 references files = flat_map references_in (declarations no_counts files)

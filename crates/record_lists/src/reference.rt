@@ -30,8 +30,9 @@ pub struct Reference<'a> {
     pub text: &'a str,
 }
 
-/// The references of a file's record, in the order of the walk. What the file declares must fit
-/// into a pool, as `Counts::of` tells.
+/// The references of a file's record, in the order of the walk: of a field its type name, of a
+/// method its input and its output, of an extension its extendee and its type name; an empty type
+/// name is none. What the file declares must fit into a pool, as `Counts::of` tells.
 ///
 /// # Errors
 /// `AllocError` where memory was refused.

@@ -30,6 +30,7 @@ pub record Line : Type 0 where
   pub position : ℕ
   pub protos : List Proto
 
+-- the line of records that stand at a position
 abbrev pub line : EntryPosition → Option ℕ → List Proto → Line
 line at parent protos = record {
   depth = at.depth;
@@ -39,6 +40,7 @@ line at parent protos = record {
   protos = protos;
 }
 
+-- the line of a row that the code keeps
 abbrev pub line_in : Row → Line
 line_in r = line r.at (parent_of r.part) (proto_of r.part ∷ protos_in r.rest)
 
@@ -46,19 +48,21 @@ line_in r = line r.at (parent_of r.part) (proto_of r.part ∷ protos_in r.rest)
 abbrev pub lines : Rows → List Line
 lines rows = map line_in (reverse rows.list.items)
 
--- with one more list, unless it is empty
+-- lines with one more before them, unless a list is empty
 abbrev pub stacked_by : List Proto → Line → List Line → List Line
 stacked_by [] l ls = ls
 stacked_by (_ ∷ _) l ls = l ∷ ls
 
+-- lines with one more before them, unless it has no records
 abbrev pub stacked : Line → List Line → List Line
 stacked l ls = stacked_by l.protos l ls
 
+-- lines with further ones before them, those without records left out
 abbrev pub stacked_all : List Line → List Line → List Line
 stacked_all [] ls = ls
 stacked_all (l ∷ more) ls = stacked l (stacked_all more ls)
 
--- a whole list
+-- the line of a whole list that stands in a message, an enum or a service
 abbrev pub whole : Depth → Option ℕ → ℤ → List Proto → Line
 whole depth parent tag protos = record {
   depth = depth;
@@ -68,8 +72,7 @@ whole depth parent tag protos = record {
   protos = protos;
 }
 
--- the lists of a message, and of any record with an index, of which the scope around it has a
--- length
+-- the lists of a message, each within the scope of its full name
 abbrev pub message_lines : Depth → ℕ → DescriptorProto → List Line
 message_lines depth index m = let m = out-DescriptorProto m in
     whole depth (Some index) message.ONEOF_DECL (map of_oneof m.oneof_decl)
@@ -78,6 +81,7 @@ message_lines depth index m = let m = out-DescriptorProto m in
     ∷ whole depth (Some index) message.ENUM_TYPE (map of_enum m.enum_type)
     ∷ whole depth (Some index) message.EXTENSION (map of_extension m.extension) ∷ []
 
+-- the lists of any record with an index, of which the scope around it has a length
 abbrev pub inner_lines : Depth → ℕ → ℕ → Proto → List Line
 inner_lines depth around index (of_message m) = message_lines depth index m
 inner_lines depth around index (of_enum e) =
@@ -102,6 +106,7 @@ pub record Rest : Type 0 where
   pub position : ℕ
   pub protos : List Proto
 
+-- what is left of a line, in the path and the full name that a cursor has, cut to its depth
 abbrev pub rest_at : ℕ → List ℤ → List ℕ → Line → Rest
 rest_at index path name l = record {
   here = record {
@@ -115,7 +120,7 @@ rest_at index path name l = record {
   protos = l.protos;
 }
 
--- a record with all that stands in it, and so the records of a list, from counts on
+-- a record with all that stands in it, numbered on from counts
 abbrev pub proto_walk : Surrounding → ℤ → ℕ → Counts → Proto → List Shown
 proto_walk here tag position base (of_message m) = message_walk here tag position base m
 proto_walk here tag position base (of_enum e) = enum_walk here tag position base.enums e
@@ -124,25 +129,27 @@ proto_walk here tag position base (of_service s) =
     ∷ parts of_method (inside d) service.METHOD s.method
 proto_walk here tag position base p = shown here tag position (index_at base position p) p ∷ []
 
+-- the records of a list from a position on, each with all that stands in it, numbered on from
+-- counts
 abbrev pub protos_walk : Surrounding → ℤ → ℕ → Counts → List Proto → List Shown
 protos_walk here tag position base [] = []
 protos_walk here tag position base (p ∷ ps) =
     let first = proto_walk here tag position base p in
     first ++ protos_walk here tag (suc position) (counted base first) ps
 
--- the lists one after another, from counts on
+-- the declarations of lists that are left, one list after another, numbered on from counts
 abbrev pub left_of : Counts → List Rest → List Shown
 left_of base [] = []
 left_of base (r ∷ rs) =
     let first = protos_walk r.here r.tag r.position base r.protos in first
     ++ left_of (counted base first) rs
 
--- the declarations that are still to come
+-- the declarations that are still to come of a cursor
 abbrev pub left : Cursor → List Shown
 left c = left_of c.counts
     (map (rest_at c.site.file c.site.path.items (string_bytes c.site.name)) (lines c.rows))
 
--- a list stands within a depth, where the name can be cut, and is short enough
+-- a list stands within a depth, where the full name can be cut, and is short enough
 pub record Stands (around : Depth) (name : List ℕ) (l : Line) : Type 0 where
   pub path : l.depth.path ≤ around.path
   pub scope : l.depth.scope ≤ around.scope
@@ -154,28 +161,31 @@ abbrev pub AreNested : Depth → List ℕ → List Line → Type 0
 AreNested around name [] = Unit {0}
 AreNested around name (l ∷ ls) = Stands around name l × AreNested l.depth name ls
 
+-- the lengths of a path and of a full name
 abbrev pub depth_of : List ℤ → List ℕ → Depth
 depth_of path name = record { path = length path; scope = length name }
 
--- what a cursor keeps: its path and its name begin with those of each list, and there is room for
--- what is left
+-- what is true of each cursor: its path and its name begin with those of each list, and there is
+-- room for what is left
 pub record IsSound (c : Cursor) : Type 0 where
   pub nested : AreNested (depth_of c.site.path.items (string_bytes c.site.name))
       (string_bytes c.site.name) (lines c.rows)
   pub room : Room c.counts (left c)
 
--- a cursor before a list of declarations
+-- a cursor stands before a list of declarations
 pub record Begins (base : Counts) (all : List Shown) (c : Cursor) : Type 0 where
   pub sound : IsSound c
   pub left_is : left c ≡ all
   pub counts_are : c.counts ≡ base
 
--- the first of what is left came, or nothing was left
+-- the first of what was left has come, and the rest is left
 pub record Comes (old new : Cursor) (d : Shown) : Type 0 where
   pub sound : IsSound new
   pub left_is : left old ≡ d ∷ left new
   pub counts_are : new.counts ≡ counting old.counts d.proto
 
+-- a cursor has gone on: the first of what was left has come, or nothing was left, and it stays as
+-- it was
 abbrev pub Advances : Cursor → Cursor → Option Located → Type 0
 Advances old new None = (left old ≡ []) × (new.counts ≡ old.counts)
 Advances old new (Some d) = Comes old new (located new.site d)

@@ -5,6 +5,7 @@ use Rattle.record_walk.specs.declared.declaration.DeclarationKind.TheVariants as
 use Rattle.record_walk.specs.Protos.{Proto, of_file, of_message, of_field, of_oneof, of_service, of_method, of_enum, of_value, of_extension}
 use Rattle.record_walk.specs.Shown.{Shown}
 
+-- the kind of what a record declares
 abbrev pub kind_of : Proto → DeclarationKind
 kind_of (of_file _) = kind.File
 kind_of (of_message _) = kind.Message
@@ -16,6 +17,8 @@ kind_of (of_enum _) = kind.Enum
 kind_of (of_value _) = kind.EnumValue
 kind_of (of_extension _) = kind.Extension
 
+-- a declaration without its record: the kind, the file, the parent, the index, the path and the
+-- full name
 abbrev pub declaration_of : Shown → Declaration
 declaration_of d = record {
   kind = kind_of d.proto;

@@ -8,7 +8,7 @@ use Rattle.record_walk.specs.declared.faults.Faults.{Faults}
 abbrev pub named_files : Faults → List FileDescriptorProto
 named_files faults = map (λ f. f.raw) faults.labels
 
--- that faults were appended to those found before, and no more
+-- a check has appended certain faults to those that were found before it, and all else stays
 pub record Tells (old new : Faults) (faults : List DescriptorErrorKind) : Type 0 where
   pub told : new.found.items ≡ old.found.items ++ faults
   pub files : new.labels ≡ old.labels

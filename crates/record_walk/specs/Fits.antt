@@ -7,7 +7,7 @@ use Rattle.proto_types.specs.declared.file.FileDescriptorProto.{FileDescriptorPr
 use Rattle.record_walk.specs.Counts.{no_counts, added_to, counts_of}
 use Rattle.record_walk.specs.Declarations.{declarations}
 
--- the counts of all that files declare, added to others; what the files alone have too much of
--- comes first
+-- the counts of all that files declare, added to others, or what there is too much of; what the
+-- files alone have too much of is told first
 abbrev pub counts_with : Counts → List FileDescriptorProto → Result Counts CountKind
 counts_with base files = added_to base (counts_of (declarations no_counts files))

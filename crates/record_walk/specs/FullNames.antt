@@ -9,15 +9,16 @@ use Rattle.record_walk.specs.Shown.{Shown}
 abbrev pub EndsWith : List ℕ → List ℕ → Type 0
 EndsWith text ending = (front : List ℕ) × (text ≡ front ++ ending)
 
--- a full name ends with the name in the record
+-- the full name of a declaration ends with the name in its record
 abbrev pub EndsWithName : Shown → Type 0
 EndsWithName d = EndsWith d.full_name (name_of d.proto)
 
--- so do those of declarations, and their lists are short enough
+-- the full name of each of some declarations ends with its name, and no list of these is too long;
+-- the second pass is shown such lists
 abbrev pub CanBeRead : List Shown → Type 0
 CanBeRead ds = AllByRecursion (λ d. EndsWithName d × (lists_fit d.proto ≡ true)) ds
 
--- law: and of a front of them
+-- law: the front of a list of declarations that can be read is such a list too
 pub front-read : (ds es : List Shown) → CanBeRead (ds ++ es) → CanBeRead ds
 front-read [] es all = tt
 front-read (d ∷ ds) es all = (all.0, front-read ds es all.1)

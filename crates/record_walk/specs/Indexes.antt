@@ -9,8 +9,8 @@ use Rattle.record_walk.specs.Shown.{Shown}
 use Rattle.record_walk.specs.Counts.{counted}
 use Rattle.record_walk.specs.Declarations.{declarations}
 
--- the index of a declaration is how many of its kind were counted; of a kind that is not counted,
--- its path ends with it
+-- the index of a file, message, enum, service or extension is how many of its kind were counted;
+-- the path of any other declaration ends with its index
 abbrev pub HasIndex : Counts → Shown → Proto → Type 0
 HasIndex before d (of_file _) = d.index ≡ before.files
 HasIndex before d (of_message _) = d.index ≡ before.messages

@@ -23,22 +23,30 @@ abbrev pub last_entry : {X : Type 0} → List X → ℤ → List ℤ → Option 
 last_entry xs position [] = at xs position
 last_entry xs position (_ ∷ _) = None
 
--- an entry of a list of records that nothing more stands in
+-- the record at a position of a list of records in which nothing more stands; a path that goes on
+-- behind it leads nowhere
 abbrev pub leaf : {X : Type 0} → (X → Proto) → List X → ℤ → List ℤ → Option Proto
 leaf of xs position path = option_map of (last_entry xs position path)
 
+-- the record that a path leads to in an enum: the empty path to the enum, 2 and a position to a
+-- value
 abbrev pub leads_in_enum : EnumDescriptorProto → List ℤ → Option Proto
 leads_in_enum e [] = Some (of_enum e)
 leads_in_enum e (_ ∷ []) = None
 leads_in_enum e (tag ∷ position ∷ path) = if int_eq tag enumeration.VALUE
     then leaf of_value e.value position path else None
 
+-- the record that a path leads to in a service: the empty path to the service, 2 and a position to
+-- a method
 abbrev pub leads_in_service : ServiceDescriptorProto → List ℤ → Option Proto
 leads_in_service s [] = Some (of_service s)
 leads_in_service s (_ ∷ []) = None
 leads_in_service s (tag ∷ position ∷ path) = if int_eq tag service.METHOD
     then leaf of_method s.method position path else None
 
+-- the record that a path leads to in a message: the empty path to the message; 2 and a position to
+-- a field, 3 to a nested message, 4 to an enum, 6 to an extension, 8 to a oneof, and on in a nested
+-- message and an enum
 abbrev pub leads_in_message : DescriptorProto → List ℤ → Option Proto
 leads_in_message m [] = Some (of_message m)
 leads_in_message m (_ ∷ []) = None
@@ -55,6 +63,9 @@ leads_in_message m (tag ∷ position ∷ path) =
     then leaf of_oneof (out-DescriptorProto m).oneof_decl position path
     else None))))
 
+-- the record that a path leads to in a file: the empty path to the file; 4 and a position to a
+-- message, 5 to an enum, 6 to a service, 7 to an extension, and on in a message, an enum and a
+-- service
 abbrev pub leads : FileDescriptorProto → List ℤ → Option Proto
 leads f [] = Some (of_file f)
 leads f (_ ∷ []) = None

@@ -5,6 +5,6 @@ use Rattle.proto_types.specs.declared.file.FileDescriptorProto.{FileDescriptorPr
 use Rattle.record_walk.specs.Counts.{no_counts, lists_fit}
 use Rattle.record_walk.specs.Declarations.{declarations}
 
--- no list that files declare is longer than a pool allows
+-- no list of what files declare is too long
 abbrev pub ShortFiles : List FileDescriptorProto → Type 0
 ShortFiles fs = list_all (λ d. lists_fit d.proto) (declarations no_counts fs) ≡ true

@@ -5,21 +5,23 @@ use Rattle.pool_faults.specs.declared.fault.DescriptorErrorKind.{DescriptorError
 use Rattle.pool_types.specs.Contents.{Contents}
 use Rattle.record_walk.specs.Shown.{Shown}
 
--- the contents of a pool, the faults, and the declarations that are listed
+-- what a visitor has made so far: the contents of a pool, the faults, and the declarations that are
+-- listed
 pub record Progress : Type 0 where
   pub contents : Contents
   pub faults : List DescriptorErrorKind
   pub listed : List Declaration
 
--- A visitor has been shown a list: after a further one it shows what it would have shown after
--- both, and it may be shown that one where it might have been shown both.
+-- a visitor has been shown a list: after a further one it shows what it would have shown after
+-- both, and it may be shown that one exactly where it might have been shown both
 pub record HasSeen (after : List Shown → Progress) (ready : List Shown → Type 0)
     (after-now : List Shown → Progress) (ready-now : List Shown → Type 0)
     (ds : List Shown) : Type 0 where
   pub after_is : (rest : List Shown) → after-now rest ≡ after (ds ++ rest)
   pub ready_is : (rest : List Shown) → ready-now rest ↔ ready (ds ++ rest)
 
--- each of a list before the position became what R says, and each behind it is as it was
+-- of a list, each entry before a position has become something else, one is free, and each behind
+-- it is as it was
 abbrev pub StopsAt : {X : Type 0} → (X → X → Type 0) → ℕ → List X → List X → Type 0
 StopsAt R zero (x ∷ xs) (y ∷ ys) = ys ≡ xs
 StopsAt R (suc n) (x ∷ xs) (y ∷ ys) = R x y × StopsAt R n xs ys

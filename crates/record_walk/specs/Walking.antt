@@ -17,6 +17,7 @@ use Rattle.record_walk.specs.Declarations.{messages_walk, enums_walk, services_w
 use Rattle.proto_types.specs.declared.tag.file.TheConstants as file
 use Rattle.proto_types.specs.declared.file.FileDescriptorProto.{FileDescriptorProto}
 
+-- the record that a part of a walk borrows
 abbrev pub proto_of : Part → Proto
 proto_of (part.Message _ m) = of_message m.now
 proto_of (part.Field _ f) = of_field f.now
@@ -27,6 +28,7 @@ proto_of (part.Enum _ e) = of_enum e.now
 proto_of (part.EnumValue _ v) = of_value v.now
 proto_of (part.Extension _ x) = of_extension x.now
 
+-- the index of what a part of a walk stands in, where it stands in a message, an enum or a service
 abbrev pub parent_of : Part → Option ℕ
 parent_of (part.Message parent _) = parent
 parent_of (part.Field parent _) = Some parent
@@ -37,7 +39,7 @@ parent_of (part.Enum parent _) = parent
 parent_of (part.EnumValue parent _) = Some parent
 parent_of (part.Extension parent _) = parent
 
--- the records of a list, and the index of what they stand in
+-- the records of a list that a walk borrows
 abbrev pub protos_in : Records → List Proto
 protos_in (records.Messages _ ms) = map of_message ms.now
 protos_in (records.Fields _ fs) = map of_field fs.now
@@ -48,6 +50,8 @@ protos_in (records.Enums _ es) = map of_enum es.now
 protos_in (records.EnumValues _ vs) = map of_value vs.now
 protos_in (records.Extensions _ xs) = map of_extension xs.now
 
+-- the index of what the records of a list stand in, where they stand in a message, an enum or a
+-- service
 abbrev pub parent_in : Records → Option ℕ
 parent_in (records.Messages parent _) = parent
 parent_in (records.Fields parent _) = Some parent
@@ -58,7 +62,8 @@ parent_in (records.Enums parent _) = parent
 parent_in (records.EnumValues parent _) = Some parent
 parent_in (records.Extensions parent _) = parent
 
--- the index of the next of a kind: how many were counted, or the position where none is
+-- the index of the next record of a kind: how many of the kind were counted, or the position where
+-- the kind is not counted
 abbrev pub index_at : Counts → ℕ → Proto → ℕ
 index_at c position (of_file _) = c.files
 index_at c position (of_message _) = c.messages
@@ -67,12 +72,12 @@ index_at c position (of_service _) = c.services
 index_at c position (of_extension _) = c.extensions
 index_at c position _ = position
 
--- a record as a declaration, as it stands at a site
+-- a record as the declaration that it is where a walk stands
 abbrev pub located : Site → Located → Shown
 located s l = shown_as s.path.items (string_bytes s.name) s.file (parent_of l.part) l.index
     (proto_of l.part)
 
--- all that stands in the file with an index
+-- all that stands in the file with an index, numbered on from counts
 abbrev pub within_file : ℕ → Counts → FileDescriptorProto → List Shown
 within_file index base f =
     let here = in_file index f in
@@ -90,7 +95,7 @@ pub record WithinLimits (c : Counts) : Type 0 where
   pub services : c.services ≤ count_limit
   pub extensions : c.extensions ≤ count_limit
 
--- no list is too long, and the counts after these declarations are within the limits
+-- no list of some declarations is too long, and the counts after them are within the limits
 pub record Room (base : Counts) (ds : List Shown) : Type 0 where
   pub short : list_all (λ d. lists_fit d.proto) ds ≡ true
   pub within : WithinLimits (counted base ds)

@@ -16,18 +16,19 @@ abbrev pub found_as : Resolution → Option (List ℕ × Definition)
 found_as (found name def) = Some (name, def)
 found_as _ = None
 
--- the path of a declaration, by that of its name
+-- the path of a declaration, by that of its name, without the last number
 abbrev pub declaration_path : List ℤ → List ℤ
 declaration_path path = take (length path - 1) path
 
--- the record at the path of a definition
+-- the record at the path of a definition, in the file of the definition
 abbrev pub record_of : Setting → Definition → Option Proto
 record_of s def = option_and_then (λ f. leads f (declaration_path def.path))
     (slice_get s.files def.file)
 
--- of a message, and of an enum
+-- the record of the message that a definition is
 abbrev pub message_record : Setting → Definition → Option DescriptorProto
 message_record s def = option_and_then as_message (record_of s def)
 
+-- the record of the enum that a definition is
 abbrev pub enum_record : Setting → Definition → Option EnumDescriptorProto
 enum_record s def = option_and_then as_enum (record_of s def)

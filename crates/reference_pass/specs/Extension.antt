@@ -26,13 +26,13 @@ use Rattle.reference_pass.specs.Declared.{found_as, declaration_path, message_re
 use Rattle.reference_pass.specs.References.{index_or_max, message_index, resolve_message}
 use Rattle.reference_pass.specs.Setting.{Setting}
 
--- of the extendee, where it isn't found
+-- the fault of an extension whose extendee isn't found, at its path followed by 2
 abbrev pub extendee_faults : Setting → Shown → FieldDescriptorProto → List DescriptorErrorKind
 extendee_faults s d x =
     listed (reference_fault s.files (text_of x.extendee) d.file (d.path ++ field.EXTENDEE ∷ [])
     (resolve_message s d x.extendee))
 
--- a message where its definition says
+-- the declaration of a message where its definition says, by its full name
 abbrev pub defined_at : List ℕ → Definition → DescriptorProto → Shown
 defined_at name def m = record {
   file = def.file;
@@ -43,19 +43,19 @@ defined_at name def m = record {
   proto = of_message m;
 }
 
--- of the number, by the record of the message of a definition
+-- what the number of an extension breaks, by the record of the message that a definition is
 abbrev pub number_faults_by : Setting → Shown → FieldDescriptorProto → List ℕ × Definition
     → List DescriptorErrorKind
 number_faults_by s d x e =
     option_map_or (λ m. extension_number_faults s.files (defined_at e.0 e.1 m) m d x)
     (message_record s e.1) []
 
--- of the number, where the extendee is found
+-- what the number of an extension breaks by the record of its message, where the extendee is found
 abbrev pub number_faults : Setting → Shown → FieldDescriptorProto → Resolution
     → List DescriptorErrorKind
 number_faults s d x r = option_map_or (number_faults_by s d x) (found_as r) []
 
--- that an earlier extension has the number of one that extends the message with a full name
+-- the fault of an extension whose number an earlier extension of the message with a full name has
 abbrev pub duplicate_extension_fault : Setting → Shown → ℤ → List ℕ → ExtensionDescriptorInner
     → DescriptorErrorKind
 duplicate_extension_fault s d number name first =
@@ -63,8 +63,8 @@ duplicate_extension_fault s d number name first =
     (part_label s.files first.id.file first.id.path field.NUMBER)
     (part_label s.files d.file d.path field.NUMBER)
 
--- of the number, where an earlier extension of the message of a definition has it: the first of
--- these is told; one whose extendee wasn't found has the index of no message
+-- the fault of an extension whose number an earlier extension of the message of a definition has:
+-- the first of these is told, and one whose extendee wasn't found is none of these
 abbrev pub duplicate_extension_faults_by : Setting → List ExtensionDescriptorInner → Shown → FieldDescriptorProto
     → List ℕ × Definition → List DescriptorErrorKind
 duplicate_extension_faults_by s earlier d x e =
@@ -72,7 +72,8 @@ duplicate_extension_faults_by s earlier d x e =
     let is_same = has_number (index_or_max (message_index e.1.kind)) (item_number number) in
     listed (option_map (duplicate_extension_fault s d number e.0) (find is_same earlier))
 
--- of the number, where the extendee is found
+-- the fault of an extension whose number an earlier extension of its message has, where the
+-- extendee is found
 abbrev pub duplicate_extension_faults : Setting → List ExtensionDescriptorInner → Shown → FieldDescriptorProto
     → Resolution → List DescriptorErrorKind
 duplicate_extension_faults s earlier d x r = option_map_or (duplicate_extension_faults_by s earlier d x) (found_as r) []

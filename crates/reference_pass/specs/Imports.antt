@@ -13,22 +13,23 @@ use Rattle.pool_faults.specs.declared.fault.DescriptorErrorKind.TheVariants.{Fil
 use Rattle.plain_data.specs.Each.{map_enumerated}
 use Rattle.reference_pass.specs.Setting.{Setting}
 
--- of an import of the file with an index, by its place, that names no file
+-- the fault of an import of the file with an index that names no file, at 3 and the place of the
+-- import
 abbrev pub missing_file : Setting → ℕ → ℕ → List ℕ → List DescriptorErrorKind
 missing_file s index place name =
     only_if (not (is_some (finite.get s.file_names name)))
     (FileNotFound name (label_in s.files index (entry_path [] file.DEPENDENCY place)))
 
--- of imports, one after another
+-- the faults of imports that name no file, one after another
 abbrev pub missing_files : Setting → ℕ → List (List ℕ) → List DescriptorErrorKind
 missing_files s index names =
     flat_map (λ faults. faults) (map_enumerated (missing_file s index) 0 names)
 
--- of an index that is no place of these imports
+-- the fault of an index that is no place of the imports
 abbrev pub index_fault : List (List ℕ) → ℤ → List DescriptorErrorKind
 index_fault names n = only_if (not (is_some (at names n))) InvalidImportIndex
 
--- of the imports of the file with an index, then of its public indexes, and then of its weak ones
+-- the faults of a file's imports, then of its public indexes, and then of its weak ones
 abbrev pub import_faults : Setting → ℕ → FileDescriptorProto → List DescriptorErrorKind
 import_faults s index f =
     missing_files s index f.dependency ++ flat_map (index_fault f.dependency) f.public_dependency

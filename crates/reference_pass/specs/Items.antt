@@ -40,8 +40,8 @@ use Rattle.reference_pass.specs.References.{message_found, index_or_max, method_
 use Rattle.record_walk.specs.Place.{field_at, part_inside}
 use Rattle.reference_pass.specs.Setting.{Setting, seen_by}
 
--- the file with an index: its syntax, its linked record, the files that it imports, in order, and
--- those that it sees
+-- the item of the file with an index: its syntax, its linked record, the files that it imports, in
+-- order, and those that it sees
 abbrev pub file_item : Setting → ℕ → FileDescriptorProto → FileDescriptorInner
 file_item s index f = record {
   syntax = syntax_of f;
@@ -50,8 +50,8 @@ file_item s index f = record {
   transitive_dependencies = seen_by s index;
 }
 
--- a field with an identity, whose type is of a kind, with a default value, among the oneofs of its
--- message
+-- the item of a field with an identity, whose type is of a kind, with a default value, among the
+-- oneofs of its message
 abbrev pub item_at : Setting → List OneofDescriptorProto → Identity → FieldDescriptorProto
     → KindIndex → Option DefaultValue → FieldDescriptorInner
 item_at s oneofs id f kind default = record {
@@ -66,33 +66,37 @@ item_at s oneofs id f kind default = record {
   default = default;
 }
 
+-- the item of a field whose type is of a kind, with a default value, by where it stands
 abbrev pub item_of_kind : Setting → List OneofDescriptorProto → Shown → FieldDescriptorProto
     → KindIndex → Option DefaultValue → FieldDescriptorInner
 item_of_kind s oneofs d f kind default = item_at s oneofs (identity d) f kind default
 
--- a field; where its type has a fault, a number stands in for it
+-- the item of a field by the kind of its type and its default value; where the type has a fault,
+-- double stands in for it
 abbrev pub field_item : Setting → List OneofDescriptorProto → Shown → FieldDescriptorProto
     → FieldDescriptorInner
 field_item s oneofs d f = item_of_kind s oneofs d f (unwrap_or (field_kind s d f) Double)
     (field_default s d f)
 
--- a oneof, by its position, with the positions of the fields that name it
+-- the item of a oneof, by its position, with the positions of the fields that name it
 abbrev pub oneof_item : List FieldDescriptorProto → Shown → OneofDescriptorInner
 oneof_item fields d = record { id = identity d; fields = members fields d.index }
 
--- those of the fields and of the oneofs that stand in surroundings
+-- the items of fields that stand in surroundings, in the order of their positions
 abbrev pub field_items : Setting → List OneofDescriptorProto → Surrounding
     → List FieldDescriptorProto → List FieldDescriptorInner
 field_items s oneofs here fs =
     map_enumerated (λ i f. field_item s oneofs (field_at here i f) f) 0 fs
 
+-- the items of oneofs that stand in surroundings, in the order of their positions
 abbrev pub oneof_items : List FieldDescriptorProto → Surrounding → List OneofDescriptorProto
     → List OneofDescriptorInner
 oneof_items fields here os =
     map_enumerated (λ i o. oneof_item fields (part_inside here message.ONEOF_DECL i (of_oneof o))) 0
     os
 
--- a message with its fields and its oneofs, before what extends it is known
+-- the item of a message, before what extends it is known: its identity, the index of the message
+-- around it, its fields, its three maps and its oneofs
 abbrev pub message_item : Setting → Shown → DescriptorProto → MessageDescriptorInner
 message_item s d m =
     let fields = (out-DescriptorProto m).field in
@@ -109,7 +113,8 @@ message_item s d m =
       oneofs = oneof_items fields (inside d) oneofs;
     }
 
--- a method, with the messages that it takes and gives
+-- the item of a method: its identity, and the indexes of the messages that its input and its output
+-- mean, or the largest number of 32 bits where one means none
 abbrev pub method_item : Setting → Shown → MethodDescriptorProto → MethodDescriptorInner
 method_item s d m = record {
   id = identity d;
@@ -117,12 +122,12 @@ method_item s d m = record {
   output = index_or_max (message_found (resolve_message s d m.output_type));
 }
 
--- those of the methods that stand in surroundings
+-- the items of methods that stand in surroundings, in the order of their positions
 abbrev pub method_items : Setting → Surrounding → List MethodDescriptorProto
     → List MethodDescriptorInner
 method_items s here ms = map_enumerated (λ i m. method_item s (method_at here i m) m) 0 ms
 
--- a service with its methods
+-- the item of a service: its identity, and its methods in the order of their positions
 abbrev pub service_item : Setting → Shown → ServiceDescriptorProto → ServiceDescriptorInner
 service_item s d v = record {
   id = identity d;
@@ -133,7 +138,8 @@ service_item s d v = record {
 abbrev pub bracketed : List ℕ → List ℕ
 bracketed text = 91 ∷ text ++ 93 ∷ []
 
--- an extension; where its extendee or its type has a fault, a number stands in for it
+-- the item of an extension, with its full name in square brackets as its JSON name; where its
+-- extendee or its type has a fault, the largest number of 32 bits or double stands in for it
 abbrev pub extension_item : Setting → Shown → FieldDescriptorProto → ExtensionDescriptorInner
 extension_item s d x =
     let kind = unwrap_or (field_kind s d x) Double in
@@ -153,18 +159,22 @@ extension_item s d x =
 abbrev pub made_of : {X Y : Type 0} → (Proto → Option X) → (Shown → X → Y) → List Shown → List Y
 made_of pick make ds = map (λ e. make e.0 e.1) (of_kind pick ds)
 
--- the items of declarations, by their kinds
+-- the items of all files among declarations
 abbrev pub file_items : Setting → List Shown → List FileDescriptorInner
 file_items s ds = made_of as_file (λ d f. file_item s d.index f) ds
 
+-- the items of all messages among declarations
 abbrev pub message_items : Setting → List Shown → List MessageDescriptorInner
 message_items s ds = made_of as_message (message_item s) ds
 
+-- the items of all enums among declarations
 abbrev pub enum_items : List Shown → List EnumDescriptorInner
 enum_items ds = made_of as_enum enum_item ds
 
+-- the items of all services among declarations
 abbrev pub service_items : Setting → List Shown → List ServiceDescriptorInner
 service_items s ds = made_of as_service (service_item s) ds
 
+-- the items of all extensions among declarations
 abbrev pub extension_items : Setting → List Shown → List ExtensionDescriptorInner
 extension_items s ds = made_of as_extension (extension_item s) ds

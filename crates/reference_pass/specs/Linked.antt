@@ -16,11 +16,12 @@ use Rattle.name_resolution.specs.declared.filter.ResolveNameFilter.TheVariants.{
 use Rattle.name_resolution.specs.Resolution.{Resolution, name_found, kind_found}
 use Rattle.reference_pass.specs.Setting.{Setting, resolve}
 
--- a reference, or as it was where nothing was found
+-- a reference with a dot and the full name that was found, or as it was where nothing was found
 abbrev pub resolved : Resolution → Option (List ℕ) → Option (List ℕ)
 resolved r given = option_or (option_map (λ name. 46 ∷ name) (name_found r)) given
 
--- the number of the type that a definition is, by descriptor.proto; or as it was
+-- the number of the type that a definition is: 11 of a message and 14 of an enum; of any other the
+-- number that was given
 abbrev pub definition_number : DefinitionKind → Option ℤ → Option ℤ
 definition_number (definition.Message _) given = Some (pos 11)
 definition_number (definition.Enum _) given = Some (pos 14)
@@ -31,28 +32,30 @@ abbrev pub type_number : FieldType → DefinitionKind → Option ℤ → Option 
 type_number written.Group kind given = given
 type_number _ kind given = definition_number kind given
 
--- a field with its type name resolved, and its type as that says
+-- a field whose type name is a dot and the full name that was found, with the number of its type
 abbrev pub typed : Resolution → FieldDescriptorProto → FieldDescriptorProto
 typed r f = record f {
   type_name = resolved r f.type_name;
   type_ = option_map_or (λ kind. type_number (type_of f.type_) kind f.type_) (kind_found r) f.type_;
 }
 
--- a field of the file with an index, with its full name
+-- a linked field, by the file with an index and by its full name; one with an empty type name stays
+-- as it is
 abbrev pub linked_field : Setting → ℕ → List ℕ → FieldDescriptorProto → FieldDescriptorProto
 linked_field s index full_name f = elim (text_of f.type_name) [
   | [] ↦ f
   | _ ∷ _ ↦ typed (resolve s index full_name AnyType (text_of f.type_name)) f
 ]
 
--- an extension of the file with an index, with its full name: the message that it extends, and its
--- type
+-- a linked extension, by the file with an index and by its full name: its type is as that of a
+-- field, and its extendee is resolved
 abbrev pub linked_extension : Setting → ℕ → List ℕ → FieldDescriptorProto → FieldDescriptorProto
 linked_extension s index full_name x = record (linked_field s index full_name x) {
   extendee = resolved (resolve s index full_name Message (text_of x.extendee)) x.extendee;
 }
 
--- a method of the file with an index, with its full name: the messages that it takes and gives
+-- a linked method, by the file with an index and by its full name: its input and its output are
+-- resolved
 abbrev pub linked_method : Setting → ℕ → List ℕ → MethodDescriptorProto → MethodDescriptorProto
 linked_method s index full_name m = record m {
   input_type = resolved (resolve s index full_name Message (text_of m.input_type)) m.input_type;
@@ -67,6 +70,7 @@ linking s = record {
   method = linked_method s;
 }
 
--- the file with an index
+-- the linked record of the file with an index: all but fields, extensions and methods stays as it
+-- was given
 abbrev pub linked : Setting → ℕ → FileDescriptorProto → FileDescriptorProto
 linked s index f = changed_file (linking s) index f

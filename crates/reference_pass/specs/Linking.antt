@@ -39,14 +39,14 @@ use Rattle.reference_pass.specs.Items.{extension_item, field_items, method_items
 use Rattle.reference_pass.specs.declared.linking.Linker.{Linker}
 use Rattle.reference_pass.specs.declared.linking.NextItems.{NextItems}
 
--- the items of a pool that records are linked by
+-- the items of a pool by which records are linked
 pub record ItemLists : Type 0 where
   pub messages : List MessageDescriptorInner
   pub enums : List EnumDescriptorInner
   pub services : List ServiceDescriptorInner
   pub extensions : List ExtensionDescriptorInner
 
--- those of the contents of a pool, and those that a program borrows
+-- the items that the contents of a pool have
 abbrev pub lists_in : Contents → ItemLists
 lists_in p = record {
   messages = p.messages;
@@ -55,6 +55,7 @@ lists_in p = record {
   extensions = p.extensions;
 }
 
+-- the items that a `Linker` of the code borrows
 abbrev pub lists_of : Linker → ItemLists
 lists_of l = record {
   messages = l.messages.now;
@@ -63,10 +64,11 @@ lists_of l = record {
   extensions = l.extensions.now;
 }
 
--- the full name of the message with an index, and of the enum
+-- the full name of the message with an index
 abbrev pub message_name : ItemLists → ℕ → Option (List ℕ)
 message_name it n = option_map (λ m. m.id.full_name) (slice_get it.messages n)
 
+-- the full name of the enum with an index
 abbrev pub enum_name : ItemLists → ℕ → Option (List ℕ)
 enum_name it n = option_map (λ e. e.id.full_name) (slice_get it.enums n)
 
@@ -77,8 +79,8 @@ kind_name it (index.Group n) = message_name it n
 kind_name it (index.Enum n) = enum_name it n
 kind_name it _ = None
 
--- the number of a type, by descriptor.proto; a group keeps its own, and so does a type that names
--- nothing
+-- the number of a type by its kind: 11 of a message and 14 of an enum; a group keeps its own, and
+-- so does a type that names nothing
 abbrev pub kind_number : FieldType → KindIndex → Option ℤ → Option ℤ
 kind_number written.Group kind given = given
 kind_number _ (index.Message _) given = Some (pos 11)
@@ -90,18 +92,19 @@ abbrev pub with_type : Option (List ℕ) → Option ℤ → FieldDescriptorProto
 with_type None number f = f
 with_type (Some name) number f = record f { type_name = Some (46 ∷ name); type_ = number }
 
--- a field whose type is of a kind, by the item that the kind means
+-- a field with the name and the number of its type, by the item that its kind means
 abbrev pub typed_by : ItemLists → KindIndex → FieldDescriptorProto → FieldDescriptorProto
 typed_by it kind f = elim (text_of f.type_name) [
   | [] ↦ f
   | _ ∷ _ ↦ with_type (kind_name it kind) (kind_number (type_of f.type_) kind f.type_) f
 ]
 
--- a reference to the message with an index; as it was where there is none
+-- a reference with a dot and the full name of the message with an index, or as it was where there
+-- is none
 abbrev pub reference_by : ItemLists → ℕ → Option (List ℕ) → Option (List ℕ)
 reference_by it n given = option_or (option_map (λ name. 46 ∷ name) (message_name it n)) given
 
--- a method by its item
+-- a method with its input and its output, by its item
 abbrev pub method_by : ItemLists → MethodDescriptorInner → MethodDescriptorProto
     → MethodDescriptorProto
 method_by it item m = record m {
@@ -109,13 +112,13 @@ method_by it item m = record m {
   output_type = reference_by it item.output m.output_type;
 }
 
--- an item has the name that means it
+-- the item of a message or an enum that a name means has this name
 abbrev pub IsNamedBy : ItemLists → List ℕ → DefinitionKind → Type 0
 IsNamedBy it name (definition.Message n) = message_name it n ≡ Some name
 IsNamedBy it name (definition.Enum n) = enum_name it n ≡ Some name
 IsNamedBy it name _ = Unit {0}
 
--- names mean items that have these names, and the largest number of 32 bits is that of no item
+-- names mean items that have these names, and the largest number of 32 bits is the index of no item
 pub record NamesMeanItems (s : Setting) (it : ItemLists) : Type 0 where
   pub named : (name : List ℕ) → IfSome (finite.get s.names name) (λ def. IsNamedBy it name def.kind)
   pub messages : length it.messages ≤ count_limit
@@ -135,7 +138,7 @@ HasItem s it d = elim d.proto [
   | _ ↦ Unit {0}
 ]
 
--- the items are those of a setting and of declarations
+-- names mean items that have these names, and each of some declarations has its item
 pub record ItemsAre (s : Setting) (it : ItemLists) (ds : List Shown) : Type 0 where
   pub names : NamesMeanItems s it
   pub items : AllByRecursion (HasItem s it) ds
@@ -144,7 +147,7 @@ pub record ItemsAre (s : Setting) (it : ItemLists) (ds : List Shown) : Type 0 wh
 abbrev pub next_of : Counts → NextItems
 next_of c = record { messages = c.messages; services = c.services; extensions = c.extensions }
 
--- fields with their items are linked, in any surroundings
+-- fields with their items become linked fields, in any surroundings
 pub record LinksFields (it : ItemLists) (items : List FieldDescriptorInner)
     (old new : List FieldDescriptorProto) : Type 0 where
   pub by : (s : Setting) (here : Surrounding) (oneofs : List OneofDescriptorProto)
@@ -152,14 +155,14 @@ pub record LinksFields (it : ItemLists) (items : List FieldDescriptorInner)
       → items ≡ field_items s oneofs here old
       → new ≡ changed_fields (linked_field s) here.file here.scope old
 
--- so are methods
+-- methods with their items become linked methods, in any surroundings
 pub record LinksMethods (it : ItemLists) (items : List MethodDescriptorInner)
     (old new : List MethodDescriptorProto) : Type 0 where
   pub by : (s : Setting) (here : Surrounding) → NamesMeanItems s it
       → items ≡ method_items s here old
       → new ≡ changed_methods (linked_method s) here.file here.scope old
 
--- and so is what declares a list with the next items, which are taken
+-- what declares a list becomes linked by the next items, which are taken
 pub record Links {X : Type 0} (it : ItemLists) (before after : NextItems) (declared : Surrounding
     → ℤ → ℕ → Counts → List Shown) (linked : Setting → Surrounding → X) (new : X) : Type 0 where
   pub by : (s : Setting) (here : Surrounding) (tag : ℤ) (position : ℕ) (base : Counts)
@@ -167,7 +170,7 @@ pub record Links {X : Type 0} (it : ItemLists) (before after : NextItems) (decla
       → ItemsAre s it (declared here tag position base)
       → (new ≡ linked s here) × (after ≡ next_of (counted base (declared here tag position base)))
 
--- a file is linked with the next items
+-- a file becomes a linked file by the next items
 pub record LinksFile (it : ItemLists) (before after : NextItems)
     (old new : FileDescriptorProto) : Type 0 where
   pub by : (s : Setting) (base : Counts) → before ≡ next_of base
@@ -178,7 +181,7 @@ pub record LinksFile (it : ItemLists) (before after : NextItems)
 abbrev pub linked_item : Setting → ℕ → FileDescriptorInner → FileDescriptorInner
 linked_item s n f = record f { raw = linked s n f.raw }
 
--- files of a pool, which are numbered on, are linked with the next items
+-- the files of a pool that are numbered on become linked files by the next items
 pub record LinksFiles (it : ItemLists) (before after : NextItems)
     (old new : List FileDescriptorInner) : Type 0 where
   pub by : (s : Setting) (base : Counts) → before ≡ next_of base

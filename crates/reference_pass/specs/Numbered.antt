@@ -8,16 +8,16 @@ use Rattle.std.specs.declared.option.Option.TheVariants.{None, Some}
 use Rattle.pool_types.specs.declared.contents.extension.ExtensionDescriptorInner.{ExtensionDescriptorInner}
 use Rattle.pool_types.specs.Extension.{extension_numbered}
 
--- pairs in the order of their first and then of their second numbers
+-- the order of pairs by their first and then by their second numbers
 abbrev pub pair_cmp : ℕ × ℕ → ℕ × ℕ → Ordering
 pair_cmp x y = ordering_then (nat_cmp x.0 y.0) (nat_cmp x.1 y.1)
 
--- a message and a number lead to the first of these extensions that has them
+-- a message and a number lead to the first of some extensions that has them
 abbrev pub LeadsToFirst : List ExtensionDescriptorInner → BTreeMap (ℕ × ℕ) ℕ → Type 0
 LeadsToFirst xs positions = (message number : ℕ)
     → get pair_cmp positions (message, number) ≡ extension_numbered xs message number
 
--- a message and a number lead to a position then, unless they had one, and all else stays
+-- a message and a number lead to a position then, unless they led to one before, and all else stays
 abbrev pub EntersFirst : BTreeMap (ℕ × ℕ) ℕ → BTreeMap (ℕ × ℕ) ℕ → ℕ × ℕ → ℕ → Type 0
 EntersFirst old new key position = (other : ℕ × ℕ)
     → get pair_cmp new other ≡ option_or (get pair_cmp old other)

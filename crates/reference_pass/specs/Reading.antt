@@ -5,7 +5,7 @@ use Rattle.record_walk.specs.Faults.{Tells, named_files}
 use Rattle.reference_pass.specs.Setting.{Setting}
 use Rattle.reference_pass.specs.declared.reading.Reading.{Reading}
 
--- what declarations are read against
+-- the setting that a reading of the code reads declarations against
 abbrev pub setting_of : Reading → Setting
 setting_of r = record {
   files = named_files r.faults;
@@ -14,7 +14,8 @@ setting_of r = record {
   seen = map (λ f. f.transitive_dependencies) r.faults.labels;
 }
 
--- that faults were appended to those found before, and no more
+-- a check has appended certain faults to those that were found before it, and all else of what it
+-- reads with stays
 pub record ReadingTells (old new : Reading) (faults : List DescriptorErrorKind) : Type 0 where
   pub told : Tells old.faults new.faults faults
   pub names : new.names ≡ old.names

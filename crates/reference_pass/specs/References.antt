@@ -15,7 +15,7 @@ use Rattle.name_resolution.specs.Resolution.{Resolution, kind_found}
 use Rattle.record_walk.specs.Place.{part_inside}
 use Rattle.reference_pass.specs.Setting.{Setting, resolve}
 
--- the index of a message
+-- the index of a message, where a definition is one
 abbrev pub message_index : DefinitionKind → Option ℕ
 message_index (definition.Message m) = Some m
 message_index _ = None
@@ -28,10 +28,11 @@ message_found r = option_and_then message_index (kind_found r)
 abbrev pub index_or_max : Option ℕ → ℕ
 index_or_max n = unwrap_or n (2 ^ 32 - 1)
 
--- what the name of a message means that a declaration refers to; a missing name is the empty text
+-- what the name of a message means that a declaration refers to: an input, an output or an
+-- extendee; the scope is the full name of the declaration, and a missing name is the empty text
 abbrev pub resolve_message : Setting → Shown → Option (List ℕ) → Resolution
 resolve_message s d name = resolve s d.file d.full_name Message (text_of name)
 
--- a method in surroundings, by its position
+-- the method with a position, in surroundings
 abbrev pub method_at : Surrounding → ℕ → MethodDescriptorProto → Shown
 method_at here position m = part_inside here service.METHOD position (of_method m)

@@ -11,7 +11,8 @@ use Rattle.reference_pass.specs.SecondPass.{Faults, owners_faults}
 use Rattle.reference_pass.specs.Items.{message_items, enum_items, service_items, extension_items}
 use Rattle.reference_pass.specs.Setting.{Setting}
 
--- the new items, the extensions of the pool and the new ones, and the faults so far
+-- the state of the second pass: the new items, the extensions of the pool and the new ones, and the
+-- faults so far
 pub record ReferenceState : Type 0 where
   pub messages : List MessageDescriptorInner
   pub enums : List EnumDescriptorInner
@@ -19,7 +20,7 @@ pub record ReferenceState : Type 0 where
   pub extensions : List ExtensionDescriptorInner
   pub faults : Faults
 
--- with the items and the faults of further declarations
+-- the state with the items of further declarations and what these break
 abbrev pub with_declarations : Setting → ReferenceState → List Shown → ReferenceState
 with_declarations s state ds = record {
   messages = state.messages ++ message_items s ds;
@@ -29,10 +30,11 @@ with_declarations s state ds = record {
   faults = state.faults ++ owners_faults s state.extensions ds;
 }
 
--- after one more declaration
+-- the state after one more declaration
 abbrev pub reference_step : Setting → ReferenceState → Shown → ReferenceState
 reference_step s state d = with_declarations s state (d ∷ [])
 
+-- what a visitor shows in a state of the second pass
 abbrev pub reference_progress : ReferenceState → Progress
 reference_progress state = record {
   contents = record no_contents {

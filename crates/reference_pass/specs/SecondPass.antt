@@ -33,6 +33,7 @@ use Rattle.reference_pass.specs.References.{method_at, resolve_message}
 use Rattle.record_walk.specs.Place.{field_at}
 use Rattle.reference_pass.specs.Setting.{Setting}
 
+-- faults in a row
 abbrev pub Faults : Type 0
 Faults = List DescriptorErrorKind
 
@@ -40,21 +41,23 @@ Faults = List DescriptorErrorKind
 abbrev pub Owner : Type 0
 Owner = Shown × DescriptorProto
 
--- of a field of a message by itself: its number, its type, its default value, its oneof
+-- what a field of a message breaks by itself: its number, its type, its default value, its oneof
 abbrev pub field_record_faults : Setting → Owner → Shown → FieldDescriptorProto → Faults
 field_record_faults s owner d f =
     field_number_faults s.files owner.0 owner.1 d f ++ type_faults s d f
     ++ field_default_faults s d f
     ++ oneof_faults (out-DescriptorProto owner.1).oneof_decl f
 
--- and that a field before it has its number, or its JSON name
+-- what a field of a message breaks by itself, and then that a field before it has its number or its
+-- JSON name
 abbrev pub field_faults : Setting → Owner → Shown → FieldDescriptorProto → Faults
 field_faults s owner d f =
     field_record_faults s owner d f
     ++ duplicate_faults s.files owner.0.file owner.0.path
     (take d.index (out-DescriptorProto owner.1).field) d.index f
 
--- of an extension behind earlier ones: its extendee, its number by that, its type, its default value
+-- what an extension behind earlier ones breaks: its extendee; where that is found, its number, and
+-- that an earlier extension has it; its type; its default value
 abbrev pub extension_faults : Setting → List ExtensionDescriptorInner → Shown
     → FieldDescriptorProto → Faults
 extension_faults s earlier d x =
@@ -62,7 +65,8 @@ extension_faults s earlier d x =
     extendee_faults s d x ++ number_faults s d x extendee ++ duplicate_extension_faults s earlier d x extendee
     ++ type_faults s d x ++ field_default_faults s d x
 
--- of an input, then of an output, that isn't found
+-- the fault of a method's input that isn't found, at its path followed by 2, and then that of its
+-- output, followed by 3
 abbrev pub method_faults : Setting → Shown → MethodDescriptorProto → Faults
 method_faults s d m =
     listed (reference_fault s.files (text_of m.input_type) d.file (d.path ++ method.INPUT_TYPE ∷ [])
@@ -76,14 +80,16 @@ last [] = None
 last (x ∷ []) = Some x
 last (x ∷ y ∷ ys) = last (y ∷ ys)
 
--- the message of a field, and the enum of a value: the last that was declared before it
+-- the message of a field: the last that was declared before it
 abbrev pub message_of : List Shown → Shown → Owner
 message_of earlier d = unwrap_or (last (of_kind as_message earlier)) (d, no_message)
 
+-- the enum of a value: the last that was declared before it
 abbrev pub enum_of : List Shown → Shown → Shown × EnumDescriptorProto
 enum_of earlier d = unwrap_or (last (of_kind as_enum earlier)) (d, no_enum)
 
--- what a declaration breaks behind the extensions of a pool and earlier declarations
+-- what a declaration breaks in the second pass behind the extensions of a pool and earlier
+-- declarations: a file, a field, a value, a method or an extension; any other breaks nothing
 abbrev pub second_faults : Setting → List ExtensionDescriptorInner → List Shown → Shown → Faults
 second_faults s old earlier d = elim d.proto [
   | of_file f ↦ import_faults s d.index f
@@ -94,7 +100,7 @@ second_faults s old earlier d = elim d.proto [
   | _ ↦ []
 ]
 
--- all faults of the second pass over declarations, behind the extensions of a pool
+-- the faults of the second pass over declarations, behind the extensions of a pool, in a row
 abbrev pub second_pass : Setting → List ExtensionDescriptorInner → List Shown → Faults
 second_pass s old ds = flat_map_after (second_faults s old) ds
 
@@ -104,21 +110,22 @@ faults_of_fields s owner fs =
     flat_map (λ faults. faults)
     (map_enumerated (λ i f. field_faults s owner (field_at (inside owner.0) i f) f) 0 fs)
 
--- the same told of owners: what the fields of a message break
+-- what all fields of a message break, told of the message
 abbrev pub message_faults : Setting → Shown → DescriptorProto → Faults
 message_faults s d m = faults_of_fields s (d, m) (out-DescriptorProto m).field
 
--- what methods break that stand in surroundings, one method after another
+-- what methods that stand in surroundings break, one method after another
 abbrev pub faults_of_methods : Setting → Surrounding → List MethodDescriptorProto → Faults
 faults_of_methods s here ms =
     flat_map (λ faults. faults)
     (map_enumerated (λ i m. method_faults s (method_at here i m) m) 0 ms)
 
--- what the methods of a service break
+-- what the methods of a service break, told of the service
 abbrev pub service_faults : Setting → Shown → ServiceDescriptorProto → Faults
 service_faults s d v = faults_of_methods s (inside d) v.method
 
--- what a declaration breaks behind earlier extensions, by itself and by its parts
+-- what a declaration breaks behind earlier extensions by itself and by its parts: a message, an
+-- enum, a service, a file or an extension; any other breaks nothing
 abbrev pub owner_faults : Setting → List ExtensionDescriptorInner → Shown → Faults
 owner_faults s earlier d = elim d.proto [
   | of_file f ↦ import_faults s d.index f
@@ -129,7 +136,8 @@ owner_faults s earlier d = elim d.proto [
   | _ ↦ []
 ]
 
--- what declarations break so, each behind the extensions of those before it
+-- what declarations break by themselves and by their parts, each behind the extensions of those
+-- before it
 abbrev pub owners_faults : Setting → List ExtensionDescriptorInner → List Shown → Faults
 owners_faults s earlier [] = []
 owners_faults s earlier (d ∷ ds) =

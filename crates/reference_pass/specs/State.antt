@@ -3,6 +3,7 @@ use Rattle.std.specs.Prelude.{◌++◌}
 use Rattle.reference_pass.specs.declared.resolve.ResolveVisitor.{ResolveVisitor}
 use Rattle.reference_pass.specs.Resolve.{ReferenceState}
 
+-- the state of the second pass that a visitor of the code has reached
 abbrev pub state_of : ResolveVisitor → ReferenceState
 state_of v = record {
   messages = v.items.messages.items;

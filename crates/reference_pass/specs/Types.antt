@@ -17,18 +17,20 @@ use Rattle.name_resolution.specs.References.{reference_fault}
 use Rattle.name_resolution.specs.Resolution.{Resolution, kind_found}
 use Rattle.reference_pass.specs.Setting.{Setting, resolve}
 
--- what its type name means
+-- what the type name of a field means; the scope is the full name of the field itself
 abbrev pub resolve_type : Setting → Shown → FieldDescriptorProto → Resolution
 resolve_type s d f = resolve s d.file d.full_name FieldType (text_of f.type_name)
 
--- the kind: of the definition that a type name means, else of the type as it is written. None where
--- there is a fault
+-- the kind of a field: of the definition that its type name means, else of the type as it is
+-- written; none where there is a fault
 abbrev pub field_kind : Setting → Shown → FieldDescriptorProto → Option KindIndex
 field_kind s d f = elim (text_of f.type_name) [
   | [] ↦ simple_kind (type_of f.type_)
   | _ ∷ _ ↦ option_and_then (named_kind (type_of f.type_)) (kind_found (resolve_type s d f))
 ]
 
+-- the fault of the type of a field, at its path followed by 6: of the reference, where there is a
+-- type name; else that the written type has no kind of its own
 abbrev pub type_faults : Setting → Shown → FieldDescriptorProto → List DescriptorErrorKind
 type_faults s d f = elim (text_of f.type_name) [
   | [] ↦ only_if (not (is_some (simple_kind (type_of f.type_))))

@@ -29,9 +29,10 @@ use pool_faults::{DescriptorErrorKind, Label};
 use proto_types::{FieldDescriptorProto, tag};
 use std::alloc::{AllocError, Global};
 
-/// The item of an extension behind earlier ones. What it breaks is appended to `faults`: that its
+/// The item of an extension behind earlier ones. What it breaks is appended to `reading`: that its
 /// extendee is no message; else what its number breaks by the record of that message, and that an
-/// earlier extension of the message has it; its type; its default value.
+/// earlier extension of the message has it; its type; its default value. Where its name ends its
+/// full name, that begins there where a character begins.
 ///
 /// # Errors
 /// `AllocError` where memory was refused.
@@ -71,7 +72,7 @@ pub fn read_extension(
 
 /// The index of the message that is extended, or the largest number where none is found. That, or
 /// what the number breaks by the record of the message and by earlier extensions, is appended to
-/// `faults`.
+/// `reading`.
 fn read_extendee(
     reading: &mut Reading,
     place: Place,
@@ -100,7 +101,7 @@ fn read_extendee(
     Ok(message_index_or_max(&meaning))
 }
 
-/// Appends to `faults` what the number of an extension breaks, by the record of the message that
+/// Appends to `reading` what the number of an extension breaks, by the record of the message that
 /// was found.
 fn check_number(
     reading: &mut Reading,
@@ -133,7 +134,7 @@ fn check_number(
     check_extension_number(&mut reading.faults, owner, place, extension)
 }
 
-/// Appends to `faults` that an earlier extension of the message that was found has the number.
+/// Appends to `reading` that an earlier extension of the message that was found has the number.
 fn check_duplicate_extension(
     reading: &mut Reading,
     extendee: &ResolveNameResult,

@@ -24,7 +24,7 @@ use proto_types::{FieldDescriptorProto, OneofDescriptorProto, tag};
 use std::alloc::AllocError;
 
 /// The item of the field of a message with a position. What the field breaks by itself is appended
-/// to `faults`: its number, its type, its default value, its oneof.
+/// to `reading`: its number, its type, its default value, its oneof.
 pub(crate) fn read_field(
     reading: &mut Reading,
     owner: Owner,
@@ -66,7 +66,7 @@ pub(crate) fn read_field(
 
 /// The kind of the type of a field of a message and its default value, where one is given; where
 /// the type has a fault, a number stands in for it. What the field breaks by itself is appended to
-/// `faults`.
+/// `reading`.
 fn check_field(
     reading: &mut Reading,
     owner: Owner,

@@ -14,9 +14,9 @@ use pool_faults::DescriptorErrorKind;
 use proto_types::{FileDescriptorProto, entry_path, tag};
 use std::alloc::{AllocError, Global};
 
-/// Appends to `faults` one for each import of the file with an index that names no file, and then
+/// Appends to `reading` one for each import of the file with an index that names no file, and then
 /// one for each public and each weak index that is no place of the list of imports. The index
-/// counts from 0 in the order of linking.
+/// counts from 0 in the order of linking, and the lists of the file are short enough for a pool.
 ///
 /// # Errors
 /// `AllocError` where memory was refused.
@@ -54,7 +54,7 @@ fn check_names(reading: &mut Reading, index: u32, imports: &[Text]) -> Result<()
     Ok(())
 }
 
-/// Appends to `faults` that of an import, by its place, which names no file.
+/// Appends to `reading` that of an import, by its place, which names no file.
 fn check_name(
     reading: &mut Reading,
     index: u32,

@@ -23,8 +23,10 @@ use proto_types::{DescriptorProto, tag};
 use std::alloc::{AllocError, Global};
 
 /// The item of a message, with its fields, its oneofs and its maps, before what extends it is
-/// known. What its fields break is appended to `faults`, one field after another: its number, its
+/// known. What its fields break is appended to `reading`, one field after another: its number, its
 /// type, its default value, its oneof, and that an earlier field has its number or its JSON name.
+/// The lists of the message are short enough for a pool. Where its name ends its full name, the
+/// names of the item begin where a character begins.
 ///
 /// # Errors
 /// `AllocError` where memory was refused.

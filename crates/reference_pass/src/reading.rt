@@ -53,7 +53,7 @@ impl<'f> Reading<'f> {
     }
 
     /// The same of the part of a declaration with a tag. Where it isn't found, that is appended to
-    /// `faults`.
+    /// its faults.
     ///
     /// # Errors
     /// `AllocError` where memory was refused.
@@ -78,7 +78,7 @@ impl<'f> Reading<'f> {
     }
 
     /// What the part of a declaration with a tag means, which names a message. Where it names none,
-    /// that is appended to `faults`.
+    /// that is appended to its faults.
     ///
     /// # Errors
     /// `AllocError` where memory was refused.

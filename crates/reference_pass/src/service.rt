@@ -24,8 +24,9 @@ use pool_types::{MethodDescriptorInner, ServiceDescriptorInner};
 use proto_types::{MethodDescriptorProto, ServiceDescriptorProto, tag};
 use std::alloc::AllocError;
 
-/// The item of a service, with its methods. What these break is appended to `faults`, one method
-/// after another, its input before its output.
+/// The item of a service, with its methods. What these break is appended to `reading`, one method
+/// after another, its input before its output. Its list is short enough for a pool. Where its name
+/// ends its full name, the names of the item begin where a character begins.
 ///
 /// # Errors
 /// `AllocError` where memory was refused.
@@ -71,7 +72,7 @@ fn read_methods(
 }
 
 /// The item of the method of a service with a position. What the method breaks is appended to
-/// `faults`.
+/// `reading`.
 fn read_method(
     reading: &mut Reading,
     service: Place,
@@ -113,7 +114,7 @@ fn read_method(
 }
 
 /// The index of the message that the part of a method with a tag names; where it names none, that
-/// is appended to `faults`.
+/// is appended to `reading`.
 fn message_index(
     reading: &mut Reading,
     place: Place,

@@ -30,7 +30,7 @@ use proto_types::{FieldDescriptorProto, FieldType, tag};
 use std::alloc::AllocError;
 
 /// The kind of the type of a field or an extension, where it has one, and the default value, where
-/// one is given. What these break is appended to `faults`, the type before the default.
+/// one is given. What these break is appended to `reading`, the type before the default.
 pub(crate) fn type_and_default(
     reading: &mut Reading,
     place: Place,

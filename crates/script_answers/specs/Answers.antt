@@ -25,29 +25,29 @@ use Rattle.link_script.specs.declared.script.statement.ScriptFault.{ScriptFault}
 use Rattle.link_script.specs.Script.Faults.{fault_words}
 use Rattle.record_lists.specs.Reference.{Reference, references}
 
--- words with a space between each two, and the line's end
+-- words with a space between each two, and the end of the line
 abbrev pub line : List (List ℕ) → List ℕ
 line [] = 10 ∷ []
 line (w ∷ []) = w ++ 10 ∷ []
 line (w ∷ v ∷ ws) = w ++ 32 ∷ line (v ∷ ws)
 
--- a name printed alone
+-- a name as it is printed alone: two quotes where it is empty
 abbrev pub alone : List ℕ → List ℕ
 alone [] = codes "''"
 alone (c ∷ cs) = c ∷ cs
 
--- how many of each kind there are
+-- the line that tells how many files, messages, enums, services and extensions there are
 abbrev pub counts_line : Counts → List ℕ
 counts_line c =
     line (codes "ok" ∷ decimal c.files ∷ decimal c.messages ∷ decimal c.enums ∷ decimal c.services
     ∷ decimal c.extensions ∷ [])
 
--- how many faults there are, and a line for each
+-- the line that tells how many faults there are, and a line for each
 abbrev pub refused_lines : List DescriptorErrorKind → List ℕ
 refused_lines faults = line (codes "refused" ∷ decimal (length faults) ∷ [])
     ++ flat_map (λ f. line (labelled_text f ∷ [])) faults
 
--- what there is too much of, in the plural
+-- the word for what there is too much of, in the plural
 abbrev pub count_word : CountKind → List ℕ
 count_word too_many.ListTooLong = codes "lists"
 count_word too_many.Files = codes "files"
@@ -56,10 +56,11 @@ count_word too_many.Enums = codes "enums"
 count_word too_many.Services = codes "services"
 count_word too_many.Extensions = codes "extensions"
 
+-- the line that tells of what there is too much
 abbrev pub too_many_line : CountKind → List ℕ
 too_many_line kind = line (codes "too" ∷ codes "many" ∷ count_word kind ∷ [])
 
--- a kind and the index that it holds
+-- the words for the kind of a definition and the index that it holds
 abbrev pub kind_words : DefinitionKind → List ℕ
 kind_words definition.Package = codes "package"
 kind_words (definition.Message m) = codes "message " ++ decimal m
@@ -71,19 +72,19 @@ kind_words (definition.Enum e) = codes "enum " ++ decimal e
 kind_words (definition.EnumValue e) = codes "value " ++ decimal e
 kind_words (definition.Extension x) = codes "extension " ++ decimal x
 
--- the answer where there is nothing
+-- the line of an answer where there is nothing
 abbrev pub none_line : List ℕ
 none_line = line (codes "none" ∷ [])
 
--- a definition's kind, the name of its file, and its path
+-- the line of a definition: its kind, the name of its file, and its path
 abbrev pub definition_line : List ℕ → Definition → List ℕ
 definition_line file def = line (kind_words def.kind ∷ alone file ∷ path_text def.path ∷ [])
 
--- an extension's index and its full name
+-- the line of an extension: its index and its full name
 abbrev pub extension_line : ℕ → List ℕ → List ℕ
 extension_line index name = line (codes "extension" ∷ decimal index ∷ alone name ∷ [])
 
--- a kind of declaration
+-- the word for a kind of declaration
 abbrev pub declared_word : DeclarationKind → List ℕ
 declared_word declared.File = codes "file"
 declared_word declared.Message = codes "message"
@@ -95,26 +96,26 @@ declared_word declared.Enum = codes "enum"
 declared_word declared.EnumValue = codes "value"
 declared_word declared.Extension = codes "extension"
 
--- a declaration's kind, its own index, its full name and its path
+-- the line of a declaration: its kind, its own index, its full name and its path
 abbrev pub declaration_line : Declaration → List ℕ
 declaration_line d =
     line (declared_word d.kind ∷ decimal d.index ∷ alone d.full_name ∷ path_text d.path ∷ [])
 
--- how many declarations there are, and a line for each
+-- the line that tells how many declarations there are, and a line for each
 abbrev pub declaration_lines : List Declaration → List ℕ
 declaration_lines ds = line (codes "walk" ∷ decimal (length ds) ∷ [])
     ++ flat_map declaration_line ds
 
--- what files declare
+-- the answer of `walk`: how many declarations the files have, and a line for each
 abbrev pub walk_answer : List FileDescriptorProto → List ℕ
 walk_answer files = declaration_lines (map declaration_of (declarations no_counts files))
 
--- a reference: the full name of the declaration that refers, the part of its record, and the text
--- there
+-- the line of a reference: the full name of the declaration that refers, the part of its record,
+-- and the text there
 abbrev pub reference_line : Reference → List ℕ
 reference_line r = line (alone r.full_name ∷ r.part ∷ r.text ∷ [])
 
--- how many references there are, and a line for each
+-- the line that tells how many references there are, and a line for each
 abbrev pub reference_lines : List Reference → List ℕ
 reference_lines rs = line (codes "refs" ∷ decimal (length rs) ∷ []) ++ flat_map reference_line rs
 
@@ -122,7 +123,8 @@ reference_lines rs = line (codes "refs" ∷ decimal (length rs) ∷ []) ++ flat_
 abbrev pub file_named : List FileDescriptorProto → List ℕ → Option FileDescriptorProto
 file_named files name = find (λ f. bytes_eq (text_of f.name) name) files
 
--- the references of the first file with a name
+-- the answer of `refs`: the references of the linked record of the first file with a name, or
+-- `none`
 abbrev pub refs_answer : List FileDescriptorProto → List ℕ → List ℕ
 refs_answer files name = option_map_or (λ f. reference_lines (references (f ∷ [])))
     (file_named files name) none_line

@@ -5,12 +5,12 @@ use Rattle.std.specs.declared.option.Option.TheVariants.{None, Some}
 use Rattle.std.specs.declared.result.Result.{Result}
 use Rattle.std.specs.declared.result.Result.TheVariants.{Ok, Err}
 
--- the most calls that can fail
+-- the most calls of a device that can fail
 abbrev pub failure_limit : ℕ
 failure_limit = 2 ^ 64 - 1
 
--- What a reader tells: the bytes that are still to come, or nothing of them; how many of its calls
--- failed; and how many reads there are at most before its end or a failure.
+-- what a reader tells: the bytes that are still to come, or nothing of them; how many of its calls
+-- failed; and how many reads there are at most before its end or a failure
 pub record Source : Type 0 where
   pub bytes : Option (List ℕ)
   pub failures : ℕ
@@ -26,7 +26,7 @@ abbrev pub AtEnd : Option (List ℕ) → ℕ → List ℕ → Type 0
 AtEnd None room came = Unit {0}
 AtEnd (Some old) room came = came ≡ [] → 0 < room → old ≡ []
 
--- bytes came into a buffer
+-- a read gave the first of the bytes that were to come, and none of some only at the end
 pub record HasRead (old new : Source) (buffer : List ℕ) (n : ℕ) : Type 0 where
   pub within : n ≤ length buffer
   pub gave : Gave old.bytes (take n buffer) new.bytes
@@ -34,27 +34,28 @@ pub record HasRead (old new : Source) (buffer : List ℕ) (n : ℕ) : Type 0 whe
   pub failures : new.failures ≡ old.failures
   pub fewer : 0 < n → new.reads_left < old.reads_left
 
--- a read failed
+-- a read failed, and is counted
 pub record HasFailedToRead (old new : Source) : Type 0 where
   pub counted : new.failures ≡ old.failures + 1
 
+-- what a read does to a reader, by its answer
 abbrev pub Reads : {E : Type 0} → Source → Source → List ℕ → Result ℕ E → Type 0
 Reads old new buffer (Ok n) = HasRead old new buffer n
 Reads old new buffer (Err _) = HasFailedToRead old new
 
--- What a writer tells: the bytes that it took, or nothing of them; how many of its calls failed;
--- and how many took no byte of some.
+-- what a writer tells: the bytes that it took, or nothing of them; how many of its calls failed;
+-- and how many took no byte of some
 pub record Sink : Type 0 where
   pub bytes : Option (List ℕ)
   pub failures : ℕ
   pub idle : ℕ
 
--- the bytes that a writer took behind those that it had
+-- a writer has further bytes behind those that it had
 abbrev pub Took : Option (List ℕ) → List ℕ → Option (List ℕ) → Type 0
 Took None went new = new ≡ None
 Took (Some old) went new = new ≡ Some (old ++ went)
 
--- the first bytes of some were written
+-- a write took the first of the bytes that it was handed
 pub record HasWritten (old new : Sink) (bytes : List ℕ) (n : ℕ) : Type 0 where
   pub within : n ≤ length bytes
   pub took : Took old.bytes (take n bytes) new.bytes
@@ -63,12 +64,13 @@ pub record HasWritten (old new : Sink) (bytes : List ℕ) (n : ℕ) : Type 0 whe
   pub busy : 0 < n → new.idle ≡ old.idle
   pub nothing : length bytes ≡ 0 → new.idle ≡ old.idle
 
--- a write failed, and took nothing
+-- a write failed, took nothing, and is counted
 pub record HasFailedToWrite (old new : Sink) : Type 0 where
   pub same : new.bytes ≡ old.bytes
   pub idle : new.idle ≡ old.idle
   pub counted : new.failures ≡ old.failures + 1
 
+-- what a write does to a writer, by its answer
 abbrev pub Writes : {E : Type 0} → Sink → Sink → List ℕ → Result ℕ E → Type 0
 Writes old new bytes (Ok n) = HasWritten old new bytes n
 Writes old new bytes (Err _) = HasFailedToWrite old new

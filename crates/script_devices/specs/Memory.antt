@@ -3,7 +3,7 @@ use Rattle.std.specs.Prelude.{◌≡◌, ℕ, ◌-◌, ◌^◌, ◌<◌, ◌⊎�
 use Rattle.std.specs.declared.option.Option.TheVariants.{Some}
 use Rattle.script_devices.specs.Device.{Source, Sink}
 
--- bytes to be read, of which the reads that failed are counted
+-- what a reader tells that has bytes to be read, of which the reads that failed are counted
 abbrev pub source_over : List ℕ → ℕ → Source
 source_over bytes failures = record {
   bytes = Some bytes;
@@ -11,18 +11,18 @@ source_over bytes failures = record {
   reads_left = length bytes;
 }
 
--- bytes that were taken, with the counts of the calls that failed and of those that took no byte of
--- some
+-- what a writer tells that has taken bytes, with the counts of the calls that failed and of those
+-- that took no byte of some
 abbrev pub sink_over : List ℕ → ℕ → ℕ → Sink
 sink_over bytes failures idle = record { bytes = Some bytes; failures = failures; idle = idle }
 
--- A reader over memory: what it tells, and the number of the call, from here, that fails, or 0.
+-- a reader over memory: what it tells, and the number of the call, from here, that fails, or 0
 pub record FusedSource : Type 0 where
   pub source : Source
   pub fuse : ℕ
 
--- A writer over memory: what it tells, how many bytes it still takes, and the number of the call,
--- from here, that fails, or 0.
+-- a writer over memory: what it tells, how many bytes it still takes, and the number of the call,
+-- from here, that fails, or 0
 pub record FusedSink : Type 0 where
   pub sink : Sink
   pub room : ℕ

@@ -15,6 +15,6 @@ is_field d = is_some (as_field d.proto)
 abbrev pub fields_in : List Shown → List Declaration
 fields_in ds = map declaration_of (filter is_field ds)
 
--- the length of the longest path of a declaration, or 0 where there is none
+-- the length of the longest path of a list of declarations, or 0 where there is none
 abbrev pub longest_path : List Declaration → ℕ
 longest_path ds = fold (λ longest d. max longest (length d.path)) 0 ds

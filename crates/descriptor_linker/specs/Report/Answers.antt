@@ -14,17 +14,17 @@ use Rattle.pool_contents.specs.LookUps.{definition_named}
 use Rattle.script_answers.specs.Answers.{line, none_line, definition_line, extension_line}
 use Rattle.descriptor_pool.specs.Pool.{faults, counts_after, link}
 
--- what a name means in the pool
+-- the answer of `find`: what a name means in the pool, or `none`
 abbrev pub find_answer : Contents → List ℕ → List ℕ
 find_answer p name =
     option_map_or (λ def. definition_line (text_of (file_at (files_of p) def.file).name) def)
     (definition_named p name) none_line
 
--- the message that a name means
+-- the message that a name means in the pool
 abbrev pub message_named : Contents → List ℕ → Option ℕ
 message_named p name = option_and_then (λ def. message_index def.kind) (definition_named p name)
 
--- the extension of that message with a number, which no negative number is
+-- the extension of the message that a name means with a number, which no negative number is
 abbrev pub extension_found : Contents → List ℕ → ℤ → Option ℕ
 extension_found p name (negsuc _) = None
 extension_found p name (pos n) =
@@ -34,6 +34,8 @@ extension_found p name (pos n) =
 abbrev pub extension_name : Contents → ℕ → List ℕ
 extension_name p index = option_map_or (λ x. x.id.full_name) (slice_get p.extensions index) []
 
+-- the answer of `ext`: the extension of a message with a number, with its index and its full name,
+-- or `none`
 abbrev pub ext_answer : Contents → List ℕ → ℤ → List ℕ
 ext_answer p name number =
     option_map_or (λ index. extension_line index (extension_name p index))
@@ -44,7 +46,7 @@ abbrev pub breaks_none : Faults → Bool
 breaks_none [] = true
 breaks_none (f ∷ fs) = false
 
--- whether the pool's linked files, linked at once from empty, fit, break no rule, and give equal
+-- whether the linked files of a pool, linked at once from empty, fit, break no rule, and give equal
 -- contents
 abbrev pub relinks : Contents → Bool
 relinks p =
@@ -52,5 +54,7 @@ relinks p =
     is_ok (counts_after no_contents files)
     && (breaks_none (faults no_contents files) && contents_eq (link no_contents files) p)
 
+-- the answer of `relink`: `same` where the linked files of the pool, linked at once from empty,
+-- make an equal one, and else `different`
 abbrev pub relink_answer : Contents → List ℕ
 relink_answer p = line ((if relinks p then codes "same" else codes "different") ∷ [])

@@ -4,6 +4,7 @@ use Rattle.link_script.specs.RecordsCode.{building_in}
 use Rattle.descriptor_linker.specs.declared.report.session.Session.{Session as Code}
 use Rattle.descriptor_linker.specs.Report.Session.{Session}
 
+-- the session that the code holds
 abbrev pub session_in : Code → Session
 session_in h = record {
   building = building_in h.builder;

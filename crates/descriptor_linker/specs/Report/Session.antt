@@ -17,17 +17,17 @@ use Rattle.link_script.specs.Records.{Building, built, nothing_built}
 use Rattle.script_answers.specs.Answers.{counts_line, refused_lines, too_many_line, walk_answer, refs_answer, fault_line}
 use Rattle.descriptor_linker.specs.Report.Answers.{ext_answer, find_answer, relink_answer}
 
--- what is built, the pool, and the report so far
+-- a session: what is built, the pool, and the report so far
 pub record Session : Type 0 where
   pub building : Building
   pub pool : Contents
   pub text : List ℕ
 
--- before the first statement
+-- the session before the first statement
 abbrev pub new_session : Session
 new_session = record { building = nothing_built; pool = no_contents; text = [] }
 
--- one more text stands behind the report
+-- the session with one more text behind its report
 abbrev pub write : Session → List ℕ → Session
 write s more = record s { text = s.text ++ more }
 
@@ -41,21 +41,23 @@ abbrev pub linking : Contents → Batch → Result Counts CountKind → Contents
 linking p batch (Err kind) = (p, too_many_line kind)
 linking p batch (Ok _) = accepted_or p batch (faults p batch)
 
--- the files that are built are linked, and none of them is left
+-- the session after `link`: the pool of the definitions, with what is told of it, and none of the
+-- files that were built
 abbrev pub link_step : Session → Session
 link_step s =
     let after = linking s.pool s.building.files (counts_after s.pool s.building.files) in
     record (write s after.1) { pool = after.0; building = record s.building { files = [] } }
 
--- the files that are built fit the pool, or a report of a length has no room for the line that tells
--- what there is too much of
+-- the files that are built fit the pool, or a report of a length has no room for the line that
+-- tells what there is too much of
 abbrev pub FitsOrLacksRoom : Session → ℕ → ℕ → Type 0
 FitsOrLacksRoom s len room =
     Fits s.pool s.building.files
     ⊎ ((kind : CountKind) × (counts_after s.pool s.building.files ≡ Err kind)
     × (room < len + length (too_many_line kind)))
 
--- the session after one more statement
+-- the session after one more statement: it links, finds, walks, tells references or an extension,
+-- tells whether the pool relinks, or builds
 abbrev pub step : Session → Statement → Session
 step s say.Link = link_step s
 step s (say.Find name) = write s (find_answer s.pool name)
@@ -65,7 +67,7 @@ step s (say.Ext name number) = write s (ext_answer s.pool name number)
 step s say.Relink = write s (relink_answer s.pool)
 step s statement = record s { building = built s.building statement }
 
--- what a script's statements write, and its fault
+-- what the statements of a script tell, one after another, and the line of its fault
 abbrev pub report : Script → List ℕ
 report script =
     (fold step new_session script.statements).text ++ option_map_or fault_line script.fault []

@@ -16,7 +16,7 @@ use Rattle.link_script.specs.declared.script.statement.Keyword.{Keyword}
 use Rattle.link_script.specs.Script.Arguments.{said_in, and_then}
 use Rattle.link_script.specs.Script.Reading.{Saying, of_words}
 
--- the answer that is meant, unless memory was refused
+-- an answer is the one that is meant, unless memory was refused
 abbrev pub IsAnswer : {X : Type 0} → Result X ScriptFault → Result X LineError → Type 0
 IsAnswer meant (Ok x) = meant ≡ Ok x
 IsAnswer meant (Err (Fault fault)) = meant ≡ Err fault
@@ -28,24 +28,24 @@ after_line (Err fault) here = Err fault
 after_line (Ok None) here = Ok (None, here)
 after_line (Ok (Some s)) here = Ok (Some s.1, standing_after here s.0)
 
--- what the code has of what stands before a statement, the innermost block last
+-- what stands before a statement, as the code has it with the innermost block last
 abbrev pub standing_in : Code → Standing
 standing_in h = record { blocks = reverse h.blocks.items; more = h.more }
 
--- the line's fault, unless memory was refused; a fact holds behind either
+-- an error is the fault of a line, unless memory was refused; a further fact holds behind either
 abbrev pub IsFaultOf : Saying → Type 0 → LineError → Type 0
 IsFaultOf read kept (Fault fault) = (read ≡ Err fault) × kept
 IsFaultOf read kept OutOfMemory = kept
 
--- the words that are left to be read
+-- the words of a line that are left to be read
 abbrev pub words_left : Words → List (List ℕ)
 words_left w = words w.rest.now
 
--- what a line of text says behind other statements
+-- what a line that is a text says behind other statements
 abbrev pub text_said : Standing → List ℕ → Saying
 text_said here line = of_words here line (words line)
 
--- what a line says, by its keyword and the words behind it, where it has them
+-- what a line says is made of its keyword and the words behind it, where it has them
 abbrev pub IsBegun : List ℕ → Saying → Result (Option (Keyword × Words)) ScriptFault → Type 0
 IsBegun line read (Err fault) = read ≡ Err fault
 IsBegun line read (Ok None) = read ≡ Ok None

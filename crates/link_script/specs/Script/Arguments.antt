@@ -22,18 +22,20 @@ use Rattle.link_script.specs.declared.script.statement.Statement.TheVariants as 
 use Rattle.link_script.specs.declared.script.statement.ScriptFault.{ScriptFault}
 use Rattle.link_script.specs.declared.script.statement.ScriptFault.TheVariants.{WrongCount, BadNumber, BadWord}
 
+-- whether a word says that there is nothing: `~` does
 abbrev pub is_absent : List ℕ → Bool
 is_absent text = bytes_eq text (codes "~")
 
--- a text: `~` is none, and two quotes are the empty one
+-- the text that a word gives: `~` gives none, and two quotes give the empty one
 abbrev pub text_in : List ℕ → Option (List ℕ)
 text_in text = if is_absent text then None
     else (if bytes_eq text (codes "''") then Some [] else Some text)
 
--- names for the numbers from 1 on (descriptor.proto's labels and types)
+-- the names of labels, for the numbers from 1 on, as descriptor.proto has them
 abbrev pub labels : List (List ℕ)
 labels = codes "optional" ∷ codes "required" ∷ codes "repeated" ∷ []
 
+-- the names of types, for the numbers from 1 on, as descriptor.proto has them
 abbrev pub types : List (List ℕ)
 types =
     codes "double" ∷ codes "float" ∷ codes "int64" ∷ codes "uint64" ∷ codes "int32"
@@ -41,7 +43,7 @@ types =
     ∷ codes "group" ∷ codes "message" ∷ codes "bytes" ∷ codes "uint32" ∷ codes "enum"
     ∷ codes "sfixed32" ∷ codes "sfixed64" ∷ codes "sint32" ∷ codes "sint64" ∷ []
 
--- a name, or else a number
+-- the number that a word gives by a name of a list, or else as a number
 abbrev pub named_in : List (List ℕ) → List ℕ → Option ℤ
 named_in names text =
     option_or (option_map (λ n. pos (n + 1)) (position_from (bytes_eq text) 0 names))
@@ -51,11 +53,11 @@ abbrev given_or : ScriptFault → Option ℤ → Result (Option ℤ) ScriptFault
 given_or fault (Some n) = Ok (Some n)
 given_or fault None = Err fault
 
--- a number, which may be absent
+-- the number that a word gives, or none for `~`
 abbrev pub number_in : List ℕ → Result (Option ℤ) ScriptFault
 number_in text = if is_absent text then Ok None else given_or BadNumber (whole_signed 32 text)
 
--- a label or a type, which may be absent
+-- the number that a word gives for a label or a type, or none for `~`
 abbrev pub named_or_bad : List (List ℕ) → List ℕ → Result (Option ℤ) ScriptFault
 named_or_bad names text = if is_absent text then Ok None else given_or BadWord (named_in names text)
 
@@ -65,7 +67,7 @@ abbrev pub and_then : {X Y : Type 0} → Result X ScriptFault → (X → Result 
 and_then (Ok x) next = next x
 and_then (Err fault) next = Err fault
 
--- a text that may not be absent
+-- the text that a word gives where it may not be absent
 abbrev pub given_text_in : List ℕ → Result (List ℕ) ScriptFault
 given_text_in text = if is_absent text then Err BadWord else Ok (text_of (text_in text))
 
@@ -73,26 +75,27 @@ abbrev number_or_bad : Option ℤ → Result ℤ ScriptFault
 number_or_bad (Some n) = Ok n
 number_or_bad None = Err BadNumber
 
--- a number that may not be absent
+-- the number that a word gives where it may not be absent
 abbrev pub given_number_in : List ℕ → Result ℤ ScriptFault
 given_number_in text = number_or_bad (whole_signed 32 text)
 
--- numbers in a row, or the first fault
+-- the numbers that words give one after another, or the first fault
 abbrev pub each_number : List (List ℕ) → Result (List ℤ) ScriptFault
 each_number [] = Ok []
 each_number (text ∷ texts) =
     and_then (given_number_in text) (λ n. and_then (each_number texts) (λ ns. Ok (n ∷ ns)))
 
--- numbers between commas, or none in two quotes
+-- the numbers that a word gives between its commas, or none in two quotes
 abbrev pub numbers_in : List ℕ → Result (List ℤ) ScriptFault
 numbers_in text = if bytes_eq text (codes "''") then Ok []
     else each_number (slice_split (λ c. c == 44) text)
 
+-- the truth value that a word gives: `true` or `false`
 abbrev pub truth_in : List ℕ → Result Bool ScriptFault
 truth_in text = ok_or (truth_value text) BadWord
 
--- a field or an extension, of its name, number, label, type and type name: the leftmost fault is
--- told
+-- a field or an extension by five words: its name, number, label, type and type name; the leftmost
+-- fault is told
 abbrev pub typed_in : List ℕ → List ℕ → List ℕ → List ℕ → List ℕ
     → Result FieldDescriptorProto ScriptFault
 typed_in name number label type type_name =
@@ -107,7 +110,7 @@ typed_in name number label type type_name =
       type_name = text_in type_name;
     }))))
 
--- the statements that take no word, and those of one, two, three and six
+-- the statement of a keyword with no word behind it
 abbrev pub of_none : Keyword → Result Statement ScriptFault
 of_none word.Alias = Ok say.Alias
 of_none word.End = Ok say.End
@@ -116,6 +119,7 @@ of_none word.Walk = Ok say.Walk
 of_none word.Relink = Ok say.Relink
 of_none _ = Err WrongCount
 
+-- the statement of a keyword with one word behind it
 abbrev pub of_one : Keyword → List ℕ → Result Statement ScriptFault
 of_one word.File name = Ok (say.File (text_in name))
 of_one word.Package name = Ok (say.Package (text_in name))
@@ -134,6 +138,7 @@ of_one word.Find name = Ok (say.Find (text_of (text_in name)))
 of_one word.Refs name = Ok (say.Refs (text_of (text_in name)))
 of_one _ _ = Err WrongCount
 
+-- the statement of a keyword with two words behind it
 abbrev pub of_two : Keyword → List ℕ → List ℕ → Result Statement ScriptFault
 of_two word.At path span =
     and_then (numbers_in path)
@@ -153,6 +158,7 @@ of_two word.Ext name number =
     (λ number. Ok (say.Ext (text_of (text_in name)) number))
 of_two _ _ _ = Err WrongCount
 
+-- the statement of a keyword with three words behind it
 abbrev pub of_three : Keyword → List ℕ → List ℕ → List ℕ → Result Statement ScriptFault
 of_three word.Method name input output =
     Ok (say.Method (record no_method {
@@ -162,7 +168,8 @@ of_three word.Method name input output =
     }))
 of_three _ _ _ _ = Err WrongCount
 
--- the last word is a field's oneof index, or an extension's extendee
+-- the statement of a keyword with six words behind it: the last is a field's oneof index, or an
+-- extension's extendee
 abbrev pub of_six : Keyword → List ℕ → List ℕ → List ℕ → List ℕ → List ℕ → List ℕ
     → Result Statement ScriptFault
 of_six word.Field name number label type type_name oneof =
@@ -174,7 +181,7 @@ of_six word.Extend name number label type type_name extendee =
     (λ f. Ok (say.Extend (record f { extendee = text_in extendee })))
 of_six _ _ _ _ _ _ _ = Err WrongCount
 
--- the statement that a keyword and the words behind it make
+-- the statement that a keyword and the words behind it make, or the fault
 abbrev pub statement_in : Keyword → List (List ℕ) → Result Statement ScriptFault
 statement_in keyword [] = of_none keyword
 statement_in keyword (a ∷ []) = of_one keyword a
@@ -183,12 +190,12 @@ statement_in keyword (a ∷ b ∷ c ∷ []) = of_three keyword a b c
 statement_in keyword (a ∷ b ∷ c ∷ d ∷ e ∷ f ∷ []) = of_six keyword a b c d e f
 statement_in keyword _ = Err WrongCount
 
--- the line behind its leading spaces
+-- what is left of a line without its leading spaces
 abbrev pub behind_spaces : List ℕ → List ℕ
 behind_spaces [] = []
 behind_spaces (c ∷ cs) = if c == 32 then behind_spaces cs else c ∷ cs
 
--- what stands behind the first space, if there is one
+-- what stands behind the first space of a text, if it has one
 abbrev pub behind_first_space : List ℕ → Option (List ℕ)
 behind_first_space [] = None
 behind_first_space (c ∷ cs) = if c == 32 then Some cs else behind_first_space cs
@@ -198,11 +205,13 @@ rest_or_bad None = Err WrongCount
 rest_or_bad (Some []) = Err WrongCount
 rest_or_bad (Some (c ∷ cs)) = Ok (if bytes_eq (c ∷ cs) (codes "''") then [] else c ∷ cs)
 
--- the rest of a line behind its first word and one space: two quotes alone are the empty text
+-- the text that the rest of a line gives, behind its first word and one space: two quotes alone
+-- give the empty text
 abbrev pub rest_in : List ℕ → Result (List ℕ) ScriptFault
 rest_in line = rest_or_bad (behind_first_space (behind_spaces line))
 
--- the same as a statement, where a default is the rest of the line
+-- the statement of a keyword and its line: a default is the rest of the line, and any other is made
+-- of the words
 abbrev pub said_in : List ℕ → Keyword → List (List ℕ) → Result Statement ScriptFault
 said_in line word.Default words = and_then (rest_in line) (λ text. Ok (say.Default text))
 said_in line keyword words = statement_in keyword words

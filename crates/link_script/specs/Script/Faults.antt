@@ -3,7 +3,7 @@ use Rattle.std.specs.Prelude.{ℕ, List, codes}
 use Rattle.link_script.specs.declared.script.statement.ScriptFault.{ScriptFault}
 use Rattle.link_script.specs.declared.script.statement.ScriptFault.TheVariants as fault
 
--- what is wrong with a line of a script
+-- what is wrong with a line of a script, in words
 abbrev pub fault_words : ScriptFault → List ℕ
 fault_words fault.BadText = codes "bad text"
 fault_words fault.UnknownWord = codes "unknown word"

@@ -24,10 +24,12 @@ spellings =
     ∷ (codes "walk", word.Walk) ∷ (codes "refs", word.Refs)
     ∷ (codes "ext", word.Ext) ∷ (codes "relink", word.Relink) ∷ []
 
+-- the keyword of the first spelling that is a text
 abbrev pub spelled : List (List ℕ × Keyword) → List ℕ → Option Keyword
 spelled [] text = None
 spelled (s ∷ ss) text = if bytes_eq s.0 text then Some s.1 else spelled ss text
 
+-- the keyword that a word spells
 abbrev pub keyword_of : List ℕ → Option Keyword
 keyword_of text = spelled spellings text
 
@@ -49,6 +51,7 @@ outside word.Ext = true
 outside word.Relink = true
 outside _ = false
 
+-- whether a statement may stand in the block of a file
 abbrev pub in_files : Keyword → Bool
 in_files word.Package = true
 in_files word.Syntax = true
@@ -63,6 +66,7 @@ in_files word.Extend = true
 in_files word.End = true
 in_files _ = false
 
+-- whether a statement may stand in the block of a message
 abbrev pub in_messages : Keyword → Bool
 in_messages word.Message = true
 in_messages word.Enum = true
@@ -86,8 +90,7 @@ in_services word.Method = true
 in_services word.End = true
 in_services _ = false
 
--- whether a statement may stand in the innermost open block, or outside of all; the innermost comes
--- first
+-- whether a statement may stand in the innermost open block, which comes first, or outside of all
 abbrev pub stands : List Block → Keyword → Bool
 stands [] keyword = outside keyword
 stands (block.File ∷ _) keyword = in_files keyword
@@ -95,14 +98,16 @@ stands (block.Message ∷ _) keyword = in_messages keyword
 stands (block.Enum ∷ _) keyword = in_enums keyword
 stands (block.Service ∷ _) keyword = in_services keyword
 
--- whether a statement says more of the field or the extension before it
+-- whether a statement says more of the field or the extension before it: `json`, `packed` and
+-- `default` do
 abbrev pub says_more : Keyword → Bool
 says_more word.Json = true
 says_more word.Packed = true
 says_more word.Default = true
 says_more _ = false
 
--- whether more may be said after it
+-- whether more may be said after a statement: after `field`, `extend`, `json`, `packed` and
+-- `default`
 abbrev pub may_be_amended : Keyword → Bool
 may_be_amended word.Field = true
 may_be_amended word.Extend = true
@@ -114,9 +119,11 @@ pub record Standing : Type 0 where
   pub blocks : List Block
   pub more : Bool
 
+-- what stands before the first statement: no open block, and nothing of which more may be said
 abbrev pub at_start : Standing
 at_start = record { blocks = []; more = false }
 
+-- whether a statement may stand behind what stands before it
 abbrev pub may_stand : Standing → Keyword → Bool
 may_stand here keyword = if says_more keyword then here.more else stands here.blocks keyword
 
@@ -132,6 +139,7 @@ opening None keyword blocks = closed keyword blocks
 abbrev pub blocks_after : List Block → Keyword → List Block
 blocks_after blocks keyword = opening (opened keyword) keyword blocks
 
+-- what stands before the next statement, after one with a keyword
 abbrev pub standing_after : Standing → Keyword → Standing
 standing_after here keyword = record {
   blocks = blocks_after here.blocks keyword;

@@ -15,11 +15,11 @@ use Rattle.link_script.specs.Script.Words.{lines}
 use Rattle.link_script.specs.Script.Answers.{standing_in}
 use Rattle.link_script.specs.Script.Reading.{said_from, after_statement, faulty}
 
--- what the lines say that are left
+-- what is left of a script: what the lines say that are left
 abbrev pub left_of : Inside → Script
 left_of r = said_from r.number (standing_in r.here) (lines r.left.now)
 
--- the number of a line has 64 bits, as many lines as there may be
+-- the number of a line has 64 bits, and so have those of the lines that are left
 abbrev pub IsCounted : Inside → Type 0
 IsCounted r = r.number + length r.left.now < 2 ^ 64
 
@@ -27,13 +27,13 @@ IsCounted r = r.number + length r.left.now < 2 ^ 64
 abbrev pub ended : Script
 ended = record { statements = []; fault = None }
 
--- why a line gave no statement, as the script's
+-- the error of a script, by that of the line with a number
 abbrev pub error_in : ℕ → LineError → ScriptError
 error_in number (line.Fault fault) = Fault number fault
 error_in number line.OutOfMemory = OutOfMemory
 
--- what comes next: a statement, the end or the fault, unless memory was refused; but for a
--- statement, as much is left as before
+-- what comes next of a script: a statement, the end or the fault, unless memory was refused; but
+-- for a statement, as much is left as before
 abbrev pub IsNext : Script → Result (Option Statement) ScriptError → Script → Type 0
 IsNext old (Ok (Some s)) new = old ≡ after_statement s new
 IsNext old (Ok None) new = (old ≡ ended) × (new ≡ old)

@@ -42,6 +42,7 @@ pub enum DefinitionKind {
 }
 
 impl Identity {
+    /// The full name, with the scope before the declared name.
     pub fn full_name(&self) -> &str
         ensures { result.now ≡ self.now.full_name }
     {
@@ -56,12 +57,14 @@ impl Identity {
         self.full_name().get(self.name_index..).unwrap_or("")
     }
 
+    /// The file in which the declaration stands.
     pub fn file(&self) -> FileDescriptor
         ensures { result ≡ record { index = self.now.file } }
     {
         FileDescriptor::new(self.file)
     }
 
+    /// The path of the declaration in the record of its file.
     pub fn path(&self) -> &[i32]
         ensures { result.now ≡ self.now.path }
     {

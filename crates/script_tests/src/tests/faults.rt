@@ -30,7 +30,7 @@ pub(super) const FAULTY: &[(&str, &str, &str)] = &[
         "line 4: unknown word\n",
     ),
     (
-        "commands before the fault are report",
+        "commands before the fault are told",
         "link\nfind M\nnope\nlink\n",
         "ok 0 0 0 0 0\nnone\nline 3: unknown word\n",
     ),

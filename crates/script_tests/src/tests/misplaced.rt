@@ -9,7 +9,7 @@ pub(super) const MISPLACED: &[(&str, &str, &str)] = &[
         "line 2: misplaced\n",
     ),
     (
-        "a misplaced statement is report before its count of words",
+        "a misplaced statement is told before its count of words",
         "file a\nlink x\nend",
         "line 2: misplaced\n",
     ),

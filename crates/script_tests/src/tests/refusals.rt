@@ -36,7 +36,7 @@ pub(super) const REFUSED: &[(&str, &str, &str, Ending)] = &[
         Ending::Whole,
     ),
     (
-        "all faults of names are report in order",
+        "all faults of names are told in order",
         "file a.proto\nmessage M\nfield f 1 ~ ~ ~ ~\nfield f 2 ~ ~ ~ ~\nend\nmessage M\nend\nend\n\
         file a.proto\nend\nlink\n",
         "refused 3\na.proto: name 'M.f' is defined twice\na.proto: name 'M' is defined twice\n\
@@ -84,7 +84,7 @@ pub(super) const REFUSED: &[(&str, &str, &str, Ending)] = &[
         Ending::Whole,
     ),
     (
-        "an unknown syntax is report, and the file is read all the same",
+        "an unknown syntax is told, and the file is read all the same",
         "file a.proto\nsyntax proto4\nmessage M\nend\nmessage M\nend\nend\nlink\n",
         "refused 2\na.proto: unknown syntax 'proto4'\na.proto: name 'M' is defined twice\n",
         Ending::Whole,
@@ -152,7 +152,7 @@ pub(super) const REFUSED: &[(&str, &str, &str, Ending)] = &[
         Ending::Whole,
     ),
     (
-        "all faults of references are report in order",
+        "all faults of references are told in order",
         "file a.proto\nmessage M\nfield f 0 optional message N ~\nfield g 0 optional group ~ ~\n\
         field h 1 optional ~ .M.f ~\nend\nend\nlink\n",
         "refused 6\na.proto: invalid field number '0'\na.proto: name 'N' is not defined\n\

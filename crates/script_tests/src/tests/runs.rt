@@ -67,12 +67,12 @@ const NO_TEXTS: &[(&str, &[u8], &str)] = &[
         "line 1: bad text\n",
     ),
     (
-        "the first fault is report",
+        "the first fault is told",
         b"link\n# \xff\nnone",
         "ok 0 0 0 0 0\nline 2: bad text\n",
     ),
     (
-        "commands before a line that is no text are report",
+        "commands before a line that is no text are told",
         b"link\nfind \xff\n",
         "ok 0 0 0 0 0\nline 2: bad text\n",
     ),

@@ -16,7 +16,7 @@ pub(super) const THREE_REPORT: &str = "ok 3 1 1 0 1\nrefs 2\ne extendee .M\ne ty
 /// What it shows, a script, its report, and how its run ends.
 pub(super) const WALKED: &[(&str, &str, &str, Ending)] = &[
     (
-        "declarations of every kind are report in order",
+        "declarations of every kind are told in order",
         "file a.proto\npackage p\nmessage M\nfield f 1 optional int32 ~ ~\noneof o\n\
         message N\nend\nenum E\nvalue V 0\nend\nextensions 100 200\n\
         extend e 100 optional int32 ~ M\nend\nservice S\nmethod m .p.M .p.M\nend\n\
@@ -49,14 +49,14 @@ pub(super) const WALKED: &[(&str, &str, &str, Ending)] = &[
         Ending::Whole,
     ),
     (
-        "references are report by the file that has them",
+        "references are told by the file that has them",
         "file a.proto\npackage p\nmessage M\nfield f 1 optional message M ~\nend\nend\nlink\n\
         refs a.proto\nrefs .a.proto\nrefs ~\n",
         "ok 1 1 0 0 0\nrefs 1\np.M.f type_name .p.M\nnone\nnone\n",
         Ending::Whole,
     ),
     (
-        "references are report in the order of the walk, of the first file with an empty name too",
+        "references are told in the order of the walk, of the first file with an empty name too",
         "file a\nend\nfile ''\nmessage M\nmessage N\nfield g 1 optional message .M ~\nend\n\
         field f 1 optional int32 ~ ~\nfield h 2 repeated message .M.N ~\nend\nend\nlink\n\
         refs ~\nrefs a\n",
