@@ -6,7 +6,7 @@ use Rattle.pool_faults.specs.declared.fault.DescriptorErrorKind.{DescriptorError
 use Rattle.plain_data.specs.Each.{map_enumerated}
 use Rattle.record_walk.specs.declared.faults.Faults.{Faults}
 use Rattle.record_walk.specs.Faults.{Tells, named_files}
-use Rattle.record_walk.proofs.Faults.{same-files, tells-as, tells-two}
+use Rattle.record_walk.proofs.Tells.{same-files, tells-as, tells-two}
 use Rattle.field_rules.proofs.Each.{all-next}
 
 -- the entries of a list up to a position, and the one there

@@ -8,7 +8,7 @@ use proto_types::{
     DescriptorProto, EnumDescriptorProto, EnumValueDescriptorProto, FieldDescriptorProto,
     FileDescriptorProto, MethodDescriptorProto, OneofDescriptorProto, ServiceDescriptorProto,
 };
-use record_walk::{Counts, Declaration, DeclarationKind, Visitor, walk_files};
+use record_walk::{Counts, Declaration, DeclarationKind, Place, Visitor, walk_files};
 use std::alloc::{AllocError, Global};
 use std::marker::Model;
 
@@ -26,16 +26,6 @@ impl Model for Lister {
     ghost Value = { List Declaration };
 
     ghost view = { λ l. l.list.items };
-}
-
-/// Where a declaration stands that is shown, and its full name.
-#[derive(Clone, Copy)]
-struct Site<'a> {
-    file: u32,
-    parent: Option<u32>,
-    index: u32,
-    path: &'a [i32],
-    full_name: &'a str,
 }
 
 impl Lister {
@@ -57,24 +47,24 @@ impl Lister {
     }
 
     /// Keeps a declaration of a kind.
-    fn add(&mut self, kind: DeclarationKind, site: Site) -> Result<(), AllocError>
+    fn add(&mut self, kind: DeclarationKind, place: Place) -> Result<(), AllocError>
         ensures { OnOk result (self.new ≡ self.old
             ++ record {
               kind = kind;
-              file = site.entry.file;
-              parent = site.entry.parent;
-              index = site.entry.index;
-              path = site.entry.path.now;
-              full_name = site.entry.full_name.now;
+              file = place.entry.file;
+              parent = place.entry.parent;
+              index = place.entry.index;
+              path = place.entry.path.now;
+              full_name = place.entry.full_name.now;
             } ∷ []) }
     {
-        let path = Items::from_slice(self.alloc, site.path)?;
-        let full_name = Text::from_str(self.alloc, site.full_name)?;
+        let path = Items::from_slice(self.alloc, place.path)?;
+        let full_name = Text::from_str(self.alloc, place.full_name)?;
         self.list.push(Declaration {
             kind,
-            file: site.file,
-            parent: site.parent,
-            index: site.index,
+            file: place.file,
+            parent: place.parent,
+            index: place.index,
             path,
             full_name,
         })?;
@@ -104,14 +94,14 @@ impl Visitor for Lister {
         index: u32,
         file: &FileDescriptorProto,
     ) -> Result<(), AllocError> {
-        let site = Site {
+        let place = Place {
             file: index,
             parent: None,
             index,
             path,
             full_name: file.name(),
         };
-        self.add(DeclarationKind::File, site)
+        self.add(DeclarationKind::File, place)
     }
 
     fn visit_message(
@@ -124,14 +114,14 @@ impl Visitor for Lister {
         _message: &DescriptorProto,
     ) -> Result<(), AllocError> {
         let kind = DeclarationKind::Message;
-        let site = Site {
+        let place = Place {
             file,
             parent,
             index,
             path,
             full_name,
         };
-        self.add(kind, site)
+        self.add(kind, place)
     }
 
     fn visit_field(
@@ -144,14 +134,14 @@ impl Visitor for Lister {
         _field: &FieldDescriptorProto,
     ) -> Result<(), AllocError> {
         let kind = DeclarationKind::Field;
-        let site = Site {
+        let place = Place {
             file,
             parent: Some(parent),
             index,
             path,
             full_name,
         };
-        self.add(kind, site)
+        self.add(kind, place)
     }
 
     fn visit_oneof(
@@ -164,14 +154,14 @@ impl Visitor for Lister {
         _oneof: &OneofDescriptorProto,
     ) -> Result<(), AllocError> {
         let kind = DeclarationKind::Oneof;
-        let site = Site {
+        let place = Place {
             file,
             parent: Some(parent),
             index,
             path,
             full_name,
         };
-        self.add(kind, site)
+        self.add(kind, place)
     }
 
     fn visit_service(
@@ -183,14 +173,14 @@ impl Visitor for Lister {
         _service: &ServiceDescriptorProto,
     ) -> Result<(), AllocError> {
         let kind = DeclarationKind::Service;
-        let site = Site {
+        let place = Place {
             file,
             parent: None,
             index,
             path,
             full_name,
         };
-        self.add(kind, site)
+        self.add(kind, place)
     }
 
     fn visit_method(
@@ -203,14 +193,14 @@ impl Visitor for Lister {
         _method: &MethodDescriptorProto,
     ) -> Result<(), AllocError> {
         let kind = DeclarationKind::Method;
-        let site = Site {
+        let place = Place {
             file,
             parent: Some(parent),
             index,
             path,
             full_name,
         };
-        self.add(kind, site)
+        self.add(kind, place)
     }
 
     fn visit_enum(
@@ -223,14 +213,14 @@ impl Visitor for Lister {
         _enumeration: &EnumDescriptorProto,
     ) -> Result<(), AllocError> {
         let kind = DeclarationKind::Enum;
-        let site = Site {
+        let place = Place {
             file,
             parent,
             index,
             path,
             full_name,
         };
-        self.add(kind, site)
+        self.add(kind, place)
     }
 
     fn visit_enum_value(
@@ -243,14 +233,14 @@ impl Visitor for Lister {
         _value: &EnumValueDescriptorProto,
     ) -> Result<(), AllocError> {
         let kind = DeclarationKind::EnumValue;
-        let site = Site {
+        let place = Place {
             file,
             parent: Some(parent),
             index,
             path,
             full_name,
         };
-        self.add(kind, site)
+        self.add(kind, place)
     }
 
     fn visit_extension(
@@ -263,14 +253,14 @@ impl Visitor for Lister {
         _extension: &FieldDescriptorProto,
     ) -> Result<(), AllocError> {
         let kind = DeclarationKind::Extension;
-        let site = Site {
+        let place = Place {
             file,
             parent,
             index,
             path,
             full_name,
         };
-        self.add(kind, site)
+        self.add(kind, place)
     }
 }
 

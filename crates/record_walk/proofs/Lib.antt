@@ -17,4 +17,4 @@ pub mod Changed
 pub mod Reached
 pub mod Rests
 pub mod Cursors
-pub mod Faults
+pub mod Tells

@@ -5,7 +5,7 @@ use Rattle.record_walk.specs.declared.faults.Faults.{Faults as PassFaults}
 use Rattle.plain_data.specs.Each.{map_enumerated}
 use Rattle.record_walk.specs.Faults.{Tells}
 use Rattle.field_rules.proofs.Each.{all-next}
-use Rattle.record_walk.proofs.Faults.{tells-none, tells-two}
+use Rattle.record_walk.proofs.Tells.{tells-none, tells-two}
 use Rattle.reference_pass.specs.Setting.{Setting}
 use Rattle.reference_pass.specs.declared.reading.Reading.{Reading}
 use Rattle.reference_pass.specs.SecondPass.{Faults}

@@ -7,7 +7,7 @@ use Rattle.record_walk.specs.declared.faults.Faults.{Faults}
 use Rattle.record_walk.specs.Place.{enum_at}
 use Rattle.record_walk.specs.Faults.{Tells, named_files}
 use Rattle.field_rules.proofs.Tells.{tells-next}
-use Rattle.record_walk.proofs.Faults.{tells-as, tells-from, tells-none}
+use Rattle.record_walk.proofs.Tells.{tells-as, tells-from, tells-none}
 use Rattle.field_rules.specs.EnumValues.{reserved_fault, reserved_faults}
 use Rattle.field_rules.proofs.Told.{told-held, told-free}
 use Rattle.field_rules.proofs.enum_ranges.check_reserved.Goals as goal

@@ -15,7 +15,7 @@ use Rattle.record_walk.specs.declared.faults.Faults.{Faults}
 use Rattle.record_walk.specs.Place.{enum_at}
 use Rattle.record_walk.specs.Faults.{Tells, named_files}
 use Rattle.field_rules.proofs.Tells.{tells-next}
-use Rattle.record_walk.proofs.Faults.{same-files, tells-as, tells-two}
+use Rattle.record_walk.proofs.Tells.{same-files, tells-as, tells-two}
 use Rattle.field_rules.specs.EnumValues.{number_label, value_faults}
 use Rattle.field_rules.proofs.Earlier.{positions-next, below-next}
 use Rattle.field_rules.proofs.ValueFaults.{told-alone, told-shared}

@@ -4,7 +4,7 @@ use Rattle.proto_types.specs.declared.message.DescriptorProto.{out-DescriptorPro
 use Rattle.proto_types.specs.Readers.{number_of}
 use Rattle.record_walk.proofs.Listings.{on-ok}
 use Rattle.record_walk.specs.Faults.{named_files}
-use Rattle.record_walk.proofs.Faults.{tells-as}
+use Rattle.record_walk.proofs.Tells.{tells-as}
 use Rattle.record_walk.specs.Place.{inside_of}
 use Rattle.field_rules.specs.Numbers.{out_of_range_faults, extension_range_faults}
 use Rattle.std.specs.Prelude.{ℕ, ℤ, List, Option}

@@ -6,7 +6,7 @@ use Rattle.plain_data.specs.Lists.{listed}
 use Rattle.proto_types.specs.declared.message.ExtensionRange.{ExtensionRange}
 use Rattle.pool_faults.specs.declared.fault.DescriptorErrorKind.{DescriptorErrorKind}
 use Rattle.record_walk.specs.Faults.{named_files}
-use Rattle.record_walk.proofs.Faults.{tells-as, tells-from, tells-none}
+use Rattle.record_walk.proofs.Tells.{tells-as, tells-from, tells-none}
 use Rattle.record_walk.specs.Place.{inside_of}
 use Rattle.field_rules.specs.Numbers.{extension_range_fault}
 use Rattle.field_rules.specs.Ranges.{extends}

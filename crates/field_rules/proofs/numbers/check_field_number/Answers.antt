@@ -4,7 +4,7 @@ use Rattle.proto_types.specs.declared.message.DescriptorProto.{out-DescriptorPro
 use Rattle.proto_types.specs.Readers.{number_of}
 use Rattle.record_walk.proofs.Listings.{on-ok}
 use Rattle.record_walk.specs.Faults.{Tells, named_files}
-use Rattle.record_walk.proofs.Faults.{same-files, tells-as, tells-three, tells-two}
+use Rattle.record_walk.proofs.Tells.{same-files, tells-as, tells-three, tells-two}
 use Rattle.record_walk.specs.Place.{inside_of}
 use Rattle.field_rules.specs.Numbers.{invalid_faults, reserved_faults, out_of_range_faults, extension_range_faults}
 use Rattle.field_rules.proofs.numbers.check_field_number.Goals as goal

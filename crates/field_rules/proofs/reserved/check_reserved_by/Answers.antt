@@ -7,7 +7,7 @@ use Rattle.proto_types.specs.declared.message.DescriptorProto.{out-DescriptorPro
 use Rattle.proto_types.specs.declared.message.ReservedRange.{ReservedRange}
 use Rattle.record_walk.specs.Faults.{named_files}
 use Rattle.field_rules.proofs.Tells.{tells-next}
-use Rattle.record_walk.proofs.Faults.{tells-as}
+use Rattle.record_walk.proofs.Tells.{tells-as}
 use Rattle.number_ranges.specs.Ranges.{holds, first_from}
 use Rattle.number_ranges.proofs.Firsts.{first-below, first-map}
 use Rattle.record_walk.specs.Place.{inside_of}

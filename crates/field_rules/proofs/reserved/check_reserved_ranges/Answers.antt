@@ -3,7 +3,7 @@ use Rattle.std.proofs.lemmas.List.{get_or_default}
 use Rattle.proto_types.specs.declared.message.ReservedRange.{ReservedRange}
 use Rattle.record_walk.specs.Faults.{named_files}
 use Rattle.field_rules.proofs.Tells.{tells-next}
-use Rattle.record_walk.proofs.Faults.{tells-as}
+use Rattle.record_walk.proofs.Tells.{tells-as}
 use Rattle.record_walk.specs.Place.{inside_of}
 use Rattle.field_rules.specs.Numbers.{reserved_fault, reserved_faults}
 use Rattle.field_rules.proofs.reserved.check_reserved_ranges.Goals as goal

@@ -4,7 +4,7 @@ use Rattle.std.specs.List.{enumerate_from}
 use Rattle.std.specs.Option.{option_map}
 use Rattle.std.specs.Str.{bytes_eq}
 use Rattle.record_walk.specs.Faults.{named_files}
-use Rattle.record_walk.proofs.Faults.{same-files, tells-as, tells-from, tells-none, tells-two}
+use Rattle.record_walk.proofs.Tells.{same-files, tells-as, tells-from, tells-none, tells-two}
 use Rattle.name_pass.specs.CamelCase.{camel_case_fault, camel_case_key, key_at}
 use Rattle.name_pass.proofs.CamelCase.{told-next}
 use Rattle.name_pass.proofs.Holders.{held-before, none-before, holders-next, entries-next, short-list}

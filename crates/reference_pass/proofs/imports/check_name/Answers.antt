@@ -7,7 +7,7 @@ use Rattle.record_walk.proofs.Listings.{on-ok}
 use Rattle.pool_faults.specs.Labels.{label_in}
 use Rattle.pool_faults.specs.declared.fault.DescriptorErrorKind.{DescriptorErrorKind}
 use Rattle.pool_faults.specs.declared.fault.DescriptorErrorKind.TheVariants.{FileNotFound}
-use Rattle.record_walk.proofs.Faults.{tells-from}
+use Rattle.record_walk.proofs.Tells.{tells-from}
 use Rattle.reference_pass.specs.Reading.{setting_of}
 use Rattle.reference_pass.proofs.Readings.{reads-as, reads-told}
 use Rattle.reference_pass.proofs.imports.check_name.Goals as goal

@@ -10,7 +10,7 @@ use Rattle.plain_data.specs.Lists.{listed}
 use Rattle.proto_types.specs.declared.message.DescriptorProto.{out-DescriptorProto}
 use Rattle.record_walk.proofs.Listings.{on-ok}
 use Rattle.record_walk.specs.Faults.{Tells, named_files}
-use Rattle.record_walk.proofs.Faults.{same-files, tells-as, tells-two}
+use Rattle.record_walk.proofs.Tells.{same-files, tells-as, tells-two}
 use Rattle.field_rules.specs.Duplicates.{duplicate_faults, number_duplicate, same_number, same_json_name}
 use Rattle.field_rules.specs.Maps.{item_number}
 use Rattle.field_rules.proofs.Duplicates.{number-told, json_name-told, next-maps, short-numbers, short-json_names}

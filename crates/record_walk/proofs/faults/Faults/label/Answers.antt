@@ -1,4 +1,4 @@
-use Rattle.record_walk.proofs.Faults.{same-labels}
+use Rattle.record_walk.proofs.Tells.{same-labels}
 use Rattle.record_walk.proofs.faults.Faults.label.Goals as goal
 
 -- labels name the same files as before
