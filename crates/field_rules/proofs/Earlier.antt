@@ -8,7 +8,7 @@ use Rattle.std.specs.Ordering.{int_eq}
 use Rattle.proto_types.specs.declared.records.enumeration.EnumValueDescriptorProto.{EnumValueDescriptorProto}
 use Rattle.plain_data.specs.Lists.{listed}
 use Rattle.proto_types.specs.Readers.{number_of}
-use Rattle.field_rules.proofs.Positions.{entries-next}
+use Rattle.plain_data.proofs.Enumerated.{entries-next}
 
 abbrev Entry : Type 0
 Entry = ℕ × EnumValueDescriptorProto

@@ -13,7 +13,7 @@ use Rattle.plain_data.specs.Each.{map_enumerated}
 use Rattle.field_rules.specs.Maps.{item_number}
 use Rattle.field_rules.specs.Oneofs.{oneof_of, members}
 use Rattle.proto_types.specs.declared.message.OneofDescriptorProto.{OneofDescriptorProto}
-use Rattle.field_rules.proofs.Latest.{entries-next}
+use Rattle.plain_data.proofs.Enumerated.{entries-next}
 
 abbrev none : List ℕ
 none = []

@@ -1,24 +1,13 @@
 -- Entries of a list with their positions, one more at a time.
-use Rattle.std.proofs.Common.{◌≡◌, ℕ, ◌+◌, ◌<◌, List, [], ◌∷◌, ◌++◌, length, map as each_of, take, get_or, Ordering, refl, ap, sym, ◌∙◌, add-one}
+use Rattle.std.proofs.Common.{◌≡◌, ℕ, ◌+◌, ◌<◌, List, [], ◌∷◌, ◌++◌, length, map as each_of, take, get_or, Ordering, refl, ap, sym, ◌∙◌}
 use Rattle.std.proofs.lemmas.List.{map-append}
 use Rattle.std.proofs.lemmas.List.Sums.{fold-append}
 use Rattle.std.specs.FinMap as map
 use Rattle.std.specs.List.{enumerate_from}
 use Rattle.plain_data.specs.Maps.{inserted}
-use Rattle.plain_data.specs.Each.{map_enumerated}
-use Rattle.field_rules.proofs.Each.{each-next}
+use Rattle.plain_data.proofs.Enumerated.{entries-next}
 
-enumerated : {X : Type 0} (n : ℕ) (xs : List X) → enumerate_from n xs ≡ map_enumerated (λ i x. (i, x)) n xs
-enumerated n [] = refl
-enumerated n (x ∷ xs) = ap (λ es. (n, x) ∷ es) (enumerated (n + 1) xs ∙ ap (λ m. map_enumerated (λ i x. (i, x)) m xs) (add-one n))
-
--- the entries up to a position, and the one there
-pub entries-next : {X : Type 0} (xs : List X) (i : ℕ) (x : X) → i < length xs → x ≡ get_or xs i x
-    → enumerate_from 0 (take (i + 1) xs) ≡ enumerate_from 0 (take i xs) ++ (i, x) ∷ []
-entries-next xs i x below is =
-    enumerated 0 (take (i + 1) xs) ∙ each-next (λ i x. (i, x)) xs i x below is ∙ ap (λ es. es ++ (i, x) ∷ []) (sym (enumerated 0 (take i xs)))
-
--- what these become
+-- what the entries up to a position become, and the one there
 pub mapped-next : {X Y : Type 0} (f : ℕ × X → Y) (xs : List X) (i : ℕ) (x : X) → i < length xs → x ≡ get_or xs i x
     → each_of f (enumerate_from 0 (take (i + 1) xs)) ≡ each_of f (enumerate_from 0 (take i xs)) ++ f (i, x) ∷ []
 mapped-next f xs i x below is = ap (each_of f) (entries-next xs i x below is) ∙ map-append f (enumerate_from 0 (take i xs)) ((i, x) ∷ [])

@@ -7,7 +7,8 @@ use Rattle.proto_types.specs.declared.file.FileDescriptorProto.{FileDescriptorPr
 use Rattle.plain_data.specs.Lists.{listed, after_each}
 use Rattle.proto_types.specs.declared.records.field.FieldDescriptorProto.{FieldDescriptorProto}
 use Rattle.name_pass.specs.CamelCase.{key_at, camel_case_fault, shared_key_faults, camel_case_faults}
-use Rattle.name_pass.proofs.Holders.{entries-next, after-append}
+use Rattle.name_pass.proofs.Holders.{after-append}
+use Rattle.plain_data.proofs.Enumerated.{entries-next}
 
 -- the faults of the fields before one, and what was found of its key, make the faults up to it
 pub told-next : (files : List FileDescriptorProto) (file : ℕ) (path : List ℤ) (fields : List FieldDescriptorProto) (i : ℕ) (f : FieldDescriptorProto) (key : List ℕ)

@@ -10,20 +10,6 @@ use Rattle.std.specs.Str.{bytes_eq}
 use Rattle.plain_data.specs.Lists.{after_each}
 use Rattle.record_walk.specs.Counts.{fits_list}
 
-enumerate-append : {X : Type 0} (n : ℕ) (xs : List X) (x : X) → enumerate_from n (xs ++ x ∷ []) ≡ enumerate_from n xs ++ (n + length xs, x) ∷ []
-enumerate-append n [] x = let here : n ≡ n + 0 = omega arith in ap (λ k. (k, x) ∷ []) here
-enumerate-append n (y ∷ ys) x =
-    let there : n + 1 + length ys ≡ n + suc (length ys) = omega arith in
-    ap (λ zs. (n, y) ∷ zs) (enumerate-append (n + 1) ys x ∙ ap (λ k. enumerate_from (n + 1) ys ++ (k, x) ∷ []) there)
-
--- the entries up to a position, and the one there
-pub entries-next : {X : Type 0} (xs : List X) (i : ℕ) (x : X) → i < length xs → x ≡ get_or xs i x
-    → enumerate_from 0 (take (i + 1) xs) ≡ enumerate_from 0 (take i xs) ++ (i, x) ∷ []
-entries-next xs i x below is =
-    let so_far : 0 + length (take i xs) ≡ i = omega (arith, length-take-le i xs (omega arith)) in
-    ap (enumerate_from 0) (take_more xs i x below) ∙ enumerate-append 0 (take i xs) (get_or xs i x)
-    ∙ (λ j. enumerate_from 0 (take i xs) ++ (so_far j, sym is j) ∷ [])
-
 pub after-append : {X Y : Type 0} (f : List X → X → List Y) (before xs : List X) (x : X) → after_each f before (xs ++ x ∷ []) ≡ after_each f before xs ++ f (before ++ xs) x
 after-append f before [] x = append-nil (f before x) ∙ ap (λ ys. f ys x) (sym (append-nil before))
 after-append f before (y ∷ ys) x =

@@ -4,3 +4,4 @@ pub mod Numbers
 pub mod Texts
 pub mod WholeNumbers
 pub mod Positions
+pub mod Enumerated

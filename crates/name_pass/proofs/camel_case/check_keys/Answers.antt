@@ -7,7 +7,8 @@ use Rattle.record_walk.specs.Faults.{named_files}
 use Rattle.record_walk.proofs.Tells.{same-files, tells-as, tells-from, tells-none, tells-two}
 use Rattle.name_pass.specs.CamelCase.{camel_case_fault, camel_case_key, key_at}
 use Rattle.name_pass.proofs.CamelCase.{told-next}
-use Rattle.name_pass.proofs.Holders.{held-before, none-before, holders-next, entries-next, short-list}
+use Rattle.name_pass.proofs.Holders.{held-before, none-before, holders-next, short-list}
+use Rattle.plain_data.proofs.Enumerated.{entries-next}
 use Rattle.name_pass.proofs.camel_case.check_keys.Goals as goal
 use Rattle.name_pass.proofs.camel_case.check_keys.Goals.{then-first-position+in_ok-fault+in_ok-push, else-first-position}
 
