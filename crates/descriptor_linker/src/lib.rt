@@ -1,5 +1,24 @@
 //! The linker of file descriptors: the pool, its laws, scripts, and the run of a script over devices.
 //! Every record, item and index that these name is handed on.
+//!
+//! # Example
+//!
+//! A batch of one file, and what the pool has then:
+//!
+//! ```
+//! let mut message = DescriptorProto::empty(alloc);
+//! message.name = Some(Text::from_str(alloc, "M")?);
+//! let mut file = FileDescriptorProto::empty(alloc);
+//! file.name = Some(Text::from_str(alloc, "a.proto")?);
+//! file.message_type.push(message)?;
+//! let mut batch = Vec::new(alloc);
+//! batch.push(file)?;
+//! let mut pool = DescriptorPool::new(alloc);
+//! match pool.build_files(batch) {
+//!     Ok(()) => assert!(rt; pool.get_by_name("M").is_some()),
+//!     Err(error) => assert!(rt; false, "{error:?}"),
+//! }
+//! ```
 #![tactic(auto)]
 
 mod ending;

@@ -1,5 +1,27 @@
 //! The parts of a pool: what it holds, what a name means, default values, and the faults of a batch.
 //! Every record, list and map that these name is handed on.
+//!
+//! # Example
+//!
+//! A name that is entered, and what a reference to it means in a scope of a file that sees the
+//! first file:
+//!
+//! ```
+//! let mut names = PoolNames::new(alloc);
+//! let path = Items::from_slice(alloc, &[4, 0, 1])?;
+//! let definition = Definition {
+//!     file: 0,
+//!     path,
+//!     kind: DefinitionKind::Message(0),
+//! };
+//! let back = names.insert("p.M", definition)?;
+//! assert!(rt; back.is_none());
+//! let mut seen = BTreeSet::new(alloc);
+//! seen.insert(0)?;
+//! let wanted = ResolveNameFilter::FieldType;
+//! let meant = resolve_name(alloc, &seen, &names, "p.N.f", "M", wanted)?;
+//! assert!(rt; meant.is_found());
+//! ```
 #![tactic(auto)]
 
 pub use default_values::{EscapeFault, ValueFault, parse_simple_value, unescape_c_escape_string};

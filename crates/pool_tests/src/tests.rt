@@ -3,6 +3,7 @@
 mod batches;
 mod errors;
 mod escapes;
+mod example;
 mod extension_faults;
 mod extensions;
 mod face;

@@ -1,5 +1,23 @@
 //! The records of descriptor.proto, what they declare, the walk over it, the record at a path, and
 //! the references. Every item, list and map that these name is handed on.
+//!
+//! # Example
+//!
+//! A file that is made by hand, the message at a path of it, and how much it declares:
+//!
+//! ```
+//! let mut file = FileDescriptorProto::empty(alloc);
+//! file.name = Some(Text::from_str(alloc, "a.proto")?);
+//! let mut message = DescriptorProto::empty(alloc);
+//! message.name = Some(Text::from_str(alloc, "M")?);
+//! file.message_type.push(message)?;
+//! let found = find_message_proto(&file, &[4, 0]).map(DescriptorProto::name);
+//! assert!(rt; found.unwrap_or("none") == "M");
+//! match Counts::of(&[file]) {
+//!     Ok(counts) => assert!(rt; counts.files == 1 && counts.messages == 1),
+//!     Err(kind) => assert!(rt; false, "too many: {kind:?}"),
+//! }
+//! ```
 #![tactic(auto)]
 
 pub use plain_data::{

@@ -4,6 +4,7 @@
 mod contents;
 mod copies;
 mod counting;
+mod example;
 mod face;
 mod finding;
 mod indexes;

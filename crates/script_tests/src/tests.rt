@@ -1,6 +1,7 @@
 //! What no contract says of scripts: printed reports, worked scripts, and devices that fail.
 
 mod devices;
+mod example;
 mod extensions;
 mod face;
 mod faults;

@@ -1,0 +1,82 @@
+#!/usr/bin/env python3
+"""Checks the tables of docs/ARCHITECTURE.md: whether all that they name is there.
+
+    python3 architecture.py
+
+The table of the layers has each crate of crates.txt, in that order. Each rule of the table "Each
+rule twice" has all five columns; each file that it names is there, in the crate of the row or in
+the one before a colon; a word in brackets behind a file stands in that file, and any other word in
+backquotes in some file of src/ or specs/. What is amiss is told, with status 1.
+"""
+
+from __future__ import annotations
+
+import re
+import sys
+from collections.abc import Iterator
+from pathlib import Path
+
+CRATES = Path(__file__).resolve().parent.parent / "crates"
+TOP = CRATES.parent
+PAGE = TOP / "docs" / "ARCHITECTURE.md"
+FILE = re.compile(r"([\w*/.-]+\.(?:antt|rt|edit)|src/[\w/]+/)(?: \(([^)]*)\))?")
+
+
+def section(title: str) -> list[list[str]]:
+    """The rows of the table below a heading, each as its cells."""
+    text = PAGE.read_text().split(f"\n## {title}\n")[1].split("\n## ")[0]
+    rows = [line[2:-2].split(" | ") for line in text.splitlines() if line.startswith("| ")]
+    return [[cell.strip() for cell in row] for row in rows[1:]]
+
+
+def found(crates: list[str], name: str) -> list[Path]:
+    """The files of these crates that a name means; of a file alone it is one of tests."""
+    name = name if "/" in name else f"src/tests/{name}"
+    return [path for crate in crates for path in (CRATES / crate).glob(name.rstrip("/"))]
+
+
+def has_word(path: Path, word: str) -> bool:
+    return re.search(rf"(?<!\w){re.escape(word)}(?!\w)", path.read_text()) is not None
+
+
+def sources() -> list[Path]:
+    return [path for end in ("src/**/*.rt", "specs/**/*.antt") for path in CRATES.glob(f"*/{end}")]
+
+
+def cell_faults(crates: list[str], cell: str) -> Iterator[str]:
+    for part in cell.split("; "):
+        named = re.match(r"(\w+): ", part)
+        here = [named[1]] if named else crates
+        for name, words in FILE.findall(part):
+            paths = found(here, name)
+            if not paths:
+                yield f"no file {name} in {' or '.join(here)}"
+            for word in re.findall(r"`(\w+)`", words):
+                if not any(has_word(path, word) for path in paths):
+                    yield f"no {word} in {name}"
+        for word in re.findall(r"`(\w+)`", FILE.sub("", part)):
+            if not any(has_word(path, word) for path in sources()):
+                yield f"no {word} in any file"
+
+
+def faults() -> Iterator[str]:
+    listed = re.findall(r"^(\w+):", (TOP / "crates.txt").read_text(), re.MULTILINE)
+    if [row[0].strip("`") for row in section("Layers")] != listed:
+        yield "the layers are not the crates of crates.txt, in that order"
+    for row in section("Each rule twice"):
+        if len(row) != 5 or not all(row):
+            yield f"{row[0]}: not all columns"
+            continue
+        crates = re.findall(r"`(\w+)`", row[1])
+        for cell in row[2:]:
+            yield from (f"{row[0]}: {fault}" for fault in cell_faults(crates, cell))
+
+
+def main() -> None:
+    told = list(faults())
+    if told:
+        sys.exit("\n".join(told))
+
+
+if __name__ == "__main__":
+    main()
