@@ -1,7 +1,6 @@
 //! Devices over memory, and runs that they end.
 
-use super::linking::{FIRST_REPORT, FIRST_SCRIPT};
-use super::walks::{THREE_FILES, THREE_REPORT};
+use super::scripts::{FIRST_REPORT, FIRST_SCRIPT, THREE_FILES, THREE_REPORT};
 use descriptor_linker::{Ending, run};
 use script_devices::{MemoryInput, MemoryOutput, ReportOutput, ScriptInput};
 use std::alloc::{AllocError, Global};
