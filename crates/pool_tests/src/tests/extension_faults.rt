@@ -9,12 +9,12 @@ pub(super) const EXTENSION_FAULTS: &[(&str, &str, &str)] = &[
         "a.proto: message 'p.' does not define '5' as an extension number [7, 0, 3]\n",
     ),
     (
-        "a package is no message, and nothing is report of the number",
+        "a package is no message, and nothing is told of the number",
         "file a.proto\npackage p\nextend e 1 optional int32 ~ p\nend\n",
         "a.proto: 'p' is not a message type [7, 0, 2] a.proto [2]\n",
     ),
     (
-        "an enum and an extension are no messages, and where nothing is extended is report",
+        "an enum and an extension are no messages, and where nothing is extended is told",
         "file a.proto\nenum E\nvalue A 0\nend\nmessage M\nextend e 0 optional int32 ~ E\n\
         extend f 0 optional int32 ~ .M.e\nend\nextend g 0 optional int32 ~ ~\n\
         extend h 0 optional int32 ~ .\nend\n",
@@ -253,7 +253,7 @@ pub(super) const DEFAULT_FAULTS: &[(&str, &str, &str)] = &[
         a.proto: 'M.f' is not a message or enum type [4, 0, 2, 2, 6] a.proto [4, 0, 2, 0, 1]\n",
     ),
     (
-        "a field's default value is report behind its number, and before its oneof and earlier fields",
+        "a field's default value is told behind its number, and before its oneof and earlier fields",
         "file a.proto\nmessage M\nfield f 0 optional ~ ~ ~\njson x\n\
         field g 0 optional bool ~ 0\njson x\ndefault True\nend\nat 4,0,2,1,7 6,0,7\nend\n",
         "a.proto: invalid field number '0' [4, 0, 2, 0, 3]\n\
