@@ -1,18 +1,11 @@
-//! What no contract says of scripts: printed reports, worked scripts, and devices that fail.
+//! What no contract says of scripts, but for the rows of `script_rows`: what a reader gives, and
+//! devices that fail.
 
 mod devices;
 mod example;
-mod extensions;
 mod face;
-mod faults;
-mod imports;
 mod laws;
-mod linking;
-mod misplaced;
-mod refusals;
-mod runs;
+mod scripts;
 mod statements;
 mod streams;
 mod too_many;
-mod walks;
-mod whole_scripts;

@@ -1,8 +1,8 @@
-//! Batches that a pool takes and refuses, and what its names mean then.
+//! Pools that took and refused batches, and their clones.
 
 use super::files_of;
 use descriptor_pool::{BuildError, DescriptorPool};
-use pool_types::{DefinitionKind, ExtensionDescriptor, MessageDescriptor};
+use pool_types::{ExtensionDescriptor, MessageDescriptor};
 use std::alloc::{AllocError, Global};
 use std::process::Abort;
 use std::test::Fail;
@@ -11,128 +11,16 @@ use std::test::Fail;
 pub(super) const FIRST: &str = "file a.proto\npackage p.q\nmessage M\n\
     field f 1 optional int32 ~ ~\nfield g 2 optional message .p.q.M ~\nend\nend\n";
 
+/// A file of one message.
 const GOOD: &str = "file good.proto\nmessage Good\nextensions 1 3\nend\nend\n";
 
-/// Batches that one pool is given in turn, what it answers, a name, and what that means then: a
-/// kind, an index, the index of the file, and a path.
-const BATCHES: &[(&str, &str, &str, &str)] = &[
-    ("", "ok 0 0 0 0 0", "Good", "none"),
-    (
-        FIRST,
-        "ok 1 1 0 0 0",
-        "p.q.M.g",
-        "field 0 0 [4, 0, 2, 1, 1]",
-    ),
-    (
-        "file good.proto\nmessage Good\nend\nend\nfile bad.proto\nmessage Good\nend\nend\n",
-        "refused bad.proto: name 'Good' is already defined in file 'good.proto'",
-        "Good",
-        "none",
-    ),
-    ("", "ok 1 1 0 0 0", "p.q.M.g", "field 0 0 [4, 0, 2, 1, 1]"),
-    (
-        "file a.proto\nmessage Unread\nend\nend\n",
-        "ok 1 1 0 0 0",
-        "Unread",
-        "none",
-    ),
-    (GOOD, "ok 2 2 0 0 0", ".Good", "message 1 1 [4, 0, 1]"),
-    (
-        "file parts.proto\nimport good.proto\nenum E\nvalue V 0\nend\nservice S\nend\n\
-        extend x 1 optional int32 ~ Good\nmessage Good\nend\nend\n",
-        "refused parts.proto: name 'Good' is already defined in file 'good.proto'",
-        "V",
-        "none",
-    ),
-    (
-        "file parts.proto\nimport good.proto\nenum E\nvalue V 0\nend\nservice S\nend\n\
-        extend x 1 optional int32 ~ Good\nextend g 2 optional message Nope Good\nend\n",
-        "refused parts.proto: name 'Nope' is not defined",
-        "x",
-        "none",
-    ),
-    (
-        "file parts.proto\nimport good.proto\nenum E\nvalue V 0\nend\nservice S\nend\n\
-        extend x 1 optional int32 ~ Good\nend\n",
-        "ok 3 2 1 1 1",
-        "V",
-        "value 0 2 [5, 0, 2, 0, 1]",
-    ),
-    ("", "ok 3 2 1 1 1", "x", "extension 0 2 [7, 0, 1]"),
-];
-
-/// Gives a pool a batch, and tells what it answers.
-fn answer(alloc: Global, pool: &mut DescriptorPool, script: &str) -> Result<String, AllocError> {
+/// Gives a pool a batch, and says whether it takes that.
+fn take(alloc: Global, pool: &mut DescriptorPool, script: &str) -> Result<bool, AllocError> {
     match pool.build_files(files_of(alloc, script)?) {
-        Ok(()) => counts_words(alloc, pool),
-        Err(BuildError::TooMany(kind)) => format!(in alloc; "too many {kind:?}"),
-        Err(BuildError::Descriptor(error)) => format!(in alloc; "refused {error:?}"),
+        Ok(()) => Ok(true),
         Err(BuildError::OutOfMemory) => Err(AllocError),
+        Err(_) => Ok(false),
     }
-}
-
-fn counts_words(alloc: Global, pool: &DescriptorPool) -> Result<String, AllocError> {
-    let counts = pool.counts();
-    let (files, messages, enums) = (counts.files, counts.messages, counts.enums);
-    let (services, extensions) = (counts.services, counts.extensions);
-    format!(in alloc; "ok {files} {messages} {enums} {services} {extensions}")
-}
-
-/// What a name means in a pool.
-fn found_words(alloc: Global, pool: &DescriptorPool, name: &str) -> Result<String, AllocError> {
-    let Some(definition) = pool.get_by_name(name) else {
-        return String::from_str(alloc, "none");
-    };
-    let (word, index) = kind_words(definition.kind);
-    let (file, path) = (definition.file, definition.path.as_slice());
-    format!(in alloc; "{word} {index} {file} {path:?}")
-}
-
-pub(super) fn kind_words(kind: DefinitionKind) -> (&'static str, u32) {
-    match kind {
-        DefinitionKind::Package => ("package", 0),
-        DefinitionKind::Message(index) => ("message", index),
-        DefinitionKind::Field(index) => ("field", index),
-        DefinitionKind::Oneof(index) => ("oneof", index),
-        DefinitionKind::Service(index) => ("service", index),
-        DefinitionKind::Method(index) => ("method", index),
-        DefinitionKind::Enum(index) => ("enum", index),
-        DefinitionKind::EnumValue(index) => ("value", index),
-        DefinitionKind::Extension(index) => ("extension", index),
-    }
-}
-
-fn check(
-    rt: &impl Abort,
-    alloc: Global,
-    pool: &mut DescriptorPool,
-    row: &(&str, &str, &str, &str),
-) -> Result<(), AllocError> {
-    let (script, wanted, name, found) = *row;
-    let report = answer(alloc, pool, script)?;
-    assert!(rt; report.as_str() == wanted, "{report}");
-    check_found(rt, alloc, pool, name, found)
-}
-
-fn check_found(
-    rt: &impl Abort,
-    alloc: Global,
-    pool: &DescriptorPool,
-    name: &str,
-    wanted: &str,
-) -> Result<(), AllocError> {
-    let report = found_words(alloc, pool, name)?;
-    assert!(rt; report.as_str() == wanted, "{name} {report}");
-    Ok(())
-}
-
-#[test]
-fn a_pool_takes_and_refuses_batches(rt: HostRuntime) -> Result<(), Fail> {
-    let mut pool = DescriptorPool::new(rt.alloc());
-    for row in BATCHES {
-        check(&rt, rt.alloc(), &mut pool, row)?;
-    }
-    Ok(())
 }
 
 /// A file whose field means a message that is not there, and that declares an item of each kind.
@@ -144,9 +32,16 @@ const BAD: &str = "file bad.proto\nmessage Bad\nfield f 1 optional message .Miss
 pub(super) fn pool_of(alloc: Global, scripts: &[&str]) -> Result<DescriptorPool, AllocError> {
     let mut pool = DescriptorPool::new(alloc);
     for script in scripts {
-        answer(alloc, &mut pool, script)?;
+        take(alloc, &mut pool, script)?;
     }
     Ok(pool)
+}
+
+/// Whether two pools have the same linked files.
+fn has_files_of(pool: &DescriptorPool, fresh: &DescriptorPool) -> Result<bool, AllocError> {
+    let files = pool.linked_files()?;
+    let others = fresh.linked_files()?;
+    Ok(files == others)
 }
 
 /// Asserts that two pools have the same files and messages, and nothing of the bad file.
@@ -156,7 +51,7 @@ fn check_equal(
     fresh: &DescriptorPool,
 ) -> Result<(), AllocError> {
     assert!(rt; pool.counts() == fresh.counts());
-    assert!(rt; pool.linked_files()? == fresh.linked_files()?);
+    assert!(rt; has_files_of(pool, fresh)?);
     let first = MessageDescriptor::new(0);
     assert!(rt; pool.message(first) == fresh.message(first));
     assert!(rt; pool.get_by_name("Good").is_some());
@@ -181,13 +76,14 @@ fn check_clone(
     rt: &impl Abort,
     alloc: Global,
     pool: &mut DescriptorPool,
+    copy: &DescriptorPool,
 ) -> Result<(), AllocError> {
-    let (copy, first) = (pool.clone()?, ExtensionDescriptor::new(0));
-    assert!(rt; *pool == copy);
-    answer(alloc, pool, EXTENDING)?;
+    let first = ExtensionDescriptor::new(0);
+    assert!(rt; *pool == *copy);
+    assert!(rt; take(alloc, pool, EXTENDING)?);
     assert!(rt; pool.counts().files == 2 && pool.extension(first).is_some());
     assert!(rt; copy.counts().files == 1 && copy.extension(first).is_none());
-    assert!(rt; *pool != copy);
+    assert!(rt; *pool != *copy);
     Ok(())
 }
 
@@ -204,54 +100,32 @@ fn check_refused(
     rt: &impl Abort,
     alloc: Global,
     pool: &mut DescriptorPool,
+    copy: &DescriptorPool,
 ) -> Result<(), AllocError> {
-    let (copy, first) = (pool.clone()?, MessageDescriptor::new(0));
-    let report = answer(alloc, pool, EXTENDED)?;
-    assert!(rt;
-        report.as_str() == "refused b.proto: name 'Nope' is not defined",
-        "{report}"
-    );
-    assert!(rt; *pool == copy);
+    assert!(rt; !take(alloc, pool, EXTENDED)?);
+    assert!(rt; *pool == *copy);
     assert!(rt; pool.get_by_name("e").is_none());
-    let Some(message) = pool.message(first) else {
+    let Some(message) = pool.message(MessageDescriptor::new(0)) else {
         panic!(rt; "no message");
     };
     assert!(rt; message.extensions.as_slice().is_empty());
     Ok(())
 }
 
-#[test]
-fn a_refused_batch_leaves_a_pool_as_its_clone(rt: HostRuntime) -> Result<(), Fail> {
-    let mut pool = pool_of(rt.alloc(), &[BARE])?;
-    check_refused(&rt, rt.alloc(), &mut pool)?;
-    Ok(())
-}
-
-/// Gives a pool of one file an empty one: its clone has one file as before.
-fn check_counts(
+fn check_with_clone(
     rt: &impl Abort,
     alloc: Global,
     pool: &mut DescriptorPool,
 ) -> Result<(), AllocError> {
     let copy = pool.clone()?;
-    let report = answer(alloc, pool, "file c.proto\nend\n")?;
-    assert!(rt; report.as_str() == "ok 2 3 0 0 0", "{report}");
-    assert!(rt; pool.counts().files == 2);
-    assert!(rt; copy.counts().files == 1);
-    Ok(())
+    check_refused(rt, alloc, pool, &copy)?;
+    check_clone(rt, alloc, pool, &copy)
 }
 
 #[test]
-fn a_clone_keeps_its_count_of_files(rt: HostRuntime) -> Result<(), Fail> {
+fn a_clone_stays_where_its_pool_refuses_or_grows(rt: HostRuntime) -> Result<(), Fail> {
     let mut pool = pool_of(rt.alloc(), &[BARE])?;
-    check_counts(&rt, rt.alloc(), &mut pool)?;
-    Ok(())
-}
-
-#[test]
-fn a_clone_stays_where_its_pool_grows(rt: HostRuntime) -> Result<(), Fail> {
-    let mut pool = pool_of(rt.alloc(), &[FIRST])?;
-    check_clone(&rt, rt.alloc(), &mut pool)?;
+    check_with_clone(&rt, rt.alloc(), &mut pool)?;
     Ok(())
 }
 

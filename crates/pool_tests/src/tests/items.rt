@@ -77,6 +77,14 @@ const LINKED: &[(&str, &str, &[(KindIndex, Cardinality)])] = &[
         none\n",
         &[],
     ),
+    (
+        "file a.proto\nmessage A\nmessage B\nend\nend\nend\n",
+        "message A A [4, 0] None\n\
+        message A.B B [4, 0, 3, 0] Some(0)\n\
+        file a.proto\n\
+        none\n",
+        &[],
+    ),
 ];
 
 /// What a pool has, up to the second message and the second file.
@@ -243,48 +251,5 @@ fn files_see_what_is_imported(rt: HostRuntime) -> Result<(), Fail> {
         let report = seen_report(rt.alloc(), &pool)?;
         assert!(rt; report.as_str() == *wanted, "{report}");
     }
-    Ok(())
-}
-
-/// A file with a message inside another, and so on, 64 of them, and with a field in the inmost.
-fn nested(alloc: Global) -> Result<String, AllocError> {
-    let mut script = String::from_str(alloc, "file a.proto\n")?;
-    for _ in 0..64 {
-        script.push_str("message M\n")?;
-    }
-    script.push_str("field f 1 optional message M ~\n")?;
-    for _ in 0..65 {
-        script.push_str("end\n")?;
-    }
-    Ok(script)
-}
-
-/// How many messages there are, and of the inmost its parent, the lengths of its path and of its
-/// full name, its name, and the lengths of the paths of its fields.
-fn inmost_report(alloc: Global, pool: &DescriptorPool) -> Result<String, AllocError> {
-    let count = pool.counts().messages;
-    let Some(inmost) = pool.message(MessageDescriptor::new(63)) else {
-        return String::from_str(alloc, "none");
-    };
-    let (parent, name) = (inmost.parent, inmost.id.name());
-    let (path_len, name_len) = (inmost.id.path().len(), inmost.id.full_name().len());
-    let mut report = format!(in alloc; "{count} {parent:?} {path_len} {name_len} {name}")?;
-    for field in inmost.fields.as_slice() {
-        let path_len = field.id.path().len();
-        write!(&mut report, " {path_len}")?;
-    }
-    Ok(report)
-}
-
-fn check_inmost(rt: &impl Abort, alloc: Global, pool: &DescriptorPool) -> Result<(), AllocError> {
-    let report = inmost_report(alloc, pool)?;
-    assert!(rt; report.as_str() == "64 Some(62) 128 127 M 130", "{report}");
-    Ok(())
-}
-
-#[test]
-fn nested_messages_are_all_linked(rt: HostRuntime) -> Result<(), Fail> {
-    let script = nested(rt.alloc())?;
-    check_inmost(&rt, rt.alloc(), &pool_of(rt.alloc(), script.as_str())?)?;
     Ok(())
 }

@@ -1,34 +1,15 @@
-//! What labels and references tell among the files and the names of a pool.
+//! What labels tell among the files of a pool, and what references mean.
 
 use super::files_of;
-use super::names::enter;
-use name_resolution::{CandidateParents, ResolveNameFilter, ResolveNameResult, resolve_name};
-use name_tables::HashedNames;
+use name_resolution::{CandidateParents, ResolveNameResult};
 use plain_data::Items;
 use pool_faults::{Label, Labelled, Labels, label_at};
-use pool_types::{Definition, DefinitionKind, FileDescriptorInner, Syntax};
+use pool_types::{FileDescriptorInner, Syntax};
 use std::alloc::{AllocError, Global};
 use std::collections::BTreeSet;
 use std::fmt::Write;
 use std::process::Abort;
 use std::test::Fail;
-
-fn definition(alloc: Global, kind: DefinitionKind) -> Result<Definition, AllocError> {
-    Ok(Definition {
-        file: 0,
-        path: Items::from_slice(alloc, &[4, 0, 1])?,
-        kind,
-    })
-}
-
-/// The names of the first file: a package, and a message.
-fn names(alloc: Global) -> Result<HashedNames, AllocError> {
-    let mut names = HashedNames::new(alloc);
-    let (package, message) = (DefinitionKind::Package, DefinitionKind::Message(0));
-    enter(&mut names, "p", definition(alloc, package)?)?;
-    enter(&mut names, "p.M", definition(alloc, message)?)?;
-    Ok(names)
-}
 
 /// The files of which labels are made.
 const LABELLED: &str = "file a.proto\nend\nfile b.proto\nmessage M\nend\nend\n";
@@ -98,39 +79,6 @@ fn labels_name_their_file(rt: HostRuntime) -> Result<(), Fail> {
     Ok(())
 }
 
-/// The files that are seen, a scope and a reference that is written there to a message or an enum,
-/// what it means, and its fault in the second file.
-const REFERENCES: &[(&[u32], &str, &str, &str)] = &[
-    (&[0], "p", ".p.M", "found p.M: none"),
-    (&[1, 0], "", "p.M", "found p.M: none"),
-    (&[0], "q", "p.M", "found p.M: none"),
-    (&[0], "p.x.y", "M", "found p.M: none"),
-    (
-        &[0],
-        "",
-        "p",
-        "invalid p: b.proto: 'p' is not a message or enum type",
-    ),
-    (
-        &[1],
-        "p",
-        ".p.M",
-        "not imported p.M 0: b.proto: name 'p.M' is not defined",
-    ),
-    (
-        &[0],
-        "p.M",
-        "M.N",
-        "shadowed M.N p.M.N: b.proto: 'M.N' resolves to 'p.M.N', which is not defined",
-    ),
-    (
-        &[],
-        "p",
-        "q.M",
-        "not found: b.proto: name 'q.M' is not defined",
-    ),
-];
-
 /// What a reference means.
 pub(super) fn meaning(alloc: Global, resolved: &ResolveNameResult) -> Result<String, AllocError> {
     match resolved {
@@ -157,14 +105,9 @@ pub(super) fn meaning(alloc: Global, resolved: &ResolveNameResult) -> Result<Str
     }
 }
 
-/// The fault of a reference in the second file.
-fn fault_words(
-    alloc: Global,
-    resolved: &ResolveNameResult,
-    name: &str,
-    linked: &[FileDescriptorInner],
-) -> Result<String, AllocError> {
-    match resolved.fault(alloc, name, linked, 1, &[4])? {
+/// The fault in the second file of a name that means nothing.
+fn fault_words(alloc: Global, linked: &[FileDescriptorInner]) -> Result<String, AllocError> {
+    match ResolveNameResult::NotFound.fault(alloc, "q.M", linked, 1, &[4])? {
         Some(fault) => {
             let fault = Labelled(&fault);
             format!(in alloc; "{fault}")
@@ -173,42 +116,13 @@ fn fault_words(
     }
 }
 
-fn check_reference(
-    rt: &impl Abort,
-    alloc: Global,
-    row: &(&[u32], &str, &str, &str),
-    names: &HashedNames,
-    linked: &[FileDescriptorInner],
-) -> Result<(), AllocError> {
-    let (seen, scope, name, wanted) = *row;
-    let mut visible = BTreeSet::new(alloc);
-    for file in seen {
-        visible.insert(*file)?;
-    }
-    let resolved = resolve_name(
-        alloc,
-        &visible,
-        names,
-        scope,
-        name,
-        ResolveNameFilter::FieldType,
-    )?;
-    let (meaning, fault) = (
-        meaning(alloc, &resolved)?,
-        fault_words(alloc, &resolved, name, linked)?,
-    );
-    assert!(rt; resolved.is_found() == (fault.as_str() == "none"), "{name}");
-    let report = format!(in alloc; "{meaning}: {fault}")?;
-    assert!(rt; report.as_str() == wanted, "{report}");
-    Ok(())
-}
-
 #[test]
-fn references_mean_what_their_scope_says(rt: HostRuntime) -> Result<(), Fail> {
-    let (names, linked) = (names(rt.alloc())?, linked(rt.alloc(), LABELLED)?);
-    for row in REFERENCES {
-        check_reference(&rt, rt.alloc(), row, &names, &linked)?;
-    }
+fn a_name_that_means_nothing_has_a_fault(rt: HostRuntime) -> Result<(), Fail> {
+    let report = fault_words(rt.alloc(), linked(rt.alloc(), LABELLED)?.as_slice())?;
+    assert!(rt;
+        report.as_str() == "b.proto: name 'q.M' is not defined",
+        "{report}"
+    );
     Ok(())
 }
 

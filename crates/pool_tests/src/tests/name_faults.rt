@@ -9,6 +9,12 @@ pub(super) const NAME_FAULTS: &[(&str, &str, &str)] = &[
         "a.proto: name 'p.M' is defined twice [4, 1, 1] a.proto [4, 0, 1]\n",
     ),
     (
+        "of two files that declare one name the second cites the first",
+        "file b.proto\npackage p\nmessage M\nend\nend\n\
+        file a.proto\npackage p\nmessage M\nend\nend\n",
+        "a.proto: name 'p.M' is already defined in file 'b.proto' [4, 0, 1] b.proto [4, 0, 1]\n",
+    ),
+    (
         "values of two enums of a scope have one name",
         "file a.proto\npackage p\nenum E\nvalue V 0\nend\nenum F\nvalue V 0\nend\nend\n",
         "a.proto: name 'p.V' is defined twice [5, 1, 2, 0, 1] a.proto [5, 0, 2, 0, 1]\n",

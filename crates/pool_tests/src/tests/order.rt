@@ -1,6 +1,5 @@
 //! Batches whose files are handed over in another order.
 
-use super::batches::kind_words;
 use super::files_of;
 use super::items::pool_of;
 use super::rules::faults_report;
@@ -186,6 +185,20 @@ fn records_of(alloc: Global, scripts: &[&str]) -> Result<Vec<FileDescriptorProto
     files_of(alloc, batch.as_str())
 }
 
+fn kind_word(kind: DefinitionKind) -> &'static str {
+    match kind {
+        DefinitionKind::Package => "package",
+        DefinitionKind::Message(_) => "message",
+        DefinitionKind::Field(_) => "field",
+        DefinitionKind::Oneof(_) => "oneof",
+        DefinitionKind::Service(_) => "service",
+        DefinitionKind::Method(_) => "method",
+        DefinitionKind::Enum(_) => "enum",
+        DefinitionKind::EnumValue(_) => "value",
+        DefinitionKind::Extension(_) => "extension",
+    }
+}
+
 /// What a name means in a pool, without numbers: a kind, the name of the file, and a path.
 fn meaning(alloc: Global, pool: &DescriptorPool, name: &str) -> Result<String, AllocError> {
     let Some(definition) = pool.get_by_name(name) else {
@@ -197,7 +210,7 @@ fn meaning(alloc: Global, pool: &DescriptorPool, name: &str) -> Result<String, A
     let Some(file) = pool.file(FileDescriptor::new(definition.file)) else {
         return String::from_str(alloc, "no file");
     };
-    let (word, _) = kind_words(definition.kind);
+    let word = kind_word(definition.kind);
     let (file, path) = (file.raw.name(), definition.path.as_slice());
     format!(in alloc; "{word} {file} {path:?}")
 }
@@ -328,36 +341,6 @@ fn check_refused(
 fn a_broken_batch_is_refused_in_any_order(rt: HostRuntime) -> Result<(), Fail> {
     for row in REFUSED {
         check_refused(&rt, rt.alloc(), row)?;
-    }
-    Ok(())
-}
-
-/// Two files that declare one name.
-const CLASHING: &[&str] = &[
-    "file a.proto\npackage p\nmessage M\nend\nend\n",
-    "file b.proto\npackage p\nmessage M\nend\nend\n",
-];
-
-/// An order of them, and a line for its fault.
-const CLASHES: &[(&[usize], &str)] = &[
-    (
-        &[0, 1],
-        "b.proto: name 'p.M' is already defined in file 'a.proto' \
-        [4, 0, 1] a.proto [4, 0, 1]\n",
-    ),
-    (
-        &[1, 0],
-        "a.proto: name 'p.M' is already defined in file 'b.proto' \
-        [4, 0, 1] b.proto [4, 0, 1]\n",
-    ),
-];
-
-#[test]
-fn a_clash_cites_the_first_in_order(rt: HostRuntime) -> Result<(), Fail> {
-    for (order, wanted) in CLASHES {
-        let batch = batch_in(rt.alloc(), CLASHING, order)?;
-        let report = faults_report(rt.alloc(), files_of(rt.alloc(), batch.as_str())?)?;
-        assert!(rt; report.as_str() == *wanted, "{order:?}\n{report}");
     }
     Ok(())
 }

@@ -227,6 +227,10 @@ fn check_meaning(
 ) -> Result<(), AllocError> {
     let told = meaning(alloc, resolved)?;
     assert!(rt; told.as_str() == wanted, "{told} for {wanted}");
+    assert!(rt;
+        resolved.is_found() == wanted.starts_with("found"),
+        "{wanted}"
+    );
     Ok(())
 }
 

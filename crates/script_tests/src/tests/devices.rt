@@ -1,7 +1,6 @@
 //! Devices over memory, and runs that they end.
 
-use super::linking::{FIRST_REPORT, FIRST_SCRIPT};
-use super::walks::{THREE_FILES, THREE_REPORT};
+use super::scripts::{FIRST_REPORT, FIRST_SCRIPT, THREE_FILES, THREE_REPORT};
 use descriptor_linker::{Ending, run};
 use script_devices::{MemoryInput, MemoryOutput, ReportOutput, ScriptInput};
 use std::alloc::{AllocError, Global};
@@ -101,88 +100,123 @@ fn memory_is_written_as_far_as_there_is_room(rt: HostRuntime) -> Result<(), Fail
     Ok(())
 }
 
-/// Asserts that a run ends, with nothing written, where the read of this number fails.
-fn check_failed_read(rt: &impl Abort, alloc: Global, fuse: u64) -> Result<(), AllocError> {
-    let mut input = MemoryInput::with_fuse(FIRST_SCRIPT.as_bytes(), fuse);
-    let mut output = MemoryOutput::new(alloc, 1000)?;
-    assert!(rt; run(alloc, &mut input, &mut output) == Ending::Device);
-    assert!(rt; input.failures() == 1);
-    assert!(rt; output.written().is_empty());
-    Ok(())
+/// The fuses of the input and of the output of a run, and the room of the output.
+#[derive(Clone, Copy, Debug)]
+struct Limits {
+    input: u64,
+    output: u64,
+    room: usize,
 }
 
-/// Asserts that a run ends, with a beginning of the report written, where there is too little room
-/// for it or the write of this number fails.
-fn check_failed_write(
+/// How a run ends, how many of its reads fail, and how many bytes of its report it writes, or none
+/// where it writes other bytes.
+type Ended = (Ending, u64, Option<usize>);
+
+/// How many bytes these are, if a report begins with them.
+fn count_of_beginning(report: &str, written: &[u8]) -> Option<usize> {
+    let count = written.len();
+    if report.as_bytes().get(..count) == Some(written) {
+        Some(count)
+    } else {
+        None
+    }
+}
+
+/// Runs a script with a report from memory to memory.
+fn ended(alloc: Global, example: (&str, &str), limits: Limits) -> Result<Ended, AllocError> {
+    let (script, report) = example;
+    let mut input = MemoryInput::with_fuse(script.as_bytes(), limits.input);
+    let mut output = MemoryOutput::with_fuse(alloc, limits.room, limits.output)?;
+    let ending = run(alloc, &mut input, &mut output);
+    let count = count_of_beginning(report, output.written());
+    Ok((ending, input.failures(), count))
+}
+
+/// Asserts how a run ends.
+fn check(
     rt: &impl Abort,
     alloc: Global,
-    room: usize,
-    fuse: u64,
+    example: (&str, &str),
+    row: &(Limits, Ended),
 ) -> Result<(), AllocError> {
-    let mut input = MemoryInput::new(FIRST_SCRIPT.as_bytes());
-    let mut output = MemoryOutput::with_fuse(alloc, room, fuse)?;
-    assert!(rt;
-        run(alloc, &mut input, &mut output) == Ending::Device,
-        "{room} {fuse}"
-    );
-    let count = if fuse == 1 { 0 } else { room };
-    assert!(rt;
-        FIRST_REPORT.as_bytes().get(..count) == Some(output.written()),
-        "{room} {fuse}"
-    );
+    let (limits, wanted) = *row;
+    let ended = ended(alloc, example, limits)?;
+    if ended.0 == Ending::OutOfMemory {
+        return Err(AllocError);
+    }
+    assert!(rt; ended == wanted, "{limits:?} {ended:?}");
     Ok(())
 }
 
 #[test]
-fn a_device_that_fails_ends_the_run(rt: HostRuntime) -> Result<(), Fail> {
-    for fuse in 1..3 {
-        check_failed_read(&rt, rt.alloc(), fuse)?;
+fn a_read_that_fails_ends_the_run(rt: HostRuntime) -> Result<(), Fail> {
+    for input in 1..3 {
+        let limits = Limits {
+            input,
+            output: 0,
+            room: 1000,
+        };
+        let wanted = (Ending::Device, 1, Some(0));
+        check(
+            &rt,
+            rt.alloc(),
+            (FIRST_SCRIPT, FIRST_REPORT),
+            &(limits, wanted),
+        )?;
     }
+    Ok(())
+}
+
+#[test]
+fn too_little_room_or_a_write_that_fails_ends_the_run(rt: HostRuntime) -> Result<(), Fail> {
     for room in 0..FIRST_REPORT.len() {
-        for fuse in 0..3 {
-            check_failed_write(&rt, rt.alloc(), room, fuse)?;
+        for output in 0..3 {
+            let limits = Limits {
+                input: 0,
+                output,
+                room,
+            };
+            let count = if output == 1 { 0 } else { room };
+            let wanted = (Ending::Device, 0, Some(count));
+            check(
+                &rt,
+                rt.alloc(),
+                (FIRST_SCRIPT, FIRST_REPORT),
+                &(limits, wanted),
+            )?;
         }
     }
     Ok(())
 }
 
-/// The fuses of the input and of the output of a run, the room of the output, how the run ends, and
-/// how many bytes it writes.
-const FUSES: &[(u64, u64, usize, Ending, usize)] = &[
-    (1, 0, 1000, Ending::Device, 0),
-    (2, 0, 1000, Ending::Device, 0),
-    (3, 0, 1000, Ending::Whole, THREE_REPORT.len()),
-    (0, 1, 1000, Ending::Device, 0),
-    (0, 2, 1000, Ending::Whole, THREE_REPORT.len()),
-    (0, 2, 7, Ending::Device, 7),
-    (0, 0, 7, Ending::Device, 7),
-    (0, 0, 0, Ending::Device, 0),
+/// The fuses of the input and of the output, the room, how the run of three files ends, how many
+/// reads fail, and how many bytes it writes.
+const FUSES: &[(u64, u64, usize, Ending, u64, usize)] = &[
+    (1, 0, 1000, Ending::Device, 1, 0),
+    (2, 0, 1000, Ending::Device, 1, 0),
+    (3, 0, 1000, Ending::Whole, 0, THREE_REPORT.len()),
+    (0, 1, 1000, Ending::Device, 0, 0),
+    (0, 2, 1000, Ending::Whole, 0, THREE_REPORT.len()),
+    (0, 2, 7, Ending::Device, 0, 7),
+    (0, 0, 7, Ending::Device, 0, 7),
+    (0, 0, 0, Ending::Device, 0, 0),
 ];
-
-fn check_fuses(
-    rt: &impl Abort,
-    alloc: Global,
-    row: &(u64, u64, usize, Ending, usize),
-) -> Result<(), AllocError> {
-    let (input_fuse, output_fuse, room, ending, count) = *row;
-    let mut input = MemoryInput::with_fuse(THREE_FILES.as_bytes(), input_fuse);
-    let mut output = MemoryOutput::with_fuse(alloc, room, output_fuse)?;
-    let ended = run(alloc, &mut input, &mut output);
-    if ended == Ending::OutOfMemory {
-        return Err(AllocError);
-    }
-    assert!(rt; ended == ending, "{row:?} {ended:?}");
-    assert!(rt;
-        THREE_REPORT.as_bytes().get(..count) == Some(output.written()),
-        "{row:?}"
-    );
-    Ok(())
-}
 
 #[test]
 fn fuses_end_a_run_of_three_files(rt: HostRuntime) -> Result<(), Fail> {
-    for row in FUSES {
-        check_fuses(&rt, rt.alloc(), row)?;
+    for (input, output, room, ending, failures, count) in FUSES {
+        let limits = Limits {
+            input: *input,
+            output: *output,
+            room: *room,
+        };
+        let wanted = (*ending, *failures, Some(*count));
+        check(
+            &rt,
+            rt.alloc(),
+            (THREE_FILES, THREE_REPORT),
+            &(limits, wanted),
+        )?;
     }
     Ok(())
 }

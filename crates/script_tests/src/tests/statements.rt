@@ -268,15 +268,31 @@ fn scripts_have_a_first_fault(rt: HostRuntime) -> Result<(), Fail> {
     Ok(())
 }
 
+/// What a reader gives next: a file, an end, something else, or a fault.
+fn next_word(reader: &mut ScriptReader<'_>) -> Result<&'static str, ScriptError> {
+    match reader.next()? {
+        Some(statement) => Ok(word_of(&statement)),
+        None => Ok("nothing"),
+    }
+}
+
+fn word_of(statement: &Statement) -> &'static str {
+    match statement {
+        Statement::File(_) => "file",
+        Statement::End => "end",
+        _ => "something else",
+    }
+}
+
 #[test]
 fn statements_are_read_one_by_one(rt: HostRuntime) -> Result<(), Fail> {
     let script = b"\n# a\nfile a\nend\nwhat\nlink";
     let mut reader = ScriptReader::new(rt.alloc(), script);
-    assert!(rt; matches!(reader.next(), Ok(Some(Statement::File(_)))));
-    assert!(rt; matches!(reader.next(), Ok(Some(Statement::End))));
     let fault = ScriptError::Fault(5, ScriptFault::UnknownWord);
     // A fault stays where it is.
-    assert!(rt; matches!(reader.next(), Err(error) if error == fault));
-    assert!(rt; matches!(reader.next(), Err(error) if error == fault));
+    for wanted in [Ok("file"), Ok("end"), Err(fault), Err(fault)] {
+        let word = next_word(&mut reader);
+        assert!(rt; word == wanted);
+    }
     Ok(())
 }

@@ -1,7 +1,6 @@
 //! Devices over streams of the library, and runs over them.
 
-use super::linking::{FIRST_REPORT, FIRST_SCRIPT};
-use super::walks::{THREE_FILES, THREE_REPORT};
+use super::scripts::{FIRST_REPORT, FIRST_SCRIPT, THREE_FILES, THREE_REPORT};
 use descriptor_linker::{Ending, run};
 use script_devices::{MemoryOutput, ReaderInput, ReportOutput, ScriptInput, WriterOutput};
 use std::alloc::{AllocError, Global};

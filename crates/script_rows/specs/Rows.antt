@@ -1,0 +1,10 @@
+-- The exit status of the ending of a run, as the program `protolink` has it.
+use Rattle.std.specs.Prelude.{ℕ}
+use Rattle.descriptor_linker.specs.declared.ending.Ending.{Ending}
+use Rattle.descriptor_linker.specs.declared.ending.Ending.TheVariants.{Whole, ScriptFault, OutOfMemory, Device}
+
+abbrev pub status_of : Ending → ℕ
+status_of Whole = 0
+status_of ScriptFault = 2
+status_of OutOfMemory = 3
+status_of Device = 4
