@@ -19,7 +19,7 @@ from pathlib import Path
 CRATES = Path(__file__).resolve().parent.parent / "crates"
 TOP = CRATES.parent
 PAGE = TOP / "docs" / "ARCHITECTURE.md"
-FILE = re.compile(r"([\w*/.-]+\.(?:antt|rt|edit)|src/[\w/]+/)(?: \(([^)]*)\))?")
+FILE = re.compile(r"([\w*/.-]+\.(?:antt|rt|edit)|(?:src|data)/[\w/]+/)(?: \(([^)]*)\))?")
 
 
 def section(title: str) -> list[list[str]]:
