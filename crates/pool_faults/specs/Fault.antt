@@ -71,8 +71,8 @@ out_of_range_text message number =
     (codes "' as an extension number"))
 
 -- the text of a fault of a number that an earlier extension of the message has
-abbrev pub taken_text : List ℕ → ℤ → List ℕ
-taken_text message number =
+abbrev pub duplicate_extension_text : List ℕ → ℤ → List ℕ
+duplicate_extension_text message number =
     between (codes "extension number '") (signed_decimal number)
     (between (codes "' of message '") message (codes "' is already used"))
 
@@ -96,7 +96,7 @@ number_fault_text (fault.FieldNumberInExtensionRange number start behind _ _) =
     range_text (codes "field") number (codes "extension") start (behind -ℤ pos 1)
 number_fault_text (fault.ExtensionNumberOutOfRange number message _) =
     out_of_range_text message number
-number_fault_text (fault.DuplicateExtensionNumber number message _ _) = taken_text message number
+number_fault_text (fault.DuplicateExtensionNumber number message _ _) = duplicate_extension_text message number
 number_fault_text other = value_fault_text other
 
 -- the text of a fault of a reference or a default that means nothing, or else of a number

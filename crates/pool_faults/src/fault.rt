@@ -1,7 +1,7 @@
 ghost use Rattle.std.specs.Prelude.{◌≡◌, pos, ◌-ℤ◌, Some, codes};
 ghost use Rattle.std.specs.Fmt.{DisplaysOnOk};
 ghost use Rattle.std.specs.Option.{option_copied};
-ghost use Rattle.pool_faults.specs.Fault.{shown_label, name_fault_text, reference_fault_text, number_fault_text, value_fault_text, range_text, out_of_range_text, taken_text, between, line_text};
+ghost use Rattle.pool_faults.specs.Fault.{shown_label, name_fault_text, reference_fault_text, number_fault_text, value_fault_text, range_text, out_of_range_text, duplicate_extension_text, between, line_text};
 
 use crate::Label;
 use plain_data::Text;
@@ -370,7 +370,7 @@ fn fmt_out_of_range<W: fmt::Write>(
 /// Writes that an earlier extension of a message has a number.
 fn fmt_duplicate<W: fmt::Write>(f: &mut fmt::Formatter<W>, message: &str, number: i32) -> fmt::Result
     ensures { DisplaysOnOk W.write_str_gives f.old result
-        (Some (taken_text message.now number)) f.new }
+        (Some (duplicate_extension_text message.now number)) f.new }
 {
     write!(
         f,

@@ -1,5 +1,5 @@
 -- What checks find, one after another.
-use Rattle.std.proofs.Common.{◌≡◌, List, [], ◌++◌, map, ap, subst, sym, ◌∙◌, append_assoc, append-nil}
+use Rattle.std.proofs.Common.{◌≡◌, List, [], ◌++◌, map, refl, ap, subst, sym, ◌∙◌, append_assoc, append-nil}
 use Rattle.std.proofs.Math.Bool.{Bool-set}
 use Rattle.std.proofs.Math.Path.{to_path_p}
 use Rattle.pool_types.specs.declared.contents.file.FileDescriptorInner.{FileDescriptorInner}
