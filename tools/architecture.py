@@ -4,9 +4,10 @@
     python3 architecture.py
 
 The table of the layers has each crate of crates.txt, in that order. Each rule of the table "Each
-rule twice" has all five columns; each file that it names is there, in the crate of the row or in
-the one before a colon; a word in brackets behind a file stands in that file, and any other word in
-backquotes in some file of src/ or specs/. What is amiss is told, with status 1.
+rule twice" has all five columns. Each file that this table and the one of a new rule name is there,
+in the crate of the row or in the one before a colon; a word in brackets behind a file stands in
+that file, and any other word in backquotes in some file of src/ or specs/. What is amiss is told,
+with status 1.
 """
 
 from __future__ import annotations
@@ -63,6 +64,8 @@ def faults() -> Iterator[str]:
     listed = re.findall(r"^(\w+):", (TOP / "crates.txt").read_text(), re.MULTILINE)
     if [row[0].strip("`") for row in section("Layers")] != listed:
         yield "the layers are not the crates of crates.txt, in that order"
+    for step, files in section("To add a rule on fields"):
+        yield from (f"{step}: {fault}" for fault in cell_faults([], files))
     for row in section("Each rule twice"):
         if len(row) != 5 or not all(row):
             yield f"{row[0]}: not all columns"

@@ -18,7 +18,7 @@ from pathlib import Path
 
 TOP = Path(__file__).resolve().parent.parent
 PAGE = TOP / "docs" / "DEFINITIONS.md"
-DEFINITION = re.compile(r" *abbrev pub (\S+)|pub (?:record |data )?(?!mod )(\S+)")
+DEFINITION = re.compile(r"(?:abbrev )?pub (?:record |data )?(?!mod )(\S+)")
 PREFACE = """\
 # The definitions
 
@@ -37,8 +37,9 @@ def crates() -> Iterator[tuple[str, str]]:
 
 
 def modules(folder: Path, listing: Path) -> Iterator[Path]:
-    """The files that a listing names, each before those that it names itself."""
-    for name in re.findall(r"^pub mod (\w+)$", listing.read_text(), re.MULTILINE):
+    """The files that a listing names, each before those that it names itself. Those of `formers`
+    say how a type stores what it contains, and define nothing."""
+    for name in re.findall(r"^pub mod (?!formers)(\w+)$", listing.read_text(), re.MULTILINE):
         yield folder / f"{name}.antt"
         yield from modules(folder / name, folder / f"{name}.antt")
 
@@ -50,19 +51,18 @@ def first_comment(path: Path) -> str:
 
 def definitions(path: Path) -> Iterator[tuple[str, str]]:
     """The public definitions of a file, each with the comment above it."""
-    comment, in_mutual = [], False
+    comment, in_block = [], False
     for line in path.read_text().splitlines():
-        if line.startswith("abbrev mutual"):
-            in_mutual = True
-            continue
         if line[:1].strip():
-            in_mutual = False
+            in_block = line.startswith(("abbrev mutual", "module "))
+        if line.startswith("abbrev mutual"):
+            continue
         if line.lstrip().startswith("--"):
             comment.append(line.strip()[3:])
             continue
-        found = DEFINITION.match(line.strip() if in_mutual else line)
+        found = DEFINITION.match(line[2:] if in_block else line)
         if found:
-            yield found[1] or found[2], " ".join(comment)
+            yield found[1], " ".join(comment)
         comment = []
 
 

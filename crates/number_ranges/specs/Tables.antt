@@ -4,12 +4,13 @@ use Rattle.std.specs.Int.{int_max}
 use Rattle.std.specs.List.Sorted.{IsPermutation, IsSorted}
 use Rattle.std.specs.Ordering.{int_cmp}
 
--- the numbers of a list, in order
+-- a list has the numbers of another, in order
 pub record IsInOrder (sorted numbers : List ℤ) : Type 0 where
   pub order : IsSorted int_cmp sorted
   pub same : IsPermutation numbers sorted
 
--- the numbers in order, and behind them the tables of the two halves, with one level less
+-- a table of numbers: the numbers in order, and behind them the tables of the two halves of their
+-- list, with one level less
 abbrev pub IsTable : ℕ → List ℤ → List ℤ → Type 0
 IsTable zero table numbers = Unit {0}
 IsTable (suc below) table numbers =
@@ -21,16 +22,16 @@ IsTable (suc below) table numbers =
     × IsTable below (take (half * below) rest) (take half numbers)
     × IsTable below (drop (half * below) rest) (drop half numbers)
 
--- where a range ends that begins at its start in any case
+-- the end of a range, where one that ends before it starts counts as one that ends where it starts
 abbrev pub end_of : ℤ × ℤ → ℤ
 end_of range = int_max range.0 range.1
 
--- the tables of the starts and of the ends of ranges
+-- two tables are those of the starts and of the ends of ranges
 pub record AreTables (levels : ℕ) (starts ends : List ℤ) (ranges : List (ℤ × ℤ)) : Type 0 where
   pub of_starts : IsTable levels starts (map (λ r. r.0) ranges)
   pub of_ends : IsTable levels ends (map end_of ranges)
 
--- a table behind what a list held before
+-- a list has a table of numbers behind what it held before
 abbrev pub IsTableBehind : ℕ → List ℤ → List ℤ → List ℤ → Type 0
 IsTableBehind levels numbers before after =
     (table : List ℤ) × (after ≡ before ++ table) × (length table ≡ length numbers * levels)

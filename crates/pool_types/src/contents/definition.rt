@@ -49,7 +49,8 @@ impl Identity {
         self.full_name.as_str()
     }
 
-    /// The declared name, without its scope.
+    /// The declared name, without its scope: the full name from `name_index` on, where a character
+    /// begins there, as it does in each item of a pool.
     pub fn name(&self) -> &str
         ensures { IsCharBoundary self.now.full_name self.now.name_index → result.now
             ≡ drop self.now.name_index self.now.full_name }
