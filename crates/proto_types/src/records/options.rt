@@ -13,21 +13,21 @@ pub struct Options<T> {
 }
 
 /// What is read of a field's options.
-#[derive(Clone, Copy, PartialEq, Debug)]
+#[derive(Clone, Copy, PartialEq, Debug, Drop)]
 pub struct FieldOptions {
     /// Whether repeated numbers are packed.
     pub packed: Option<bool>,
 }
 
 /// What is read of an enum's options.
-#[derive(Clone, Copy, PartialEq, Debug)]
+#[derive(Clone, Copy, PartialEq, Debug, Drop)]
 pub struct EnumOptions {
     /// Whether several values may have one number.
     pub allow_alias: Option<bool>,
 }
 
 /// Options of which nothing is read.
-#[derive(Clone, Copy, PartialEq, Debug)]
+#[derive(Clone, Copy, PartialEq, Debug, Drop)]
 pub struct Unread {}
 
 impl EnumOptions {

@@ -1,0 +1,10 @@
+pub mod Merging
+pub mod Parts
+pub mod Options
+pub mod Fields
+pub mod Enums
+pub mod Services
+pub mod Sources
+pub mod Messages
+pub mod Files
+pub mod Decoding

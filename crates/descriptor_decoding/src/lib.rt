@@ -1,0 +1,18 @@
+//! Sets of files read from their bytes.
+#![tactic(auto)]
+
+mod context;
+mod decoding;
+mod enums;
+mod error;
+mod fields;
+mod files;
+mod merging;
+mod messages;
+mod options;
+mod parts;
+mod services;
+mod sources;
+
+pub use decoding::{LEVELS, decode, decode_file};
+pub use error::DecodeError;

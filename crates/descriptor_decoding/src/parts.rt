@@ -1,0 +1,169 @@
+ghost use Rattle.std.specs.Prelude.{◌≡◌, unwrap_or};
+ghost use Rattle.wire_format.specs.Tokens.{value_seen};
+ghost use Rattle.descriptor_decoding.specs.Merging.{within, Leaves, Gives};
+ghost use Rattle.descriptor_decoding.specs.Parts.{int32, int32_merged, bool_merged, text_of, text_merged, texts_merged, packed_merged, int32s_merged, inner_merged, message_merged, messages_merged};
+
+use crate::context::Context;
+use crate::error::DecodeError;
+use crate::merging::{Message, merge};
+use plain_data::{Items, Text};
+use std::alloc::Global;
+use wire_format::{Value, WireFault, WireFaultKind, next_number};
+
+fn int32(number: u64) -> i32
+    ensures { result ≡ int32 number }
+{
+    ((number & 0xffff_ffff) as u32).cast_signed()
+}
+
+/// Reads a number or an enum.
+#[inline]
+pub fn merge_int32(part: &mut Option<i32>, value: &Value<'_>)
+    ensures { part.new ≡ int32_merged (value_seen value.now) part.old }
+{
+    if let Value::Varint(number) = value {
+        *part = Some(int32(*number));
+    }
+}
+
+/// Reads a truth value.
+#[inline]
+pub fn merge_bool(part: &mut Option<bool>, value: &Value<'_>)
+    ensures { part.new ≡ bool_merged (value_seen value.now) part.old }
+{
+    if let Value::Varint(number) = value {
+        *part = Some(*number != 0);
+    }
+}
+
+/// A text of these bytes, which end at offset `ends` of the input.
+fn text(alloc: Global, ends: usize, bytes: &[u8]) -> Result<Text, DecodeError>
+    ensures { Gives result (text_of ends bytes.now) }
+{
+    match str::from_utf8(bytes) {
+        Ok(text) => Ok(Text::from_str(alloc, text)?),
+        Err(_) => Err(DecodeError::Fault(WireFault::new(WireFaultKind::NotUtf8, ends, bytes))),
+    }
+}
+
+/// Reads a text.
+#[tactic(auto, unfolding(crate::specs::Parts::text_merged))]
+pub fn merge_text(
+    part: &mut Option<Text>,
+    context: Context,
+    value: &Value<'_>,
+) -> Result<(), DecodeError>
+    ensures { Leaves result part.new (text_merged (value_seen value.now) part.old) }
+{
+    if let Value::Len(bytes, ends) = value {
+        *part = Some(text(context.alloc, *ends, bytes)?);
+    }
+    Ok(())
+}
+
+/// Reads one of repeated texts.
+#[tactic(auto, unfolding(crate::specs::Parts::texts_merged))]
+pub fn merge_texts(
+    items: &mut Items<Text>,
+    context: Context,
+    value: &Value<'_>,
+) -> Result<(), DecodeError>
+    ensures { Leaves result items.new (texts_merged (value_seen value.now) items.old) }
+{
+    if let Value::Len(bytes, ends) = value {
+        items.push(text(context.alloc, *ends, bytes)?)?;
+    }
+    Ok(())
+}
+
+/// Reads packed numbers.
+fn merge_packed(items: &mut Items<i32>, ends: usize, bytes: &[u8]) -> Result<(), DecodeError>
+    ensures { Leaves result items.new (packed_merged ends bytes.now items.old) }
+{
+    // Each number ends with a byte below 128.
+    items.reserve_exact(bytes.iter().filter(|b| **b < 128).count())?;
+    let mut rest = bytes;
+    while let Some((number, after)) = next_number(ends, rest)? {
+        items.push(int32(number))?;
+        rest = after;
+    }
+    Ok(())
+}
+
+/// Reads repeated numbers, packed or not.
+#[tactic(auto, unfolding(crate::specs::Parts::int32s_merged))]
+pub fn merge_int32s(items: &mut Items<i32>, value: &Value<'_>) -> Result<(), DecodeError>
+    ensures { Leaves result items.new (int32s_merged (value_seen value.now) items.old) }
+{
+    match value {
+        Value::Varint(number) => {
+            items.push(int32(*number))?;
+            Ok(())
+        }
+        Value::Len(bytes, ends) => merge_packed(items, *ends, bytes),
+        _ => Ok(()),
+    }
+}
+
+/// Reads the fields of bytes, which end at offset `ends` of the input, into a message, if a level
+/// is left.
+pub fn merge_inner<M: Message>(
+    message: &mut M,
+    context: Context,
+    ends: usize,
+    bytes: &[u8],
+) -> Result<(), DecodeError>
+    ensures { Leaves result message.new
+        (inner_merged (within context.levels M.merged) ends bytes.now message.old) }
+{
+    let inner = context.inner(ends, bytes)?;
+    merge(message, inner, ends, bytes)
+}
+
+/// The message that is there, or an empty one.
+fn taken<M: Message>(part: &mut Option<M>, alloc: Global) -> M
+    ensures { result ≡ unwrap_or part.old M.nothing }
+{
+    match part.take() {
+        Some(message) => message,
+        None => M::empty(alloc),
+    }
+}
+
+/// Reads a message that may be there already.
+#[tactic(auto, unfolding(crate::specs::Parts::message_merged))]
+pub fn merge_message<M: Message>(
+    part: &mut Option<M>,
+    context: Context,
+    value: &Value<'_>,
+) -> Result<(), DecodeError>
+    ensures { Leaves result part.new
+        (message_merged M.nothing (within context.levels M.merged)
+        (value_seen value.now) part.old) }
+{
+    if let Value::Len(bytes, ends) = value {
+        let mut message = taken(part, context.alloc);
+        merge_inner(&mut message, context, *ends, bytes)?;
+        *part = Some(message);
+    }
+    Ok(())
+}
+
+/// Reads one of repeated messages.
+#[tactic(auto, unfolding(crate::specs::Parts::messages_merged))]
+pub fn merge_messages<M: Message>(
+    items: &mut Items<M>,
+    context: Context,
+    value: &Value<'_>,
+) -> Result<(), DecodeError>
+    ensures { Leaves result items.new
+        (messages_merged M.nothing (within context.levels M.merged)
+        (value_seen value.now) items.old) }
+{
+    if let Value::Len(bytes, ends) = value {
+        let mut message = M::empty(context.alloc);
+        merge_inner(&mut message, context, *ends, bytes)?;
+        items.push(message)?;
+    }
+    Ok(())
+}
