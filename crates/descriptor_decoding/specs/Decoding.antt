@@ -1,7 +1,7 @@
 -- The messages that bytes encode.
 use Rattle.std.specs.Prelude.{ℕ, List, length, Result}
 use Rattle.wire_format.specs.declared.fault.WireFault.{WireFault}
-use Rattle.proto_types.specs.EmptyFile.{no_file, no_file_set}
+use Rattle.proto_types.specs.File.{no_file, no_file_set}
 use Rattle.proto_types.specs.declared.file.FileDescriptorProto.{FileDescriptorProto}
 use Rattle.proto_types.specs.declared.file.FileDescriptorSet.{FileDescriptorSet}
 use Rattle.descriptor_decoding.specs.Merging.{Merge, merged_from}

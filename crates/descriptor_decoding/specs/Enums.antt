@@ -2,7 +2,7 @@
 use Rattle.std.specs.Prelude.{ℕ, [], ◌∷◌, Ok}
 use Rattle.descriptor_decoding.specs.Merging.{Merge, within, by_number, row}
 use Rattle.descriptor_decoding.specs.Parts.{int32_merged, messages_merged, text_merged, texts_merged}
-use Rattle.proto_types.specs.Empty.{no_enum_range, no_value}
+use Rattle.proto_types.specs.Enumeration.{no_enum_range, no_value}
 use Rattle.proto_types.specs.declared.records.enumeration.EnumValueDescriptorProto.{EnumValueDescriptorProto}
 use Rattle.proto_types.specs.declared.records.enumeration.EnumReservedRange.{EnumReservedRange}
 use Rattle.proto_types.specs.declared.records.enumeration.EnumDescriptorProto.{EnumDescriptorProto}

@@ -2,8 +2,12 @@
 use Rattle.std.specs.Prelude.{ℕ, [], ◌∷◌}
 use Rattle.descriptor_decoding.specs.Merging.{Merge, within, by_number, row}
 use Rattle.descriptor_decoding.specs.Parts.{int32s_merged, message_merged, messages_merged, text_merged, texts_merged}
-use Rattle.proto_types.specs.Empty.{no_enum, no_field, no_service, no_source}
-use Rattle.proto_types.specs.EmptyFile.{no_file, no_message}
+use Rattle.proto_types.specs.Source.{no_source}
+use Rattle.proto_types.specs.Service.{no_service}
+use Rattle.proto_types.specs.Enumeration.{no_enum}
+use Rattle.proto_types.specs.Field.{no_field}
+use Rattle.proto_types.specs.Message.{no_message}
+use Rattle.proto_types.specs.File.{no_file}
 use Rattle.proto_types.specs.declared.file.FileDescriptorProto.{FileDescriptorProto}
 use Rattle.proto_types.specs.declared.file.FileDescriptorSet.{FileDescriptorSet}
 use Rattle.descriptor_decoding.specs.Options.{options_merged, unread, unread_merged}

@@ -2,8 +2,9 @@
 use Rattle.std.specs.Prelude.{ℕ, [], ◌∷◌, Ok, zero, suc, Option, None, Some}
 use Rattle.descriptor_decoding.specs.Merging.{Merge, Reader, merged_from, within, by_number, row}
 use Rattle.descriptor_decoding.specs.Parts.{int32_merged, messages_merged, text_merged, texts_merged}
-use Rattle.proto_types.specs.Empty.{no_enum, no_field}
-use Rattle.proto_types.specs.EmptyFile.{no_extension_range, no_message, no_oneof, no_reserved_range}
+use Rattle.proto_types.specs.Enumeration.{no_enum}
+use Rattle.proto_types.specs.Field.{no_field}
+use Rattle.proto_types.specs.Message.{no_extension_range, no_message, no_oneof, no_reserved_range}
 use Rattle.proto_types.specs.declared.message.OneofDescriptorProto.{OneofDescriptorProto}
 use Rattle.proto_types.specs.declared.message.ExtensionRange.{ExtensionRange}
 use Rattle.proto_types.specs.declared.message.ReservedRange.{ReservedRange}

@@ -2,7 +2,7 @@
 use Rattle.std.specs.Prelude.{ℕ, [], ◌∷◌, Ok}
 use Rattle.descriptor_decoding.specs.Merging.{Merge, within, by_number, row}
 use Rattle.descriptor_decoding.specs.Parts.{bool_merged, messages_merged, text_merged}
-use Rattle.proto_types.specs.Empty.{no_method}
+use Rattle.proto_types.specs.Service.{no_method}
 use Rattle.proto_types.specs.declared.records.service.MethodDescriptorProto.{MethodDescriptorProto}
 use Rattle.proto_types.specs.declared.records.service.ServiceDescriptorProto.{ServiceDescriptorProto}
 use Rattle.descriptor_decoding.specs.Options.{options_merged, unread, unread_merged}

@@ -1,4 +1,4 @@
-ghost use Rattle.proto_types.specs.Empty.{no_value, no_enum_range, no_enum};
+ghost use Rattle.proto_types.specs.Enumeration.{no_value, no_enum_range, no_enum};
 ghost use Rattle.descriptor_decoding.specs.Enums.{value_merged, enum_range_merged, enum_merged};
 
 use crate::context::Context;

@@ -1,4 +1,4 @@
-ghost use Rattle.proto_types.specs.Empty.{no_field};
+ghost use Rattle.proto_types.specs.Field.{no_field};
 ghost use Rattle.descriptor_decoding.specs.Fields.{field_merged};
 
 use crate::context::Context;

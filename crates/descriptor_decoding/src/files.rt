@@ -1,4 +1,4 @@
-ghost use Rattle.proto_types.specs.EmptyFile.{no_file, no_file_set};
+ghost use Rattle.proto_types.specs.File.{no_file, no_file_set};
 ghost use Rattle.descriptor_decoding.specs.Files.{file_merged, file_set_merged};
 
 use crate::context::Context;

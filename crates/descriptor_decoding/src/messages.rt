@@ -2,7 +2,7 @@ ghost use Rattle.std.specs.Prelude.{◌≡◌};
 ghost use Rattle.wire_format.specs.Tokens.{value_seen};
 ghost use Rattle.descriptor_decoding.specs.Merging.{merged_from, within, Leaves};
 ghost use Rattle.descriptor_decoding.specs.Parts.{inner_merged, messages_merged};
-ghost use Rattle.proto_types.specs.EmptyFile.{no_oneof, no_extension_range, no_reserved_range, no_message};
+ghost use Rattle.proto_types.specs.Message.{no_oneof, no_extension_range, no_reserved_range, no_message};
 ghost use Rattle.descriptor_decoding.specs.Messages.{oneof_merged, extension_range_merged, reserved_range_merged, message_merged_at, message_at};
 
 use crate::context::Context;

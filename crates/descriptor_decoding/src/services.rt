@@ -1,4 +1,4 @@
-ghost use Rattle.proto_types.specs.Empty.{no_method, no_service};
+ghost use Rattle.proto_types.specs.Service.{no_method, no_service};
 ghost use Rattle.descriptor_decoding.specs.Services.{method_merged, service_merged};
 
 use crate::context::Context;

@@ -1,4 +1,4 @@
-ghost use Rattle.proto_types.specs.Empty.{no_location, no_source};
+ghost use Rattle.proto_types.specs.Source.{no_location, no_source};
 ghost use Rattle.descriptor_decoding.specs.Sources.{location_merged, source_merged};
 
 use crate::context::Context;
