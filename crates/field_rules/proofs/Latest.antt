@@ -13,6 +13,7 @@ use Rattle.std.proofs.lemmas.List.Folds.{find-append}
 use Rattle.std.proofs.lemmas.List.Sums.{fold-append}
 use Rattle.proto_types.specs.declared.records.field.FieldDescriptorProto.{FieldDescriptorProto}
 use Rattle.plain_data.specs.Maps.{inserted}
+use Rattle.plain_data.proofs.Enumerated.{entries-next}
 use Rattle.field_rules.specs.Maps.{keyed}
 
 unless-later : {X : Type 0} (later : Option (ℕ × X)) (other : Option ℕ) → option_or (option_map (λ e. e.0) later) other ≡ option_or (option_map (λ e. e.0) (option_or later None)) other
