@@ -1,0 +1,13 @@
+-- The canonical encoding.
+use Rattle.std.specs.Prelude.{ℕ, List}
+use Rattle.wire_format.specs.Encoding.{encoding}
+use Rattle.proto_types.specs.declared.file.FileDescriptorSet.{FileDescriptorSet}
+use Rattle.proto_types.specs.declared.file.FileDescriptorProto.{FileDescriptorProto}
+use Rattle.descriptor_encoding.specs.Files.{file_listed, set_listed}
+
+-- the canonical encoding of a set of files
+abbrev pub set_encoding : FileDescriptorSet → List ℕ
+set_encoding m = encoding (set_listed m)
+
+abbrev pub file_encoding : FileDescriptorProto → List ℕ
+file_encoding m = encoding (file_listed m)

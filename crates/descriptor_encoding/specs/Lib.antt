@@ -1,0 +1,9 @@
+pub mod Wire
+pub mod Parts
+pub mod Enums
+pub mod Fields
+pub mod Messages
+pub mod Services
+pub mod Sources
+pub mod Files
+pub mod Encoding

@@ -1,0 +1,13 @@
+-- Fields, as they are put behind bytes.
+use Rattle.std.specs.Prelude.{◌≡◌, ℕ, List, ◌++◌, Result, OnOk}
+use Rattle.wire_format.specs.Encoding.{Numbered, Number, Bytes, encoding}
+
+abbrev pub number_field : ℕ → ℕ → Numbered
+number_field n x = record { number = n; part = Number x }
+
+abbrev pub bytes_field : ℕ → List ℕ → Numbered
+bytes_field n bytes = record { number = n; part = Bytes bytes }
+
+-- these fields were put behind the bytes, unless memory was refused
+abbrev pub Puts : {A E : Type 0} → Result A E → List ℕ → List ℕ → List Numbered → Type 0
+Puts result before after fs = OnOk result (after ≡ before ++ encoding fs)

@@ -1,0 +1,31 @@
+ghost use Rattle.std.specs.Prelude.{◌≡◌, IfOk};
+ghost use Rattle.descriptor_encoding.specs.Encoding.{set_encoding, file_encoding};
+
+use crate::parts::Encode;
+use proto_types::{FileDescriptorProto, FileDescriptorSet};
+use std::alloc::{AllocError, Global};
+
+/// The canonical encoding of a set of files: fields in the order of their numbers, the shortest
+/// varints, paths and spans packed, and options as their bytes.
+///
+/// # Errors
+/// `AllocError` where memory was refused.
+pub fn encode(alloc: Global, set: &FileDescriptorSet) -> Result<Vec<u8>, AllocError>
+    ensures { IfOk result (λ v. v.items ≡ set_encoding set.now) }
+{
+    let mut out = Vec::new(alloc);
+    set.put(&mut out)?;
+    Ok(out)
+}
+
+/// The canonical encoding of a file.
+///
+/// # Errors
+/// `AllocError` where memory was refused.
+pub fn encode_file(alloc: Global, file: &FileDescriptorProto) -> Result<Vec<u8>, AllocError>
+    ensures { IfOk result (λ v. v.items ≡ file_encoding file.now) }
+{
+    let mut out = Vec::new(alloc);
+    file.put(&mut out)?;
+    Ok(out)
+}

@@ -1,0 +1,14 @@
+//! Sets of files written in protobuf's canonical encoding.
+#![tactic(auto)]
+
+mod encoding;
+mod enums;
+mod fields;
+mod files;
+mod messages;
+mod parts;
+mod services;
+mod sources;
+mod wire;
+
+pub use encoding::{encode, encode_file};

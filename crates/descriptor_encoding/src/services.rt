@@ -1,0 +1,32 @@
+ghost use Rattle.descriptor_encoding.specs.Services.{method_listed, service_listed};
+
+use crate::parts::{Encode, put_bool, put_messages, put_options, put_text};
+use proto_types::{MethodDescriptorProto, ServiceDescriptorProto};
+use std::alloc::AllocError;
+
+impl Encode for MethodDescriptorProto {
+    ghost listed = { method_listed };
+
+    #[tactic(auto, using(crate::proofs::Appending::put_then))]
+    fn put(&self, out: &mut Vec<u8>) -> Result<(), AllocError> {
+        put_text(out, 1, &self.name)?;
+        put_text(out, 2, &self.input_type)?;
+        put_text(out, 3, &self.output_type)?;
+        put_options(out, 4, &self.options)?;
+        put_bool(out, 5, self.client_streaming)?;
+        put_bool(out, 6, self.server_streaming)?;
+        Ok(())
+    }
+}
+
+impl Encode for ServiceDescriptorProto {
+    ghost listed = { service_listed };
+
+    #[tactic(auto, using(crate::proofs::Appending::put_then))]
+    fn put(&self, out: &mut Vec<u8>) -> Result<(), AllocError> {
+        put_text(out, 1, &self.name)?;
+        put_messages(out, 2, &self.method)?;
+        put_options(out, 3, &self.options)?;
+        Ok(())
+    }
+}
