@@ -139,11 +139,27 @@ const BOTH: &str = "file x.proto\npackage foo\nmessage Bar\nend\nend\n\
     file y.proto\npackage p\nimport x.proto\nmessage M\n\
     field f 1 optional ~ foo.Bar ~\nend\nend\n";
 
+/// How many files batches give.
+fn file_count(alloc: Global, scripts: &[&str]) -> Result<u32, AllocError> {
+    let pool = pool_of(alloc, scripts)?;
+    Ok(pool.counts().files)
+}
+
+/// Whether batches that are given to a pool in turn give a pool that equals that of others.
+pub(super) fn is_same(
+    alloc: Global,
+    scripts: &[&str],
+    others: &[&str],
+) -> Result<bool, AllocError> {
+    let pool = pool_of(alloc, scripts)?;
+    let other = pool_of(alloc, others)?;
+    Ok(pool == other)
+}
+
 #[test]
 fn files_make_the_same_pool_in_two_batches_and_in_one(rt: HostRuntime) -> Result<(), Fail> {
-    let parts = pool_of(rt.alloc(), &[IMPORTED, IMPORTING])?;
-    let whole = pool_of(rt.alloc(), &[BOTH])?;
-    assert!(rt; parts.counts().files == 2 && whole.counts().files == 2);
-    assert!(rt; parts == whole);
+    assert!(rt; file_count(rt.alloc(), &[BOTH])? == 2);
+    assert!(rt; is_same(rt.alloc(), &[IMPORTED, IMPORTING], &[BOTH])?);
+    assert!(rt; !is_same(rt.alloc(), &[IMPORTED], &[BOTH])?);
     Ok(())
 }

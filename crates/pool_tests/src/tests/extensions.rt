@@ -1,6 +1,6 @@
 //! The items of extensions, and the lists of those that extend a message.
 
-use super::batches::pool_of;
+use super::batches::{is_same, pool_of};
 use super::values::write_value;
 use descriptor_pool::DescriptorPool;
 use pool_types::{
@@ -8,7 +8,6 @@ use pool_types::{
 };
 use std::alloc::{AllocError, Global};
 use std::fmt::Write;
-use std::process::Abort;
 use std::test::Fail;
 
 /// Two extensions inside a message, in proto3.
@@ -149,17 +148,35 @@ fn extension_report(
     Ok(report)
 }
 
+/// What a pool that was given batches has of an extension.
+fn report_of(alloc: Global, batches: &[&str], index: u32) -> Result<String, AllocError> {
+    let pool = pool_of(alloc, batches)?;
+    match pool.extension(ExtensionDescriptor::new(index)) {
+        Some(extension) => extension_report(alloc, extension),
+        None => String::from_str(alloc, "none"),
+    }
+}
+
+/// The kind and the cardinality of an extension.
+fn kind_of(
+    alloc: Global,
+    batches: &[&str],
+    index: u32,
+) -> Result<Option<(KindIndex, Cardinality)>, AllocError> {
+    let pool = pool_of(alloc, batches)?;
+    match pool.extension(ExtensionDescriptor::new(index)) {
+        Some(extension) => Ok(Some((extension.kind, extension.cardinality))),
+        None => Ok(None),
+    }
+}
+
 #[test]
 fn extensions_have_items(rt: HostRuntime) -> Result<(), Fail> {
     for (batches, index, kind, cardinality, wanted) in ITEMS {
-        let pool = pool_of(rt.alloc(), batches)?;
-        let Some(extension) = pool.extension(ExtensionDescriptor::new(*index)) else {
-            panic!(rt; "{wanted}");
-        };
-        let report = extension_report(rt.alloc(), extension)?;
+        let found = kind_of(rt.alloc(), batches, *index)?;
+        assert!(rt; found == Some((*kind, *cardinality)), "{wanted}");
+        let report = report_of(rt.alloc(), batches, *index)?;
         assert!(rt; report.as_str() == *wanted, "{report}");
-        assert!(rt; extension.kind == *kind, "{report}");
-        assert!(rt; extension.cardinality == *cardinality, "{report}");
     }
     Ok(())
 }
@@ -222,13 +239,22 @@ fn lists_report(alloc: Global, pool: &DescriptorPool) -> Result<String, AllocErr
     Ok(report)
 }
 
+fn lists_of(alloc: Global, batches: &[&str]) -> Result<String, AllocError> {
+    let pool = pool_of(alloc, batches)?;
+    lists_report(alloc, &pool)
+}
+
 #[test]
 fn messages_list_their_extensions(rt: HostRuntime) -> Result<(), Fail> {
     for (batches, wanted) in LISTS {
-        let report = lists_report(rt.alloc(), &pool_of(rt.alloc(), batches)?)?;
+        let report = lists_of(rt.alloc(), batches)?;
         assert!(rt; report.as_str() == *wanted, "{report}");
     }
-    let pool = pool_of(rt.alloc(), &[EARLIER, REFUSED])?;
-    assert!(rt; pool == pool_of(rt.alloc(), &[EARLIER])?);
+    Ok(())
+}
+
+#[test]
+fn a_refused_batch_leaves_no_extension(rt: HostRuntime) -> Result<(), Fail> {
+    assert!(rt; is_same(rt.alloc(), &[EARLIER, REFUSED], &[EARLIER])?);
     Ok(())
 }

@@ -1,8 +1,7 @@
 //! The items and the linked records of a pool.
 
-use super::batches::FIRST;
-use super::files_of;
-use descriptor_pool::{BuildError, DescriptorPool};
+use super::batches::{FIRST, pool_of};
+use descriptor_pool::DescriptorPool;
 use pool_types::{
     Cardinality, FieldDescriptorInner, FileDescriptor, FileDescriptorInner, KindIndex,
     MessageDescriptor, MessageDescriptorInner,
@@ -10,7 +9,6 @@ use pool_types::{
 use proto_types::FieldDescriptorProto;
 use std::alloc::{AllocError, Global};
 use std::fmt::Write;
-use std::process::Abort;
 use std::test::Fail;
 
 /// A batch, what the pool has of its messages, their fields and its linked records, each up to one
@@ -150,45 +148,52 @@ fn write_record(report: &mut String, field: &FieldDescriptorProto) -> Result<(),
     writeln!(report)
 }
 
-/// A pool with one batch.
-pub(super) fn pool_of(alloc: Global, script: &str) -> Result<DescriptorPool, BuildError> {
-    let mut pool = DescriptorPool::new(alloc);
-    pool.build_files(files_of(alloc, script)?)?;
-    Ok(pool)
+/// What a pool with one batch has.
+fn report_of(alloc: Global, script: &str) -> Result<String, AllocError> {
+    let pool = pool_of(alloc, &[script])?;
+    pool_report(alloc, &pool)
 }
 
-fn check_kinds(rt: &impl Abort, pool: &DescriptorPool, kinds: &[(KindIndex, Cardinality)]) {
-    let Some(message) = pool.message(MessageDescriptor::new(0)) else {
-        panic!(rt; "no message");
-    };
-    let fields = message.fields.as_slice();
-    assert!(rt; fields.len() == kinds.len());
-    for (field, kind) in fields.iter().zip(kinds) {
-        assert!(rt; is_of(field, *kind));
+#[test]
+fn a_pool_has_items_and_linked_records(rt: HostRuntime) -> Result<(), Fail> {
+    for (script, wanted, _) in LINKED {
+        let report = report_of(rt.alloc(), script)?;
+        assert!(rt; report.as_str() == *wanted, "{report}");
     }
+    Ok(())
 }
 
 fn is_of(field: &FieldDescriptorInner, (kind, cardinality): (KindIndex, Cardinality)) -> bool {
     field.kind == kind && field.cardinality == cardinality
 }
 
-fn check(
-    rt: &impl Abort,
+/// Whether the fields of the first message are of these kinds.
+fn are_of(pool: &DescriptorPool, kinds: &[(KindIndex, Cardinality)]) -> bool {
+    let Some(message) = pool.message(MessageDescriptor::new(0)) else {
+        return false;
+    };
+    let fields = message.fields.as_slice();
+    for (field, kind) in fields.iter().zip(kinds) {
+        if !is_of(field, *kind) {
+            return false;
+        }
+    }
+    fields.len() == kinds.len()
+}
+
+fn has_kinds(
     alloc: Global,
-    pool: &DescriptorPool,
-    wanted: &str,
-) -> Result<(), AllocError> {
-    let report = pool_report(alloc, pool)?;
-    assert!(rt; report.as_str() == wanted, "{report}");
-    Ok(())
+    script: &str,
+    kinds: &[(KindIndex, Cardinality)],
+) -> Result<bool, AllocError> {
+    let pool = pool_of(alloc, &[script])?;
+    Ok(are_of(&pool, kinds))
 }
 
 #[test]
-fn a_pool_has_items_and_linked_records(rt: HostRuntime) -> Result<(), Fail> {
-    for (script, wanted, kinds) in LINKED {
-        let pool = pool_of(rt.alloc(), script)?;
-        check(&rt, rt.alloc(), &pool, wanted)?;
-        check_kinds(&rt, &pool, kinds);
+fn fields_have_kinds(rt: HostRuntime) -> Result<(), Fail> {
+    for (script, _, kinds) in LINKED {
+        assert!(rt; has_kinds(rt.alloc(), script, kinds)?, "{script}");
     }
     Ok(())
 }
@@ -243,12 +248,16 @@ fn seen_report(alloc: Global, pool: &DescriptorPool) -> Result<String, AllocErro
     Ok(report)
 }
 
+/// What the files of two batches see.
+fn seen_of(alloc: Global, first: &str, second: &str) -> Result<String, AllocError> {
+    let pool = pool_of(alloc, &[first, second])?;
+    seen_report(alloc, &pool)
+}
+
 #[test]
 fn files_see_what_is_imported(rt: HostRuntime) -> Result<(), Fail> {
     for (first, second, wanted) in SEEN {
-        let mut pool = pool_of(rt.alloc(), first)?;
-        pool.build_files(files_of(rt.alloc(), second)?)?;
-        let report = seen_report(rt.alloc(), &pool)?;
+        let report = seen_of(rt.alloc(), first, second)?;
         assert!(rt; report.as_str() == *wanted, "{report}");
     }
     Ok(())

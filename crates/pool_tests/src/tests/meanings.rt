@@ -118,6 +118,7 @@ fn fault_words(alloc: Global, linked: &[FileDescriptorInner]) -> Result<String, 
 
 #[test]
 fn a_name_that_means_nothing_has_a_fault(rt: HostRuntime) -> Result<(), Fail> {
+    assert!(rt; !ResolveNameResult::NotFound.is_found());
     let report = fault_words(rt.alloc(), linked(rt.alloc(), LABELLED)?.as_slice())?;
     assert!(rt;
         report.as_str() == "b.proto: name 'q.M' is not defined",

@@ -1,7 +1,7 @@
 //! Batches whose files are handed over in another order.
 
+use super::batches::pool_of;
 use super::files_of;
-use super::items::pool_of;
 use super::rules::faults_report;
 use descriptor_pool::DescriptorPool;
 use pool_types::{DefinitionKind, FileDescriptor};
@@ -231,23 +231,49 @@ fn other_meanings(
     Ok(report)
 }
 
-/// Asserts that a pool has these linked records, each under the name of its file, and no others.
-fn check_records(
-    rt: &impl Abort,
-    case: &str,
-    pool: &DescriptorPool,
-    wanted: &[FileDescriptorProto],
-) -> Result<(), AllocError> {
-    let linked = pool.linked_files()?;
-    assert!(rt; linked.len() == wanted.len(), "{case}");
+/// Whether these are the linked records, each under the name of its file, and no others.
+fn are_records(linked: &[FileDescriptorProto], wanted: &[FileDescriptorProto]) -> bool {
     for record in wanted {
         let name = record.name();
-        let Some(found) = linked.iter().find(|file| file.name() == name) else {
-            panic!(rt; "{case} {name}");
-        };
-        assert!(rt; *found == *record, "{case} {name}");
+        match linked.iter().find(|file| file.name() == name) {
+            Some(found) if *found == *record => {}
+            _ => return false,
+        }
     }
-    Ok(())
+    linked.len() == wanted.len()
+}
+
+fn has_records(pool: &DescriptorPool, wanted: &[FileDescriptorProto]) -> Result<bool, AllocError> {
+    let linked = pool.linked_files()?;
+    Ok(are_records(linked.as_slice(), wanted))
+}
+
+/// The departures of the pool of a batch from what is wanted: a line for each name that means
+/// something else, and one where its linked records are others.
+fn departures(
+    alloc: Global,
+    batch: &str,
+    records: &[FileDescriptorProto],
+    names: &[(&str, &str)],
+) -> Result<String, AllocError> {
+    let pool = pool_of(alloc, &[batch])?;
+    if has_records(&pool, records)? {
+        other_meanings(alloc, &pool, names)
+    } else {
+        String::from_str(alloc, "other records\n")
+    }
+}
+
+/// The departures of a batch in an order.
+fn departures_in(
+    alloc: Global,
+    row: &(&str, &[&str], &[&str], &[(&str, &str)]),
+    order: &[usize],
+) -> Result<String, AllocError> {
+    let (_, files, linked, names) = *row;
+    let batch = batch_in(alloc, files, order)?;
+    let records = records_of(alloc, linked)?;
+    departures(alloc, batch.as_str(), &records, names)
 }
 
 /// Asserts that a batch is accepted in each order, with the same records and meanings.
@@ -255,26 +281,29 @@ fn check_accepted(
     rt: &impl Abort,
     alloc: Global,
     row: &(&str, &[&str], &[&str], &[(&str, &str)]),
+    orders: &[Vec<usize>],
 ) -> Result<(), AllocError> {
-    let (what, files, linked, names) = *row;
-    let wanted = records_of(alloc, linked)?;
-    for order in &orders(alloc, files.len())? {
-        let case = format!(in alloc; "{what} {order:?}")?;
-        let batch = batch_in(alloc, files, order.as_slice())?;
-        let Ok(pool) = pool_of(alloc, batch.as_str()) else {
-            panic!(rt; "{case}");
-        };
-        check_records(rt, case.as_str(), &pool, &wanted)?;
-        let report = other_meanings(alloc, &pool, names)?;
-        assert!(rt; report.is_empty(), "{case}\n{report}");
+    let what = row.0;
+    for order in orders {
+        let report = departures_in(alloc, row, order.as_slice())?;
+        assert!(rt; report.is_empty(), "{what} {order:?}\n{report}");
     }
     Ok(())
+}
+
+fn check_accepted_in_all(
+    rt: &impl Abort,
+    alloc: Global,
+    row: &(&str, &[&str], &[&str], &[(&str, &str)]),
+) -> Result<(), AllocError> {
+    let orders = orders(alloc, row.1.len())?;
+    check_accepted(rt, alloc, row, &orders)
 }
 
 #[test]
 fn an_order_changes_numbers_alone(rt: HostRuntime) -> Result<(), Fail> {
     for row in ACCEPTED {
-        check_accepted(&rt, rt.alloc(), row)?;
+        check_accepted_in_all(&rt, rt.alloc(), row)?;
     }
     Ok(())
 }
@@ -322,25 +351,40 @@ const REFUSED: &[(&str, &[&str], &str)] = &[
     ),
 ];
 
+/// A line for each fault of a batch in an order.
+fn faults_in(alloc: Global, files: &[&str], order: &[usize]) -> Result<String, AllocError> {
+    let batch = batch_in(alloc, files, order)?;
+    faults_report(alloc, files_of(alloc, batch.as_str())?)
+}
+
 /// Asserts that a batch is refused in each order, with the same fault.
 fn check_refused(
     rt: &impl Abort,
     alloc: Global,
     row: &(&str, &[&str], &str),
+    orders: &[Vec<usize>],
 ) -> Result<(), AllocError> {
     let (what, files, wanted) = *row;
-    for order in &orders(alloc, files.len())? {
-        let batch = batch_in(alloc, files, order.as_slice())?;
-        let report = faults_report(alloc, files_of(alloc, batch.as_str())?)?;
+    for order in orders {
+        let report = faults_in(alloc, files, order.as_slice())?;
         assert!(rt; report.as_str() == wanted, "{what} {order:?}\n{report}");
     }
     Ok(())
 }
 
+fn check_refused_in_all(
+    rt: &impl Abort,
+    alloc: Global,
+    row: &(&str, &[&str], &str),
+) -> Result<(), AllocError> {
+    let orders = orders(alloc, row.1.len())?;
+    check_refused(rt, alloc, row, &orders)
+}
+
 #[test]
 fn a_broken_batch_is_refused_in_any_order(rt: HostRuntime) -> Result<(), Fail> {
     for row in REFUSED {
-        check_refused(&rt, rt.alloc(), row)?;
+        check_refused_in_all(&rt, rt.alloc(), row)?;
     }
     Ok(())
 }

@@ -1,8 +1,8 @@
 //! What items hold that follows from their records: maps, oneofs, default values, values, methods,
 //! encodings.
 
+use super::batches::pool_of;
 use super::files_of;
-use super::items::pool_of;
 use super::values::write_value;
 use descriptor_pool::{BuildError, DescriptorPool};
 use pool_types::{
@@ -211,18 +211,43 @@ fn write_service(report: &mut String, service: &ServiceDescriptorInner) -> Resul
     Ok(())
 }
 
+fn messages_of(alloc: Global, script: &str) -> Result<String, AllocError> {
+    let pool = pool_of(alloc, &[script])?;
+    messages_report(alloc, &pool)
+}
+
 #[test]
-fn items_have_maps_and_oneofs_and_indexes(rt: HostRuntime) -> Result<(), Fail> {
+fn messages_have_maps_and_oneofs(rt: HostRuntime) -> Result<(), Fail> {
     for (script, wanted) in MESSAGES {
-        let report = messages_report(rt.alloc(), &pool_of(rt.alloc(), script)?)?;
+        let report = messages_of(rt.alloc(), script)?;
         assert!(rt; report.as_str() == *wanted, "{script}{report}");
     }
+    Ok(())
+}
+
+fn enums_of(alloc: Global, script: &str) -> Result<String, AllocError> {
+    let pool = pool_of(alloc, &[script])?;
+    enums_report(alloc, &pool)
+}
+
+#[test]
+fn enums_have_maps(rt: HostRuntime) -> Result<(), Fail> {
     for (script, wanted) in ENUMS {
-        let report = enums_report(rt.alloc(), &pool_of(rt.alloc(), script)?)?;
+        let report = enums_of(rt.alloc(), script)?;
         assert!(rt; report.as_str() == *wanted, "{script}{report}");
     }
+    Ok(())
+}
+
+fn services_of(alloc: Global, script: &str) -> Result<String, AllocError> {
+    let pool = pool_of(alloc, &[script])?;
+    services_report(alloc, &pool)
+}
+
+#[test]
+fn methods_have_indexes_of_messages(rt: HostRuntime) -> Result<(), Fail> {
     for (script, wanted) in SERVICES {
-        let report = services_report(rt.alloc(), &pool_of(rt.alloc(), script)?)?;
+        let report = services_of(rt.alloc(), script)?;
         assert!(rt; report.as_str() == *wanted, "{script}{report}");
     }
     Ok(())
@@ -399,10 +424,19 @@ fn encoding(pool: &DescriptorPool) -> Option<(bool, bool)> {
     Some((field.is_packed, field.supports_presence))
 }
 
+fn encoding_of(
+    alloc: Global,
+    parts: &str,
+    is_optional: Option<bool>,
+) -> Result<Option<(bool, bool)>, BuildError> {
+    let pool = pool_with(alloc, parts, is_optional)?;
+    Ok(encoding(&pool))
+}
+
 #[test]
 fn fields_are_packed_and_set_by_syntax_and_kind(rt: HostRuntime) -> Result<(), Fail> {
     for (parts, is_optional, is_packed, supports_presence) in ENCODED {
-        let report = encoding(&pool_with(rt.alloc(), parts, *is_optional)?);
+        let report = encoding_of(rt.alloc(), parts, *is_optional)?;
         assert!(rt;
             report == Some((*is_packed, *supports_presence)),
             "{parts}{report:?}"

@@ -2,7 +2,7 @@
 
 use super::meanings::meaning;
 use super::names::enter;
-use name_resolution::{ResolveNameFilter, ResolveNameResult, resolve_in_parts, resolve_name};
+use name_resolution::{ResolveNameFilter, resolve_in_parts, resolve_name};
 use name_tables::{HashedNames, NameTable, PartNames, Parts};
 use plain_data::Items;
 use pool_types::{Definition, DefinitionKind};
@@ -173,22 +173,31 @@ fn deep_name(alloc: Global, parts: u32) -> Result<String, AllocError> {
     Ok(name)
 }
 
+/// Asserts that a table equals its copy, and is empty once its files are taken away.
+fn check_copy(rt: &impl Abort, alloc: Global, table: &mut PartNames) -> Result<(), AllocError> {
+    let copy = table.clone()?;
+    assert!(rt; copy.same(table));
+    table.remove_from(0);
+    assert!(rt; table.same(&PartNames::new(alloc)));
+    Ok(())
+}
+
+/// Asserts that a table has two names.
+fn check_names(rt: &impl Abort, alloc: Global, name: &str, longer: &str) -> Result<(), AllocError> {
+    let mut table = PartNames::new(alloc);
+    enter_all(alloc, &mut table, &[name, longer])?;
+    assert!(rt; file_of(&table, name) == Some(0));
+    assert!(rt; file_of(&table, longer) == Some(1));
+    assert!(rt; table.get("a").is_none());
+    check_copy(rt, alloc, &mut table)
+}
+
 #[test]
 fn names_may_have_many_parts(rt: HostRuntime) -> Result<(), Fail> {
     for parts in [64, 10_000] {
-        let mut table = PartNames::new(rt.alloc());
-        let (name, longer) = (
-            deep_name(rt.alloc(), parts)?,
-            deep_name(rt.alloc(), 1u32.saturating_add(parts))?,
-        );
-        enter_all(rt.alloc(), &mut table, &[name.as_str(), longer.as_str()])?;
-        assert!(rt; file_of(&table, name.as_str()) == Some(0));
-        assert!(rt; file_of(&table, longer.as_str()) == Some(1));
-        assert!(rt; table.get("a").is_none());
-        let copy = table.clone()?;
-        assert!(rt; copy.same(&table));
-        table.remove_from(0);
-        assert!(rt; table.same(&PartNames::new(rt.alloc())));
+        let name = deep_name(rt.alloc(), parts)?;
+        let longer = deep_name(rt.alloc(), 1u32.saturating_add(parts))?;
+        check_names(&rt, rt.alloc(), name.as_str(), longer.as_str())?;
     }
     Ok(())
 }
@@ -219,39 +228,75 @@ const MEANINGS: &[(&[&str], &str, &str, &str)] = &[
     (&["p"], "p.q", "r.s", "not found"),
 ];
 
+/// The files 0 to 3.
+fn visible(alloc: Global) -> Result<BTreeSet<u32>, AllocError> {
+    let mut visible = BTreeSet::new(alloc);
+    for file in 0..4 {
+        visible.insert(file)?;
+    }
+    Ok(visible)
+}
+
+/// What a reference in a scope means over a table of names.
+fn meaning_over<N: NameTable>(
+    alloc: Global,
+    names: &N,
+    (scope, name): (&str, &str),
+) -> Result<String, AllocError> {
+    let visible = visible(alloc)?;
+    let filter = ResolveNameFilter::FieldType;
+    let resolved = resolve_name(alloc, &visible, names, scope, name, filter)?;
+    meaning(alloc, &resolved)
+}
+
+/// The same, found part by part.
+fn meaning_in_parts(
+    alloc: Global,
+    names: &PartNames,
+    (scope, name): (&str, &str),
+) -> Result<String, AllocError> {
+    let visible = visible(alloc)?;
+    let filter = ResolveNameFilter::FieldType;
+    let resolved = resolve_in_parts(alloc, &visible, names, scope, name, filter)?;
+    meaning(alloc, &resolved)
+}
+
+fn over_hashed(alloc: Global, names: &[&str], written: (&str, &str)) -> Result<String, AllocError> {
+    let mut table = HashedNames::new(alloc);
+    enter_all(alloc, &mut table, names)?;
+    meaning_over(alloc, &table, written)
+}
+
+fn over_tree(alloc: Global, names: &[&str], written: (&str, &str)) -> Result<String, AllocError> {
+    let mut table = PartNames::new(alloc);
+    enter_all(alloc, &mut table, names)?;
+    meaning_over(alloc, &table, written)
+}
+
+fn in_parts(alloc: Global, names: &[&str], written: (&str, &str)) -> Result<String, AllocError> {
+    let mut table = PartNames::new(alloc);
+    enter_all(alloc, &mut table, names)?;
+    meaning_in_parts(alloc, &table, written)
+}
+
+/// Asserts what a reference means, where memory was there.
 fn check_meaning(
     rt: &impl Abort,
-    alloc: Global,
-    resolved: &ResolveNameResult,
+    told: Result<String, AllocError>,
     wanted: &str,
 ) -> Result<(), AllocError> {
-    let told = meaning(alloc, resolved)?;
+    let told = told?;
     assert!(rt; told.as_str() == wanted, "{told} for {wanted}");
-    assert!(rt;
-        resolved.is_found() == wanted.starts_with("found"),
-        "{wanted}"
-    );
     Ok(())
 }
 
 #[test]
 fn references_mean_the_same_over_both_tables(rt: HostRuntime) -> Result<(), Fail> {
-    let alloc = rt.alloc();
-    let mut visible = BTreeSet::new(alloc);
-    for file in 0..4 {
-        visible.insert(file)?;
-    }
-    let filter = ResolveNameFilter::FieldType;
     for (names, scope, name, wanted) in MEANINGS {
-        let (mut hashed, mut tree) = (HashedNames::new(alloc), PartNames::new(alloc));
-        enter_all(alloc, &mut hashed, names)?;
-        enter_all(alloc, &mut tree, names)?;
-        let resolved = resolve_name(alloc, &visible, &hashed, scope, name, filter)?;
-        check_meaning(&rt, alloc, &resolved, wanted)?;
-        let resolved = resolve_name(alloc, &visible, &tree, scope, name, filter)?;
-        check_meaning(&rt, alloc, &resolved, wanted)?;
-        let resolved = resolve_in_parts(alloc, &visible, &tree, scope, name, filter)?;
-        check_meaning(&rt, alloc, &resolved, wanted)?;
+        let written = (*scope, *name);
+        check_meaning(&rt, over_hashed(rt.alloc(), names, written), wanted)?;
+        check_meaning(&rt, over_tree(rt.alloc(), names, written), wanted)?;
+        check_meaning(&rt, in_parts(rt.alloc(), names, written), wanted)?;
     }
     Ok(())
 }

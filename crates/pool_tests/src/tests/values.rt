@@ -261,21 +261,49 @@ fn default_values_are_read(rt: HostRuntime) -> Result<(), Fail> {
     Ok(())
 }
 
-#[test]
-fn a_later_entry_of_a_map_stands(rt: HostRuntime) -> Result<(), Fail> {
-    let mut names = TextMap::new(rt.alloc());
+/// A map in which a name has two entries.
+fn names(alloc: Global) -> Result<TextMap, AllocError> {
+    let mut names = TextMap::new(alloc);
     names.insert("f", 0)?;
     names.insert("f", 1)?;
-    let copy = names.clone(rt.alloc())?;
+    Ok(names)
+}
+
+/// Asserts that a map equals its copy, which stays as it is where one more entry comes.
+fn check_names(rt: &impl Abort, alloc: Global, names: &mut TextMap) -> Result<(), AllocError> {
+    let copy = names.duplicate(alloc)?;
+    assert!(rt; copy == *names && copy.get("f") == Some(1));
     names.insert("", 2)?;
-    assert!(rt; names.get("f") == Some(1) && copy.get("").is_none() && names != copy);
-    assert!(rt; copy.duplicate(rt.alloc())? == copy);
-    let mut numbers = NumberMap::new(rt.alloc());
+    assert!(rt; copy.get("").is_none() && copy != *names);
+    Ok(())
+}
+
+/// A map in which a number has two entries.
+fn numbers(alloc: Global) -> Result<NumberMap, AllocError> {
+    let mut numbers = NumberMap::new(alloc);
     numbers.insert(5, 0)?;
     numbers.insert(5, 1)?;
-    let copy = numbers.clone(rt.alloc())?;
+    Ok(numbers)
+}
+
+/// Asserts that a map equals its copy, which stays as it is where one more entry comes.
+fn check_numbers(
+    rt: &impl Abort,
+    alloc: Global,
+    numbers: &mut NumberMap,
+) -> Result<(), AllocError> {
+    let copy = numbers.duplicate(alloc)?;
+    assert!(rt; copy == *numbers && copy.get(5) == Some(1));
     numbers.insert(6, 2)?;
-    assert!(rt; numbers.get(5) == Some(1) && copy.get(6).is_none() && numbers != copy);
-    assert!(rt; copy.duplicate(rt.alloc())? == copy);
+    assert!(rt; copy.get(6).is_none() && copy != *numbers);
+    Ok(())
+}
+
+#[test]
+fn a_later_entry_of_a_map_stands(rt: HostRuntime) -> Result<(), Fail> {
+    let mut names = names(rt.alloc())?;
+    check_names(&rt, rt.alloc(), &mut names)?;
+    let mut numbers = numbers(rt.alloc())?;
+    check_numbers(&rt, rt.alloc(), &mut numbers)?;
     Ok(())
 }

@@ -1,6 +1,6 @@
 //! Devices over memory, and runs that they end.
 
-use super::scripts::{FIRST_REPORT, FIRST_SCRIPT, THREE_FILES, THREE_REPORT};
+use super::scripts::{FIRST_REPORT, FIRST_SCRIPT, THREE_FILES, THREE_REPORT, count_of_beginning};
 use descriptor_linker::{Ending, run};
 use script_devices::{MemoryInput, MemoryOutput, ReportOutput, ScriptInput};
 use std::alloc::{AllocError, Global};
@@ -111,16 +111,6 @@ struct Limits {
 /// How a run ends, how many of its reads fail, and how many bytes of its report it writes, or none
 /// where it writes other bytes.
 type Ended = (Ending, u64, Option<usize>);
-
-/// How many bytes these are, if a report begins with them.
-fn count_of_beginning(report: &str, written: &[u8]) -> Option<usize> {
-    let count = written.len();
-    if report.as_bytes().get(..count) == Some(written) {
-        Some(count)
-    } else {
-        None
-    }
-}
 
 /// Runs a script with a report from memory to memory.
 fn ended(alloc: Global, example: (&str, &str), limits: Limits) -> Result<Ended, AllocError> {

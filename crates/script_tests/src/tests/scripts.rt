@@ -25,6 +25,16 @@ pub(super) const THREE_FILES: &str =
 pub(super) const THREE_REPORT: &str = "ok 3 1 1 0 1\nrefs 2\ne extendee .M\ne type_name .E\n\
     extension 0 c.proto [7, 0, 1]\n";
 
+/// How many bytes these are, if a report begins with them.
+pub(super) fn count_of_beginning(report: &str, written: &[u8]) -> Option<usize> {
+    let count = written.len();
+    if report.as_bytes().get(..count) == Some(written) {
+        Some(count)
+    } else {
+        None
+    }
+}
+
 /// A script, its report, and whether that ends with a fault of the script.
 const REPORTED: &[(&str, &str, bool)] = &[
     (FIRST_SCRIPT, FIRST_REPORT, false),

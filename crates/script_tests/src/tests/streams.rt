@@ -1,6 +1,6 @@
 //! Devices over streams of the library, and runs over them.
 
-use super::scripts::{FIRST_REPORT, FIRST_SCRIPT, THREE_FILES, THREE_REPORT};
+use super::scripts::{FIRST_REPORT, FIRST_SCRIPT, THREE_FILES, THREE_REPORT, count_of_beginning};
 use descriptor_linker::{Ending, run};
 use script_devices::{MemoryOutput, ReaderInput, ReportOutput, ScriptInput, WriterOutput};
 use std::alloc::{AllocError, Global};
@@ -97,61 +97,80 @@ fn a_stream_is_written(rt: HostRuntime) {
     assert!(rt; taken.as_slice() == b"abc".as_slice());
 }
 
-/// The room of a writer, how a run over streams ends there, the failures of the writer, and what
-/// it takes.
-const ROOMS: &[(usize, Ending, u64, &str)] = &[
-    (1000, Ending::Whole, 0, FIRST_REPORT),
-    (7, Ending::Device, 1, "ok 1 1 "),
-];
+fn writer_with(alloc: Global, room: usize, fails: bool) -> Narrow {
+    let taken = Vec::new(alloc);
+    Narrow { taken, room, fails }
+}
 
-/// Asserts how a run ends that reads the first script in two parts, and how many writes fail.
-fn check_run(rt: &impl Abort, alloc: Global, narrow: &mut Narrow, ending: Ending, failures: u64) {
+/// How a run ends, and how many of its reads or writes fail.
+type Ended = (Ending, u64);
+
+/// Reads the first script in two parts.
+fn ended_in_parts(alloc: Global, narrow: &mut Narrow) -> Ended {
     let (front, back) = FIRST_SCRIPT.as_bytes().split_at(20);
     let mut input = ReaderInput::new(front.chain(back));
     let mut output = WriterOutput::new(narrow);
-    assert!(rt; run(alloc, &mut input, &mut output) == ending);
-    assert!(rt; output.failures() == failures);
+    let ending = run(alloc, &mut input, &mut output);
+    (ending, output.failures())
+}
+
+/// Besides, how many bytes of the report a writer takes, or none where it takes other bytes.
+fn written_in_parts(alloc: Global, room: usize) -> (Ended, Option<usize>) {
+    let mut narrow = writer_with(alloc, room, true);
+    let ended = ended_in_parts(alloc, &mut narrow);
+    (
+        ended,
+        count_of_beginning(FIRST_REPORT, narrow.taken.as_slice()),
+    )
 }
 
 #[test]
 fn streams_are_read_and_written_in_parts(rt: HostRuntime) {
-    for (room, ending, failures, wanted) in ROOMS {
-        let mut narrow = writer_with(rt.alloc(), *room, true);
-        check_run(&rt, rt.alloc(), &mut narrow, *ending, *failures);
-        assert!(rt; narrow.taken.as_slice() == wanted.as_bytes());
-    }
+    let (whole, count) = ((Ending::Whole, 0), FIRST_REPORT.len());
+    assert!(rt; written_in_parts(rt.alloc(), 1000) == (whole, Some(count)));
+    let failed = (Ending::Device, 1);
+    assert!(rt; written_in_parts(rt.alloc(), 7) == (failed, Some(7)));
 }
 
-fn check_broken(rt: &impl Abort, alloc: Global, taken: &mut Vec<u8>) {
+/// Reads the first script, and then a reader that fails.
+fn ended_broken(alloc: Global, taken: &mut Vec<u8>) -> Ended {
     let mut input = ReaderInput::new(FIRST_SCRIPT.as_bytes().chain(Broken));
     let mut output = WriterOutput::new(taken);
-    assert!(rt; run(alloc, &mut input, &mut output) == Ending::Device);
-    assert!(rt; input.failures() == 1);
+    let ending = run(alloc, &mut input, &mut output);
+    (ending, input.failures())
 }
 
 #[test]
 fn a_broken_reader_ends_the_run(rt: HostRuntime) {
     let mut taken = Vec::new(rt.alloc());
-    check_broken(&rt, rt.alloc(), &mut taken);
+    assert!(rt; ended_broken(rt.alloc(), &mut taken) == (Ending::Device, 1));
     assert!(rt; taken.is_empty());
 }
 
-/// Asserts how a run over three files ends whose reader makes so many reads, and what it writes.
+/// How a run over three files ends whose reader makes so many reads, and how many bytes of its
+/// report it writes, or none where it writes other bytes.
+fn ended_by_reads(alloc: Global, reads: usize) -> Result<(Ending, Option<usize>), AllocError> {
+    let rest = THREE_FILES.as_bytes();
+    let mut input = ReaderInput::new(Slow { rest, reads });
+    let mut output = MemoryOutput::new(alloc, 1000)?;
+    let ending = run(alloc, &mut input, &mut output);
+    Ok((ending, count_of_beginning(THREE_REPORT, output.written())))
+}
+
 fn check_reads(
     rt: &impl Abort,
     alloc: Global,
     reads: usize,
-    wanted: (Ending, &str),
+    wanted: (Ending, usize),
 ) -> Result<(), AllocError> {
-    let rest = THREE_FILES.as_bytes();
-    let mut input = ReaderInput::new(Slow { rest, reads });
-    let mut output = MemoryOutput::new(alloc, 1000)?;
-    let ended = run(alloc, &mut input, &mut output);
-    if ended == Ending::OutOfMemory {
+    let (ending, count) = ended_by_reads(alloc, reads)?;
+    if ending == Ending::OutOfMemory {
         return Err(AllocError);
     }
-    assert!(rt; ended == wanted.0, "{reads} {ended:?}");
-    assert!(rt; output.written() == wanted.1.as_bytes(), "{reads}");
+    assert!(rt;
+        (ending, count) == (wanted.0, Some(wanted.1)),
+        "{reads} {ending:?}"
+    );
     Ok(())
 }
 
@@ -159,85 +178,58 @@ fn check_reads(
 fn each_read_may_fail(rt: HostRuntime) -> Result<(), Fail> {
     // A read for each byte, and one more at the end.
     for reads in 0..=THREE_FILES.len() {
-        check_reads(&rt, rt.alloc(), reads, (Ending::Device, ""))?;
+        check_reads(&rt, rt.alloc(), reads, (Ending::Device, 0))?;
     }
     let reads = THREE_FILES.len().saturating_add(1);
-    check_reads(&rt, rt.alloc(), reads, (Ending::Whole, THREE_REPORT))?;
+    check_reads(&rt, rt.alloc(), reads, (Ending::Whole, THREE_REPORT.len()))?;
     Ok(())
 }
 
-/// Asserts how a run over three files ends whose writer this is, how many writes fail, and how
-/// many take no byte.
-fn check_writer_ends(
-    rt: &impl Abort,
-    alloc: Global,
-    narrow: &mut Narrow,
-    wanted: (Ending, u64, u64),
-) -> Result<(), AllocError> {
+/// How a run over three files ends, how many of its writes fail, and how many take no byte.
+fn ended_by_writer(alloc: Global, narrow: &mut Narrow) -> (Ending, u64, u64) {
     let mut input = ReaderInput::new(THREE_FILES.as_bytes());
     let mut output = WriterOutput::new(narrow);
-    let ended = run(alloc, &mut input, &mut output);
-    if ended == Ending::OutOfMemory {
-        return Err(AllocError);
-    }
-    let (failures, idle) = (output.failures(), output.idle());
-    assert!(rt;
-        (ended, failures, idle) == wanted,
-        "{ended:?} {failures} {idle}"
-    );
-    Ok(())
+    let ending = run(alloc, &mut input, &mut output);
+    (ending, output.failures(), output.idle())
 }
 
-/// Asserts that a run over three files writes as much of its report as a writer has room for, and
-/// ends as is wanted.
+/// Besides, how many bytes of the report a writer takes, or none where it takes other bytes.
+fn written(alloc: Global, room: usize, fails: bool) -> ((Ending, u64, u64), Option<usize>) {
+    let mut narrow = writer_with(alloc, room, fails);
+    let ended = ended_by_writer(alloc, &mut narrow);
+    (
+        ended,
+        count_of_beginning(THREE_REPORT, narrow.taken.as_slice()),
+    )
+}
+
+/// Asserts how a run ends whose writer has so much room, and fails there or takes no byte, and that
+/// it writes as much of its report.
 fn check_writes(
     rt: &impl Abort,
     alloc: Global,
-    mut narrow: Narrow,
+    (room, fails): (usize, bool),
     wanted: (Ending, u64, u64),
 ) -> Result<(), AllocError> {
-    let room = narrow.room;
-    check_writer_ends(rt, alloc, &mut narrow, wanted)?;
+    let (ended, count) = written(alloc, room, fails);
+    if ended.0 == Ending::OutOfMemory {
+        return Err(AllocError);
+    }
     assert!(rt;
-        THREE_REPORT.as_bytes().get(..room) == Some(narrow.taken.as_slice()),
-        "{room}"
+        (ended, count) == (wanted, Some(room)),
+        "{room} {fails} {ended:?}"
     );
     Ok(())
-}
-
-fn writer_with(alloc: Global, room: usize, fails: bool) -> Narrow {
-    let taken = Vec::new(alloc);
-    Narrow { taken, room, fails }
 }
 
 #[test]
 fn each_write_may_fail_or_take_no_byte(rt: HostRuntime) -> Result<(), Fail> {
-    let (alloc, whole) = (rt.alloc(), THREE_REPORT.len());
-    for room in 0..whole {
-        check_writes(
-            &rt,
-            alloc,
-            writer_with(alloc, room, true),
-            (Ending::Device, 1, 0),
-        )?;
-        check_writes(
-            &rt,
-            alloc,
-            writer_with(alloc, room, false),
-            (Ending::Device, 0, 1),
-        )?;
+    for room in 0..THREE_REPORT.len() {
+        check_writes(&rt, rt.alloc(), (room, true), (Ending::Device, 1, 0))?;
+        check_writes(&rt, rt.alloc(), (room, false), (Ending::Device, 0, 1))?;
     }
-    check_writes(
-        &rt,
-        alloc,
-        writer_with(alloc, whole, true),
-        (Ending::Whole, 0, 0),
-    )?;
-    check_writes(
-        &rt,
-        alloc,
-        writer_with(alloc, whole, false),
-        (Ending::Whole, 0, 0),
-    )?;
+    let room = THREE_REPORT.len();
+    check_writes(&rt, rt.alloc(), (room, true), (Ending::Whole, 0, 0))?;
+    check_writes(&rt, rt.alloc(), (room, false), (Ending::Whole, 0, 0))?;
     Ok(())
 }
