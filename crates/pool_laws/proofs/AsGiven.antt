@@ -16,7 +16,7 @@ use Rattle.name_resolution.specs.References.{reference_fault}
 use Rattle.name_resolution.specs.Resolution.{Resolution, found, kind_found}
 use Rattle.field_rules.specs.Defaults.{DefaultEnum, default_faults}
 use Rattle.reference_pass.specs.Defaults.{default_by, enum_found, field_default, field_default_faults, no_default_enum, type_enum}
-use Rattle.reference_pass.specs.Declared.{message_record}
+use Rattle.reference_pass.specs.Definitions.{message_record}
 use Rattle.reference_pass.specs.Extension.{number_faults}
 use Rattle.reference_pass.specs.Types.{field_kind, type_faults, resolve_type}
 use Rattle.reference_pass.specs.Linked.{linked_field, resolved, typed}

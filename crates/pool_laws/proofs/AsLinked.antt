@@ -8,7 +8,7 @@ use Rattle.record_walk.specs.Shown.{Shown}
 use Rattle.name_resolution.specs.declared.filter.ResolveNameFilter.TheVariants.{Message}
 use Rattle.name_resolution.specs.References.{reference_fault}
 use Rattle.name_resolution.specs.Resolution.{Resolution, found}
-use Rattle.reference_pass.specs.Declared.{message_record}
+use Rattle.reference_pass.specs.Definitions.{message_record}
 use Rattle.reference_pass.specs.Extension.{number_faults}
 use Rattle.reference_pass.specs.Linked.{linking, resolved}
 use Rattle.reference_pass.specs.References.{resolve_message}

@@ -31,7 +31,7 @@ use Rattle.name_resolution.specs.Resolution.{found, resolution}
 use Rattle.pool_types.specs.Syntaxes.{syntax_of}
 use Rattle.reference_pass.specs.SecondPass.{owner_faults}
 use Rattle.reference_pass.specs.Items.{extension_item, extension_items}
-use Rattle.reference_pass.specs.Declared.{declaration_path, message_record, record_of}
+use Rattle.reference_pass.specs.Definitions.{declaration_path, message_record, record_of}
 use Rattle.reference_pass.specs.Setting.{Setting, resolve, seen_by}
 use Rattle.reference_pass.proofs.Owners.{owners-tell}
 use Rattle.reference_pass.proofs.Unbroken.{AllNew, owners-behind}

@@ -26,7 +26,7 @@ use Rattle.record_walk.proofs.Paths.{one-file}
 use Rattle.pool_types.specs.Syntaxes.{syntax_of}
 use Rattle.plain_data.specs.Each.{map_enumerated}
 use Rattle.reference_pass.specs.SecondPass.{owner_faults}
-use Rattle.reference_pass.specs.Declared.{declaration_path, message_record, record_of}
+use Rattle.reference_pass.specs.Definitions.{declaration_path, message_record, record_of}
 use Rattle.reference_pass.specs.Imports.{import_faults, missing_file}
 use Rattle.reference_pass.specs.Linked.{linking}
 use Rattle.reference_pass.specs.Setting.{Setting, seen_by}

@@ -20,7 +20,7 @@ use Rattle.name_resolution.specs.Filter.{is_match}
 use Rattle.name_resolution.specs.Parents.{outer}
 use Rattle.name_resolution.specs.Resolution.{Resolution, found, invalid_type, not_imported, not_found, is_found, is_not_found, or_shadowed, has_dot, look, simple, holds_first, dotted, relative, resolution}
 use Rattle.name_resolution.proofs.Outward.{answers}
-use Rattle.reference_pass.specs.Declared.{found_as}
+use Rattle.reference_pass.specs.Definitions.{found_as}
 use Rattle.reference_pass.specs.Setting.{Setting, resolve, seen_by}
 use Rattle.pool_laws.proofs.Fewer.{none-later}
 use Rattle.pool_laws.proofs.Looked.{answer}

@@ -40,7 +40,7 @@ use Rattle.field_rules.specs.Defaults.{DefaultEnum, default_faults}
 use Rattle.field_rules.specs.Duplicates.{duplicate_faults}
 use Rattle.record_walk.specs.Place.{field_at}
 use Rattle.reference_pass.specs.Defaults.{enum_found, no_default_enum, type_enum, field_default_faults}
-use Rattle.reference_pass.specs.Declared.{found_as, declaration_path, record_of, message_record}
+use Rattle.reference_pass.specs.Definitions.{found_as, declaration_path, record_of, message_record}
 use Rattle.reference_pass.specs.Extension.{number_faults}
 use Rattle.reference_pass.specs.Types.{field_kind, type_faults, resolve_type}
 use Rattle.reference_pass.specs.Imports.{import_faults, missing_file}

@@ -19,7 +19,7 @@ use Rattle.record_walk.specs.declared.declaration.DeclarationKind.TheVariants as
 use Rattle.record_walk.specs.Changed.{Changes, changed_fields, changed_file, changed_message, changed_methods, changed_nested, changed_service}
 use Rattle.name_resolution.specs.declared.filter.ResolveNameFilter.TheVariants.{Message, FieldType as AnyType}
 use Rattle.name_resolution.specs.Resolution.{Resolution, found, name_found, kind_found}
-use Rattle.reference_pass.specs.Declared.{found_as}
+use Rattle.reference_pass.specs.Definitions.{found_as}
 use Rattle.reference_pass.specs.Linked.{linked, linked_extension, linked_field, linked_method, linking, resolved, type_number, typed}
 use Rattle.reference_pass.specs.Setting.{Setting, resolve}
 use Rattle.pool_laws.specs.Order.{kind_alone}

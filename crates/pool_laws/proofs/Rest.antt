@@ -20,7 +20,7 @@ use Rattle.record_walk.specs.Shown.{Shown}
 use Rattle.name_resolution.specs.Resolution.{resolution}
 use Rattle.plain_data.specs.Each.{map_enumerated}
 use Rattle.reference_pass.specs.SecondPass.{owner_faults, owners_faults}
-use Rattle.reference_pass.specs.Declared.{declaration_path}
+use Rattle.reference_pass.specs.Definitions.{declaration_path}
 use Rattle.reference_pass.specs.Items.{extension_item, extension_items, file_item}
 use Rattle.reference_pass.specs.Linked.{linking}
 use Rattle.reference_pass.specs.Setting.{Setting, seen_by}

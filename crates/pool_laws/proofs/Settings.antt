@@ -26,7 +26,7 @@ use Rattle.name_resolution.specs.References.{reference_fault}
 use Rattle.name_resolution.specs.Resolution.{found}
 use Rattle.proto_types.specs.File.{file_at}
 use Rattle.reference_pass.specs.Defaults.{field_default, field_default_faults}
-use Rattle.reference_pass.specs.Declared.{enum_record, message_record}
+use Rattle.reference_pass.specs.Definitions.{enum_record, message_record}
 use Rattle.reference_pass.specs.Types.{field_kind, type_faults}
 use Rattle.reference_pass.specs.SecondPass.{extension_faults, message_faults, service_faults}
 use Rattle.reference_pass.specs.Imports.{import_faults}

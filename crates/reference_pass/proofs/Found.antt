@@ -6,7 +6,7 @@ use Rattle.proto_types.specs.declared.message.DescriptorProto.{DescriptorProto}
 use Rattle.record_walk.specs.Counts.{no_counts, lists_fit}
 use Rattle.record_walk.specs.Protos.{Proto, of_file, of_message, of_field, of_oneof, of_service, of_method, of_enum, of_value, of_extension, as_message}
 use Rattle.record_walk.proofs.Reached.{found-fits}
-use Rattle.reference_pass.specs.Declared.{declaration_path, message_record, record_of}
+use Rattle.reference_pass.specs.Definitions.{declaration_path, message_record, record_of}
 use Rattle.reference_pass.specs.Setting.{Setting}
 use Rattle.record_walk.specs.Short.{ShortFiles}
 

@@ -12,7 +12,7 @@ use Rattle.pool_faults.specs.declared.fault.DescriptorErrorKind.{DescriptorError
 use Rattle.record_walk.specs.Shown.{Shown}
 use Rattle.name_resolution.specs.Resolution.{Resolution}
 use Rattle.field_rules.specs.Defaults.{DefaultEnum, default_value, default_faults}
-use Rattle.reference_pass.specs.Declared.{found_as, enum_record}
+use Rattle.reference_pass.specs.Definitions.{found_as, enum_record}
 use Rattle.reference_pass.specs.Types.{field_kind, resolve_type}
 use Rattle.reference_pass.specs.Setting.{Setting}
 

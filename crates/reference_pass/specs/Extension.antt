@@ -22,7 +22,7 @@ use Rattle.field_rules.specs.Maps.{item_number}
 use Rattle.pool_faults.specs.Labels.{part_label}
 use Rattle.field_rules.specs.Numbers.{extension_number_faults}
 use Rattle.pool_types.specs.Extension.{has_number}
-use Rattle.reference_pass.specs.Declared.{found_as, declaration_path, message_record}
+use Rattle.reference_pass.specs.Definitions.{found_as, declaration_path, message_record}
 use Rattle.reference_pass.specs.References.{index_or_max, message_index, resolve_message}
 use Rattle.reference_pass.specs.Setting.{Setting}
 

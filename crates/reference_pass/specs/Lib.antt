@@ -2,7 +2,7 @@ pub mod Setting
 pub mod Linked
 pub mod Types
 pub mod References
-pub mod Declared
+pub mod Definitions
 pub mod Numbered
 pub mod Earlier
 pub mod Extension

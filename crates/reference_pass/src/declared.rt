@@ -1,6 +1,6 @@
 ghost use Rattle.std.specs.Prelude.{◌≡◌};
 ghost use Rattle.std.specs.Option.{option_copied};
-ghost use Rattle.reference_pass.specs.Declared.{declaration_path, enum_record, message_record};
+ghost use Rattle.reference_pass.specs.Definitions.{declaration_path, enum_record, message_record};
 ghost use Rattle.reference_pass.specs.Reading.{setting_of};
 
 use crate::Reading;
