@@ -24,12 +24,12 @@ ghost use Rattle.reference_pass.specs.Linking.{ItemsAre, lists_in};
 ghost use Rattle.descriptor_pool.specs.Pool.{Made};
 
 use crate::error::BuildError;
-use record_walk::{Counts, Faults, walk};
 use name_pass::NameVisitor;
 use name_tables::{FileNames, PoolNames};
 use pool_contents::{DescriptorPoolInner, GrowingPool};
 use pool_faults::{DescriptorError, DescriptorErrorKind};
 use proto_types::FileDescriptorProto;
+use record_walk::{Counts, Faults, walk};
 use reference_pass::{Linker, NewItems, NextItems, PoolExtensions, Reading, ResolveVisitor};
 use std::alloc::{AllocError, Global};
 use std::mem;

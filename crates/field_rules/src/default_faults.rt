@@ -6,11 +6,11 @@ ghost use Rattle.field_rules.specs.DefaultEnum.{default_enum_in};
 ghost use Rattle.record_walk.specs.Faults.{named_files};
 
 use crate::default_enum::DefaultEnum;
-use record_walk::{Faults, Place};
 use plain_data::Text;
 use pool_faults::DescriptorErrorKind;
 use pool_types::KindIndex;
 use proto_types::tag;
+use record_walk::{Faults, Place};
 use std::alloc::{AllocError, Global};
 
 /// The fault of a text that writes no value of a kind.

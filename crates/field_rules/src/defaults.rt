@@ -6,9 +6,9 @@ ghost use Rattle.record_walk.specs.Faults.{Tells, named_files};
 use crate::default_enum::DefaultEnum;
 use crate::default_faults::default_fault;
 use crate::enum_defaults::value_of;
-use record_walk::{Faults, Place};
 use plain_data::Text;
 use pool_types::{DefaultValue, KindIndex};
+use record_walk::{Faults, Place};
 use std::alloc::AllocError;
 
 /// The default value of a field or an extension, if one is given, by the kind of its type

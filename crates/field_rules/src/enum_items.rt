@@ -12,10 +12,10 @@ ghost use Rattle.field_rules.specs.EnumValues.{values_faults};
 use crate::enum_tables::{value_names, value_numbers};
 use crate::enum_values::{allows_alias, check_values};
 use crate::{identity, identity_beside};
-use record_walk::{Faults, Place};
 use plain_data::Items;
 use pool_types::{EnumDescriptorInner, EnumValueDescriptorInner};
 use proto_types::{EnumDescriptorProto, tag};
+use record_walk::{Faults, Place};
 use std::alloc::{AllocError, Global};
 
 /// The item of an enum, with its values, which are named beside it, and their tables. What the

@@ -10,9 +10,9 @@ ghost use Rattle.record_walk.specs.Faults.{Tells, named_files};
 ghost use Rattle.field_rules.specs.EnumRanges.{reserves};
 ghost use Rattle.field_rules.specs.EnumValues.{reserved_faults};
 
-use record_walk::{Faults, Place};
 use pool_faults::DescriptorErrorKind;
 use proto_types::{EnumDescriptorProto, EnumReservedRange, tag};
+use record_walk::{Faults, Place};
 use std::alloc::AllocError;
 
 /// Appends to `faults` one for each reserved range of an enum that holds the number of its value

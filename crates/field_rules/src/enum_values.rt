@@ -15,9 +15,9 @@ ghost use Rattle.field_rules.specs.EnumItems.{allows_alias};
 ghost use Rattle.field_rules.specs.EnumValues.{values_faults};
 
 use crate::enum_ranges::check_reserved;
-use record_walk::{Faults, Place};
 use pool_faults::{DescriptorErrorKind, Label};
 use proto_types::{EnumDescriptorProto, tag};
+use record_walk::{Faults, Place};
 use std::alloc::AllocError;
 use std::collections::BTreeMap;
 use std::collections::btree_map::Entry;

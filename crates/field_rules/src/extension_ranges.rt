@@ -12,11 +12,11 @@ ghost use Rattle.field_rules.specs.Numbers.{out_of_range_faults};
 ghost use Rattle.field_rules.specs.Ranges.{extends};
 
 use crate::Owner;
-use record_walk::{Faults, Place};
 use number_ranges::{NumberRanges, holds};
 use plain_data::Text;
 use pool_faults::DescriptorErrorKind;
 use proto_types::{ExtensionRange, FieldDescriptorProto, tag};
+use record_walk::{Faults, Place};
 use std::alloc::AllocError;
 
 /// Appends to `faults` what the number of a field breaks by the extension ranges of its message:

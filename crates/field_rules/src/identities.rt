@@ -5,10 +5,10 @@ ghost use Rattle.proto_types.specs.Paths.{entry_path};
 ghost use Rattle.field_rules.specs.Identities.{named_at, before_ending};
 ghost use Rattle.field_rules.specs.NamesBegin.{BeginsAtBoundary};
 
-use record_walk::Place;
 use plain_data::{Items, Text};
 use pool_types::Identity;
 use proto_types::{entry_path, join};
+use record_walk::Place;
 use std::alloc::{AllocError, Global};
 
 /// Where a declaration stands that has this name. Where that ends the full name, it begins there

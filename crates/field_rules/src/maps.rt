@@ -12,10 +12,10 @@ ghost use Rattle.field_rules.specs.MapsOf.{AreMapsOf};
 ghost use Rattle.field_rules.specs.Maps.{item_number};
 
 use crate::Owner;
-use record_walk::{Faults, Place};
 use plain_data::{NumberMap, Text, TextMap};
 use pool_faults::DescriptorErrorKind;
 use proto_types::{FieldDescriptorProto, tag};
+use record_walk::{Faults, Place};
 use std::alloc::{AllocError, Global};
 
 /// The maps of a message, of the fields that were read so far: from number, name and given JSON

@@ -6,12 +6,12 @@ ghost use Rattle.record_walk.specs.Faults.{Tells, named_files};
 ghost use Rattle.field_rules.specs.Bounds.{AreRangesOf};
 ghost use Rattle.field_rules.specs.Numbers.{field_number_faults, extension_number_faults};
 
+use crate::Owner;
 use crate::extension_ranges::{any_extends, check_extension_ranges, check_in_some_range};
 use crate::message_ranges::MessageRanges;
 use crate::reserved::{check_reserved_by, check_reserved_ranges, check_valid};
-use crate::Owner;
-use record_walk::{Faults, Place};
 use proto_types::FieldDescriptorProto;
+use record_walk::{Faults, Place};
 use std::alloc::AllocError;
 
 /// Appends to `faults` what the number of a field breaks that stands in a message

@@ -4,10 +4,10 @@ ghost use Rattle.plain_data.specs.Each.{map_enumerated};
 ghost use Rattle.record_walk.specs.Faults.{Tells};
 ghost use Rattle.field_rules.specs.Oneofs.{oneof_faults, oneof_of, members};
 
-use record_walk::Faults;
 use plain_data::Items;
 use pool_faults::DescriptorErrorKind;
 use proto_types::{FieldDescriptorProto, OneofDescriptorProto};
+use record_walk::Faults;
 use std::alloc::{AllocError, Global};
 
 /// Appends to `faults` that of a field whose oneof index is no position of its message's oneofs,

@@ -1,5 +1,5 @@
-use record_walk::Place;
 use proto_types::DescriptorProto;
+use record_walk::Place;
 
 /// A message at a place, for what its fields and its extensions are checked with.
 #[derive(Clone, Copy)]

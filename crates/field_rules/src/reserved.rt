@@ -6,12 +6,12 @@ ghost use Rattle.record_walk.specs.Place.{inside_of};
 ghost use Rattle.field_rules.specs.Bounds.{reserved_bounds};
 ghost use Rattle.field_rules.specs.Numbers.{invalid_faults, reserved_fault, reserved_faults};
 
-use crate::field_number::is_valid_number;
 use crate::Owner;
-use record_walk::{Faults, Place};
+use crate::field_number::is_valid_number;
 use number_ranges::{NumberRanges, holds};
 use pool_faults::DescriptorErrorKind;
 use proto_types::{ReservedRange, tag};
+use record_walk::{Faults, Place};
 use std::alloc::AllocError;
 
 /// Appends to `faults` that of a number that no field may have.

@@ -7,11 +7,11 @@ ghost use Rattle.pool_faults.specs.Labels.{label_in};
 ghost use Rattle.record_walk.specs.Faults.{Tells, named_files};
 ghost use Rattle.name_pass.specs.CamelCase.{camel_case_key, name_path, camel_case_fault, camel_case_faults, message_own_faults};
 
-use record_walk::Faults;
 use plain_data::Text;
 use pool_faults::{DescriptorErrorKind, Label};
 use pool_types::{Syntax, syntax_at};
 use proto_types::{DescriptorProto, FieldDescriptorProto, entry_path, tag};
+use record_walk::Faults;
 use std::alloc::{AllocError, Global};
 use std::collections::HashMap;
 

@@ -2,10 +2,10 @@ ghost use Rattle.std.specs.Prelude.{◌≡◌, OnOk};
 ghost use Rattle.record_walk.specs.Faults.{Tells, named_files};
 ghost use Rattle.name_pass.specs.Enumeration.{enum_faults};
 
-use record_walk::Faults;
 use pool_faults::DescriptorErrorKind;
 use pool_types::{Syntax, syntax_at};
 use proto_types::{EnumDescriptorProto, tag};
+use record_walk::Faults;
 use std::alloc::AllocError;
 
 /// Appends to `faults` that of an enum without values, or that of one whose first value isn't 0 in

@@ -6,7 +6,6 @@ ghost use Rattle.name_pass.specs.Names.{packages, package_entry};
 ghost use Rattle.name_pass.specs.FirstPass.{holder_faults};
 
 use crate::{check_camel_case_names, check_enum_values, check_syntax};
-use record_walk::{Faults, Visitor};
 use name_tables::{FileNames, NameTable, PoolNames};
 use plain_data::{Items, Text};
 use pool_faults::DescriptorErrorKind;
@@ -15,6 +14,7 @@ use proto_types::{
     DescriptorProto, EnumDescriptorProto, EnumValueDescriptorProto, FieldDescriptorProto,
     FileDescriptorProto, MethodDescriptorProto, OneofDescriptorProto, ServiceDescriptorProto, tag,
 };
+use record_walk::{Faults, Visitor};
 use std::alloc::{AllocError, Global};
 
 /// The first pass: it enters the names of declarations into the tables of a pool whose files are

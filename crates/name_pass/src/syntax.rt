@@ -2,11 +2,11 @@ ghost use Rattle.std.specs.Prelude.{◌≡◌, OnOk};
 ghost use Rattle.record_walk.specs.Faults.{Tells, named_files};
 ghost use Rattle.name_pass.specs.Syntax.{syntax_faults};
 
-use record_walk::Faults;
 use plain_data::Text;
 use pool_faults::DescriptorErrorKind;
 use pool_types::known_syntax;
 use proto_types::{FileDescriptorProto, or_empty, tag};
+use record_walk::Faults;
 use std::alloc::AllocError;
 
 /// Appends to `faults` that of a file whose `syntax` is unknown (descriptor.proto). Its label is

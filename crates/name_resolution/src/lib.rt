@@ -6,8 +6,8 @@ mod imports;
 mod in_parts;
 mod parents;
 mod resolution;
-mod visibility_laws;
 mod visibility;
+mod visibility_laws;
 mod wants;
 
 pub use filter::ResolveNameFilter;
@@ -15,5 +15,5 @@ pub use imports::imported_files;
 pub use in_parts::resolve_in_parts;
 pub use parents::{CandidateParents, parents_count};
 pub use resolution::{ResolveNameResult, resolve_name};
-pub use visibility_laws::sees_is_tested;
 pub use visibility::visible_from;
+pub use visibility_laws::sees_is_tested;

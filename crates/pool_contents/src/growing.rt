@@ -4,10 +4,12 @@ ghost use Rattle.pool_contents.specs.Extended.{LieBefore, with_extensions, with_
 ghost use Rattle.pool_contents.specs.Unlinked.{unlinked};
 
 use crate::DescriptorPoolInner;
-use pool_types::{ExtensionDescriptorInner, FileDescriptorInner, MessageDescriptorInner, syntax_of};
 use name_resolution::{imported_files, visible_from};
 use name_tables::NameTable;
 use plain_data::{Items, NumberMap};
+use pool_types::{
+    ExtensionDescriptorInner, FileDescriptorInner, MessageDescriptorInner, syntax_of,
+};
 use proto_types::FileDescriptorProto;
 use record_walk::Counts;
 use std::alloc::{AllocError, Global};

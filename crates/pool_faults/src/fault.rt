@@ -368,7 +368,11 @@ fn fmt_out_of_range<W: fmt::Write>(
 }
 
 /// Writes that an earlier extension of a message has a number.
-fn fmt_duplicate<W: fmt::Write>(f: &mut fmt::Formatter<W>, message: &str, number: i32) -> fmt::Result
+fn fmt_duplicate<W: fmt::Write>(
+    f: &mut fmt::Formatter<W>,
+    message: &str,
+    number: i32,
+) -> fmt::Result
     ensures { DisplaysOnOk W.write_str_gives f.old result
         (Some (duplicate_extension_text message.now number)) f.new }
 {

@@ -25,9 +25,19 @@
 #![tactic(auto)]
 
 pub use default_values::{EscapeFault, ValueFault, parse_simple_value, unescape_c_escape_string};
-pub use name_resolution::{CandidateParents, ResolveNameFilter, ResolveNameResult, parents_count, resolve_in_parts, resolve_name, visible_from};
-pub use pool_types::{Cardinality, DefaultValue, Definition, DefinitionKind, EnumDescriptor, EnumDescriptorInner, EnumValueDescriptor, EnumValueDescriptorInner, ExtensionDescriptor, ExtensionDescriptorInner, FieldDescriptor, FieldDescriptorInner, FileDescriptor, FileDescriptorInner, Identity, Kind, KindIndex, MessageDescriptor, MessageDescriptorInner, MethodDescriptor, MethodDescriptorInner, OneofDescriptor, OneofDescriptorInner, ServiceDescriptor, ServiceDescriptorInner, Syntax, cardinality_of, named_kind, simple_kind};
+pub use name_resolution::{
+    CandidateParents, ResolveNameFilter, ResolveNameResult, parents_count, resolve_in_parts,
+    resolve_name, visible_from,
+};
 pub use name_tables::{FileNames, HashedNames, NameTable, PartNames, Parts, PoolNames, Scope};
 pub use plain_data::{Items, NumberMap, Text, TextMap};
 pub use pool_faults::{DescriptorError, DescriptorErrorKind, Label, Labelled, label_at};
+pub use pool_types::{
+    Cardinality, DefaultValue, Definition, DefinitionKind, EnumDescriptor, EnumDescriptorInner,
+    EnumValueDescriptor, EnumValueDescriptorInner, ExtensionDescriptor, ExtensionDescriptorInner,
+    FieldDescriptor, FieldDescriptorInner, FileDescriptor, FileDescriptorInner, Identity, Kind,
+    KindIndex, MessageDescriptor, MessageDescriptorInner, MethodDescriptor, MethodDescriptorInner,
+    OneofDescriptor, OneofDescriptorInner, ServiceDescriptor, ServiceDescriptorInner, Syntax,
+    cardinality_of, named_kind, simple_kind,
+};
 pub use proto_types::{FieldLabel, FieldType, FileDescriptorProto};

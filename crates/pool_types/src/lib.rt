@@ -19,7 +19,5 @@ pub use indexes::{
     EnumDescriptor, EnumValueDescriptor, ExtensionDescriptor, FieldDescriptor, FileDescriptor,
     MessageDescriptor, MethodDescriptor, OneofDescriptor, ServiceDescriptor,
 };
-pub use kinds::{
-    Cardinality, Kind, KindIndex, Syntax, cardinality_of, named_kind, simple_kind,
-};
+pub use kinds::{Cardinality, Kind, KindIndex, Syntax, cardinality_of, named_kind, simple_kind};
 pub use syntaxes::{known_syntax, syntax_at, syntax_of};

@@ -21,12 +21,12 @@ use crate::reading::Reading;
 use crate::references::message_index_or_max;
 use crate::types::type_and_default;
 use field_rules::{Owner, check_extension_number, identity, is_packed, item_number};
-use record_walk::{Faults, Place};
 use name_resolution::ResolveNameResult;
-use pool_types::{ExtensionDescriptorInner, Identity, KindIndex, cardinality_of};
 use plain_data::Text;
 use pool_faults::{DescriptorErrorKind, Label};
+use pool_types::{ExtensionDescriptorInner, Identity, KindIndex, cardinality_of};
 use proto_types::{FieldDescriptorProto, tag};
+use record_walk::{Faults, Place};
 use std::alloc::{AllocError, Global};
 
 /// The item of an extension behind earlier ones. What it breaks is appended to `reading`: that its

@@ -16,11 +16,16 @@ ghost use Rattle.pool_types.specs.Syntaxes.{is_proto3, syntax_at};
 
 use crate::reading::Reading;
 use crate::types::type_and_default;
-use field_rules::{MessageRanges, Owner, check_field_number, check_oneof_index, identity_inside, is_packed, item_number, oneof_of, supports_presence};
-use record_walk::Place;
-use pool_types::{DefaultValue, FieldDescriptorInner, Identity, KindIndex, Syntax, cardinality_of, syntax_at};
+use field_rules::{
+    MessageRanges, Owner, check_field_number, check_oneof_index, identity_inside, is_packed,
+    item_number, oneof_of, supports_presence,
+};
 use plain_data::duplicate_option;
+use pool_types::{
+    DefaultValue, FieldDescriptorInner, Identity, KindIndex, Syntax, cardinality_of, syntax_at,
+};
 use proto_types::{FieldDescriptorProto, OneofDescriptorProto, tag};
+use record_walk::Place;
 use std::alloc::AllocError;
 
 /// The item of the field of a message with a position. What the field breaks by itself is appended

@@ -8,10 +8,10 @@ ghost use Rattle.reference_pass.specs.Reading.{ReadingTells, setting_of};
 ghost use Rattle.record_walk.specs.Faults.{Tells};
 
 use crate::reading::Reading;
-use record_walk::Faults;
 use plain_data::Text;
 use pool_faults::DescriptorErrorKind;
 use proto_types::{FileDescriptorProto, entry_path, tag};
+use record_walk::Faults;
 use std::alloc::{AllocError, Global};
 
 /// Appends to `reading` one for each import of the file with an index that names no file, and then

@@ -16,10 +16,10 @@ ghost use Rattle.reference_pass.specs.Reading.{ReadingTells, setting_of};
 use crate::field::read_field;
 use crate::reading::Reading;
 use field_rules::{FieldMaps, MessageRanges, Owner, identity, identity_inside, members};
-use record_walk::Place;
 use plain_data::{Items, NumberMap};
 use pool_types::{FieldDescriptorInner, MessageDescriptorInner, OneofDescriptorInner};
 use proto_types::{DescriptorProto, tag};
+use record_walk::Place;
 use std::alloc::{AllocError, Global};
 
 /// The item of a message, with its fields, its oneofs and its maps, before what extends it is

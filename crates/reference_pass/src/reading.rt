@@ -6,9 +6,9 @@ ghost use Rattle.name_resolution.specs.Resolution.{resolution_in};
 ghost use Rattle.reference_pass.specs.Setting.{resolve};
 ghost use Rattle.record_walk.specs.Faults.{Tells, named_files};
 
-use record_walk::{Faults, Place};
 use name_resolution::{ResolveNameFilter, ResolveNameResult, resolve_in_parts};
 use name_tables::{FileNames, PoolNames};
+use record_walk::{Faults, Place};
 use std::alloc::AllocError;
 use std::collections::BTreeSet;
 

@@ -6,11 +6,11 @@ use crate::{
     read_service,
 };
 use field_rules::read_enum;
-use record_walk::{Place, Visitor};
 use proto_types::{
     DescriptorProto, EnumDescriptorProto, EnumValueDescriptorProto, FieldDescriptorProto,
     FileDescriptorProto, MethodDescriptorProto, OneofDescriptorProto, ServiceDescriptorProto,
 };
+use record_walk::{Place, Visitor};
 use std::alloc::AllocError;
 
 /// The second pass: it reads a batch against a pool whose files and names are those of the batch as

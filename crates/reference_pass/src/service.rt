@@ -17,11 +17,11 @@ ghost use Rattle.reference_pass.specs.Reading.{ReadingTells, setting_of};
 use crate::reading::Reading;
 use crate::references::message_index_or_max;
 use field_rules::{identity, identity_inside};
-use record_walk::Place;
 use name_resolution::ResolveNameFilter;
 use plain_data::Items;
 use pool_types::{MethodDescriptorInner, ServiceDescriptorInner};
 use proto_types::{MethodDescriptorProto, ServiceDescriptorProto, tag};
+use record_walk::Place;
 use std::alloc::AllocError;
 
 /// The item of a service, with its methods. What these break is appended to `reading`, one method

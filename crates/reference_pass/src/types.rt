@@ -21,12 +21,12 @@ ghost use Rattle.record_walk.specs.Place.{shown_at};
 use crate::declared::enum_record;
 use crate::reading::Reading;
 use field_rules::{DefaultEnum, read_default};
-use record_walk::{Faults, Place};
 use name_resolution::{ResolveNameFilter, ResolveNameResult};
-use pool_types::{DefaultValue, KindIndex, named_kind, simple_kind};
 use plain_data::Text;
 use pool_faults::DescriptorErrorKind;
+use pool_types::{DefaultValue, KindIndex, named_kind, simple_kind};
 use proto_types::{FieldDescriptorProto, FieldType, tag};
+use record_walk::{Faults, Place};
 use std::alloc::AllocError;
 
 /// The kind of the type of a field or an extension, where it has one, and the default value, where

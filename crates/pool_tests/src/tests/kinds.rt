@@ -2,7 +2,10 @@
 
 use field_rules::is_valid_number;
 use name_resolution::ResolveNameFilter;
-use pool_types::{Cardinality, DefinitionKind, EnumDescriptor, Kind, KindIndex, MessageDescriptor, cardinality_of, named_kind, simple_kind};
+use pool_types::{
+    Cardinality, DefinitionKind, EnumDescriptor, Kind, KindIndex, MessageDescriptor,
+    cardinality_of, named_kind, simple_kind,
+};
 use proto_types::{FieldLabel, FieldType};
 use std::cmp::Ordering;
 use std::hash::{BuildHasher, BuildHasherDefault, DefaultHasher};
