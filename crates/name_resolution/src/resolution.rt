@@ -6,7 +6,7 @@ ghost use Rattle.std.specs.Ordering.{nat_cmp};
 ghost use Rattle.proto_types.specs.Names.{first_part, join};
 ghost use Rattle.pool_faults.specs.declared.fault.DescriptorErrorKind.TheVariants.{InvalidType, NameNotFound, NameShadowed};
 ghost use Rattle.pool_types.specs.Definition.{is_parent};
-ghost use Rattle.name_tables.specs.Parts.{parts};
+ghost use Rattle.name_tree.specs.Parts.{parts};
 ghost use Rattle.name_resolution.specs.Filter.{filter_text};
 ghost use Rattle.name_resolution.specs.Parents.{outer};
 ghost use Rattle.name_resolution.specs.Resolution.{resolution, resolution_in, look, simple, dotted, or_shadowed, is_found, is_not_found};

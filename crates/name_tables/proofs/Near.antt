@@ -2,66 +2,65 @@
 use Rattle.std.proofs.Common.{◌≡◌, ◌≢◌, ◌≤◌, ◌<◌, ◌+◌, ◌-◌, ◌⊎◌, ℕ, zero, suc, List, [], ◌∷◌, ◌++◌, Some, length, get_or, take, drop, ap, sym, subst, refl, inl, inr, ◌∙◌, arith}
 use Rattle.std.proofs.Math.Seq.{get_or-append_seam, take-append_seam}
 use Rattle.std.proofs.lemmas.List.{length-append, length-take-le, take-append-drop, take-append-le}
-use Rattle.std.specs.List.{slice_get}
 use Rattle.std.specs.Str.{IsCharBoundary, IsUtf8}
 use Rattle.std.proofs.lemmas.Str.{IsCharBoundary-before_ascii, IsCharBoundary-start}
-use Rattle.name_tables.specs.Branches.{Branch, IsTree, Leads, path}
+use Rattle.name_tree.specs.Tree.{Branch, HasParent, HasPart, IsTree, IsDescendant, path}
 use Rattle.name_tables.specs.Latest.{IsNear}
 use Rattle.name_tables.specs.Scopes.{IsAround, IsBranchOf}
-use Rattle.name_tables.specs.Parts.{parts, name_of}
-use Rattle.name_tables.proofs.Counterparts.{hung-before, read-path}
-use Rattle.name_tables.proofs.NameParts.{IsPart, name_of-last, name_of-parts, part-between, parts-dot, parts-name_of, parts-some}
-use Rattle.name_tables.proofs.Tree.{leads-path, leads-some, path-leads, path-whole}
+use Rattle.name_tree.specs.Parts.{parts, name_of}
+use Rattle.name_tables.proofs.Counterparts.{parent-before, read-path}
+use Rattle.name_tree.proofs.NameParts.{IsPart, name_of-last, name_of-parts, part-between, parts-dot, parts-name_of, parts-some}
+use Rattle.name_tree.proofs.Paths.{descendant-path, descendant-some, path-descendant, path-whole}
 
 module _ (bs : List Branch) (name last : List ℕ) (at : ℕ) (near : IsNear bs name at last) where
   -- the scope is one of the branches
   pub near-inside : at < length bs
-  near-inside = (leads-some bs (parts near.0) 0 at (parts-some near.0) near.3).1
+  near-inside = (descendant-some bs (parts near.0) 0 at (parts-some near.0) near.3).1
 
   -- the parts of the name are those of its scope, and the one behind it
   pub near-parts : parts name ≡ parts near.0 ++ last ∷ []
   near-parts = ap parts near.1 ∙ parts-dot near.0 last ∙ ap (λ ps. parts near.0 ++ ps) near.2
 
-module _ (bs : List Branch) (tree : IsTree bs) (at parent : ℕ) (part : List ℕ) (hung : (b : Branch) × (slice_get bs at ≡ Some b) × (b.parent ≡ parent))
-    (named : (b : Branch) × (slice_get bs at ≡ Some b) × (b.part ≡ part)) (below : parent ≢ 0) where
+module _ (bs : List Branch) (tree : IsTree bs) (at parent : ℕ) (part : List ℕ) (hung : HasParent bs at parent)
+    (named : HasPart bs at part) (below : parent ≢ 0) where
   -- the name of a branch that doesn't hang below the root is that of what it hangs below, a dot, and its part
-  pub outer-name : (text : List ℕ) → Leads bs 0 (parts text) at → (outer : List ℕ) × (text ≡ outer ++ 46 ∷ part) × Leads bs 0 (parts outer) parent
-  outer-name text led =
-      let stands = leads-some bs (parts text) 0 at (parts-some text) led in
+  pub outer-name : (text : List ℕ) → IsDescendant bs 0 (parts text) at → (outer : List ℕ) × (text ≡ outer ++ 46 ∷ part) × IsDescendant bs 0 (parts outer) parent
+  outer-name text down =
+      let stands = descendant-some bs (parts text) 0 at (parts-some text) down in
       let apart : at ≢ 0 = λ is. omega (arith, stands.0) in
-      let before = hung-before bs tree at parent apart hung in
+      let before = parent-before bs tree at parent apart hung in
       let front = path bs parent in
-      let there = path-leads bs tree parent (omega (arith, before, stands.1)) in
-      let some : front ≢ [] = λ none. below (sym (subst (λ ps. Leads bs 0 ps parent) none there)) in
-      let are : parts text ≡ front ++ part ∷ [] = sym (leads-path bs tree (parts text) 0 at led) ∙ read-path bs tree at parent part apart hung named in (
+      let there = path-descendant bs tree parent (omega (arith, before, stands.1)) in
+      let some : front ≢ [] = λ none. below (sym (subst (λ ps. IsDescendant bs 0 ps parent) none there)) in
+      let are : parts text ≡ front ++ part ∷ [] = sym (descendant-path bs tree (parts text) 0 at down) ∙ read-path bs tree at parent part apart hung named in (
         name_of front,
         sym (name_of-parts text) ∙ ap name_of are ∙ name_of-last front part some,
-        subst (λ ps. Leads bs 0 ps parent) (sym (parts-name_of front some (path-whole bs tree parent))) there,
+        subst (λ ps. IsDescendant bs 0 ps parent) (sym (parts-name_of front some (path-whole bs tree parent))) there,
       )
 
   -- the same of the first n bytes of a name
-  pub outer-front : (name : List ℕ) (n : ℕ) → n ≤ length name → Leads bs 0 (parts (take n name)) at
-      → (length part + 1 ≤ n) × Leads bs 0 (parts (take (n - (length part + 1)) name)) parent
-  outer-front name n inside led =
-      let cut = outer-name (take n name) led in
+  pub outer-front : (name : List ℕ) (n : ℕ) → n ≤ length name → IsDescendant bs 0 (parts (take n name)) at
+      → (length part + 1 ≤ n) × IsDescendant bs 0 (parts (take (n - (length part + 1)) name)) parent
+  outer-front name n inside down =
+      let cut = outer-name (take n name) down in
       let outer = cut.0 in
       let long : n ≡ length outer + suc (length part) = sym (length-take-le n name inside) ∙ ap length cut.1 ∙ length-append outer (46 ∷ part) in
       let left : n - (length part + 1) ≡ length outer = omega (arith, long) in
       let is : take (length outer) name ≡ outer =
       ap (take (length outer)) (sym (take-append-drop n name)) ∙ take-append-le (length outer) (take n name) (drop n name) (omega (arith, long, length-take-le n name inside))
       ∙ ap (take (length outer)) cut.1 ∙ take-append_seam outer (46 ∷ part) in
-      (omega (arith, long), subst (λ text. Leads bs 0 (parts text) parent) (sym (ap (λ m. take m name) left ∙ is)) cut.2)
+      (omega (arith, long), subst (λ text. IsDescendant bs 0 (parts text) parent) (sym (ap (λ m. take m name) left ∙ is)) cut.2)
 
 -- a text is one part, or has it behind a dot
 abbrev pub EndsWithPart : List ℕ → List ℕ → Type 0
 EndsWithPart text part = (text ≡ part) ⊎ ((outer : List ℕ) × (text ≡ outer ++ 46 ∷ part))
 
-module _ (bs : List Branch) (tree : IsTree bs) (at : ℕ) (part text : List ℕ) (named : (b : Branch) × (slice_get bs at ≡ Some b) × (b.part ≡ part)) (led : Leads bs 0 (parts text) at) where
+module _ (bs : List Branch) (tree : IsTree bs) (at : ℕ) (part text : List ℕ) (named : HasPart bs at part) (down : IsDescendant bs 0 (parts text) at) where
   apart : at ≢ 0
-  apart is = omega (arith, (leads-some bs (parts text) 0 at (parts-some text) led).0)
+  apart is = omega (arith, (descendant-some bs (parts text) 0 at (parts-some text) down).0)
 
   are : parts text ≡ path bs named.0.parent ++ part ∷ []
-  are = sym (leads-path bs tree (parts text) 0 at led) ∙ read-path bs tree at named.0.parent part apart (named.0, named.1, refl) named
+  are = sym (descendant-path bs tree (parts text) 0 at down) ∙ read-path bs tree at named.0.parent part apart (named.0, named.1, refl) named
 
   -- the part of a branch is one part
   pub last-one : IsPart part
@@ -71,7 +70,7 @@ module _ (bs : List Branch) (tree : IsTree bs) (at : ℕ) (part text : List ℕ)
   pub last-part : EndsWithPart text part
   last-part = elim named.0.parent as (λ parent. named.0.parent ≡ parent → EndsWithPart text part) [
     | zero ↦ λ is. inl (sym (name_of-parts text) ∙ ap name_of are ∙ ap (λ k. name_of (path bs k ++ part ∷ [])) is)
-    | suc k ↦ λ is. let outer = outer-name bs tree at (suc k) part (named.0, named.1, is) named (λ none. omega (arith, none)) text led in inr (outer.0, outer.1)
+    | suc k ↦ λ is. let outer = outer-name bs tree at (suc k) part (named.0, named.1, is) named (λ none. omega (arith, none)) text down in inr (outer.0, outer.1)
   ] refl
 
 module _ (text part : List ℕ) (n : ℕ) (is : n ≡ length text - (length part + 1)) where
@@ -93,6 +92,6 @@ module _ (text part : List ℕ) (n : ℕ) (is : n ≡ length text - (length part
       inl (part, dot.1 ∙ ap (λ outer. outer ++ 46 ∷ part) (sym (ap (λ n. take n text) left ∙ ap (take (length dot.0)) dot.1 ∙ take-append_seam dot.0 (46 ∷ part))), whole)
 
 -- the branch of a scope that is not the empty one is that of its text
-pub scope-led : (bs : List Branch) (text : List ℕ) (at : ℕ) → text ≢ [] → IsBranchOf bs text (Some at) → Leads bs 0 (parts text) at
-scope-led bs [] at some led = absurd (some refl)
-scope-led bs (c ∷ cs) at some led = led
+pub scope-descendant : (bs : List Branch) (text : List ℕ) (at : ℕ) → text ≢ [] → IsBranchOf bs text (Some at) → IsDescendant bs 0 (parts text) at
+scope-descendant bs [] at some down = absurd (some refl)
+scope-descendant bs (c ∷ cs) at some down = down

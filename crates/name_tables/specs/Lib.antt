@@ -1,12 +1,9 @@
 pub mod Branches
+pub mod Entered
 pub mod Entries
 pub mod FileNames
-pub mod HashedNames
-pub mod Index
 pub mod Latest
 pub mod NameTables
-pub mod Pairs
-pub mod PartNames
-pub mod PartTexts
-pub mod Parts
+pub mod NumberedNames
 pub mod Scopes
+pub mod Within

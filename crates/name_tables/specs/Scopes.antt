@@ -2,8 +2,8 @@
 use Rattle.std.specs.Prelude.{◌≡◌, ◌⊎◌, ℕ, List, [], ◌∷◌, ◌++◌}
 use Rattle.std.specs.declared.option.Option.{Option}
 use Rattle.std.specs.declared.option.Option.TheVariants.{None, Some}
-use Rattle.name_tables.specs.Branches.{Branch, Leads}
-use Rattle.name_tables.specs.Parts.{parts}
+use Rattle.name_tree.specs.Tree.{Branch, IsDescendant}
+use Rattle.name_tree.specs.Parts.{parts}
 
 -- the parts that stand before a name in a scope: none in the empty one
 abbrev pub scope_parts : List ℕ → List (List ℕ)
@@ -12,8 +12,8 @@ scope_parts (c ∷ cs) = parts (c ∷ cs)
 
 -- the branch of a scope, or none where it has none
 abbrev pub IsBranchOf : List Branch → List ℕ → Option ℕ → Type 0
-IsBranchOf branches text None = (k : ℕ) → Leads branches 0 (scope_parts text) k → ⊥
-IsBranchOf branches text (Some k) = Leads branches 0 (scope_parts text) k
+IsBranchOf branches text None = (k : ℕ) → IsDescendant branches 0 (scope_parts text) k → ⊥
+IsBranchOf branches text (Some k) = IsDescendant branches 0 (scope_parts text) k
 
 -- the scope around another: the text before its last dot, or the empty text where it has none
 abbrev pub IsAround : List ℕ → List ℕ → Type 0

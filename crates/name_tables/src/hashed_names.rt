@@ -21,7 +21,7 @@ impl Model for HashedNames {
     ghost use Rattle.pool_types.specs.Contents.{ByText};
     ghost use Rattle.pool_types.specs.contracts.contents.definition.Definition as definition;
     ghost use Rattle.pool_types.specs.declared.contents.definition.Definition.{Definition};
-    ghost use Rattle.name_tables.specs.HashedNames.{by_text};
+    ghost use Rattle.plain_data.specs.Maps.{by_text};
 
     ghost Value = { ByText Definition };
 

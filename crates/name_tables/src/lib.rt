@@ -3,15 +3,13 @@
 #![tactic(auto)]
 
 mod branches;
+mod entered;
 mod file_names;
 mod hashed_names;
-mod index;
 mod latest;
 mod laws;
 mod name_table;
 mod part_names;
-mod part_texts;
-mod parts;
 mod scope;
 mod within;
 
@@ -19,8 +17,8 @@ pub use file_names::FileNames;
 pub use hashed_names::HashedNames;
 pub use laws::{earlier_names_stay, later_name_goes, names_are_first};
 pub use name_table::NameTable;
+pub use name_tree::Parts;
 pub use part_names::PartNames;
-pub use parts::Parts;
 pub use scope::Scope;
 
 /// The table of names that a pool has.

@@ -1,18 +1,18 @@
-ghost use Rattle.std.specs.Prelude.{◌≡◌, ◌≤◌, ◌<◌, ℕ, [], ◌∷◌, ◌++◌, length, IfOk, IfSome, OnOk, OnErr, IsTrue, None, Some};
+ghost use Rattle.std.specs.Prelude.{◌≡◌, ℕ, IfOk, IfSome, None};
 ghost use Rattle.std.specs.FinMap as map;
-ghost use Rattle.std.specs.List.{slice_get};
 ghost use Rattle.std.specs.Option.{option_copied};
 ghost use Rattle.proto_types.specs.Names.{join};
-ghost use Rattle.name_tables.specs.Branches.{Leads, IsTree, SameTree, meaning, names_of};
+ghost use Rattle.name_tree.specs.Parts.{parts};
+ghost use Rattle.name_tree.specs.Tree.{IsDescendant, IsTree, KeepsBranches};
 ghost use Rattle.name_tables.specs.Latest.{IsLatest};
-ghost use Rattle.name_tables.specs.Parts.{parts};
 
 use crate::branches::Branches;
+use crate::entered::Entered;
 use crate::latest::{Latest, near, write_name};
 use crate::name_table::NameTable;
-use crate::parts::Parts;
 use crate::scope::Scope;
 use crate::within::is_within;
+use name_tree::{NameTree, Parts};
 use pool_types::Definition;
 use std::alloc::{AllocError, Global};
 use std::marker::Model;
@@ -23,18 +23,8 @@ use std::marker::Model;
 pub struct PartNames {
     alloc: Global,
     branches: Branches,
-    /// The branches that were given a definition, in order.
-    entered: Vec<Entered>,
     /// None where names were taken away since.
     latest: Option<Latest>,
-}
-
-/// That a branch was given a definition.
-#[derive(Clone, Copy)]
-struct Entered {
-    branch: u32,
-    /// The greatest file of the definitions that were entered up to this one.
-    newest: u32,
 }
 
 impl Model for PartNames {
@@ -48,14 +38,13 @@ impl Model for PartNames {
 
     ghost coded = { map.code (coded_list coded_ℕ) definition.the_row.coded };
 
-    ghost use Rattle.name_tables.specs.Branches.{IsTree, names_of};
-    ghost use Rattle.name_tables.specs.PartNames.{Rising, Noted};
+    ghost use Rattle.name_tables.specs.Branches.{AreBranches, names_of};
     ghost use Rattle.name_tables.specs.Latest.{IsLatest};
 
-    ghost view = { λ names. names_of names.branches };
+    ghost view = { λ names. names_of names.branches.tree names.branches.definitions };
 
-    ghost invariant = { λ names. IsTree names.branches × Rising names.entered.items
-        × Noted names.branches names.entered.items × IsLatest names.branches names.latest };
+    ghost invariant = { λ names. AreBranches names.branches.tree names.branches.definitions
+        × IsLatest names.branches.tree names.latest };
 }
 
 impl PartNames {
@@ -65,8 +54,10 @@ impl PartNames {
     {
         PartNames {
             alloc,
-            branches: Branches::new(alloc),
-            entered: Vec::new(alloc),
+            branches: Branches {
+                tree: NameTree::new(alloc),
+                definitions: Entered::new(alloc),
+            },
             latest: None,
         }
     }
@@ -90,8 +81,8 @@ impl NameTable for PartNames {
     ghost names = { λ names. names };
 
     fn get(&self, name: &str) -> Option<&Definition> {
-        let at = branch_of(&self.branches, self.latest.as_ref(), name)?;
-        self.branches.definition(at as usize)
+        let at = branch_of(&self.branches.tree, self.latest.as_ref(), name)?;
+        self.branches.definitions.get(at as usize)
     }
 
     fn get_joined(
@@ -109,30 +100,28 @@ impl NameTable for PartNames {
         definition: Definition,
     ) -> Result<Option<Definition>, AllocError> {
         let latest = self.latest.take();
-        let branch = enter(&mut self.branches, latest.as_ref(), name)?;
+        let branch = insert_name(&mut self.branches.tree, latest.as_ref(), name)?;
         let name = write_name(self.alloc, latest, name)?;
         self.latest = Some(Latest { name, branch });
-        if self.branches.definition(branch as usize).is_some() {
+        if self.branches.definitions.get(branch as usize).is_some() {
             return Ok(Some(definition));
         }
-        note(&mut self.entered, branch, definition.file)?;
-        self.branches.define(branch as usize, Some(definition));
+        self.branches.definitions.insert(branch, definition)?;
         Ok(None)
     }
 
     fn remove_from(&mut self, file: u32) {
         self.latest = None;
-        forget_from(&mut self.branches, &mut self.entered, file);
-        prune(&mut self.branches);
+        self.branches.definitions.remove_from(file);
+        self.branches.tree.truncate(self.branches.definitions.len());
     }
 
     fn clone(&self) -> Result<PartNames, AllocError> {
-        let branches = self.branches.clone()?;
-        let entered = self.entered.clone()?;
+        let tree = self.branches.tree.clone()?;
+        let definitions = self.branches.definitions.clone(self.alloc)?;
         Ok(PartNames {
             alloc: self.alloc,
-            branches,
-            entered,
+            branches: Branches { tree, definitions },
             latest: None,
         })
     }
@@ -142,164 +131,52 @@ impl NameTable for PartNames {
     }
 }
 
-ghost use Rattle.name_tables.specs.PartNames.{before, Forgets, ForgetsAt, MeanNothing, Noted, Rising};
-ghost use Rattle.name_tables.specs.declared.part_names.Entered.{Entered};
-
 /// The branch of a name, or none where none has it.
-fn branch_of(branches: &Branches, latest: Option<&Latest>, name: &str) -> Option<u32>
-    requires tree { IsTree branches.now }
-    requires latest { IsLatest branches.now (option_copied latest) }
-    ensures found { IfSome result (λ k. Leads branches.now 0 (parts name.now) k) }
-    ensures none { result ≡ None → (k : ℕ) → Leads branches.now 0 (parts name.now) k → ⊥ }
+fn branch_of(tree: &NameTree, latest: Option<&Latest>, name: &str) -> Option<u32>
+    requires tree { IsTree tree.now }
+    requires latest { IsLatest tree.now (option_copied latest) }
+    ensures found { IfSome result (λ k. IsDescendant tree.now 0 (parts name.now) k) }
+    ensures none { result ≡ None → (k : ℕ) → IsDescendant tree.now 0 (parts name.now) k → ⊥ }
 {
-    match near(branches, latest, name) {
-        Some((scope, last)) => branches.find(scope, last.as_bytes()),
-        None => branches.look_up(name),
+    match near(tree, latest, name) {
+        Some((scope, last)) => tree.find(scope, last.as_bytes()),
+        None => tree.look_up(name),
     }
 }
 
-/// The branch of a name. It is added where there is none: below that of its scope, where that is
-/// near, else with all that it stands behind.
+/// The branch of a name. It is inserted where there is none: as a child of that of its scope, where
+/// that is near, else part by part.
 ///
 /// # Errors
-/// `AllocError` where memory was refused, or where there are 4,294,967,296 branches. Branches that
-/// were added mean nothing.
-fn enter(branches: &mut Branches, latest: Option<&Latest>, name: &str) -> Result<u32, AllocError>
-    requires tree { IsTree branches.old }
-    requires latest { IsLatest branches.old (option_copied latest) }
-    ensures tree { IsTree branches.new }
-    ensures names { names_of branches.new ≡ names_of branches.old }
-    ensures meanings { (k : ℕ) → meaning branches.new k ≡ meaning branches.old k }
-    ensures leads { IfOk result (λ k. Leads branches.new 0 (parts name.now) k) }
+/// `AllocError` where memory was refused, or where there are 4,294,967,296 branches.
+fn insert_name(tree: &mut NameTree, latest: Option<&Latest>, name: &str) -> Result<u32, AllocError>
+    requires tree { IsTree tree.old }
+    requires latest { IsLatest tree.old (option_copied latest) }
+    ensures tree { IsTree tree.new }
+    ensures keeps { KeepsBranches tree.old tree.new }
+    ensures descendant { IfOk result (λ k. IsDescendant tree.new 0 (parts name.now) k) }
 {
-    let Some((scope, last)) = near(branches, latest, name) else {
-        return reach(branches, name);
+    let Some((scope, last)) = near(tree, latest, name) else {
+        return insert_parts(tree, name);
     };
-    let at = branches.grow(scope, last)?;
+    let at = tree.insert(scope, last)?;
     Ok(at)
 }
 
-/// The branch of a name. It is added, and so are those that it stands behind, where there is none.
+/// The branch of a name. It is inserted part by part where there is none.
 ///
 /// # Errors
-/// `AllocError` where memory was refused, or where there are 4,294,967,296 branches. Branches that
-/// were added mean nothing.
-fn reach(branches: &mut Branches, name: &str) -> Result<u32, AllocError>
-    requires { IsTree branches.old }
-    ensures tree { IsTree branches.new }
-    ensures names { names_of branches.new ≡ names_of branches.old }
-    ensures meanings { (k : ℕ) → meaning branches.new k ≡ meaning branches.old k }
-    ensures leads { IfOk result (λ k. Leads branches.new 0 (parts name.now) k) }
+/// `AllocError` where memory was refused, or where there are 4,294,967,296 branches.
+fn insert_parts(tree: &mut NameTree, name: &str) -> Result<u32, AllocError>
+    requires { IsTree tree.old }
+    ensures tree { IsTree tree.new }
+    ensures keeps { KeepsBranches tree.old tree.new }
+    ensures descendant { IfOk result (λ k. IsDescendant tree.new 0 (parts name.now) k) }
 {
-    plant(branches)?;
+    tree.insert_root()?;
     let mut at = 0;
     for part in Parts::new(name) {
-        at = branches.grow(at, part)?;
+        at = tree.insert(at, part)?;
     }
     Ok(at)
-}
-
-/// Adds the root where there is none.
-///
-/// # Errors
-/// `AllocError` where memory was refused.
-fn plant(branches: &mut Branches) -> Result<(), AllocError>
-    requires { IsTree branches.old }
-    ensures tree { IsTree branches.new }
-    ensures names { names_of branches.new ≡ names_of branches.old }
-    ensures meanings { (k : ℕ) → meaning branches.new k ≡ meaning branches.old k }
-    ensures root { OnOk result (0 < length branches.new) }
-{
-    if branches.len() == 0 {
-        branches.plant()?;
-    }
-    Ok(())
-}
-
-/// Notes that a branch is given a definition of a file.
-///
-/// # Errors
-/// `AllocError` where memory was refused.
-fn note(entered: &mut Vec<Entered>, branch: u32, file: u32) -> Result<(), AllocError>
-    requires { Rising entered.old.items }
-    ensures rising { Rising entered.new.items }
-    ensures ok { OnOk result ((e : Entered) × (e.branch ≡ branch) × (file ≤ e.newest)
-        × (entered.new.items ≡ entered.old.items ++ e ∷ [])) }
-    ensures err { OnErr result (entered.new.items ≡ entered.old.items) }
-{
-    let newest = match entered.last() {
-        Some(last) if file < last.newest => last.newest,
-        _ => file,
-    };
-    entered.push(Entered { branch, newest })?;
-    Ok(())
-}
-
-/// Takes away what branches mean that lies in a file or in a later one. The entries of what goes
-/// are looked at, and go as well, unless something of an earlier file stands among them.
-fn forget_from(branches: &mut Branches, entered: &mut Vec<Entered>, file: u32)
-    requires rising { Rising entered.old.items }
-    requires noted { Noted branches.old entered.old.items }
-    ensures same { SameTree branches.old branches.new }
-    ensures meanings { (k : ℕ) → meaning branches.new k ≡ before file (meaning branches.old k) }
-    ensures rising { Rising entered.new.items }
-    ensures noted { Noted branches.new entered.new.items }
-{
-    let first = entries_before(entered, file);
-    if forget(branches, &entered[first..], file) {
-        entered.truncate(first);
-    }
-}
-
-/// How many entries stand before the first of a file or of a later one.
-fn entries_before(entered: &[Entered], file: u32) -> usize
-    requires { Rising entered.now }
-    ensures within { result ≤ length entered.now }
-    ensures earlier { (j : ℕ) (e : Entered) → j < result → slice_get entered.now j ≡ Some e
-        → e.newest < file }
-{
-    let mut count = entered.len();
-    while count > 0 && entered[count - 1].newest >= file {
-        count -= 1;
-    }
-    count
-}
-
-/// Takes away what the branches of entries mean, where it lies in a file or in a later one, and
-/// tells whether nothing of them is left.
-fn forget(branches: &mut Branches, entered: &[Entered], file: u32) -> bool
-    ensures forgets { Forgets branches.old branches.new entered.now file }
-    ensures gone { IsTrue result → MeanNothing branches.new entered.now }
-{
-    let mut is_gone = true;
-    for entry in entered {
-        is_gone = forget_branch(branches, entry.branch as usize, file) && is_gone;
-    }
-    is_gone
-}
-
-/// Takes away what one branch means, where it lies in a file or in a later one, and tells whether
-/// nothing of it is left.
-fn forget_branch(branches: &mut Branches, at: usize, file: u32) -> bool
-    ensures forgets { ForgetsAt branches.old branches.new at file }
-    ensures gone { IsTrue result → meaning branches.new at ≡ None }
-{
-    match branches.definition(at) {
-        Some(definition) if definition.file < file => false,
-        Some(_) => {
-            branches.define(at, None);
-            true
-        }
-        None => true,
-    }
-}
-
-/// Takes away the last branches as long as they mean nothing.
-fn prune(branches: &mut Branches)
-    requires { IsTree branches.old }
-    ensures tree { IsTree branches.new }
-    ensures names { names_of branches.new ≡ names_of branches.old }
-    ensures meanings { (k : ℕ) → meaning branches.new k ≡ meaning branches.old k }
-{
-    while branches.pop_bare() {}
 }

@@ -2,11 +2,13 @@ ghost use Rattle.std.specs.Prelude.{◌≡◌, ◌≢◌, ◌↔◌, ℕ, [], �
 ghost use Rattle.std.specs.FinMap as map;
 ghost use Rattle.std.specs.Option.{option_copied};
 ghost use Rattle.proto_types.specs.Names.{join};
-ghost use Rattle.name_tables.specs.Branches.{IsTree, Leads, names_of};
-ghost use Rattle.name_tables.specs.Parts.{parts};
+ghost use Rattle.name_tree.specs.Tree.{IsDescendant, IsTree};
+ghost use Rattle.name_tree.specs.Parts.{parts};
+ghost use Rattle.name_tables.specs.Branches.{AreBranches, names_of};
 ghost use Rattle.name_tables.specs.Scopes.{IsAround, IsBranchOf};
 
 use crate::branches::Branches;
+use name_tree::NameTree;
 use pool_types::Definition;
 use std::marker::Model;
 
@@ -29,29 +31,31 @@ impl<'a, 't> Model for Scope<'a, 't> {
     ghost use Rattle.pool_types.specs.Contents.{ByText};
     ghost use Rattle.pool_types.specs.contracts.contents.definition.Definition as definition;
     ghost use Rattle.pool_types.specs.declared.contents.definition.Definition.{Definition};
-    ghost use Rattle.name_tables.specs.Branches.{IsTree, names_of};
+    ghost use Rattle.name_tables.specs.Branches.{AreBranches, names_of};
     ghost use Rattle.name_tables.specs.Scopes.{IsBranchOf};
 
     ghost Value = { ByText Definition × List ℕ };
 
-    ghost coded = { coded× (map.code (coded_list coded_ℕ) definition.the_row.coded) (coded_list coded_ℕ) };
+    ghost coded = { coded× (map.code (coded_list coded_ℕ) definition.the_row.coded)
+        (coded_list coded_ℕ) };
 
-    ghost view = { λ s. (names_of s.branches.now, s.text.now) };
+    ghost view = { λ s. (names_of s.branches.now.tree s.branches.now.definitions, s.text.now) };
 
-    ghost invariant = { λ s. IsTree s.branches.now × IsBranchOf s.branches.now s.text.now s.at };
+    ghost invariant = { λ s. AreBranches s.branches.now.tree s.branches.now.definitions
+        × IsBranchOf s.branches.now.tree s.text.now s.at };
 }
 
 impl<'a, 't> Scope<'a, 't> {
     /// The scope with a text.
     pub(crate) fn new(branches: &'a Branches, text: &'t str) -> Scope<'a, 't>
-        requires { IsTree branches.now }
-        ensures names { result.0 ≡ names_of branches.now }
+        requires { AreBranches branches.now.tree branches.now.definitions }
+        ensures names { result.0 ≡ names_of branches.now.tree branches.now.definitions }
         ensures text { result.1 ≡ text.now }
     {
         let at = if text.is_empty() {
             Some(0)
         } else {
-            branches.look_up(text)
+            branches.tree.look_up(text)
         };
         Scope { branches, text, at }
     }
@@ -67,8 +71,8 @@ impl<'a, 't> Scope<'a, 't> {
     pub fn find(&self, name: &str) -> Option<&'a Definition>
         ensures { option_copied result ≡ map.get self.now.0 (join self.now.1 name.now) }
     {
-        let at = go_down(self.branches, self.at?, name)?;
-        self.branches.definition(at as usize)
+        let at = go_down(&self.branches.tree, self.at?, name)?;
+        self.branches.definitions.get(at as usize)
     }
 
     /// The same of a name without a dot, which is found faster. One with a dot has none.
@@ -76,8 +80,8 @@ impl<'a, 't> Scope<'a, 't> {
         ensures { parts part.now ≡ part.now ∷ [] → option_copied result
             ≡ map.get self.now.0 (join self.now.1 part.now) }
     {
-        let at = self.branches.find(self.at?, part.as_bytes())?;
-        self.branches.definition(at as usize)
+        let at = self.branches.tree.find(self.at?, part.as_bytes())?;
+        self.branches.definitions.get(at as usize)
     }
 
     /// The scope around it: of the text before the last dot, or of the empty text where there is no
@@ -90,12 +94,12 @@ impl<'a, 't> Scope<'a, 't> {
         if self.text.is_empty() {
             return None;
         }
-        let text = outer_text(self.branches, self.text, self.at);
+        let text = outer_text(&self.branches.tree, self.text, self.at);
         match self.at {
             Some(at) if !text.is_empty() => Some(Scope {
                 branches: self.branches,
                 text,
-                at: Some(self.branches.parent(at as usize)),
+                at: Some(self.branches.tree.parent(at as usize)),
             }),
             _ => Some(Scope::new(self.branches, text)),
         }
@@ -103,28 +107,28 @@ impl<'a, 't> Scope<'a, 't> {
 }
 
 /// The branch to which a name leads from another: from the root, that of the whole name.
-fn go_down(branches: &Branches, from: u32, name: &str) -> Option<u32>
-    requires { IsTree branches.now }
-    ensures found { IfSome result (λ k. Leads branches.now from (parts name.now) k) }
-    ensures none { result ≡ None → (k : ℕ) → Leads branches.now from (parts name.now) k → ⊥ }
+fn go_down(tree: &NameTree, from: u32, name: &str) -> Option<u32>
+    requires { IsTree tree.now }
+    ensures found { IfSome result (λ k. IsDescendant tree.now from (parts name.now) k) }
+    ensures none { result ≡ None → (k : ℕ) → IsDescendant tree.now from (parts name.now) k → ⊥ }
 {
     if from == 0 {
-        branches.look_up(name)
+        tree.look_up(name)
     } else {
-        branches.descend(from, name)
+        tree.descend(from, name)
     }
 }
 
 /// The text of the scope around another: what stands before its last part.
-fn outer_text<'t>(branches: &Branches, text: &'t str, at: Option<u32>) -> &'t str
-    requires tree { IsTree branches.now }
-    requires branch { IsBranchOf branches.now text.now at }
+fn outer_text<'t>(tree: &NameTree, text: &'t str, at: Option<u32>) -> &'t str
+    requires tree { IsTree tree.now }
+    requires branch { IsBranchOf tree.now text.now at }
     requires some { text.now ≢ [] }
     ensures { IsAround text.now result.now }
 {
     match at {
         Some(at) => {
-            let part = branches.part(at as usize);
+            let part = tree.part(at as usize);
             &text[..text.len().saturating_sub(part.len() + 1)]
         }
         None => before_last_dot(text),

@@ -1,23 +1,25 @@
 ghost use Rattle.std.specs.Prelude.{◌≡◌, ◌≤◌, ◌<◌, ◌↔◌, ℕ, ◌++◌, List, length, IfSome, IsTrue, None, Some};
-ghost use Rattle.std.specs.List.{slice_get};
-ghost use Rattle.name_tables.specs.Branches.{Branch, Leads, IsTree, Within, WithinAt, meaning, path};
-ghost use Rattle.name_tables.specs.Pairs.{IsPair};
+ghost use Rattle.name_tree.specs.Tree.{HasParent, IsDescendant, IsTree, path};
+ghost use Rattle.name_tables.specs.Branches.{AreBranches};
+ghost use Rattle.name_tables.specs.Entered.{value_at};
+ghost use Rattle.name_tables.specs.Within.{IsPair, IsWithin, IsWithinAt};
 
 use crate::branches::Branches;
+use name_tree::NameTree;
 use pool_types::Definition;
 
 /// Whether each name that means something among branches means the same among others. A pair goes
 /// along with the branches, since the way from one to the next is mostly short.
 pub(crate) fn is_within(branches: &Branches, others: &Branches) -> bool
-    requires tree { IsTree branches.now }
-    requires others { IsTree others.now }
-    ensures { IsTrue result ↔ Within branches.now others.now }
+    requires branches { AreBranches branches.now.tree branches.now.definitions }
+    requires others { AreBranches others.now.tree others.now.definitions }
+    ensures { IsTrue result ↔ IsWithin branches.now others.now }
 {
     let mut pair = Pair {
         branch: 0,
         other: 0,
     };
-    for at in 0..branches.len() {
+    for at in 0..branches.definitions.len() {
         if !means_same(branches, others, &mut pair, at) {
             return false;
         }
@@ -35,20 +37,20 @@ struct Pair {
 /// Whether the name of a branch means nothing, or the same among others. The pair is that of an
 /// earlier branch, and becomes that of this one where it means something and others have it.
 fn means_same(branches: &Branches, others: &Branches, pair: &mut Pair, at: usize) -> bool
-    requires tree { IsTree branches.now }
-    requires others { IsTree others.now }
-    requires pair { IsPair branches.now others.now pair.old }
+    requires branches { AreBranches branches.now.tree branches.now.definitions }
+    requires others { AreBranches others.now.tree others.now.definitions }
+    requires pair { IsPair branches.now.tree others.now.tree pair.old }
     requires earlier { pair.old.branch ≤ at }
-    requires at { at < length branches.now }
-    ensures same { IsTrue result ↔ WithinAt branches.now others.now at }
-    ensures pair { IsPair branches.now others.now pair.new }
+    requires at { at < length branches.now.tree }
+    ensures same { IsTrue result ↔ IsWithinAt branches.now others.now at }
+    ensures pair { IsPair branches.now.tree others.now.tree pair.new }
     ensures earlier { pair.new.branch ≤ at }
 {
-    let Some(definition) = branches.definition(at) else {
+    let Some(definition) = branches.definitions.get(at) else {
         return true;
     };
-    let met = meet(branches, others, *pair, at);
-    match counterpart(branches, others, met, at) {
+    let met = meet(&branches.tree, &others.tree, *pair, at);
+    match counterpart(&branches.tree, &others.tree, met, at) {
         Some(other) => {
             *pair = Pair { branch: at, other };
             means(others, other as usize, definition)
@@ -59,16 +61,16 @@ fn means_same(branches: &Branches, others: &Branches, pair: &mut Pair, at: usize
 
 /// Whether the name of a branch means what a definition says.
 fn means(branches: &Branches, at: usize, definition: &Definition) -> bool
-    ensures { IsTrue result ↔ (meaning branches.now at ≡ Some definition.now) }
+    ensures { IsTrue result ↔ (value_at branches.now.definitions at ≡ Some definition.now) }
 {
-    match branches.definition(at) {
+    match branches.definitions.get(at) {
         Some(other) => other == definition,
         None => false,
     }
 }
 
 /// The first pair on the way from a pair to the root that is on the way from a branch there too.
-fn meet(branches: &Branches, others: &Branches, pair: Pair, at: usize) -> Pair
+fn meet(branches: &NameTree, others: &NameTree, pair: Pair, at: usize) -> Pair
     requires tree { IsTree branches.now }
     requires others { IsTree others.now }
     requires pair { IsPair branches.now others.now pair }
@@ -87,7 +89,7 @@ fn meet(branches: &Branches, others: &Branches, pair: Pair, at: usize) -> Pair
 }
 
 /// The first pair on the way from a pair to the root that does not stand behind a branch.
-fn climb(branches: &Branches, others: &Branches, pair: Pair, at: usize) -> Pair
+fn climb(branches: &NameTree, others: &NameTree, pair: Pair, at: usize) -> Pair
     requires tree { IsTree branches.now }
     requires others { IsTree others.now }
     requires pair { IsPair branches.now others.now pair }
@@ -107,14 +109,14 @@ fn climb(branches: &Branches, others: &Branches, pair: Pair, at: usize) -> Pair
 
 /// The branch of others that has the name of a branch. The way down to it from a pair is gone in
 /// halves, so that few calls stand inside one another; a pair beside the way climbs first.
-fn counterpart(branches: &Branches, others: &Branches, pair: Pair, at: usize) -> Option<u32>
+fn counterpart(branches: &NameTree, others: &NameTree, pair: Pair, at: usize) -> Option<u32>
     requires tree { IsTree branches.now }
     requires others { IsTree others.now }
     requires pair { IsPair branches.now others.now pair }
     requires before { pair.branch ≤ at }
     requires at { at < length branches.now }
-    ensures found { IfSome result (λ k. Leads others.now 0 (path branches.now at) k) }
-    ensures none { result ≡ None → (k : ℕ) → Leads others.now 0 (path branches.now at) k → ⊥ }
+    ensures found { IfSome result (λ k. IsDescendant others.now 0 (path branches.now at) k) }
+    ensures none { result ≡ None → (k : ℕ) → IsDescendant others.now 0 (path branches.now at) k → ⊥ }
 {
     if pair.branch == at {
         return Some(pair.other);
@@ -134,7 +136,7 @@ fn counterpart(branches: &Branches, others: &Branches, pair: Pair, at: usize) ->
 
 /// A branch about halfway up from a branch to an earlier one, some power of two of steps away; or
 /// what it hangs below, where no branch is between.
-fn halfway(branches: &Branches, from: usize, at: usize) -> usize
+fn halfway(branches: &NameTree, from: usize, at: usize) -> usize
     requires tree { IsTree branches.now }
     requires from { from < at }
     requires at { at < length branches.now }
@@ -142,7 +144,7 @@ fn halfway(branches: &Branches, from: usize, at: usize) -> usize
     ensures on_way { (rest : List (List ℕ))
         × (path branches.now at ≡ path branches.now result ++ rest) }
     ensures next { result ≤ from
-        → (b : Branch) × (slice_get branches.now at ≡ Some b) × (b.parent ≡ result) }
+        → HasParent branches.now at result }
 {
     let mut end = branches.parent(at) as usize;
     let mut middle = end;

@@ -1,4 +1,4 @@
-use Rattle.name_tables.proofs.NameParts.{around-split}
+use Rattle.name_tree.proofs.NameParts.{around-split}
 use Rattle.name_tables.proofs.latest.near.Goals as goal
 
 pub returns : goal.returns

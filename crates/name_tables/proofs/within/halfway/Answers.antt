@@ -1,7 +1,6 @@
-use Rattle.std.proofs.Common.{◌≡◌, ◌≤◌, ◌≢◌, ℕ, Some, subst, sym, arith}
-use Rattle.std.specs.List.{slice_get}
-use Rattle.name_tables.specs.Branches.{Branch}
-use Rattle.name_tables.proofs.Counterparts.{IsOver, over-more, over-next}
+use Rattle.std.proofs.Common.{◌≤◌, ◌≢◌, ℕ, subst, sym, arith}
+use Rattle.name_tree.specs.Tree.{HasParent}
+use Rattle.name_tables.proofs.Counterparts.{IsAbove, over-more, over-next}
 use Rattle.name_tables.proofs.within.halfway.Goals.{then-is_power_of_two, else-is_power_of_two}
 use Rattle.name_tables.proofs.within.halfway.Goals as goal
 
@@ -18,9 +17,9 @@ loop-end-preserved c =
     let end = c.loop-end.end in
     let above = c.parent-end-in-loop-end in
     let some : end ≢ 0 = omega arith in
-    let over : IsOver branches end at = c.loop-end.invariant.0 in
+    let over : IsAbove branches end at = c.loop-end.invariant.0 in
     let before = over-next branches c.requires.tree end above.result some above.ensures in
-    let IsMiddle : (k : ℕ) → Type 0 = λ k. IsOver branches k at × (k ≤ c.args.from → (b : Branch) × (slice_get branches at ≡ Some b) × (b.parent ≡ k)) in
+    let IsMiddle : (k : ℕ) → Type 0 = λ k. IsAbove branches k at × (k ≤ c.args.from → HasParent branches at k) in
     let middle : IsMiddle c.if-is_power_of_two.middle = elim c.if-is_power_of_two.branch [
       | then-is_power_of_two w ↦ subst IsMiddle (sym w.middle-is) (over, λ low. absurd (omega (arith, low)))
       | else-is_power_of_two w ↦ subst IsMiddle (sym w.middle-is) (c.loop-end.invariant.1, c.loop-end.invariant.2)

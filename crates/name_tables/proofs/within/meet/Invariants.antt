@@ -1,5 +1,5 @@
 use Rattle.std.proofs.Common.{◌≤◌}
-use Rattle.name_tables.specs.Pairs.{IsPair}
+use Rattle.name_tables.specs.Within.{IsPair}
 use Rattle.name_tables.proofs.within.meet.Given as goal
 
 -- the pair is one of two branches with the same name, and not behind the branch

@@ -1,6 +1,6 @@
 use Rattle.std.proofs.Common.{◌∙◌}
 use Rattle.std.specs.FinMap as map
-use Rattle.name_tables.proofs.Texts.{by_text-insert}
+use Rattle.plain_data.proofs.Texts.{by_text-insert}
 use Rattle.name_tables.proofs.hashed_names.HashedNames.add.Goals as goal
 
 pub returns-clause-ok : goal.returns-clause-ok

@@ -4,8 +4,8 @@ use Rattle.std.specs.FinMap.{from_entries}
 use Rattle.std.specs.Map.Iter.{deref_pair}
 use Rattle.std.proofs.lemmas.List.{map-append}
 use Rattle.std.proofs.lemmas.Map.Iter.{iter_end}
-use Rattle.name_tables.specs.HashedNames.{texts}
-use Rattle.name_tables.proofs.Texts.{entries_at_turn, get-before, from_entries-next}
+use Rattle.plain_data.specs.Maps.{texts}
+use Rattle.plain_data.proofs.Texts.{entries_at_turn, get-before, from_entries-next}
 use Rattle.name_tables.proofs.hashed_names.HashedNamesNameTable.clone.Goals as goal
 
 pub add-requires : goal.add-requires

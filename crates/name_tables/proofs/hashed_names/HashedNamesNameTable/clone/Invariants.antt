@@ -1,7 +1,7 @@
 use Rattle.std.proofs.Common.{◌≡◌, map as each}
 use Rattle.std.specs.FinMap.{from_entries}
 use Rattle.std.specs.Map.Iter.{deref_pair}
-use Rattle.name_tables.specs.HashedNames.{texts}
+use Rattle.plain_data.specs.Maps.{texts}
 use Rattle.name_tables.proofs.hashed_names.HashedNamesNameTable.clone.Given as goal
 
 abbrev pub invariant-loop-name : goal.invariant-loop-name

@@ -1,6 +1,6 @@
 use Rattle.std.proofs.Common.{ap, sym, ◌∙◌}
 use Rattle.std.specs.FinMap as map
-use Rattle.name_tables.proofs.Texts.{get-by_text}
+use Rattle.plain_data.proofs.Texts.{get-by_text}
 use Rattle.name_tables.proofs.hashed_names.HashedNamesNameTable.get.Goals as goal
 
 pub returns : goal.returns

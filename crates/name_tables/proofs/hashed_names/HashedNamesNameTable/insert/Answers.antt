@@ -1,7 +1,7 @@
 use Rattle.std.proofs.Common.{None, ap, is_some, sym, ◌∙◌}
 use Rattle.std.specs.FinMap as map
 use Rattle.name_tables.proofs.Inserted.{found-none, found-some, inserted-absent, inserted-present}
-use Rattle.name_tables.proofs.Texts.{get-by_text}
+use Rattle.plain_data.proofs.Texts.{get-by_text}
 use Rattle.name_tables.proofs.hashed_names.HashedNamesNameTable.insert.Goals as goal
 
 pub add-requires : goal.add-requires

@@ -1,6 +1,6 @@
 use Rattle.std.proofs.Common.{sym, ◌∙◌}
 use Rattle.std.proofs.lemmas.Bool.{true≢false}
-use Rattle.name_tables.proofs.TreeNames.{names-same}
+use Rattle.name_tables.proofs.BranchNames.{names-same}
 use Rattle.name_tables.proofs.part_names.PartNamesNameTable.same.Goals as goal
 
 pub returns-then-is_within : goal.returns-then-is_within

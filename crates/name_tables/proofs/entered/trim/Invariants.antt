@@ -1,0 +1,13 @@
+use Rattle.std.proofs.Common.{◌≡◌, ◌≤◌, ℕ, length}
+use Rattle.name_tables.specs.Entered.{value_at}
+use Rattle.name_tables.proofs.entered.trim.Given as goal
+
+-- each number has what it had
+abbrev pub invariant-loop-values : goal.invariant-loop-values
+invariant-loop-values g l = record {
+  same : (k : ℕ) → value_at l.values.items k ≡ value_at l.fn.values.items k;
+  len : length l.values.items ≤ length l.fn.values.items;
+}
+
+abbrev pub decreases-loop-values : goal.decreases-loop-values
+decreases-loop-values g l = length l.values.items

@@ -1,0 +1,23 @@
+-- Whether names mean the same in two trees.
+use Rattle.std.specs.Prelude.{◌≡◌, ℕ, List}
+use Rattle.std.specs.declared.option.Option.TheVariants.{Some}
+use Rattle.name_tree.specs.Tree.{Branch, IsDescendant, path}
+use Rattle.pool_types.specs.declared.contents.definition.Definition.{Definition}
+use Rattle.name_tables.specs.Entered.{value_at}
+use Rattle.name_tables.specs.declared.branches.Branches.{Branches}
+use Rattle.name_tables.specs.declared.within.Pair.{Pair}
+
+-- what the name of branch k means is what it means among others
+abbrev pub IsWithinAt : Branches → Branches → ℕ → Type 0
+IsWithinAt branches others k =
+    (d : Definition) → value_at branches.definitions k ≡ Some d
+    → (j : ℕ) × IsDescendant others.tree 0 (path branches.tree k) j
+    × (value_at others.definitions j ≡ Some d)
+
+-- so it is with each name
+abbrev pub IsWithin : Branches → Branches → Type 0
+IsWithin branches others = (k : ℕ) → IsWithinAt branches others k
+
+-- the name of a branch leads down to the other one among others
+abbrev pub IsPair : List Branch → List Branch → Pair → Type 0
+IsPair branches others pair = IsDescendant others 0 (path branches pair.branch) pair.other

@@ -1,0 +1,12 @@
+pub mod Branches
+pub mod Children
+pub mod Keys
+pub mod Lists
+pub mod LookUp
+pub mod NameParts
+pub mod PartTexts
+pub mod Rows
+pub mod Slots
+pub mod Paths
+pub mod TreeChanges
+pub mod Trie

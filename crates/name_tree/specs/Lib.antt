@@ -1,0 +1,4 @@
+pub mod Nodes
+pub mod PartTexts
+pub mod Parts
+pub mod Tree
