@@ -13,7 +13,8 @@ use crate::varints::varint;
 /// That of `varint`.
 #[inline(always)]
 pub fn next_number(ends: usize, bytes: &[u8]) -> Result<Option<(u64, &[u8])>, WireFault>
-    ensures first { IsFirstNumber (λ x. (x.0, x.1.now)) (numbers ends) result (numbers ends bytes.now) }
+    ensures first { IsFirstNumber (λ x. (x.0, x.1.now)) (numbers ends) result
+        (numbers ends bytes.now) }
     ensures shorter { IfOk result (λ next. IfSome next (λ x. length x.1.now < length bytes.now)) }
 {
     if bytes.is_empty() {

@@ -122,7 +122,8 @@ fn token(ends: usize, bytes: &[u8]) -> Result<(Field<'_>, &[u8]), WireFault>
 /// The token at the front, and what follows it; `None` where there are no bytes.
 #[inline(always)]
 pub(crate) fn next_token(ends: usize, bytes: &[u8]) -> Result<Option<(Field<'_>, &[u8])>, WireFault>
-    ensures first { IsFirst (λ x. (seen x.0, x.1.now)) (tokens ends) result (tokens ends bytes.now) }
+    ensures first { IsFirst (λ x. (seen x.0, x.1.now)) (tokens ends) result
+        (tokens ends bytes.now) }
     ensures shorter { IfOk result (λ next. IfSome next (λ x. length x.1.now < length bytes.now)) }
 {
     if bytes.is_empty() {
