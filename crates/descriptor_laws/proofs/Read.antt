@@ -1,8 +1,12 @@
 -- What is read of each message is whole, field by field.
 use Rattle.std.proofs.Common.{ℕ, zero, suc, Option, None, Some, IfSome, sym, subst, eqb, rules}
 use Rattle.std.specs.List.{AllByRecursion}
-use Rattle.proto_types.specs.Empty.{no_field, no_enum, no_enum_range, no_value, no_service, no_method, no_source, no_location}
-use Rattle.proto_types.specs.EmptyFile.{no_file_set, no_file, no_message, no_extension_range, no_reserved_range, no_oneof}
+use Rattle.proto_types.specs.Source.{no_source, no_location}
+use Rattle.proto_types.specs.Service.{no_service, no_method}
+use Rattle.proto_types.specs.Enumeration.{no_enum, no_enum_range, no_value}
+use Rattle.proto_types.specs.Field.{no_field}
+use Rattle.proto_types.specs.Message.{no_message, no_extension_range, no_reserved_range, no_oneof}
+use Rattle.proto_types.specs.File.{no_file_set, no_file}
 use Rattle.proto_types.specs.declared.message.DescriptorProto.{DescriptorProto, out-DescriptorProto}
 use Rattle.proto_types.specs.declared.message.DescriptorProto.TheViews.{out-roll-DescriptorProto}
 use Rattle.descriptor_decoding.specs.Merging.{Reader, merged_from, within}

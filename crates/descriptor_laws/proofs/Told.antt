@@ -1,7 +1,11 @@
 -- No table tells a fault past the end of the bytes.
 use Rattle.std.proofs.Common.{ℕ, zero, suc, eqb, Option, None, Some, arith}
-use Rattle.proto_types.specs.Empty.{no_field, no_enum, no_enum_range, no_value, no_service, no_method, no_source, no_location}
-use Rattle.proto_types.specs.EmptyFile.{no_file, no_message, no_extension_range, no_reserved_range, no_oneof}
+use Rattle.proto_types.specs.Source.{no_source, no_location}
+use Rattle.proto_types.specs.Service.{no_service, no_method}
+use Rattle.proto_types.specs.Enumeration.{no_enum, no_enum_range, no_value}
+use Rattle.proto_types.specs.Field.{no_field}
+use Rattle.proto_types.specs.Message.{no_message, no_extension_range, no_reserved_range, no_oneof}
+use Rattle.proto_types.specs.File.{no_file}
 use Rattle.proto_types.specs.declared.message.DescriptorProto.{DescriptorProto}
 use Rattle.descriptor_decoding.specs.Merging.{Reader, merged_from, within}
 use Rattle.descriptor_decoding.specs.Options.{field_options_merged, enum_options_merged, unread_merged, no_field_options, no_enum_options, unread}

@@ -1,5 +1,5 @@
 use Rattle.std.proofs.Common.{length}
-use Rattle.proto_types.specs.EmptyFile.{no_file, no_file_set}
+use Rattle.proto_types.specs.File.{no_file, no_file_set}
 use Rattle.descriptor_decoding.specs.Decoding.{file_of, file_set_of}
 use Rattle.descriptor_decoding.specs.Files.{file_merged, file_set_merged}
 use Rattle.descriptor_laws.specs.Whole.{IsFile, IsSet}
