@@ -21,18 +21,18 @@ module _ (bs : List Branch) (name last : List ℕ) (at : ℕ) (near : IsNear bs 
   pub near-parts : parts name ≡ parts near.0 ++ last ∷ []
   near-parts = ap parts near.1 ∙ parts-dot near.0 last ∙ ap (λ ps. parts near.0 ++ ps) near.2
 
-module _ (bs : List Branch) (tree : IsTree bs) (at parent : ℕ) (part : List ℕ) (hung : HasParent bs at parent)
+module _ (bs : List Branch) (tree : IsTree bs) (at parent : ℕ) (part : List ℕ) (above : HasParent bs at parent)
     (named : HasPart bs at part) (below : parent ≢ 0) where
-  -- the name of a branch that doesn't hang below the root is that of what it hangs below, a dot, and its part
+  -- the name of a branch is that of its parent, a dot, and its part, unless the parent is the root
   pub outer-name : (text : List ℕ) → IsDescendant bs 0 (parts text) at → (outer : List ℕ) × (text ≡ outer ++ 46 ∷ part) × IsDescendant bs 0 (parts outer) parent
   outer-name text down =
       let stands = descendant-some bs (parts text) 0 at (parts-some text) down in
       let apart : at ≢ 0 = λ is. omega (arith, stands.0) in
-      let before = parent-before bs tree at parent apart hung in
+      let before = parent-before bs tree at parent apart above in
       let front = path bs parent in
       let there = path-descendant bs tree parent (omega (arith, before, stands.1)) in
       let some : front ≢ [] = λ none. below (sym (subst (λ ps. IsDescendant bs 0 ps parent) none there)) in
-      let are : parts text ≡ front ++ part ∷ [] = sym (descendant-path bs tree (parts text) 0 at down) ∙ read-path bs tree at parent part apart hung named in (
+      let are : parts text ≡ front ++ part ∷ [] = sym (descendant-path bs tree (parts text) 0 at down) ∙ read-path bs tree at parent part apart above named in (
         name_of front,
         sym (name_of-parts text) ∙ ap name_of are ∙ name_of-last front part some,
         subst (λ ps. IsDescendant bs 0 ps parent) (sym (parts-name_of front some (path-whole bs tree parent))) there,

@@ -14,7 +14,8 @@ abbrev pub names_of : List Branch → List (Option Definition) → ByText Defini
 names_of branches definitions = names_by (λ k. name_of (path branches k)) definitions
 
 -- the branches are a tree, and only they mean something, but for the root
-pub record AreBranches (branches : List Branch) (definitions : List (Option Definition)) : Type 0 where
-  pub tree : IsTree branches
-  pub root : value_at definitions 0 ≡ None
-  pub inside : length definitions ≤ length branches
+pub record AreBranches (branches : List Branch) (definitions : List (Option Definition)) : Type 0
+  where
+    pub tree : IsTree branches
+    pub root : value_at definitions 0 ≡ None
+    pub inside : length definitions ≤ length branches

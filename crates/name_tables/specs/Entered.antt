@@ -30,16 +30,19 @@ IsRising entries =
 abbrev pub IsLogged : {X : Type 0} → (X → ℕ) → List (Option X) → List Entry → Type 0
 IsLogged {X} file_of values entries =
     (k : ℕ) (x : X) → value_at values k ≡ Some x
-    → (j : ℕ) × (e : Entry) × (slice_get entries j ≡ Some e) × (e.number ≡ k) × (file_of x ≤ e.newest)
+    → (j : ℕ) × (e : Entry) × (slice_get entries j ≡ Some e) × (e.number ≡ k)
+    × (file_of x ≤ e.newest)
 
 -- a number has no value of file n or a later one, and others have what they had
-pub record Removes {X : Type 0} (file_of : X → ℕ) (old new : List (Option X)) (at n : ℕ) : Type 0 where
-  pub here : value_at new at ≡ found_before file_of n (value_at old at)
-  pub others : (k : ℕ) → k ≢ at → value_at new k ≡ value_at old k
+pub record Removes {X : Type 0} (file_of : X → ℕ) (old new : List (Option X)) (at n : ℕ) : Type 0
+  where
+    pub here : value_at new at ≡ found_before file_of n (value_at old at)
+    pub others : (k : ℕ) → k ≢ at → value_at new k ≡ value_at old k
 
 -- the numbers of entries have no value of file n or a later one, and others have what they had, or
 -- nothing of these
-pub record RemovesAll {X : Type 0} (file_of : X → ℕ) (old new : List (Option X)) (entries : List Entry) (n : ℕ) : Type 0 where
+pub record RemovesAll {X : Type 0} (file_of : X → ℕ) (old new : List (Option X))
+    (entries : List Entry) (n : ℕ) : Type 0 where
   pub each : (j : ℕ) (e : Entry) → slice_get entries j ≡ Some e
       → value_at new e.number ≡ found_before file_of n (value_at old e.number)
   pub others : (k : ℕ) → (value_at new k ≡ value_at old k)

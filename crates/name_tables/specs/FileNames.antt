@@ -30,6 +30,7 @@ IsAmong branches files names = (k : ℕ) → IsAmongAt branches files names k
 -- all branches are children of the root, each alone with its part, and only they have a file
 pub record AreFileNames (branches : List Branch) (files : List (Option ℕ)) : Type 0 where
   pub child : (k : ℕ) (b : Branch) → slice_get branches (suc k) ≡ Some b → b.parent ≡ 0
-  pub single : (name : List ℕ) (k j : ℕ) → IsChild branches 0 name k → IsChild branches 0 name j → k ≡ j
+  pub single : (name : List ℕ) (k j : ℕ) → IsChild branches 0 name k
+      → IsChild branches 0 name j → k ≡ j
   pub root : value_at files 0 ≡ None
   pub inside : length files ≤ length branches

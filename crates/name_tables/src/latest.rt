@@ -7,8 +7,8 @@ ghost use Rattle.name_tree.specs.Parts.{parts};
 use name_tree::NameTree;
 use std::alloc::{AllocError, Global};
 
-/// The name that was entered last, and its branch. Names come scope by scope, so the next one mostly
-/// stands inside this one, beside it, or in a scope around it.
+/// The name that was entered last, and its branch. Names come scope by scope, so the next one
+/// mostly stands inside this one, beside it, or in a scope around it.
 #[derive(Drop)]
 pub(crate) struct Latest {
     pub name: String,
@@ -35,7 +35,8 @@ pub(crate) fn near<'n>(
 /// The branch of a scope, where the latest name stands in it or is its text.
 fn scope_of(tree: &NameTree, latest: &Latest, scope: &str) -> Option<u32>
     requires tree { IsTree tree.now }
-    requires latest { IsDescendant tree.now 0 (parts (string_bytes latest.now.name)) latest.now.branch }
+    requires latest { IsDescendant tree.now 0 (parts (string_bytes latest.now.name))
+        latest.now.branch }
     ensures { IfSome result (λ k. IsDescendant tree.now 0 (parts scope.now) k) }
 {
     let mut at = latest.branch;

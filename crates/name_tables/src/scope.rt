@@ -12,8 +12,8 @@ use name_tree::NameTree;
 use pool_types::Definition;
 use std::marker::Model;
 
-/// A scope in a table of names, in which names are looked for. Contracts see it as what the names of
-/// the table mean, and the text of the scope.
+/// A scope in a table of names, in which names are looked for. Contracts see it as what the names
+/// of the table mean, and the text of the scope.
 ///
 /// It takes no memory.
 #[derive(Drop)]

@@ -1,8 +1,8 @@
-ghost use Rattle.std.specs.Prelude.{◌≡◌, ◌≤◌, ◌<◌, ◌↔◌, ℕ, ◌++◌, List, length, IfSome, IsTrue, None, Some};
+ghost use Rattle.std.specs.Prelude.{◌≡◌, ◌≤◌, ◌<◌, ◌↔◌, ℕ, length, IfSome, IsTrue, None, Some};
 ghost use Rattle.name_tree.specs.Tree.{HasParent, IsDescendant, IsTree, path};
 ghost use Rattle.name_tables.specs.Branches.{AreBranches};
 ghost use Rattle.name_tables.specs.Entered.{value_at};
-ghost use Rattle.name_tables.specs.Within.{IsPair, IsWithin, IsWithinAt};
+ghost use Rattle.name_tables.specs.Within.{AreCompared, ArePaired, IsAbove, IsPair, IsWithin, IsWithinAt};
 
 use crate::branches::Branches;
 use name_tree::NameTree;
@@ -37,14 +37,10 @@ struct Pair {
 /// Whether the name of a branch means nothing, or the same among others. The pair is that of an
 /// earlier branch, and becomes that of this one where it means something and others have it.
 fn means_same(branches: &Branches, others: &Branches, pair: &mut Pair, at: usize) -> bool
-    requires branches { AreBranches branches.now.tree branches.now.definitions }
-    requires others { AreBranches others.now.tree others.now.definitions }
-    requires pair { IsPair branches.now.tree others.now.tree pair.old }
-    requires earlier { pair.old.branch ≤ at }
+    requires compared { AreCompared branches.now others.now pair.old at }
     requires at { at < length branches.now.tree }
     ensures same { IsTrue result ↔ IsWithinAt branches.now others.now at }
-    ensures pair { IsPair branches.now.tree others.now.tree pair.new }
-    ensures earlier { pair.new.branch ≤ at }
+    ensures compared { AreCompared branches.now others.now pair.new at }
 {
     let Some(definition) = branches.definitions.get(at) else {
         return true;
@@ -71,9 +67,7 @@ fn means(branches: &Branches, at: usize, definition: &Definition) -> bool
 
 /// The first pair on the way from a pair to the root that is on the way from a branch there too.
 fn meet(branches: &NameTree, others: &NameTree, pair: Pair, at: usize) -> Pair
-    requires tree { IsTree branches.now }
-    requires others { IsTree others.now }
-    requires pair { IsPair branches.now others.now pair }
+    requires paired { ArePaired branches.now others.now pair }
     requires inside { pair.branch < length branches.now }
     requires at { at < length branches.now }
     ensures pair { IsPair branches.now others.now result }
@@ -90,9 +84,7 @@ fn meet(branches: &NameTree, others: &NameTree, pair: Pair, at: usize) -> Pair
 
 /// The first pair on the way from a pair to the root that does not stand behind a branch.
 fn climb(branches: &NameTree, others: &NameTree, pair: Pair, at: usize) -> Pair
-    requires tree { IsTree branches.now }
-    requires others { IsTree others.now }
-    requires pair { IsPair branches.now others.now pair }
+    requires paired { ArePaired branches.now others.now pair }
     requires inside { pair.branch < length branches.now }
     ensures pair { IsPair branches.now others.now result }
     ensures before { result.branch ≤ at }
@@ -110,13 +102,12 @@ fn climb(branches: &NameTree, others: &NameTree, pair: Pair, at: usize) -> Pair
 /// The branch of others that has the name of a branch. The way down to it from a pair is gone in
 /// halves, so that few calls stand inside one another; a pair beside the way climbs first.
 fn counterpart(branches: &NameTree, others: &NameTree, pair: Pair, at: usize) -> Option<u32>
-    requires tree { IsTree branches.now }
-    requires others { IsTree others.now }
-    requires pair { IsPair branches.now others.now pair }
+    requires paired { ArePaired branches.now others.now pair }
     requires before { pair.branch ≤ at }
     requires at { at < length branches.now }
     ensures found { IfSome result (λ k. IsDescendant others.now 0 (path branches.now at) k) }
-    ensures none { result ≡ None → (k : ℕ) → IsDescendant others.now 0 (path branches.now at) k → ⊥ }
+    ensures none { result ≡ None
+        → (k : ℕ) → IsDescendant others.now 0 (path branches.now at) k → ⊥ }
 {
     if pair.branch == at {
         return Some(pair.other);
@@ -140,9 +131,7 @@ fn halfway(branches: &NameTree, from: usize, at: usize) -> usize
     requires tree { IsTree branches.now }
     requires from { from < at }
     requires at { at < length branches.now }
-    ensures before { result < at }
-    ensures on_way { (rest : List (List ℕ))
-        × (path branches.now at ≡ path branches.now result ++ rest) }
+    ensures above { IsAbove branches.now result at }
     ensures next { result ≤ from
         → HasParent branches.now at result }
 {

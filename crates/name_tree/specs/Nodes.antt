@@ -1,5 +1,5 @@
--- How branches are found: as nodes of a trie with sixteen children each, by the digits of a key. A key
--- has the digest of the branch's name, the number of its parent, and its part.
+-- How branches are found: as nodes of a trie with sixteen children each, by the digits of a key. A
+-- key has the digest of the branch's name, the number of its parent, and its part.
 use Rattle.std.specs.Prelude.{◌≡◌, ◌≢◌, ◌<◌, ◌++◌, ◌-◌, ◌*◌, ◌/◌, ◌%◌, ◌^◌, bit_xor, ℕ, zero, suc, List, [], ◌∷◌, map, length, if◌then◌else◌, nat_lt, slice_index}
 use Rattle.std.specs.List.{slice_get}
 use Rattle.std.specs.Option.{option_and_then, option_map_or}
@@ -108,7 +108,8 @@ digit_at key level =
 abbrev pub slot_at : Key → ℕ → ℕ → Slot
 slot_at key level at = record { node = at; digit = digit_at key level }
 
--- branch k is found by a key from a slot on: it is the child there, or is found from another that is
+-- branch k is found by a key from a slot on: it is the child there, or is found from the child that
+-- is
 pub data IsFoundFrom (nodes : List Row) (key : Key) (k : ℕ) : Slot → ℕ → Type 0 where
   here : {slot : Slot} {level : ℕ} → child_at nodes slot ≡ Some k → key_at nodes k ≡ key
       → IsFoundFrom nodes key k slot level
@@ -142,8 +143,8 @@ pub record WithChild (old new : List Row) (slot : Slot) (child : Option ℕ) : T
   pub here : child_at new slot ≡ child
   pub others : (other : Slot) → other ≢ slot → child_at new other ≡ child_at old other
 
--- a well-formed trie: no node is a child of itself or a later one, or of two; each branch but the root
--- stands behind its parent, has the digest of its name, and is found by its key
+-- a well-formed trie: each child stands behind its node, and is the child at one slot; each branch but
+-- the root stands behind its parent, has the digest of its name, and is found by its key
 pub record IsTrie (nodes : List Row) : Type 0 where
   pub rising : (slot : Slot) (k : ℕ) → child_at nodes slot ≡ Some k
       → (slot.node < k) × (k < length nodes)
@@ -161,6 +162,18 @@ pub record IsSlotOf (nodes : List Row) (parent : ℕ) (part : List ℕ) (slot : 
   pub digit : slot.digit < 16
   pub parent_inside : parent < length nodes
   pub child : (k : ℕ) → child_at nodes slot ≡ Some k → IsChild (branches_of nodes) parent part k
-  pub none : child_at nodes slot ≡ None → (k : ℕ) → IsChild (branches_of nodes) parent part k → ⊥
+  pub none : child_at nodes slot ≡ None
+      → (k : ℕ) → IsChild (branches_of nodes) parent part k → ⊥
   pub found : (more : List Row) → KeepsNodes nodes more → (k : ℕ) → child_at more slot ≡ Some k
       → key_at more k ≡ child_key nodes parent part → IsFound more (child_key nodes parent part) k
+
+-- parts and nodes, as many of each, that make a well-formed trie
+pub record AreTrie (parts : List (List ℕ)) (nodes : List Node) : Type 0 where
+  pub even : length parts ≡ length nodes
+  pub trie : IsTrie (rows parts nodes)
+
+-- no branch has a key, and one that has it would be found at a slot
+pub record IsFree (nodes : List Row) (key : Key) (slot : Slot) : Type 0 where
+  pub digest : key.digest ≡ child_digest nodes key.parent key.part
+  pub slot_of : IsSlotOf nodes key.parent key.part slot
+  pub none : child_at nodes slot ≡ None

@@ -1,5 +1,5 @@
--- A tree of names: its branches are parts, each a child of another. The first is the root, which has
--- no part.
+-- A tree of names: its branches are parts, each a child of another. The first is the root, which
+-- has no part.
 use Rattle.std.specs.Prelude.{◌≡◌, ◌⊎◌, ◌<◌, ◌==◌, ℕ, zero, suc, List, [], ◌∷◌, ◌++◌, if◌then◌else◌}
 use Rattle.std.specs.List.{slice_get}
 use Rattle.std.specs.Option.{option_map_or}
@@ -60,7 +60,8 @@ path_of branches (suc n) k =
 abbrev pub path : List Branch → ℕ → List (List ℕ)
 path branches k = path_of branches k k
 
--- each branch but the root stands behind its parent, is the only child with its part, and has one part
+-- each branch but the root stands behind its parent, is the only child with its part, and its part
+-- has no dot
 pub record IsTree (branches : List Branch) : Type 0 where
   pub rising : (k : ℕ) (b : Branch) → slice_get branches (suc k) ≡ Some b → b.parent < suc k
   pub single : (parent : ℕ) (part : List ℕ) (k j : ℕ) → IsChild branches parent part k

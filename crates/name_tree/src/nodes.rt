@@ -1,14 +1,14 @@
 ghost use Rattle.std.specs.Prelude.{◌≡◌, ◌↔◌, ◌<◌, ◌++◌, ◌∷◌, [], ℕ, List, length, IsTrue, OnOk, OnErr, IfOk, None, Some};
 ghost use Rattle.name_tree.specs.Tree.{Branch, branch, IsTree, path};
 ghost use Rattle.name_tree.specs.Parts.{name_of};
-ghost use Rattle.name_tree.specs.Nodes.{rows, branches_of, child_at, child_of, as_key, digit_at, digit_of, child_digest, digest_from, taken_in, WithChild, IsPushed, IsTrie, IsSlotOf};
+ghost use Rattle.name_tree.specs.Nodes.{rows, branches_of, child_at, child_of, as_key, digit_at, digit_of, child_digest, digest_from, taken_in, AreTrie, IsFree, IsPushed, IsSlotOf, WithChild};
 
 use crate::part_texts::PartTexts;
 use std::alloc::{AllocError, Global};
 
 /// A branch but for its part, as a node of a trie. Each node has up to sixteen children, by a digit
-/// each. A branch is found from the root on by the digits of its key: at each level the child of the
-/// next digit is gone to, until it has the key.
+/// each. A branch is found from the root on by the digits of its key: at each level the child of
+/// the next digit is gone to, until it has the key.
 #[derive(Clone, Copy)]
 pub(crate) struct Node {
     /// The number that `child_digest` makes of the branch's name.
@@ -80,8 +80,7 @@ fn set_child(nodes: &mut [Node], slot: Slot, child: u32)
 
 /// The slot of the child of a branch with a part, or the one at which it would be inserted.
 pub(crate) fn find_slot(nodes: &[Node], texts: &PartTexts, key: Key) -> Slot
-    requires even { length texts.now ≡ length nodes.now }
-    requires trie { IsTrie (rows texts.now nodes.now) }
+    requires trie { AreTrie texts.now nodes.now }
     requires parent { key.parent < length nodes.now }
     requires digest { key.digest
         ≡ child_digest (rows texts.now nodes.now) key.parent key.part.now }
@@ -147,18 +146,14 @@ pub(crate) fn insert(
     slot: Slot,
     key: Key,
 ) -> Result<u32, AllocError>
-    requires even { length texts.old ≡ length nodes.old.items }
-    requires trie { IsTrie (rows texts.old nodes.old.items) }
-    requires digest { key.digest
-        ≡ child_digest (rows texts.old nodes.old.items) key.parent key.part.now }
-    requires slot { IsSlotOf (rows texts.old nodes.old.items) key.parent key.part.now slot }
-    requires free { child_at (rows texts.old nodes.old.items) slot ≡ None }
-    ensures at { IfOk result (λ k. k ≡ length nodes.old.items) }
-    ensures branches { OnOk result (branches_of (rows texts.new nodes.new.items)
+    requires trie { AreTrie texts.old nodes.old.items }
+    requires free { IsFree (rows texts.old nodes.old.items)
+        (as_key key.digest key.parent key.part.now) slot }
+    ensures ok { IfOk result (λ k. (k ≡ length nodes.old.items)
+        × (branches_of (rows texts.new nodes.new.items)
         ≡ branches_of (rows texts.old nodes.old.items)
-        ++ branch key.entry.parent key.entry.part.now ∷ []) }
-    ensures even { length texts.new ≡ length nodes.new.items }
-    ensures trie { IsTrie (rows texts.new nodes.new.items) }
+        ++ branch key.entry.parent key.entry.part.now ∷ [])) }
+    ensures trie { AreTrie texts.new nodes.new.items }
     ensures err { OnErr result
         (rows texts.new nodes.new.items ≡ rows texts.old nodes.old.items) }
 {
@@ -199,12 +194,10 @@ pub(crate) fn push_leaf(
 /// Removes the last branch, also as a child: the root alone is none.
 pub(crate) fn remove_last(texts: &mut PartTexts, nodes: &mut Vec<Node>)
     requires some { 0 < length nodes.old.items }
-    requires even { length texts.old ≡ length nodes.old.items }
-    requires trie { IsTrie (rows texts.old nodes.old.items) }
+    requires trie { AreTrie texts.old nodes.old.items }
     ensures branches { (b : Branch) × (branches_of (rows texts.old nodes.old.items)
         ≡ branches_of (rows texts.new nodes.new.items) ++ b ∷ []) }
-    ensures even { length texts.new ≡ length nodes.new.items }
-    ensures trie { IsTrie (rows texts.new nodes.new.items) }
+    ensures trie { AreTrie texts.new nodes.new.items }
 {
     if let [_, .., last] = nodes.as_slice() {
         let key = Key {

@@ -11,8 +11,8 @@ use crate::parts::Parts;
 use std::alloc::{AllocError, Global};
 use std::marker::Model;
 
-/// A tree of names: its branches, by their numbers, from the root on. Contracts see them as the list
-/// of their parts, each with the number of its parent.
+/// A tree of names: its branches, by their numbers, from the root on. Contracts see them as the
+/// list of their parts, each with the number of its parent.
 ///
 /// Only a call that answers a `Result` takes memory.
 #[derive(Drop)]
@@ -24,17 +24,16 @@ pub struct NameTree {
 }
 
 impl Model for NameTree {
-    ghost use Rattle.std.specs.Prelude.{◌≡◌, List, length};
+    ghost use Rattle.std.specs.Prelude.{List};
     ghost use Rattle.name_tree.specs.Tree.{Branch};
 
     ghost Value = { List Branch };
 
-    ghost use Rattle.name_tree.specs.Nodes.{rows, branches_of, IsTrie};
+    ghost use Rattle.name_tree.specs.Nodes.{AreTrie, branches_of, rows};
 
     ghost view = { λ tree. branches_of (rows tree.texts tree.nodes.items) };
 
-    ghost invariant = { λ tree. (length tree.texts ≡ length tree.nodes.items)
-        × IsTrie (rows tree.texts tree.nodes.items) };
+    ghost invariant = { λ tree. AreTrie tree.texts tree.nodes.items };
 }
 
 impl NameTree {
@@ -86,8 +85,8 @@ impl NameTree {
         Some(at)
     }
 
-    /// The branch of a name, or none where none has it. It is found by the digest of the whole name,
-    /// and by its parts only where sixteen others are passed on the way.
+    /// The branch of a name, or none where none has it. It is found by the digest of the whole
+    /// name, and by its parts only where sixteen others are passed on the way.
     pub fn look_up(&self, name: &str) -> Option<u32>
         requires { IsTree self.now }
         ensures found { IfSome result (λ k. IsDescendant self.now 0 (parts name.now) k) }

@@ -1,6 +1,6 @@
 use Rattle.std.proofs.Common.{◌≤◌, ◌<◌, ◌+◌}
 use Rattle.name_tree.specs.Tree.{HasParent}
-use Rattle.name_tables.proofs.Counterparts.{IsAbove}
+use Rattle.name_tables.specs.Within.{IsAbove}
 use Rattle.name_tables.proofs.within.halfway.Given as goal
 
 -- both stand on the way, and the middle is the first of it, or still behind the earlier branch

@@ -16,5 +16,5 @@ returns-in-Some-counterpart-clause-same c =
       λ yes f means. (other, found, c.means.ensures.0 yes ∙ sym defined ∙ means),
       λ within.
           let there = within d defined in
-          c.means.ensures.1 (ap (value_at c.args.others.now.definitions) (descendant-one others c.requires.others.tree (path branches c.args.at) 0 other there.0 found there.1) ∙ there.2),
+          c.means.ensures.1 (ap (value_at c.args.others.now.definitions) (descendant-one others c.requires.compared.others_are.tree (path branches c.args.at) 0 other there.0 found there.1) ∙ there.2),
     )

@@ -30,7 +30,7 @@ find_slot-slot-requires-clause-parent c =
     let last = node_at c.as_slice.result.now (length c.as_slice.result.now - 1) in
     let has = last_part c.args.texts.now c.len.result c.args.nodes.now.len (length nodes) c.get.result.now c.len.ensures c.args.nodes.now.ok.0 c.get.ensures in
     subst (λ nodes. last.parent < length nodes) (sym c.deref.ensures.value)
-    (last-parent c.args.texts.now nodes last c.get.result.now c.requires.trie read.0 read.1 has)
+    (last-parent c.args.texts.now nodes last c.get.result.now c.requires.trie.trie read.0 read.1 has)
 
 pub find_slot-slot-requires-clause-digest : goal.find_slot-slot-requires-clause-digest
 find_slot-slot-requires-clause-digest c =
@@ -39,7 +39,7 @@ find_slot-slot-requires-clause-digest c =
     let last = node_at c.as_slice.result.now (length c.as_slice.result.now - 1) in
     let has = last_part c.args.texts.now c.len.result c.args.nodes.now.len (length nodes) c.get.result.now c.len.ensures c.args.nodes.now.ok.0 c.get.ensures in
     subst (λ nodes. last.digest ≡ child_digest (rows c.args.texts.now nodes) last.parent c.get.result.now) (sym c.deref.ensures.value)
-    (last-digest c.args.texts.now nodes last c.get.result.now c.requires.trie read.0 read.1 has)
+    (last-digest c.args.texts.now nodes last c.get.result.now c.requires.trie.trie read.0 read.1 has)
 
 pub set_child-requires-clause-inside : goal.set_child-requires-clause-inside
 set_child-requires-clause-inside c =
@@ -71,7 +71,7 @@ unlinked c =
           let set : (with_items c.args.nodes.now w.set_child.new.nodes).items ≡ w.set_child.new.nodes =
           with_items_is c.args.nodes.now w.set_child.new.nodes (length-nodes texts w.set_child.new.nodes nodes with_child.keys ∙ sym c.args.nodes.now.ok.0) in
           subst (λ mid. IsUnlinked (rows texts nodes) (rows texts mid)) (sym (ap (λ nodes. nodes.items) w.nodes-is ∙ set))
-          (last-unlinked texts nodes last w.get.result.now c.requires.trie read.0 read.1 has (rows texts w.set_child.new.nodes) w.find_slot-slot.result slot_of with_child)
+          (last-unlinked texts nodes last w.get.result.now c.requires.trie.trie read.0 read.1 has (rows texts w.set_child.new.nodes) w.find_slot-slot.result slot_of with_child)
     ]
 
 one_last : (mid new : List Node) (last : Option Node) → IsSome last → mid ≡ new ++ option_to_list last → (last : Node) × (mid ≡ new ++ last ∷ [])
@@ -88,15 +88,32 @@ last_of c =
     let counted : c.if-as_slice-lt2.nodes.len ≡ length mid = c.if-as_slice-lt2.nodes.ok.0 in
     let last : (last : Node) × (mid ≡ c.pop.new.self.items ++ last ∷ []) = one_last mid c.pop.new.self.items c.pop.result (c.pop.ensures.variant.1 (omega arith)) c.pop.ensures.items in
     let part = c.pop-2.ensures in
-    let even : length texts ≡ length c.args.nodes.now.items = c.requires.even in
+    let even : length texts ≡ length c.args.nodes.now.items = c.requires.trie.even in
     let nodes : length mid ≡ length c.pop.new.self.items + 1 = ap length last.1 ∙ length_push c.pop.new.self.items last.0 in
     let parts : length texts ≡ length c.pop-2.new.self + 1 = ap length part.1 ∙ length_push c.pop-2.new.self part.0 in
     (row part.0 last.0, (λ i. rows (part.1 i) (last.1 i)) ∙ rows-push c.pop-2.new.self c.pop.new.self.items part.0 last.0 (omega arith))
 
+-- there are as many parts as nodes
+even : (c : goal.After-pop-2) → length c.pop-2.new.self ≡ length c.pop.new.self.items
+even c =
+    let texts = c.args.texts.now in
+    let mid = c.if-as_slice-lt2.nodes.items in
+    let some : 0 < length c.args.nodes.now.items = c.requires.some in
+    let same : length mid ≡ length c.args.nodes.now.items = sym (length-rows texts mid) ∙ unlinked-length (rows texts c.args.nodes.now.items) (rows texts mid) (unlinked c) ∙ length-rows texts c.args.nodes.now.items in
+    let counted : c.if-as_slice-lt2.nodes.len ≡ length mid = c.if-as_slice-lt2.nodes.ok.0 in
+    let last : (last : Node) × (mid ≡ c.pop.new.self.items ++ last ∷ []) = one_last mid c.pop.new.self.items c.pop.result (c.pop.ensures.variant.1 (omega arith)) c.pop.ensures.items in
+    let part = c.pop-2.ensures in
+    let even : length texts ≡ length c.args.nodes.now.items = c.requires.trie.even in
+    let nodes : length mid ≡ length c.pop.new.self.items + 1 = ap length last.1 ∙ length_push c.pop.new.self.items last.0 in
+    let parts : length texts ≡ length c.pop-2.new.self + 1 = ap length part.1 ∙ length_push c.pop-2.new.self part.0 in
+    omega arith
+
 pub returns-clause-trie : goal.returns-clause-trie
-returns-clause-trie c =
-    trie-popped (rows c.args.texts.now c.args.nodes.now.items) (rows c.args.texts.now c.if-as_slice-lt2.nodes.items) (rows c.pop-2.new.self c.pop.new.self.items)
-    (last_of c).0 (last_of c).1 c.requires.trie (unlinked c)
+returns-clause-trie c = record {
+  even = even c;
+  trie = trie-popped (rows c.args.texts.now c.args.nodes.now.items) (rows c.args.texts.now c.if-as_slice-lt2.nodes.items) (rows c.pop-2.new.self c.pop.new.self.items)
+      (last_of c).0 (last_of c).1 c.requires.trie.trie (unlinked c);
+}
 
 pub returns-clause-branches : goal.returns-clause-branches
 returns-clause-branches c = (

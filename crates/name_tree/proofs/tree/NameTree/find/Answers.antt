@@ -9,7 +9,7 @@ pub returns-then-parent-len-clause-none : goal.returns-then-parent-len-clause-no
 returns-then-parent-len-clause-none c = λ none k below.
     let all = rows c.self.inside.texts c.self.inside.nodes.items in
     let inside : c.args.parent < length all =
-    parent-inside all c.args.parent c.args.part.now k (subst (λ branches. IsChild branches c.args.parent c.args.part.now k) (sym c.self.view_is) below) c.self.invariant.1 in
+    parent-inside all c.args.parent c.args.part.now k (subst (λ branches. IsChild branches c.args.parent c.args.part.now k) (sym c.self.view_is) below) c.self.invariant.trie in
     let rows_len = length-rows c.self.inside.texts c.self.inside.nodes.items in
     let past : c.len.result ≤ c.args.parent = c.if-parent-len.true in
     let counted : c.len.result ≡ length c.self.inside.nodes.items = c.len.ensures ∙ c.self.inside.nodes.ok.0 in
@@ -37,5 +37,5 @@ returns-clause-only c = only-found c.child.result (IsChild c.args.self.now c.arg
     let slot_of : IsSlotOf all c.args.parent c.args.part.now c.find_slot.result =
     subst (λ nodes. IsSlotOf (rows texts nodes) c.args.parent c.args.part.now c.find_slot.result) c.deref-3.ensures.value c.find_slot.ensures in
     subst (λ nodes. c.child.result ≡ child_at (rows texts nodes) c.find_slot.result) c.deref-2.ensures.value (c.child.ensures texts)
-    ∙ slot-at all c.args.parent c.args.part.now c.find_slot.result c.self.invariant.1 slot_of j
+    ∙ slot-at all c.args.parent c.args.part.now c.find_slot.result c.self.invariant.trie slot_of j
     (subst (λ branches. IsChild branches c.args.parent c.args.part.now j) (sym c.self.view_is) below))

@@ -32,7 +32,7 @@ loop-level-init c =
     record {
       inside = omega arith;
       digested = c.digest_from-digest.ensures ∙ ap digest_of c.as_bytes.ensures.value;
-      ahead = ahead-first all c.self.invariant.1 tree c.args.name.now;
+      ahead = ahead-first all c.self.invariant.trie tree c.args.name.now;
     }
 
 pub returns-in_err-at-clause-none : goal.returns-in_err-at-clause-none
@@ -43,7 +43,7 @@ returns-in_err-at-clause-none c = λ none k down.
     let at_digit : ℕ → Slot = λ digit. record { node = c.loop-level.at; digit = digit } in
     let free : child_at all (at_digit (digit_of c.digest_from-digest.result c.loop-level.level)) ≡ None =
     (λ i. child_at (rows texts (sym c.deref.ensures.value i)) (at_digit (sym c.digit_of-digit.ensures.same i))) ∙ sym (c.in_err-at.ensures texts) in
-    ahead-none all c.self.invariant.1 tree c.args.name.now c.digest_from-digest.result c.loop-level.level c.loop-level.at c.loop-level.invariant.digested (omega arith) c.loop-level.invariant.ahead
+    ahead-none all c.self.invariant.trie tree c.args.name.now c.digest_from-digest.result c.loop-level.level c.loop-level.at c.loop-level.invariant.digested (omega arith) c.loop-level.invariant.ahead
     free k (subst (λ bs. IsDescendant bs 0 (parts c.args.name.now) k) (sym c.self.view_is) down)
 
 pub index-requires : goal.index-requires
@@ -52,7 +52,7 @@ index-requires c =
     let nodes = c.self.inside.nodes.items in
     let slot : Slot = record { node = c.loop-level.at; digit = c.digit_of-digit.result } in
     let stands : child_at (rows texts nodes) slot ≡ Some c.in_ok-at.at = ap (λ ns. child_at (rows texts ns) slot) (sym c.deref.ensures.value) ∙ sym (c.in_ok-at.ensures texts) in
-    let inside : c.in_ok-at.at < length nodes = (rises-row texts nodes slot c.in_ok-at.at c.self.invariant.1 stands).1 in
+    let inside : c.in_ok-at.at < length nodes = (rises-row texts nodes slot c.in_ok-at.at c.self.invariant.trie stands).1 in
     let ok = c.self.inside.nodes.ok.0 in
     omega arith
 
@@ -62,7 +62,7 @@ has_name-requires-clause-inside c =
     let nodes = c.self.inside.nodes.items in
     let slot : Slot = record { node = c.loop-level.at; digit = c.digit_of-digit.result } in
     let stands : child_at (rows texts nodes) slot ≡ Some c.in_ok-at.at = ap (λ ns. child_at (rows texts ns) slot) (sym c.deref.ensures.value) ∙ sym (c.in_ok-at.ensures texts) in
-    subst (λ ns. c.in_ok-at.at < length ns) (sym c.deref-then-index-digest.ensures.value) (rises-row texts nodes slot c.in_ok-at.at c.self.invariant.1 stands).1
+    subst (λ ns. c.in_ok-at.at < length ns) (sym c.deref-then-index-digest.ensures.value) (rises-row texts nodes slot c.in_ok-at.at c.self.invariant.trie stands).1
 
 pub returns-then-has_name-clause-found : goal.returns-then-has_name-clause-found
 returns-then-has_name-clause-found c =
@@ -72,7 +72,7 @@ returns-then-has_name-clause-found c =
     let tree : IsTree (branches_of all) = subst IsTree (sym c.self.view_is) c.requires in
     let slot : Slot = record { node = c.loop-level.at; digit = c.digit_of-digit.result } in
     let stands : child_at all slot ≡ Some c.in_ok-at.at = ap (λ ns. child_at (rows texts ns) slot) (sym c.deref.ensures.value) ∙ sym (c.in_ok-at.ensures texts) in
-    let rises : (c.loop-level.at < c.in_ok-at.at) × (c.in_ok-at.at < length nodes) = rises-row texts nodes slot c.in_ok-at.at c.self.invariant.1 stands in
+    let rises : (c.loop-level.at < c.in_ok-at.at) × (c.in_ok-at.at < length nodes) = rises-row texts nodes slot c.in_ok-at.at c.self.invariant.trie stands in
     let is : c.args.name.now ≡ name_of (path (branches_of all) c.in_ok-at.at) =
     subst (λ ns. c.args.name.now ≡ name_of (path (branches_of (rows texts ns)) c.in_ok-at.at)) c.deref-then-index-digest.ensures.value (c.if-has_name.ensures.0 refl) in
     let inside : c.in_ok-at.at < length (branches_of all) = subst (λ n. c.in_ok-at.at < n) (sym (length-map all branch_of ∙ length-rows texts nodes)) rises.1 in
@@ -89,23 +89,23 @@ loop-level-preserved c =
     let stands : child_at all (at_digit (digit_of c.digest_from-digest.result c.loop-level.level)) ≡ Some c.in_ok-at.at =
     (λ i. child_at (rows texts (sym c.deref.ensures.value i)) (at_digit (sym c.digit_of-digit.ensures.same i))) ∙ sym (c.in_ok-at.ensures texts) in
     let rises : (c.loop-level.at < c.in_ok-at.at) × (c.in_ok-at.at < length nodes) =
-    rises-row texts nodes (at_digit (digit_of c.digest_from-digest.result c.loop-level.level)) c.in_ok-at.at c.self.invariant.1 stands in
+    rises-row texts nodes (at_digit (digit_of c.digest_from-digest.result c.loop-level.level)) c.in_ok-at.at c.self.invariant.trie stands in
     let node = c.index.result.now in
     let some = row-some texts nodes c.in_ok-at.at node rises.1 c.index.ensures in
     let key : key_at all c.in_ok-at.at ≡ key_of (row some.0 node) = key-of all c.in_ok-at.at (row some.0 node) some.1 in
     let apart : (k : ℕ) → IsDescendant (branches_of all) 0 (parts c.args.name.now) k → key_at all c.in_ok-at.at ≢ key_at all k =
     elim c.else-index-digest.branch [
       | else-index-digest-via-then-index-digest+else-has_name w ↦
-          apart-name all c.self.invariant.1 tree c.args.name.now c.in_ok-at.at (let up = rises.0 in omega arith) (subst (λ n. c.in_ok-at.at < n) (sym (length-rows texts nodes)) rises.1)
+          apart-name all c.self.invariant.trie tree c.args.name.now c.in_ok-at.at (let up = rises.0 in omega arith) (subst (λ n. c.in_ok-at.at < n) (sym (length-rows texts nodes)) rises.1)
           (λ is. false≢true (w.if-has_name.ensures.1 (subst (λ ns. c.args.name.now ≡ name_of (path (branches_of (rows texts ns)) c.in_ok-at.at)) (sym w.deref-then-index-digest.ensures.value) is)))
       | else-index-digest-via-else-index-digest w ↦
-          apart-digest all c.self.invariant.1 tree c.args.name.now c.digest_from-digest.result c.in_ok-at.at c.loop-level.invariant.digested
+          apart-digest all c.self.invariant.trie tree c.args.name.now c.digest_from-digest.result c.in_ok-at.at c.loop-level.invariant.digested
           (λ same. w.if-index-digest.false (ap (λ (by : Key). by.digest) (sym key) ∙ same))
     ] in
     record {
       inside = rises.1;
       digested = c.loop-level.invariant.digested;
       ahead = rw add-one
-          (ahead-next all c.self.invariant.1 tree c.args.name.now c.digest_from-digest.result c.loop-level.level c.loop-level.at c.loop-level.invariant.digested (omega arith) c.loop-level.invariant.ahead
+          (ahead-next all c.self.invariant.trie tree c.args.name.now c.digest_from-digest.result c.loop-level.level c.loop-level.at c.loop-level.invariant.digested (omega arith) c.loop-level.invariant.ahead
           c.in_ok-at.at stands apart);
     }

@@ -4,7 +4,7 @@ use Rattle.name_tree.proofs.tree.NameTree.part.Goals as goal
 
 pub get-requires : goal.get-requires
 get-requires c =
-    subst (λ n. c.args.at < n) (length-branches c.self.inside.texts c.self.inside.nodes.items c.args.self.now c.self.view_is ∙ sym c.self.invariant.0) c.requires
+    subst (λ n. c.args.at < n) (length-branches c.self.inside.texts c.self.inside.nodes.items c.args.self.now c.self.view_is ∙ sym c.self.invariant.even) c.requires
 
 pub returns : goal.returns
 returns c = part-read c.self.inside.texts c.self.inside.nodes.items c.args.self.now c.self.view_is c.args.at c.get.result.now c.requires c.get.ensures
