@@ -59,11 +59,15 @@ fn check_equal(
     Ok(())
 }
 
+fn check_traces(rt: &impl Abort, alloc: Global) -> Result<(), AllocError> {
+    let pool = pool_of(alloc, &[BAD, GOOD])?;
+    let fresh = pool_of(alloc, &[GOOD])?;
+    check_equal(rt, &pool, &fresh)
+}
+
 #[test]
 fn a_refused_batch_leaves_no_trace(rt: HostRuntime) -> Result<(), Fail> {
-    let pool = pool_of(rt.alloc(), &[BAD, GOOD])?;
-    let fresh = pool_of(rt.alloc(), &[GOOD])?;
-    check_equal(&rt, &pool, &fresh)?;
+    check_traces(&rt, rt.alloc())?;
     Ok(())
 }
 
@@ -122,10 +126,14 @@ fn check_with_clone(
     check_clone(rt, alloc, pool, &copy)
 }
 
+fn check_grown(rt: &impl Abort, alloc: Global) -> Result<(), AllocError> {
+    let mut pool = pool_of(alloc, &[BARE])?;
+    check_with_clone(rt, alloc, &mut pool)
+}
+
 #[test]
 fn a_clone_stays_where_its_pool_refuses_or_grows(rt: HostRuntime) -> Result<(), Fail> {
-    let mut pool = pool_of(rt.alloc(), &[BARE])?;
-    check_with_clone(&rt, rt.alloc(), &mut pool)?;
+    check_grown(&rt, rt.alloc())?;
     Ok(())
 }
 

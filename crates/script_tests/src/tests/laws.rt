@@ -15,19 +15,22 @@ fn batch(alloc: Global, script: &str) -> Result<Vec<FileDescriptorProto>, AllocE
     }
 }
 
-#[test]
-fn laws_of_pools_are_called(rt: HostRuntime) -> Result<(), Fail> {
-    let pool = DescriptorPool::new(rt.alloc());
-    let front = batch(rt.alloc(), "file a.proto\nmessage A\nend\nend\n")?;
-    let back = batch(rt.alloc(), "file b.proto\nmessage B\nend\nend\n")?;
-    relink(&pool);
-    earlier_stays(&pool);
-    dot_says_nothing(&pool);
-    seen_names_stand(&pool);
-    split(&pool, &front, &back);
-    reorder(&pool, &front, &back);
-    for file in &front {
+fn call_laws(pool: &DescriptorPool, front: &[FileDescriptorProto], back: &[FileDescriptorProto]) {
+    relink(pool);
+    earlier_stays(pool);
+    dot_says_nothing(pool);
+    seen_names_stand(pool);
+    split(pool, front, back);
+    reorder(pool, front, back);
+    for file in front {
         prefixes(file);
     }
+}
+
+#[test]
+fn laws_of_pools_are_called(rt: HostRuntime) -> Result<(), Fail> {
+    let front = batch(rt.alloc(), "file a.proto\nmessage A\nend\nend\n")?;
+    let back = batch(rt.alloc(), "file b.proto\nmessage B\nend\nend\n")?;
+    call_laws(&DescriptorPool::new(rt.alloc()), &front, &back);
     Ok(())
 }
