@@ -8,3 +8,4 @@ pub mod Sources
 pub mod Messages
 pub mod Files
 pub mod Decoding
+pub mod Flags

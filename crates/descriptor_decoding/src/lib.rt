@@ -7,6 +7,7 @@ mod enums;
 mod error;
 mod fields;
 mod files;
+mod flags;
 mod merging;
 mod messages;
 mod options;
@@ -16,3 +17,4 @@ mod sources;
 
 pub use decoding::{LEVELS, decode, decode_file};
 pub use error::DecodeError;
+pub use flags::{Deprecated, is_map_entry, is_message_set};

@@ -4,5 +4,5 @@
 mod laws;
 mod written;
 
-pub use laws::{read_is_whole, written_is_read};
+pub use laws::{faults_lie_within, read_is_whole, written_is_read};
 pub use written::canonical;
