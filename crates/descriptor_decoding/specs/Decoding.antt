@@ -12,8 +12,10 @@ use Rattle.descriptor_decoding.specs.Files.{file_merged, file_set_merged}
 abbrev pub message_of : {M : Type 0} → (ℕ → Merge M) → M → List ℕ → Result M WireFault
 message_of merged empty bytes = merged_from 100 (merged 100) (length bytes) bytes empty
 
+-- the set of files that bytes encode, or the first fault
 abbrev pub file_set_of : List ℕ → Result FileDescriptorSet WireFault
 file_set_of = message_of file_set_merged no_file_set
 
+-- the file that bytes encode, or the first fault
 abbrev pub file_of : List ℕ → Result FileDescriptorProto WireFault
 file_of = message_of file_merged no_file

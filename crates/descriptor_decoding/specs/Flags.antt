@@ -10,6 +10,7 @@ use Rattle.descriptor_decoding.specs.Parts.{bool_merged}
 unfoldable pub flag_merged : ℕ → Merge (Option Bool)
 flag_merged number n v part = by_number n part (row number (Ok (bool_merged v part)) (λ x. x) ∷ [])
 
+-- a truth value that was read, or false where none was
 abbrev pub flag_of : ℕ → List ℕ → Result (Option Bool) WireFault
 flag_of number bytes = merged_from 100 (flag_merged number) (length bytes) bytes None
 

@@ -21,12 +21,15 @@ options_merged empty inner (Len bytes ends) part =
     (λ v. Some (record { encoded = before.encoded ++ bytes; value = v }))
 options_merged empty inner other part = Ok part
 
+-- what is read of a field's options where nothing is said
 abbrev pub no_field_options : FieldOptions
 no_field_options = record { packed = None }
 
+-- what is read of an enum's options where nothing is said
 abbrev pub no_enum_options : EnumOptions
 no_enum_options = record { allow_alias = None }
 
+-- what is read of options of which nothing is read
 abbrev pub unread : Unread
 unread = record {}
 

@@ -20,6 +20,7 @@ abbrev pub int32_merged : Value → Option ℤ → Option ℤ
 int32_merged (Varint n) part = Some (int32 n)
 int32_merged other part = part
 
+-- a truth value is false where its number is 0; the last one counts
 abbrev pub bool_merged : Value → Option Bool → Option Bool
 bool_merged (Varint n) part = Some (not (n == 0))
 bool_merged other part = part

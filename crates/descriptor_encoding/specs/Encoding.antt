@@ -9,5 +9,6 @@ use Rattle.descriptor_encoding.specs.Files.{file_listed, set_listed}
 abbrev pub set_encoding : FileDescriptorSet → List ℕ
 set_encoding m = encoding (set_listed m)
 
+-- the canonical encoding of a file
 abbrev pub file_encoding : FileDescriptorProto → List ℕ
 file_encoding m = encoding (file_listed m)

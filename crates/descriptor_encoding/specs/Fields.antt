@@ -4,6 +4,7 @@ use Rattle.wire_format.specs.Encoding.{Numbered}
 use Rattle.proto_types.specs.declared.records.field.FieldDescriptorProto.{FieldDescriptorProto}
 use Rattle.descriptor_encoding.specs.Parts.{int32_listed, bool_listed, text_listed, options_listed}
 
+-- the fields that a field or an extension is encoded as
 abbrev pub field_listed : FieldDescriptorProto → List Numbered
 field_listed m =
     text_listed 1 m.name ++

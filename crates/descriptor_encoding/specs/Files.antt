@@ -10,6 +10,7 @@ use Rattle.descriptor_encoding.specs.Messages.{descriptor_listed}
 use Rattle.descriptor_encoding.specs.Services.{service_listed}
 use Rattle.descriptor_encoding.specs.Sources.{source_listed}
 
+-- the fields that a file is encoded as
 abbrev pub file_listed : FileDescriptorProto → List Numbered
 file_listed m =
     text_listed 1 m.name ++
@@ -25,6 +26,7 @@ file_listed m =
     (int32s_listed 11 m.weak_dependency ++
     text_listed 12 m.syntax))))))))))
 
+-- the fields that a set of files is encoded as
 abbrev pub set_listed : FileDescriptorSet → List Numbered
 set_listed m =
     messages_listed 1 (map file_listed m.file)

@@ -11,17 +11,20 @@ use Rattle.descriptor_encoding.specs.Parts.{int32_listed, text_listed, options_l
 use Rattle.descriptor_encoding.specs.Enums.{enum_listed}
 use Rattle.descriptor_encoding.specs.Fields.{field_listed}
 
+-- the fields that a oneof is encoded as
 abbrev pub oneof_listed : OneofDescriptorProto → List Numbered
 oneof_listed m =
     text_listed 1 m.name ++
     options_listed 2 m.options
 
+-- the fields that a range of extensions is encoded as
 abbrev pub extension_range_listed : ExtensionRange → List Numbered
 extension_range_listed m =
     int32_listed 1 m.start ++
     (int32_listed 2 m.«end» ++
     options_listed 3 m.options)
 
+-- the fields that a reserved range of a message is encoded as
 abbrev pub reserved_range_listed : ReservedRange → List Numbered
 reserved_range_listed m =
     int32_listed 1 m.start ++
@@ -42,5 +45,6 @@ message_row_listed d nested =
     (messages_listed 9 (map reserved_range_listed d.reserved_range) ++
     texts_listed 10 d.reserved_name))))))))
 
+-- the fields that a message is encoded as, with all that stands in it
 abbrev pub descriptor_listed : DescriptorProto → List Numbered
 descriptor_listed = fold-DescriptorProto (List Numbered) (λ d. message_row_listed d d.nested_type)

@@ -5,6 +5,7 @@ use Rattle.proto_types.specs.declared.records.service.ServiceDescriptorProto.{Se
 use Rattle.proto_types.specs.declared.records.service.MethodDescriptorProto.{MethodDescriptorProto}
 use Rattle.descriptor_encoding.specs.Parts.{bool_listed, text_listed, options_listed, messages_listed}
 
+-- the fields that a method is encoded as
 abbrev pub method_listed : MethodDescriptorProto → List Numbered
 method_listed m =
     text_listed 1 m.name ++
@@ -14,6 +15,7 @@ method_listed m =
     (bool_listed 5 m.client_streaming ++
     bool_listed 6 m.server_streaming))))
 
+-- the fields that a service is encoded as
 abbrev pub service_listed : ServiceDescriptorProto → List Numbered
 service_listed m =
     text_listed 1 m.name ++

@@ -5,6 +5,7 @@ use Rattle.proto_types.specs.declared.records.source.SourceCodeInfo.{SourceCodeI
 use Rattle.proto_types.specs.declared.records.source.Location.{Location}
 use Rattle.descriptor_encoding.specs.Parts.{text_listed, texts_listed, packed_listed, messages_listed}
 
+-- the fields that a location is encoded as
 abbrev pub location_listed : Location → List Numbered
 location_listed m =
     packed_listed 1 m.path ++
@@ -13,6 +14,7 @@ location_listed m =
     (text_listed 4 m.trailing_comments ++
     texts_listed 6 m.leading_detached_comments)))
 
+-- the fields that the source of a file is encoded as
 abbrev pub source_listed : SourceCodeInfo → List Numbered
 source_listed m =
     messages_listed 1 (map location_listed m.location)

@@ -2,9 +2,11 @@
 use Rattle.std.specs.Prelude.{◌≡◌, ℕ, List, ◌++◌, Result, OnOk}
 use Rattle.wire_format.specs.Encoding.{Numbered, Number, Bytes, encoding}
 
+-- a field whose value is a number
 abbrev pub number_field : ℕ → ℕ → Numbered
 number_field n x = record { number = n; part = Number x }
 
+-- a field whose value is bytes with their length
 abbrev pub bytes_field : ℕ → List ℕ → Numbered
 bytes_field n bytes = record { number = n; part = Bytes bytes }
 

@@ -24,9 +24,11 @@ use Rattle.proto_types.specs.declared.records.source.Location.{Location}
 use Rattle.descriptor_decoding.specs.Merging.{Merge, merged_from}
 use Rattle.descriptor_decoding.specs.Options.{no_field_options, no_enum_options, unread, field_options_merged, enum_options_merged, unread_merged}
 
+-- a number has 32 bits
 abbrev pub IsInt32 : ℤ → Type 0
 IsInt32 x = FitsSigned w32 x
 
+-- a text is UTF-8
 abbrev pub IsText : List ℕ → Type 0
 IsText t = is_utf8 t ≡ true
 
@@ -40,18 +42,22 @@ abbrev pub IsRead : {T : Type 0} → (ℕ → Merge T) → T → ℕ → Options
 IsRead merged empty levels o =
     (ends : ℕ) → merged_from levels (merged levels) ends o.encoded empty ≡ Ok o.value
 
+-- what was read of options of which nothing is read is what their bytes say
 abbrev pub IsUnread : ℕ → Options Unread → Type 0
 IsUnread = IsRead unread_merged unread
 
+-- a whole value of an enum, within so many levels
 pub record IsValue (levels : ℕ) (m : EnumValueDescriptorProto) : Type 0 where
   pub name : IfSome m.name IsText
   pub number : IfSome m.number IsInt32
   pub options : IfSome m.options (Within levels IsUnread)
 
+-- a whole reserved range of an enum, within so many levels
 pub record IsEnumRange (levels : ℕ) (m : EnumReservedRange) : Type 0 where
   pub start : IfSome m.start IsInt32
   pub «end» : IfSome m.«end» IsInt32
 
+-- a whole enum, within so many levels
 pub record IsEnum (levels : ℕ) (m : EnumDescriptorProto) : Type 0 where
   pub name : IfSome m.name IsText
   pub value : AllByRecursion (Within levels IsValue) m.value
@@ -59,6 +65,7 @@ pub record IsEnum (levels : ℕ) (m : EnumDescriptorProto) : Type 0 where
   pub reserved_range : AllByRecursion (Within levels IsEnumRange) m.reserved_range
   pub reserved_name : AllByRecursion IsText m.reserved_name
 
+-- a whole field or extension, within so many levels
 pub record IsField (levels : ℕ) (m : FieldDescriptorProto) : Type 0 where
   pub name : IfSome m.name IsText
   pub extendee : IfSome m.extendee IsText
@@ -71,15 +78,18 @@ pub record IsField (levels : ℕ) (m : FieldDescriptorProto) : Type 0 where
   pub oneof_index : IfSome m.oneof_index IsInt32
   pub json_name : IfSome m.json_name IsText
 
+-- a whole oneof, within so many levels
 pub record IsOneof (levels : ℕ) (m : OneofDescriptorProto) : Type 0 where
   pub name : IfSome m.name IsText
   pub options : IfSome m.options (Within levels IsUnread)
 
+-- a whole range of extensions, within so many levels
 pub record IsExtensionRange (levels : ℕ) (m : ExtensionRange) : Type 0 where
   pub start : IfSome m.start IsInt32
   pub «end» : IfSome m.«end» IsInt32
   pub options : IfSome m.options (Within levels IsUnread)
 
+-- a whole reserved range of a message, within so many levels
 pub record IsReservedRange (levels : ℕ) (m : ReservedRange) : Type 0 where
   pub start : IfSome m.start IsInt32
   pub «end» : IfSome m.«end» IsInt32
@@ -98,24 +108,29 @@ pub record IsLayer (levels : ℕ) (Nested : DescriptorProto → Type 0)
   pub reserved_range : AllByRecursion (Within levels IsReservedRange) d.reserved_range
   pub reserved_name : AllByRecursion IsText d.reserved_name
 
+-- a whole message, of which those that stand in it are whole by a condition
 abbrev pub IsMessageOf : ℕ → (DescriptorProto → Type 0) → DescriptorProto → Type 0
 IsMessageOf levels Nested m = IsLayer levels Nested (out-DescriptorProto m)
 
+-- a whole message, within so many levels
 abbrev pub IsMessage : ℕ → DescriptorProto → Type 0
 IsMessage zero m = IsMessageOf zero (λ _. ⊥) m
 IsMessage (suc levels) m = IsMessageOf (suc levels) (IsMessage levels) m
 
+-- a whole method, within so many levels
 pub record IsMethod (levels : ℕ) (m : MethodDescriptorProto) : Type 0 where
   pub name : IfSome m.name IsText
   pub input_type : IfSome m.input_type IsText
   pub output_type : IfSome m.output_type IsText
   pub options : IfSome m.options (Within levels IsUnread)
 
+-- a whole service, within so many levels
 pub record IsService (levels : ℕ) (m : ServiceDescriptorProto) : Type 0 where
   pub name : IfSome m.name IsText
   pub method : AllByRecursion (Within levels IsMethod) m.method
   pub options : IfSome m.options (Within levels IsUnread)
 
+-- a whole location, within so many levels
 pub record IsLocation (levels : ℕ) (m : Location) : Type 0 where
   pub path : AllByRecursion IsInt32 m.path
   pub span : AllByRecursion IsInt32 m.span
@@ -123,9 +138,11 @@ pub record IsLocation (levels : ℕ) (m : Location) : Type 0 where
   pub trailing_comments : IfSome m.trailing_comments IsText
   pub leading_detached_comments : AllByRecursion IsText m.leading_detached_comments
 
+-- a whole source of a file, within so many levels
 pub record IsSource (levels : ℕ) (m : SourceCodeInfo) : Type 0 where
   pub location : AllByRecursion (Within levels IsLocation) m.location
 
+-- a whole file, within so many levels
 pub record IsFile (levels : ℕ) (m : FileDescriptorProto) : Type 0 where
   pub name : IfSome m.name IsText
   pub «package» : IfSome m.«package» IsText
@@ -140,5 +157,6 @@ pub record IsFile (levels : ℕ) (m : FileDescriptorProto) : Type 0 where
   pub weak_dependency : AllByRecursion IsInt32 m.weak_dependency
   pub syntax : IfSome m.syntax IsText
 
+-- a whole set of files, within so many levels
 pub record IsSet (levels : ℕ) (m : FileDescriptorSet) : Type 0 where
   pub file : AllByRecursion (Within levels IsFile) m.file

@@ -16,6 +16,7 @@ pub record Row : Type 0 where
   pub parent : ℕ
   pub children : List ℕ
 
+-- a node with its part
 abbrev pub row : List ℕ → Node → Row
 row part node =
     record { part = part; digest = node.digest; parent = node.parent; children = node.children }
@@ -53,9 +54,11 @@ pub record Key : Type 0 where
   pub parent : ℕ
   pub part : List ℕ
 
+-- a key of a digest, a parent and a part
 abbrev pub as_key : ℕ → ℕ → List ℕ → Key
 as_key digest parent part = record { digest = digest; parent = parent; part = part }
 
+-- the key of a node
 abbrev pub key_of : Row → Key
 key_of node = as_key node.digest node.parent node.part
 
@@ -76,6 +79,7 @@ abbrev pub digest_from : ℕ → List ℕ → ℕ
 digest_from digest [] = digest
 digest_from digest (byte ∷ bytes) = digest_from (taken_in digest byte) bytes
 
+-- the digest of a text
 abbrev pub digest_of : List ℕ → ℕ
 digest_of text = digest_from first_digest text
 

@@ -11,6 +11,7 @@ pub record Branch : Type 0 where
   pub part : List ℕ
   pub parent : ℕ
 
+-- a branch with a part and a parent
 abbrev pub branch : ℕ → List ℕ → Branch
 branch parent part = record { part = part; parent = parent }
 

@@ -17,14 +17,17 @@ pub data Part : Type 0 where
   Number : ℕ → Part
   Bytes : List ℕ → Part
 
+-- a field without the offset of its end
 pub record Numbered : Type 0 where
   pub number : ℕ
   pub part : Part
 
+-- the bytes of a field: its tag and its value
 abbrev pub part_of : ℕ → Part → List ℕ
 part_of n (Number v) = varint_of (8 * n) ++ varint_of v
 part_of n (Bytes bytes) = varint_of (8 * n + 2) ++ (varint_of (length bytes) ++ bytes)
 
+-- the bytes of fields, one behind another
 abbrev pub encoding : List Numbered → List ℕ
 encoding [] = []
 encoding (f ∷ fs) = part_of f.number f.part ++ encoding fs
@@ -45,6 +48,7 @@ abbrev pub IsWide : Part → Type 0
 IsWide (Number v) = v < 2 ^ 64
 IsWide (Bytes bytes) = length bytes < 2 ^ 64
 
+-- a field that has an encoding: its number is one of protobuf, and its value fits
 pub record Fits (f : Numbered) : Type 0 where
   pub some : 0 < f.number
   pub number : f.number < 2 ^ 29

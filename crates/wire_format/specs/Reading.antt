@@ -3,6 +3,7 @@ use Rattle.std.specs.Prelude.{◌≡◌, Result, Ok, Err}
 use Rattle.wire_format.specs.declared.fault.WireFault.{WireFault}
 
 infixl 10 ◌>>=◌
+-- what follows a result that is there, or its fault
 abbrev pub ◌>>=◌ : {A B : Type 0} → Result A WireFault → (A → Result B WireFault)
     → Result B WireFault
 (Ok x) >>= f = f x

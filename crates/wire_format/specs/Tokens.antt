@@ -20,6 +20,7 @@ pub data Value : Type 0 where
   EndGroup : ℕ → Value
   I32 : ℕ → Value
 
+-- a number and a value
 pub record Field : Type 0 where
   pub number : ℕ
   pub value : Value
@@ -33,6 +34,7 @@ value_seen (variant.Group at) = Group at
 value_seen (variant.EndGroup at) = EndGroup at
 value_seen (variant.I32 n) = I32 n
 
+-- a field as the code has it, without where its bytes lie in memory
 abbrev pub seen : code.Field → Field
 seen t = record { number = t.number; value = value_seen t.value }
 
