@@ -88,25 +88,38 @@ const NAMES: &[(&str, &str)] = &[
     ("A", "none"),
 ];
 
-/// What it shows, the files of a batch, their linked records, and what names mean, in any order.
-const ACCEPTED: &[(&str, &[&str], &[&str], &[(&str, &str)])] = &[
-    (
-        "a file and one that it imports",
-        &[
+/// A batch that is accepted in any order.
+struct Accepted {
+    what: &'static str,
+    files: &'static [&'static str],
+    /// The linked records, and what names mean.
+    linked: &'static [&'static str],
+    names: &'static [(&'static str, &'static str)],
+}
+
+const ACCEPTED: &[Accepted] = &[
+    Accepted {
+        what: "a file and one that it imports",
+        files: &[
             "file y.proto\nimport x.proto\nmessage M\nfield f 1 optional message X ~\nend\nend\n",
             "file x.proto\nmessage X\nend\nend\n",
         ],
-        &[
+        linked: &[
             "file y.proto\nimport x.proto\nmessage M\nfield f 1 optional message .X ~\nend\nend\n",
             "file x.proto\nmessage X\nend\nend\n",
         ],
-        &[
+        names: &[
             ("M", "message y.proto [4, 0, 1]"),
             ("M.f", "field y.proto [4, 0, 2, 0, 1]"),
             ("X", "message x.proto [4, 0, 1]"),
         ],
-    ),
-    ("five files", &[A, B, C, D, E], LINKED, NAMES),
+    },
+    Accepted {
+        what: "five files",
+        files: &[A, B, C, D, E],
+        linked: LINKED,
+        names: NAMES,
+    },
 ];
 
 /// The lists of positions below a count, each once in a list.
@@ -235,9 +248,11 @@ fn other_meanings(
 fn are_records(linked: &[FileDescriptorProto], wanted: &[FileDescriptorProto]) -> bool {
     for record in wanted {
         let name = record.name();
-        match linked.iter().find(|file| file.name() == name) {
-            Some(found) if *found == *record => {}
-            _ => return false,
+        let Some(found) = linked.iter().find(|file| file.name() == name) else {
+            return false;
+        };
+        if *found != *record {
+            return false;
         }
     }
     linked.len() == wanted.len()
@@ -265,25 +280,20 @@ fn departures(
 }
 
 /// The departures of a batch in an order.
-fn departures_in(
-    alloc: Global,
-    row: &(&str, &[&str], &[&str], &[(&str, &str)]),
-    order: &[usize],
-) -> Result<String, AllocError> {
-    let (_, files, linked, names) = *row;
-    let batch = batch_in(alloc, files, order)?;
-    let records = records_of(alloc, linked)?;
-    departures(alloc, batch.as_str(), &records, names)
+fn departures_in(alloc: Global, row: &Accepted, order: &[usize]) -> Result<String, AllocError> {
+    let batch = batch_in(alloc, row.files, order)?;
+    let records = records_of(alloc, row.linked)?;
+    departures(alloc, batch.as_str(), &records, row.names)
 }
 
 /// Asserts that a batch is accepted in each order, with the same records and meanings.
 fn check_accepted(
     rt: &impl Abort,
     alloc: Global,
-    row: &(&str, &[&str], &[&str], &[(&str, &str)]),
+    row: &Accepted,
     orders: &[Vec<usize>],
 ) -> Result<(), AllocError> {
-    let what = row.0;
+    let what = row.what;
     for order in orders {
         let report = departures_in(alloc, row, order.as_slice())?;
         assert!(rt; report.is_empty(), "{what} {order:?}\n{report}");
@@ -291,12 +301,8 @@ fn check_accepted(
     Ok(())
 }
 
-fn check_accepted_in_all(
-    rt: &impl Abort,
-    alloc: Global,
-    row: &(&str, &[&str], &[&str], &[(&str, &str)]),
-) -> Result<(), AllocError> {
-    let orders = orders(alloc, row.1.len())?;
+fn check_accepted_in_all(rt: &impl Abort, alloc: Global, row: &Accepted) -> Result<(), AllocError> {
+    let orders = orders(alloc, row.files.len())?;
     check_accepted(rt, alloc, row, &orders)
 }
 
@@ -308,11 +314,17 @@ fn an_order_changes_numbers_alone(rt: HostRuntime) -> Result<(), Fail> {
     Ok(())
 }
 
-/// What it shows, the files of a batch, and a line for its fault, in any order.
-const REFUSED: &[(&str, &[&str], &str)] = &[
-    (
-        "a reference to what is nowhere",
-        &[
+/// A batch that is refused in any order, and a line for its fault.
+struct Refused {
+    what: &'static str,
+    files: &'static [&'static str],
+    fault: &'static str,
+}
+
+const REFUSED: &[Refused] = &[
+    Refused {
+        what: "a reference to what is nowhere",
+        files: &[
             A,
             "file b.proto\npackage p.q\nimport c.proto\npublic 0\nmessage B\n\
             field c 1 optional message Nope ~\nend\nextend x 100 optional message C A\nend\n",
@@ -320,11 +332,11 @@ const REFUSED: &[(&str, &[&str], &str)] = &[
             D,
             E,
         ],
-        "b.proto: name 'Nope' is not defined [4, 0, 2, 0, 6]\n",
-    ),
-    (
-        "a reference to a file that is not imported",
-        &[
+        fault: "b.proto: name 'Nope' is not defined [4, 0, 2, 0, 6]\n",
+    },
+    Refused {
+        what: "a reference to a file that is not imported",
+        files: &[
             A,
             B,
             C,
@@ -333,11 +345,11 @@ const REFUSED: &[(&str, &[&str], &str)] = &[
             value ONE 1\nend\nend\n",
             E,
         ],
-        "d.proto: name 'p.q.A' is not defined [4, 0, 2, 0, 6]\n",
-    ),
-    (
-        "a reference that a package shadows",
-        &[
+        fault: "d.proto: name 'p.q.A' is not defined [4, 0, 2, 0, 6]\n",
+    },
+    Refused {
+        what: "a reference that a package shadows",
+        files: &[
             A,
             B,
             C,
@@ -347,8 +359,8 @@ const REFUSED: &[(&str, &[&str], &str)] = &[
             extend y 101 optional enum E q.A\ndefault ONE\n\
             extend z 100 optional message q.C.Kind D\ndefault SECOND\nend\n",
         ],
-        "e.proto: 'q.E' resolves to 'p.q.E', which is not defined [4, 0, 2, 0, 6]\n",
-    ),
+        fault: "e.proto: 'q.E' resolves to 'p.q.E', which is not defined [4, 0, 2, 0, 6]\n",
+    },
 ];
 
 /// A line for each fault of a batch in an order.
@@ -361,23 +373,19 @@ fn faults_in(alloc: Global, files: &[&str], order: &[usize]) -> Result<String, A
 fn check_refused(
     rt: &impl Abort,
     alloc: Global,
-    row: &(&str, &[&str], &str),
+    row: &Refused,
     orders: &[Vec<usize>],
 ) -> Result<(), AllocError> {
-    let (what, files, wanted) = *row;
+    let what = row.what;
     for order in orders {
-        let report = faults_in(alloc, files, order.as_slice())?;
-        assert!(rt; report.as_str() == wanted, "{what} {order:?}\n{report}");
+        let report = faults_in(alloc, row.files, order.as_slice())?;
+        assert!(rt; report.as_str() == row.fault, "{what} {order:?}\n{report}");
     }
     Ok(())
 }
 
-fn check_refused_in_all(
-    rt: &impl Abort,
-    alloc: Global,
-    row: &(&str, &[&str], &str),
-) -> Result<(), AllocError> {
-    let orders = orders(alloc, row.1.len())?;
+fn check_refused_in_all(rt: &impl Abort, alloc: Global, row: &Refused) -> Result<(), AllocError> {
+    let orders = orders(alloc, row.files.len())?;
     check_refused(rt, alloc, row, &orders)
 }
 
