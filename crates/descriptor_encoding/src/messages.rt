@@ -1,4 +1,4 @@
-ghost use Rattle.std.specs.Prelude.{◌≡◌, ◌++◌, map, OnOk};
+ghost use Rattle.std.specs.Prelude.{◌≡◌, ◌++◌, map};
 ghost use Rattle.descriptor_encoding.specs.Wire.{Puts};
 ghost use Rattle.descriptor_encoding.specs.Parts.{messages_listed};
 ghost use Rattle.descriptor_encoding.specs.Messages.{descriptor_listed, oneof_listed, extension_range_listed, reserved_range_listed};

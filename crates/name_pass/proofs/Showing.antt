@@ -14,7 +14,7 @@ use Rattle.name_tables.specs.Entries.{names_with}
 use Rattle.name_tables.proofs.Entries.{with-nothing}
 use Rattle.record_walk.specs.Shown.{Shown}
 use Rattle.name_pass.specs.declared.names.NameVisitor.{NameVisitor}
-use Rattle.name_pass.specs.State.{first_new, kept_of, records_of, state_of, Stays}
+use Rattle.name_pass.specs.State.{first_new, records_of, state_of, Stays}
 use Rattle.name_pass.specs.Names.{own_entry}
 use Rattle.name_pass.specs.FirstPass.{clashes}
 use Rattle.name_pass.specs.Steps.{CanBeEntered, NameState, entered, name_progress, name_step}

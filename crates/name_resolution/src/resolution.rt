@@ -1,9 +1,9 @@
-ghost use Rattle.std.specs.Prelude.{◌≡◌, ◌∷◌, [], IfOk, OnOk, false, if◌then◌else◌, map, string_bytes};
+ghost use Rattle.std.specs.Prelude.{◌≡◌, ◌∷◌, [], IfOk, false, if◌then◌else◌, map, string_bytes};
 ghost use Rattle.std.specs.BTreeSet.{contains_by};
 ghost use Rattle.std.specs.FinMap as finite;
 ghost use Rattle.std.specs.Option.{option_map_or};
 ghost use Rattle.std.specs.Ordering.{nat_cmp};
-ghost use Rattle.proto_types.specs.Names.{first_part, join};
+ghost use Rattle.proto_types.specs.Names.{first_part};
 ghost use Rattle.pool_faults.specs.declared.fault.DescriptorErrorKind.TheVariants.{InvalidType, NameNotFound, NameShadowed};
 ghost use Rattle.pool_types.specs.Definition.{is_parent};
 ghost use Rattle.name_tree.specs.Parts.{parts};

@@ -1,4 +1,4 @@
-ghost use Rattle.std.specs.Prelude.{◌≡◌, [], ℕ, IsOk, IfOk, OnOk, OnErr, map};
+ghost use Rattle.std.specs.Prelude.{◌≡◌, [], ℕ, IsOk, OnOk, OnErr, map};
 ghost use Rattle.std.specs.List.{AllByRecursion, AllZip};
 ghost use Rattle.record_walk.specs.Counts.{counted};
 ghost use Rattle.record_walk.specs.Cursor.{IsSound, left};
