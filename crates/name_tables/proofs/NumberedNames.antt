@@ -49,7 +49,7 @@ module _ {X : Type 0} (name_at : ℕ → List ℕ) (values : List (Option X)) (n
             [ true ↦ λ yes one. (n, is ∙ one, same.0 yes) | false ↦ λ no rest. found-from n x rest ] refl here
       ] refl found
 
-  -- a number of that name that has a value is found in its place
+  -- a number of that name that has a value is found by itself
   here-some : (k : ℕ) (x : X) → value_at values k ≡ Some x → name ≡ name_at k → first_of (entry k (value_at values k)) name ≡ Some x
   here-some k x has is =
       ap (λ o. first_of (entry k o) name) has ∙ ap (λ same. cond same (Some x) None) ((bytes_decides name (name_at k)).1 is)

@@ -49,7 +49,7 @@ module _ (branches : List Branch) (at : ℕ) where
       let below = way.2.1 in
       (below.1, subst (λ k. slice_get branches k ≡ Some below.1) way.2.2 below.2, subst (IsDescendant branches 0 (parts (c ∷ cs))) (sym below.3) way.1)
 
-  -- the branch of the scope around another is what that of the other hangs below
+  -- the branch of the scope around another is the parent of the branch of the other
   pub around-descendant : (text outer : List ℕ) → IsAround text outer → outer ≢ [] → IsDescendant branches 0 (scope_parts text) at
       → (b : Branch) × (slice_get branches at ≡ Some b) × IsDescendant branches 0 (scope_parts outer) b.parent
   around-descendant text outer (inl dot) some down = around-dot outer dot.0 some dot.2 (subst (λ t. IsDescendant branches 0 (scope_parts t) at) dot.1 down)

@@ -126,7 +126,7 @@ fn counterpart(branches: &NameTree, others: &NameTree, pair: Pair, at: usize) ->
 }
 
 /// A branch about halfway up from a branch to an earlier one, some power of two of steps away; or
-/// what it hangs below, where no branch is between.
+/// its parent, where no branch is between.
 fn halfway(branches: &NameTree, from: usize, at: usize) -> usize
     requires tree { IsTree branches.now }
     requires from { from < at }

@@ -17,11 +17,11 @@ loop-at-init c =
     let by : Key = child_key all c.args.key.parent c.args.key.part.now in
     let counted = length-rows c.args.texts.now c.args.nodes.now in
     let parent : c.args.key.parent < length c.args.nodes.now = c.requires.parent in
-    let turns : c.digit_at.result ≡ digit_at by 0 = c.digit_at.ensures.same ∙ ap (λ digest. digit_at (as_key digest c.args.key.parent c.args.key.part.now) 0) c.requires.digest in
+    let same : c.digit_at.result ≡ digit_at by 0 = c.digit_at.ensures.same ∙ ap (λ digest. digit_at (as_key digest c.args.key.parent c.args.key.part.now) 0) c.requires.digest in
     let slot : ℕ → Slot = λ digit. record { node = 0; digit = digit } in
     record {
       inside = omega arith;
-      sought = subst (λ digit. IsSought all by (slot digit) 0) (sym turns) (sought-first all by (omega arith));
+      sought = subst (λ digit. IsSought all by (slot digit) 0) (sym same) (sought-first all by (omega arith));
     }
 
 pub bounds-nodes-at : goal.bounds-nodes-at
@@ -68,12 +68,12 @@ loop-at-preserved c =
     let stands : child_at all c.loop-at.slot ≡ Some c.in-Some.at = sym (c.in-Some.ensures c.args.texts.now) in
     let next : IsSought all by (slot_at by (c.loop-at.level + 1) c.in-Some.at) (c.loop-at.level + 1) =
     rw add-one (sought-next all by c.loop-at.slot c.loop-at.level c.in-Some.at c.requires.trie.trie c.loop-at.invariant.sought stands (differs c)) in
-    let turns : c.digit_at-in-Some.result ≡ digit_at by (c.loop-at.level + 1) =
+    let same : c.digit_at-in-Some.result ≡ digit_at by (c.loop-at.level + 1) =
     c.digit_at-in-Some.ensures.same ∙ ap (λ digest. digit_at (as_key digest c.args.key.parent c.args.key.part.now) (c.loop-at.level + 1)) c.requires.digest in
     let slot : ℕ → Slot = λ digit. record { node = c.in-Some.at; digit = digit } in
     record {
       inside = (rises-row c.args.texts.now c.args.nodes.now c.loop-at.slot c.in-Some.at c.requires.trie.trie stands).1;
-      sought = subst (λ digit. IsSought all by (slot digit) (c.loop-at.level + 1)) (sym turns) next;
+      sought = subst (λ digit. IsSought all by (slot digit) (c.loop-at.level + 1)) (sym same) next;
     }
 
 pub returns : goal.returns
