@@ -1,8 +1,11 @@
 #!/usr/bin/env python3
-"""Makes the stored run over protobuf's own files again: its script, or the report that it owes.
+"""Makes the stored runs over protobuf's own files again: the script of the one and the set of the
+other, or the reports that they owe.
 
     python3 well_known.py script > ../crates/well_known/stdin
     python3 well_known.py report > ../crates/well_known/stdout
+    python3 well_known.py set > ../crates/set_example/data/well_known.pb
+    python3 well_known.py told > ../crates/set_example/stdout
     python3 well_known.py compare
 
 protoc describes the twelve files of protobuf that every installation has, with their locations.
@@ -10,8 +13,11 @@ The script declares them, links them in one batch, and asks. The report is compu
 protoc wrote, by going over its records: no linker is run. This is right for these files alone:
 they are known to break no rule, and protoc has written each type name as a full name.
 
-`compare` tells whether the two stored files are what is made, with status 1 where one is not. The
-files that are stored were made by protoc 3.21.12; with another version its files may differ.
+The set has the same files as bytes. What is told of it is that it is written as it was read, that
+a pool that is stored as a set is loaded as an equal pool, and what the files declare.
+
+`compare` tells whether the stored files are what is made, with status 1 where one is not. The files
+that are stored were made by protoc 3.21.12; with another version its files may differ.
 
 Needed are protoc, its include directory with google/protobuf/compiler/plugin.proto, and protobuf's
 Python package: protobuf-compiler, libprotoc-dev and python3-protobuf on Debian. That package
@@ -42,7 +48,7 @@ from descriptor_script import (
 if TYPE_CHECKING:
     from google.protobuf.descriptor_pb2 import FileDescriptorProto
 
-STORED = Path(__file__).resolve().parent.parent / "crates/well_known"
+STORED = Path(__file__).resolve().parent.parent / "crates"
 
 FILES = (
     "google/protobuf/any.proto",
@@ -183,11 +189,43 @@ def report_lines(files: list[FileDescriptorProto]) -> Iterator[str]:
         yield from report.answer(command)
 
 
-def compare(made: dict[str, bytes]) -> bool:
-    """Tells of each stored file whether it is what was made, and answers whether both are."""
-    same = {name: (STORED / name).read_bytes() == data for name, data in made.items()}
+def set_bytes(files: list[FileDescriptorProto]) -> bytes:
+    """The files as a descriptor set: each is field 1, and has its length in front."""
+    set_ = b""
+    for file in files:
+        data = file.SerializeToString(deterministic=True)
+        length, digits = len(data), b""
+        while length > 127:
+            digits += bytes([128 + length % 128])
+            length //= 128
+        set_ += b"\n" + digits + bytes([length]) + data
+    return set_
+
+
+def told_lines(files: list[FileDescriptorProto]) -> Iterator[str]:
+    """What is told of the set."""
+    report = Report(files)
+    yield "written: same"
+    yield "loaded: same"
+    yield from report.answer("link")
+    yield from report.answer("walk")
+
+
+def made(files: list[FileDescriptorProto]) -> dict[str, tuple[str, bytes]]:
+    """What is asked for by each word: where it is stored, and what is made."""
+    return {
+        "script": ("well_known/stdin", script_bytes(script_lines(files))),
+        "report": ("well_known/stdout", script_bytes(report_lines(files))),
+        "set": ("set_example/data/well_known.pb", set_bytes(files)),
+        "told": ("set_example/stdout", script_bytes(told_lines(files))),
+    }
+
+
+def compare(stored: dict[str, tuple[str, bytes]]) -> bool:
+    """Tells of each stored file whether it is what was made, and answers whether all are."""
+    same = {name: (STORED / name).read_bytes() == data for name, data in stored.values()}
     for name, is_same in same.items():
-        print(f"crates/well_known/{name}: {'the same' if is_same else 'different'}")
+        print(f"crates/{name}: {'the same' if is_same else 'different'}")
     return all(same.values())
 
 
@@ -196,7 +234,7 @@ def main() -> None:
     parser = argparse.ArgumentParser(
         description=__doc__, formatter_class=argparse.RawDescriptionHelpFormatter
     )
-    parser.add_argument("what", choices=("script", "report", "compare"))
+    parser.add_argument("what", choices=("script", "report", "set", "told", "compare"))
     parser.add_argument(
         "-I",
         action="append",
@@ -207,11 +245,10 @@ def main() -> None:
     )
     asked = parser.parse_args()
     try:
-        files = compiled_files(list(FILES), asked.directories)
-        script, report = script_bytes(script_lines(files)), script_bytes(report_lines(files))
+        stored = made(compiled_files(list(FILES), asked.directories))
         if asked.what == "compare":
-            sys.exit(0 if compare({"stdin": script, "stdout": report}) else 1)
-        write_output(script if asked.what == "script" else report)
+            sys.exit(0 if compare(stored) else 1)
+        write_output(stored[asked.what][1])
     except (ToolError, OSError) as fault:
         print(f"{parser.prog}: {fault}", file=sys.stderr)
         sys.exit(2)

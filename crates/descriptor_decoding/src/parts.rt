@@ -7,7 +7,7 @@ use crate::context::Context;
 use crate::error::DecodeError;
 use crate::merging::{Message, merge};
 use plain_data::{Items, Text};
-use std::alloc::Global;
+use std::alloc::{AllocError, Global};
 use wire_format::{Value, WireFault, WireFaultKind, next_number};
 
 fn int32(number: u64) -> i32
@@ -76,12 +76,22 @@ pub fn merge_texts(
     Ok(())
 }
 
+/// Takes room for packed numbers where none came yet: each ends with a byte below 128. Those of
+/// further parts find room by leaps.
+fn take_room(items: &mut Items<i32>, bytes: &[u8]) -> Result<(), AllocError>
+    ensures { items.new ≡ items.old }
+{
+    if items.as_slice().is_empty() {
+        return items.reserve_exact(bytes.iter().filter(|b| **b < 128).count());
+    }
+    Ok(())
+}
+
 /// Reads packed numbers.
 fn merge_packed(items: &mut Items<i32>, ends: usize, bytes: &[u8]) -> Result<(), DecodeError>
     ensures { Leaves result items.new (packed_merged ends bytes.now items.old) }
 {
-    // Each number ends with a byte below 128.
-    items.reserve_exact(bytes.iter().filter(|b| **b < 128).count())?;
+    take_room(items, bytes)?;
     let mut rest = bytes;
     while let Some((number, after)) = next_number(ends, rest)? {
         items.push(int32(number))?;

@@ -1,5 +1,6 @@
-//! The records of descriptor.proto, what they declare, the walk over it, the record at a path, and
-//! the references. Every item, list and map that these name is handed on.
+//! The records of descriptor.proto, sets of them read from bytes and written as bytes, what they
+//! declare, the walk over it, the record at a path, and the references. Every item, list and map
+//! that these name is handed on.
 //!
 //! # Example
 //!
@@ -20,6 +21,10 @@
 //! ```
 #![tactic(auto)]
 
+pub use descriptor_decoding::{
+    DecodeError, Deprecated, LEVELS, decode, decode_file, is_map_entry, is_message_set,
+};
+pub use descriptor_encoding::{encode, encode_file};
 pub use plain_data::{
     Duplicate, ExactEq, Items, NumberMap, Text, TextMap, duplicate_option, duplicates, same,
 };
@@ -46,3 +51,4 @@ pub use record_walk::{
     CountKind, Counts, Declaration, DeclarationKind, Visitor, declared_changed, declared_in_turn,
     declared_indexes, declared_paths, visit, visit_each, walk, walk_files,
 };
+pub use wire_format::{WireFault, WireFaultKind};
