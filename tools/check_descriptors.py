@@ -81,6 +81,7 @@ from descriptor_script import (
     read_files,
     script_bytes,
     source_locations,
+    tell_error,
     unsayable,
     write_output,
 )
@@ -286,7 +287,8 @@ class Batch:
         """The verdict that the report on the script tells."""
         first, *lines = report.decode("utf-8", "replace").split("\n")
         answer, *words = first.split(" ")
-        if answer == "ok" and len(words) == len(COUNTED_KINDS):
+        is_counted = len(words) == len(COUNTED_KINDS) and all(word.isdecimal() for word in words)
+        if answer == "ok" and is_counted:
             return Verdict(counts=dict(zip(COUNTED_KINDS, map(int, words))))
         if answer == "refused":
             return Verdict(faults=self._placed([self._fault(line) for line in lines[:-1]]))
@@ -452,7 +454,7 @@ def main() -> int:
     except ToolError as fault:
         error, status = str(fault), getattr(fault, "status", NO_VERDICT)
     except Exception as fault:  # whose status would be that of a refusal
-        traceback.print_exc()
+        tell_error(traceback.format_exc())
         error, status = f"a fault of this tool: {fault!r}", NO_VERDICT
     try:
         text = for_machines(verdict, error) if asked.json else for_people(verdict)
@@ -460,7 +462,7 @@ def main() -> int:
     except ToolError as fault:
         error, status = str(fault), NO_VERDICT
     if error is not None:
-        print(f"{parser.prog}: {error}", file=sys.stderr)
+        tell_error(f"{parser.prog}: {error}")
     return status
 
 

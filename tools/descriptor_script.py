@@ -341,7 +341,9 @@ def compiled_files(sources: list[str], directories: list[str]) -> list[FileDescr
         command = ["protoc", "--include_imports", "--include_source_info"]
         command += [f"--descriptor_set_out={made}", *(f"-I{path}" for path in directories)]
         try:
-            done = subprocess.run([*command, *sources], capture_output=True, check=False)
+            done = subprocess.run(
+                [*command, *map(source_argument, sources)], capture_output=True, check=False
+            )
         except OSError as fault:
             raise ToolError(
                 f"protoc cannot be run, which .proto files need: {fault.strerror}"
@@ -351,8 +353,22 @@ def compiled_files(sources: list[str], directories: list[str]) -> list[FileDescr
         if done.returncode != 0:
             raise ToolError(f"protoc failed with status {done.returncode}:\n{told}")
         if told:
-            print(told, file=sys.stderr)
+            tell_error(told)
         return read_files(made)
+
+
+def source_argument(source: str) -> str:
+    """The name of a source as an argument of protoc, which reads options, and so programs to run,
+    from a file whose name stands behind `@`."""
+    return f"./{source}" if source.startswith(("@", "-")) else source
+
+
+def tell_error(text: str) -> None:
+    """Writes a line to the standard error. What can't be told there changes no exit status."""
+    try:
+        print(text, file=sys.stderr, flush=True)
+    except OSError:
+        os.dup2(os.open(os.devnull, os.O_WRONLY), 2)
 
 
 def has_source(file: FileDescriptorProto) -> bool:
@@ -413,4 +429,4 @@ def write_output(data: bytes) -> None:
 
 def warn(program: str, text: str) -> None:
     """Tells on the standard error what does not keep the tool from its work."""
-    print(f"{program}: warning: {text}", file=sys.stderr)
+    tell_error(f"{program}: warning: {text}")
