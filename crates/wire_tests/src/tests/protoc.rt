@@ -1,5 +1,5 @@
-//! A set of files that protoc wrote: all types of descriptor.proto, a negative number, options, and
-//! three locations.
+//! A set of files that protoc wrote, of whose locations three are left: all types of
+//! descriptor.proto, a negative number, and options.
 
 /// ```text
 /// file {
