@@ -23,21 +23,28 @@ fn tell_bytes(alloc: Global, report: &mut String, bytes: &[u8]) -> io::Result<()
         Ok(set) => set,
         Err(_fault) => return Err(io::Error::other("the bytes are no descriptor set")),
     };
-    let written = encode(alloc, &set)?;
-    tell_same(report, "written", written.as_slice() == bytes)?;
+    let is_same = encode(alloc, &set)?.as_slice() == bytes;
+    tell_same(report, "written", is_same)?;
     Ok(())
 }
 
-/// Tells what a set declares once it is linked, and whether a pool that is stored as a set is
-/// loaded as an equal pool.
+/// Tells what a set declares once it is linked.
 fn tell_pool(alloc: Global, report: &mut String, bytes: &[u8]) -> io::Result<()> {
     let pool = load(alloc, bytes)?;
-    let stored = store(alloc, &pool)?;
-    let loaded = load(alloc, stored.as_slice())?;
-    tell_same(report, "loaded", loaded == pool)?;
+    tell_linked(alloc, report, &pool)
+}
+
+/// Tells whether a pool that is stored as a set is loaded as an equal pool, and what it declares.
+fn tell_linked(alloc: Global, report: &mut String, pool: &DescriptorPool) -> io::Result<()> {
+    tell_same(report, "loaded", is_loaded_again(alloc, pool)?)?;
     write_counts(report, pool.counts())?;
     write_walk(alloc, report, pool.files())?;
     Ok(())
+}
+
+fn is_loaded_again(alloc: Global, pool: &DescriptorPool) -> io::Result<bool> {
+    let stored = store(alloc, pool)?;
+    Ok(load(alloc, stored.as_slice())? == *pool)
 }
 
 /// The pool of the files of a set.
