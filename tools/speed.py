@@ -175,7 +175,7 @@ def run(words: list[str], script: Path) -> str:
     first = done.stdout.split(b"\n")[0].decode(errors="replace")
     if done.returncode not in (0, 2) or not first:
         raise ToolError(f"{words[-1]} ended with status {done.returncode}")
-    print(f"{first}", file=sys.stderr)
+    print(first, file=sys.stderr)
     return done.stderr.decode(errors="replace")
 
 

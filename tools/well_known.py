@@ -39,6 +39,7 @@ from descriptor_script import (
     ScriptWriter,
     ToolError,
     compiled_files,
+    descriptor_records,
     script_bytes,
     source_locations,
     unsayable,
@@ -190,16 +191,8 @@ def report_lines(files: list[FileDescriptorProto]) -> Iterator[str]:
 
 
 def set_bytes(files: list[FileDescriptorProto]) -> bytes:
-    """The files as a descriptor set: each is field 1, and has its length in front."""
-    set_ = b""
-    for file in files:
-        data = file.SerializeToString(deterministic=True)
-        length, digits = len(data), b""
-        while length > 127:
-            digits += bytes([128 + length % 128])
-            length //= 128
-        set_ += b"\n" + digits + bytes([length]) + data
-    return set_
+    """The files as the bytes of a descriptor set."""
+    return descriptor_records().FileDescriptorSet(file=files).SerializeToString(deterministic=True)
 
 
 def told_lines(files: list[FileDescriptorProto]) -> Iterator[str]:

@@ -12,30 +12,21 @@ fn main(rt: HostRuntime) -> io::Result<()> {
     let alloc = rt.alloc();
     let bytes = fs::read(&rt, "well_known.pb")?;
     let mut report = String::new(alloc);
-    tell_bytes(alloc, &mut report, bytes.as_slice())?;
-    tell_pool(alloc, &mut report, bytes.as_slice())?;
+    tell_set(alloc, &mut report, bytes.as_slice())?;
     print!(rt; "{report}")
 }
 
-/// Tells whether a set is written as it was read, byte for byte.
-fn tell_bytes(alloc: Global, report: &mut String, bytes: &[u8]) -> io::Result<()> {
-    let set = match decode(alloc, bytes) {
-        Ok(set) => set,
-        Err(_fault) => return Err(io::Error::other("the bytes are no descriptor set")),
-    };
+/// Tells whether a set is written as it was read, byte for byte, and of the pool of its files.
+fn tell_set(alloc: Global, report: &mut String, bytes: &[u8]) -> io::Result<()> {
+    let set = read_set(alloc, bytes)?;
     let is_same = encode(alloc, &set)?.as_slice() == bytes;
     tell_same(report, "written", is_same)?;
-    Ok(())
-}
-
-/// Tells what a set declares once it is linked.
-fn tell_pool(alloc: Global, report: &mut String, bytes: &[u8]) -> io::Result<()> {
-    let pool = load(alloc, bytes)?;
-    tell_linked(alloc, report, &pool)
+    let pool = link(alloc, set)?;
+    tell_pool(alloc, report, &pool)
 }
 
 /// Tells whether a pool that is stored as a set is loaded as an equal pool, and what it declares.
-fn tell_linked(alloc: Global, report: &mut String, pool: &DescriptorPool) -> io::Result<()> {
+fn tell_pool(alloc: Global, report: &mut String, pool: &DescriptorPool) -> io::Result<()> {
     tell_same(report, "loaded", is_loaded_again(alloc, pool)?)?;
     write_counts(report, pool.counts())?;
     write_walk(alloc, report, pool.files())?;
@@ -44,16 +35,21 @@ fn tell_linked(alloc: Global, report: &mut String, pool: &DescriptorPool) -> io:
 
 fn is_loaded_again(alloc: Global, pool: &DescriptorPool) -> io::Result<bool> {
     let stored = store(alloc, pool)?;
-    Ok(load(alloc, stored.as_slice())? == *pool)
+    let set = read_set(alloc, stored.as_slice())?;
+    Ok(link(alloc, set)? == *pool)
+}
+
+/// The set that bytes encode.
+fn read_set(alloc: Global, bytes: &[u8]) -> io::Result<FileDescriptorSet> {
+    match decode(alloc, bytes) {
+        Ok(set) => Ok(set),
+        Err(_fault) => Err(io::Error::other("the bytes are no descriptor set")),
+    }
 }
 
 /// The pool of the files of a set.
-fn load(alloc: Global, bytes: &[u8]) -> io::Result<DescriptorPool> {
+fn link(alloc: Global, set: FileDescriptorSet) -> io::Result<DescriptorPool> {
     let mut pool = DescriptorPool::new(alloc);
-    let set = match decode(alloc, bytes) {
-        Ok(set) => set,
-        Err(_fault) => return Err(io::Error::other("the bytes are no descriptor set")),
-    };
     match pool.build_files(set.file.into_vec()) {
         Ok(()) => Ok(pool),
         Err(_error) => Err(io::Error::other("the set breaks a rule")),
