@@ -6,6 +6,8 @@
                      starts it, nothing is refused
      REFUSE_REQUEST  the number of the request that is refused, from 1; 0 refuses none
      REFUSE_BEHIND   1 where those behind it are refused too
+     REFUSE_RISING   1 where the count begins anew at each first mark, and with it the number of the
+                     request that is refused rises by one; what has room enough is then not refused
      REFUSE_MARK     the size of a request that is a mark: the first begins the count, and is not
                      counted, and the second ends it; 0 counts from the beginning of the program
      REFUSE_TOLD     the file to which the counts are written at the end: requests; those of them
@@ -23,7 +25,7 @@ extern void *__libc_calloc(size_t count, size_t size);
 extern void *__libc_realloc(void *block, size_t size);
 extern void __libc_free(void *block);
 
-static size_t mark, wanted, behind, requests, refused, roomy, blocks;
+static size_t mark, wanted, behind, rising, requests, refused, roomy, blocks;
 static int is_meant, is_counting;
 
 static size_t number(const char *name)
@@ -39,6 +41,7 @@ __attribute__((constructor)) static void begin(void)
     mark = number("REFUSE_MARK");
     wanted = number("REFUSE_REQUEST");
     behind = number("REFUSE_BEHIND");
+    rising = number("REFUSE_RISING");
     is_counting = is_meant && mark == 0;
     blocks = 0;
 }
@@ -48,6 +51,10 @@ static int is_refused(size_t size)
 {
     if (is_meant && mark != 0 && size == mark) {
         is_counting = !is_counting;
+        if (is_counting && rising) {
+            requests = 0;
+            wanted++;
+        }
         return 0;
     }
     if (!is_counting)
@@ -77,8 +84,9 @@ void *calloc(size_t count, size_t size)
 
 void *realloc(void *block, size_t size)
 {
-    if (is_refused(size)) {
-        roomy += block != NULL && size <= malloc_usable_size(block);
+    int has_room = block != NULL && size <= malloc_usable_size(block);
+    if (!(rising && has_room) && is_refused(size)) {
+        roomy += has_room;
         return NULL;
     }
     return block ? __libc_realloc(block, size) : counted(__libc_realloc(NULL, size));

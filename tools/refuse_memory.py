@@ -22,6 +22,10 @@ of those behind them each so many. With --behind a refusal lasts: all requests b
 one are refused too, up to the mark behind the call. A run is wrong if it is ended by a signal, ends
 otherwise than it must, or leaves a block of memory that it was given.
 
+The trials whose names begin with `one_pool` go otherwise: such a trial makes its call again and
+again on one pool. In a single run of the program the first request of its first call is refused,
+the second of its second call, and so on, until a call is refused none.
+
 With --valgrind N each N-th of the refused runs is run once more under valgrind, which must find no
 fault and no byte lost.
 
@@ -44,9 +48,16 @@ from typing import NamedTuple, Optional
 
 TOOLS = Path(__file__).resolve().parent
 STORED_LINES = TOOLS.parent / "crates/memory_trials/stdout"
+STORED_INPUT = TOOLS.parent / "crates/memory_trials/stdin"
 
 MARK = 7777
 """The size of a request that begins and ends the count, as crates/memory_trials makes it."""
+
+AGAIN = "one_pool"
+"""How the names of the trials begin that make their call again and again."""
+
+UNMOVED = ("known",)
+"""The trials whose call succeeds whatever memory is refused."""
 
 OUT_OF_MEMORY = 3
 """The exit status of protolink that was refused memory."""
@@ -145,6 +156,17 @@ class Result:
             self.faults.append(f"request {number}: {counts.left} blocks left")
         return number == 0 or counts.refused > 0
 
+    def add_rising(self, ending: Ending, counts: Optional[Counts]) -> None:
+        """Takes the run that makes a call again and again. In its last call nothing was refused, so
+        as many calls were refused before it as it made requests, or more where those left room."""
+        if counts is None:
+            self.faults.append(f"ended by status {ending.status}, and no count")
+            return
+        self.requests, self.refused_runs = counts.requests, counts.refused
+        if ending != self.case.whole or counts.refused < max(counts.requests, 1) or counts.left != 0:
+            told = ending.output[:60]
+            self.faults.append(f"status {ending.status}, wrote {told!r}, {counts}")
+
     def _endings(self, counts: Counts) -> tuple[Ending, ...]:
         """The endings that a run with these counts may have."""
         if counts.refused == 0:
@@ -183,19 +205,18 @@ class Shim:
             raise ToolError(f"cannot build {source}: {fault}") from fault
 
     def run(
-        self, case: Case, number: int, is_lasting: bool, prefix: tuple[str, ...] = ()
+        self, case: Case, asked: dict[str, int], prefix: tuple[str, ...] = ()
     ) -> tuple[Ending, Optional[Counts]]:
-        """Runs a case with a request refused. There is no count where the run had no proper end."""
-        asked = {
+        """Runs a case as it is asked. There is no count where the run had no proper end."""
+        words = {f"REFUSE_{name}": str(number) for name, number in asked.items()}
+        words |= {
             "LD_PRELOAD": self.library,
             "REFUSE_PROGRAM": case.words[0],
-            "REFUSE_REQUEST": str(number),
-            "REFUSE_BEHIND": str(int(is_lasting)),
             "REFUSE_MARK": str(case.mark),
             "REFUSE_TOLD": str(self.told),
         }
         self.told.unlink(missing_ok=True)
-        ending = run([*prefix, *case.words], case.input, {**os.environ, **asked})
+        ending = run([*prefix, *case.words], case.input, {**os.environ, **words})
         if not self.told.exists():
             return ending, None
         return ending, Counts(*map(int, self.told.read_text().split()))
@@ -215,21 +236,27 @@ def run(words: list[str], given: bytes, environment: dict[str, str]) -> Ending:
 def result_of(shim: Shim, case: Case, sample: Sample) -> Result:
     """Runs a case with one request after another refused."""
     result = Result(case)
+    if case.name.startswith(AGAIN):
+        result.add_rising(*shim.run(case, {"RISING": 1}))
+        return result
     for number in sample.requests():
-        if not result.add(number, *shim.run(case, number, sample.is_lasting)):
+        asked = {"REQUEST": number, "BEHIND": int(sample.is_lasting)}
+        if not result.add(number, *shim.run(case, asked)):
             break
         if sample.valgrind and number > 0 and number % sample.valgrind == 0:
-            checked, _ = shim.run(case, number, sample.is_lasting, MEMORY_CHECK)
+            checked, _ = shim.run(case, asked, MEMORY_CHECK)
             result.add_checked(number, checked)
     return result
 
 
 def trial_cases(program: str) -> Iterator[Case]:
     """The trials of a built program, by the lines that are stored of them."""
+    given = STORED_INPUT.read_bytes()
     for line in STORED_LINES.read_text().splitlines(keepends=True):
         name = line.partition(":")[0]
         whole, refused = line.encode(), f"{name}: out of memory, right\n".encode()
-        yield Case(name, [program, name], b"", MARK, Ending(0, whole), Ending(0, refused))
+        ending = Ending(0, whole if name in UNMOVED else refused)
+        yield Case(name, [program, name], given, MARK, Ending(0, whole), ending)
 
 
 def script_case(program: str, script: str) -> Case:

@@ -1,11 +1,12 @@
 #!/usr/bin/env python3
 """Makes the stored runs over protobuf's own files again: the script of the one and the set of the
-other, or the reports that they owe.
+other, or the reports that they owe; and the set of which the trials of refused memory make copies.
 
     python3 well_known.py script > ../crates/well_known/stdin
     python3 well_known.py report > ../crates/well_known/stdout
     python3 well_known.py set > ../crates/set_example/data/well_known.pb
     python3 well_known.py told > ../crates/set_example/stdout
+    python3 well_known.py parts > ../crates/memory_trials/stdin
     python3 well_known.py compare
 
 protoc describes the twelve files of protobuf that every installation has, with their locations.
@@ -15,6 +16,10 @@ they are known to break no rule, and protoc has written each type name as a full
 
 The set has the same files as bytes. What is told of it is that it is written as it was read, that
 a pool that is stored as a set is loaded as an equal pool, and what the files declare.
+
+The set with each part of a record filled is what protoc makes of crates/memory_trials/data, the
+file that imports the others first, with options of oneofs and of extension ranges besides, which
+no source can set without options of its own.
 
 `compare` tells whether the stored files are what is made, with status 1 where one is not. The files
 that are stored were made by protoc 3.21.12; with another version its files may differ.
@@ -204,9 +209,22 @@ def told_lines(files: list[FileDescriptorProto]) -> Iterator[str]:
     yield from report.answer("walk")
 
 
+def filled_files() -> list[FileDescriptorProto]:
+    """Files in whose records each part is filled."""
+    files = compiled_files(["first.proto"], [str(STORED / "memory_trials/data")])
+    files.sort(key=lambda file: file.name != "first.proto")
+    every = files[0].message_type[0]
+    for options in (every.oneof_decl[0].options, every.extension_range[0].options):
+        options.uninterpreted_option.add(identifier_value="VALUE").name.add(
+            name_part="option", is_extension=False
+        )
+    return files
+
+
 def made(files: list[FileDescriptorProto]) -> dict[str, tuple[str, bytes]]:
     """What is asked for by each word: where it is stored, and what is made."""
     return {
+        "parts": ("memory_trials/stdin", set_bytes(filled_files())),
         "script": ("well_known/stdin", script_bytes(script_lines(files))),
         "report": ("well_known/stdout", script_bytes(report_lines(files))),
         "set": ("set_example/data/well_known.pb", set_bytes(files)),
@@ -227,7 +245,7 @@ def main() -> None:
     parser = argparse.ArgumentParser(
         description=__doc__, formatter_class=argparse.RawDescriptionHelpFormatter
     )
-    parser.add_argument("what", choices=("script", "report", "set", "told", "compare"))
+    parser.add_argument("what", choices=("script", "report", "set", "told", "parts", "compare"))
     parser.add_argument(
         "-I",
         action="append",

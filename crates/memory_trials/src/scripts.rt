@@ -3,7 +3,7 @@ use link_script::files_of;
 use proto_types::FileDescriptorProto;
 use std::alloc::{AllocError, Global};
 
-/// What the pool has before each trial: messages, of which one has extensions, an enum, a service.
+/// What the pool has before batches are linked into it: messages, of which one has extensions, an enum, a service.
 pub(crate) const FIRST: &str = "file first.proto
 package p
 message M
@@ -88,6 +88,33 @@ end
 extend note 101 optional string ~ .p.M
 extend again 100 optional string ~ .p.M
 at 4,0,2,0,6 4,2,9
+end
+";
+
+/// Messages, of which the first has numbers for extensions.
+pub(crate) const EXTENDED: &str = "file a.proto
+message M
+extensions 100 200
+end
+message A
+end
+message B
+end
+end
+";
+
+/// A batch behind them with an extension of the first.
+pub(crate) const EXTENDING: &str = "file b.proto
+import a.proto
+extend e 100 optional int32 ~ M
+end
+";
+
+/// The same with another extension, whose type is not defined.
+pub(crate) const EXTENDING_AND_FAULTY: &str = "file b.proto
+import a.proto
+extend e 100 optional int32 ~ M
+extend g 101 optional message Nope M
 end
 ";
 
