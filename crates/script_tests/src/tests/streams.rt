@@ -18,6 +18,23 @@ impl Read for Broken {
     }
 }
 
+/// A reader that fails at its first read, and then gives bytes.
+#[derive(Drop)]
+struct Starting {
+    has_failed: bool,
+    rest: &'static [u8],
+}
+
+impl Read for Starting {
+    fn read(&mut self, buffer: &mut [u8]) -> io::Result<usize> {
+        if self.has_failed {
+            return self.rest.read(buffer);
+        }
+        self.has_failed = true;
+        Err(io::Error::other("not yet"))
+    }
+}
+
 /// A reader that gives a byte at a time, and fails where it has no reads left.
 #[derive(Drop)]
 struct Slow {
@@ -144,6 +161,24 @@ fn ended_broken(alloc: Global, taken: &mut Vec<u8>) -> Ended {
 fn a_broken_reader_ends_the_run(rt: HostRuntime) {
     let mut taken = Vec::new(rt.alloc());
     assert!(rt; ended_broken(rt.alloc(), &mut taken) == (Ending::Device, 1));
+    assert!(rt; taken.is_empty());
+}
+
+/// Reads the first script from a reader that fails at its first read alone.
+fn ended_at_the_start(alloc: Global, taken: &mut Vec<u8>) -> Ended {
+    let mut input = ReaderInput::new(Starting {
+        has_failed: false,
+        rest: FIRST_SCRIPT.as_bytes(),
+    });
+    let mut output = WriterOutput::new(taken);
+    let ending = run(alloc, &mut input, &mut output);
+    (ending, input.failures())
+}
+
+#[test]
+fn a_failed_read_is_not_made_once_more(rt: HostRuntime) {
+    let mut taken = Vec::new(rt.alloc());
+    assert!(rt; ended_at_the_start(rt.alloc(), &mut taken) == (Ending::Device, 1));
     assert!(rt; taken.is_empty());
 }
 
