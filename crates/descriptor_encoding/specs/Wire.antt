@@ -1,4 +1,4 @@
--- Fields, as they are put behind bytes.
+-- Fields, as they are put in front of bytes.
 use Rattle.std.specs.Prelude.{◌≡◌, ℕ, List, ◌++◌, Result, OnOk}
 use Rattle.wire_format.specs.Encoding.{Numbered, Number, Bytes, encoding}
 
@@ -10,6 +10,6 @@ number_field n x = record { number = n; part = Number x }
 abbrev pub bytes_field : ℕ → List ℕ → Numbered
 bytes_field n bytes = record { number = n; part = Bytes bytes }
 
--- these fields were put behind the bytes, unless memory was refused
+-- these fields were put in front of the bytes, unless memory was refused
 abbrev pub Puts : {A E : Type 0} → Result A E → List ℕ → List ℕ → List Numbered → Type 0
-Puts result before after fs = OnOk result (after ≡ before ++ encoding fs)
+Puts result before after fs = OnOk result (after ≡ encoding fs ++ before)

@@ -1,6 +1,7 @@
 ghost use Rattle.std.specs.Prelude.{◌≡◌, IfOk};
 ghost use Rattle.descriptor_encoding.specs.Encoding.{set_encoding, file_encoding};
 
+use crate::front::FrontBuffer;
 use crate::parts::Encode;
 use proto_types::{FileDescriptorProto, FileDescriptorSet};
 use std::alloc::{AllocError, Global};
@@ -13,9 +14,9 @@ use std::alloc::{AllocError, Global};
 pub fn encode(alloc: Global, set: &FileDescriptorSet) -> Result<Vec<u8>, AllocError>
     ensures { IfOk result (λ v. v.items ≡ set_encoding set.now) }
 {
-    let mut out = Vec::new(alloc);
+    let mut out = FrontBuffer::new(alloc);
     set.put(&mut out)?;
-    Ok(out)
+    out.into_vec()
 }
 
 /// The canonical encoding of a file.
@@ -25,7 +26,7 @@ pub fn encode(alloc: Global, set: &FileDescriptorSet) -> Result<Vec<u8>, AllocEr
 pub fn encode_file(alloc: Global, file: &FileDescriptorProto) -> Result<Vec<u8>, AllocError>
     ensures { IfOk result (λ v. v.items ≡ file_encoding file.now) }
 {
-    let mut out = Vec::new(alloc);
+    let mut out = FrontBuffer::new(alloc);
     file.put(&mut out)?;
-    Ok(out)
+    out.into_vec()
 }

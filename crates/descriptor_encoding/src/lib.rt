@@ -5,6 +5,7 @@ mod encoding;
 mod enums;
 mod fields;
 mod files;
+mod front;
 mod messages;
 mod parts;
 mod services;

@@ -3,7 +3,8 @@ ghost use Rattle.wire_format.specs.Encoding.{Numbered, encoding};
 ghost use Rattle.descriptor_encoding.specs.Wire.{bytes_field, Puts};
 ghost use Rattle.descriptor_encoding.specs.Parts.{bits, int32_listed, bool_listed, text_listed, options_listed, texts_listed, int32s_listed, packed, packed_listed, message_listed, messages_listed};
 
-use crate::wire::{put_bytes_field, put_length, put_number_field, put_tag, put_varint};
+use crate::front::FrontBuffer;
+use crate::wire::{put_bytes_field, put_length, put_number_field, put_varint};
 use plain_data::{Items, Text};
 use proto_types::Options;
 use std::alloc::AllocError;
@@ -13,12 +14,12 @@ pub trait Encode {
     /// The fields that a message is encoded as.
     ghost listed: { Self → List Numbered };
 
-    /// Puts the message's fields behind the bytes.
+    /// Puts the message's fields in front of the bytes.
     ///
     /// # Errors
     /// `AllocError` where memory was refused.
-    fn put(&self, out: &mut Vec<u8>) -> Result<(), AllocError>
-        ensures { Puts result out.old.items out.new.items (listed self.now) };
+    fn put(&self, out: &mut FrontBuffer) -> Result<(), AllocError>
+        ensures { Puts result out.old out.new (listed self.now) };
 }
 
 fn bits(number: i32) -> u64
@@ -28,9 +29,9 @@ fn bits(number: i32) -> u64
 }
 
 /// Puts a number or an enum.
-pub fn put_int32(out: &mut Vec<u8>, field: u32, part: Option<i32>) -> Result<(), AllocError>
+pub fn put_int32(out: &mut FrontBuffer, field: u32, part: Option<i32>) -> Result<(), AllocError>
     requires { field < 2 ^ 29 }
-    ensures { Puts result out.old.items out.new.items (int32_listed field part) }
+    ensures { Puts result out.old out.new (int32_listed field part) }
 {
     match part {
         Some(number) => put_number_field(out, field, bits(number)),
@@ -39,9 +40,9 @@ pub fn put_int32(out: &mut Vec<u8>, field: u32, part: Option<i32>) -> Result<(),
 }
 
 /// Puts a truth value.
-pub fn put_bool(out: &mut Vec<u8>, field: u32, part: Option<bool>) -> Result<(), AllocError>
+pub fn put_bool(out: &mut FrontBuffer, field: u32, part: Option<bool>) -> Result<(), AllocError>
     requires { field < 2 ^ 29 }
-    ensures { Puts result out.old.items out.new.items (bool_listed field part) }
+    ensures { Puts result out.old out.new (bool_listed field part) }
 {
     match part {
         Some(true) => put_number_field(out, field, 1),
@@ -51,9 +52,9 @@ pub fn put_bool(out: &mut Vec<u8>, field: u32, part: Option<bool>) -> Result<(),
 }
 
 /// Puts a text.
-pub fn put_text(out: &mut Vec<u8>, field: u32, part: &Option<Text>) -> Result<(), AllocError>
+pub fn put_text(out: &mut FrontBuffer, field: u32, part: &Option<Text>) -> Result<(), AllocError>
     requires { field < 2 ^ 29 }
-    ensures { Puts result out.old.items out.new.items (text_listed field part.now) }
+    ensures { Puts result out.old out.new (text_listed field part.now) }
 {
     match part {
         Some(text) => put_bytes_field(out, field, text.as_str().as_bytes()),
@@ -63,12 +64,12 @@ pub fn put_text(out: &mut Vec<u8>, field: u32, part: &Option<Text>) -> Result<()
 
 /// Puts options, as the bytes that they were read from.
 pub fn put_options<T>(
-    out: &mut Vec<u8>,
+    out: &mut FrontBuffer,
     field: u32,
     part: &Option<Options<T>>,
 ) -> Result<(), AllocError>
     requires { field < 2 ^ 29 }
-    ensures { Puts result out.old.items out.new.items (options_listed field part.now) }
+    ensures { Puts result out.old out.new (options_listed field part.now) }
 {
     match part {
         Some(options) => put_bytes_field(out, field, options.encoded.as_slice()),
@@ -77,74 +78,81 @@ pub fn put_options<T>(
 }
 
 /// Puts repeated texts.
-pub fn put_texts(out: &mut Vec<u8>, field: u32, items: &Items<Text>) -> Result<(), AllocError>
+pub fn put_texts(out: &mut FrontBuffer, field: u32, items: &Items<Text>) -> Result<(), AllocError>
     requires { field < 2 ^ 29 }
-    ensures { Puts result out.old.items out.new.items (texts_listed field items.now) }
+    ensures { Puts result out.old out.new (texts_listed field items.now) }
 {
-    for text in items.as_slice() {
-        put_bytes_field(out, field, text.as_str().as_bytes())?;
+    let texts = items.as_slice();
+    let mut left = texts.len();
+    while left > 0 {
+        left -= 1;
+        put_bytes_field(out, field, texts[left].as_str().as_bytes())?;
     }
     Ok(())
 }
 
 /// Puts repeated numbers, each as a field.
-pub fn put_int32s(out: &mut Vec<u8>, field: u32, items: &Items<i32>) -> Result<(), AllocError>
+pub fn put_int32s(out: &mut FrontBuffer, field: u32, items: &Items<i32>) -> Result<(), AllocError>
     requires { field < 2 ^ 29 }
-    ensures { Puts result out.old.items out.new.items (int32s_listed field items.now) }
+    ensures { Puts result out.old out.new (int32s_listed field items.now) }
 {
-    for number in items.as_slice() {
-        put_number_field(out, field, bits(*number))?;
+    let numbers = items.as_slice();
+    let mut left = numbers.len();
+    while left > 0 {
+        left -= 1;
+        put_number_field(out, field, bits(numbers[left]))?;
     }
     Ok(())
 }
 
-/// Puts numbers one behind the other.
-fn put_numbers(out: &mut Vec<u8>, numbers: &[i32]) -> Result<(), AllocError>
-    ensures { OnOk result (out.new.items ≡ out.old.items ++ packed numbers.now) }
+/// Puts numbers one behind another.
+fn put_numbers(out: &mut FrontBuffer, numbers: &[i32]) -> Result<(), AllocError>
+    ensures { OnOk result (out.new ≡ packed numbers.now ++ out.old) }
 {
-    for number in numbers {
-        put_varint(out, bits(*number))?;
+    let mut left = numbers.len();
+    while left > 0 {
+        left -= 1;
+        put_varint(out, bits(numbers[left]))?;
     }
     Ok(())
 }
 
 /// Puts repeated numbers, packed.
 #[tactic(auto, using(crate::proofs::Appending::in_front))]
-pub fn put_packed(out: &mut Vec<u8>, field: u32, items: &Items<i32>) -> Result<(), AllocError>
+pub fn put_packed(out: &mut FrontBuffer, field: u32, items: &Items<i32>) -> Result<(), AllocError>
     requires { field < 2 ^ 29 }
-    ensures { Puts result out.old.items out.new.items (packed_listed field items.now) }
+    ensures { Puts result out.old out.new (packed_listed field items.now) }
 {
     match items.as_slice() {
         [] => Ok(()),
         numbers => {
-            let start = put_tag(out, field)?;
+            let behind = out.len();
             put_numbers(out, numbers)?;
-            put_length(out, start)
+            put_length(out, field, behind)
         }
     }
 }
 
 /// Puts a message as a field.
 #[tactic(auto, using(crate::proofs::Appending::in_front))]
-fn put_one<M: Encode>(out: &mut Vec<u8>, field: u32, message: &M) -> Result<(), AllocError>
+fn put_one<M: Encode>(out: &mut FrontBuffer, field: u32, message: &M) -> Result<(), AllocError>
     requires { field < 2 ^ 29 }
-    ensures { Puts result out.old.items out.new.items
+    ensures { Puts result out.old out.new
         (bytes_field field (encoding (M.listed message.now)) ∷ []) }
 {
-    let start = put_tag(out, field)?;
+    let behind = out.len();
     message.put(out)?;
-    put_length(out, start)?;
-    Ok(())
+    put_length(out, field, behind)
 }
 
 /// Puts a message that may be missing.
 pub fn put_message<M: Encode>(
-    out: &mut Vec<u8>,
+    out: &mut FrontBuffer,
     field: u32,
     part: &Option<M>,
 ) -> Result<(), AllocError>
     requires { field < 2 ^ 29 }
-    ensures { Puts result out.old.items out.new.items (message_listed M.listed field part.now) }
+    ensures { Puts result out.old out.new (message_listed M.listed field part.now) }
 {
     match part {
         Some(message) => put_one(out, field, message),
@@ -154,16 +162,19 @@ pub fn put_message<M: Encode>(
 
 /// Puts repeated messages.
 pub fn put_messages<M: Encode>(
-    out: &mut Vec<u8>,
+    out: &mut FrontBuffer,
     field: u32,
     items: &Items<M>,
 ) -> Result<(), AllocError>
     requires { field < 2 ^ 29 }
-    ensures { Puts result out.old.items out.new.items
+    ensures { Puts result out.old out.new
         (messages_listed field (map M.listed items.now)) }
 {
-    for message in items.as_slice() {
-        put_one(out, field, message)?;
+    let messages = items.as_slice();
+    let mut left = messages.len();
+    while left > 0 {
+        left -= 1;
+        put_one(out, field, &messages[left])?;
     }
     Ok(())
 }
