@@ -70,8 +70,8 @@ impl FrontBuffer {
         Ok(())
     }
 
-    /// Puts bytes for which there is no room in front of the others, and before them as much room as
-    /// was held.
+    /// Puts bytes for which there is no room in front of the others, and before them as much room
+    /// as was held.
     #[cold]
     fn put_beyond(&mut self, bytes: &[u8]) -> Result<(), AllocError>
         ensures { OnOk result (self.new ≡ bytes.now ++ self.old) }
