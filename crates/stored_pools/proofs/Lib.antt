@@ -1,0 +1,4 @@
+mod Texts
+mod Found
+mod Changed
+mod Linked

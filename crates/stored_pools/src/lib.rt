@@ -1,0 +1,6 @@
+//! Pools that are stored as sets of files, and loaded again.
+#![tactic(auto)]
+
+mod laws;
+
+pub use laws::{linked_are_whole, stored_is_loaded};
