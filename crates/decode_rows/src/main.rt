@@ -1,13 +1,24 @@
 //! Reads a row of hexadecimal digits for each descriptor set from the standard input, and writes a
-//! row for each: `ok` and the set's canonical encoding, or its first fault with the offset.
+//! row for each: `ok` and the set's canonical encoding, or its first fault with the offset. Where
+//! memory is refused, nothing is written and the status is 3.
 #![tactic(auto)]
 
 use descriptor_decoding::{DecodeError, decode};
 use descriptor_encoding::encode;
 use std::alloc::{AllocError, Global};
 use std::io;
+use std::process::ExitCode;
 
-fn main(rt: HostRuntime) -> io::Result<()> {
+fn main(rt: HostRuntime) -> ExitCode {
+    ExitCode::from(match tell_rows(&rt) {
+        Ok(()) => 0,
+        Err(error) if error.kind() == io::ErrorKind::OutOfMemory => 3,
+        Err(_error) => 1,
+    })
+}
+
+/// Tells of all rows at once, so that nothing is told where memory is refused.
+fn tell_rows(rt: &HostRuntime) -> io::Result<()> {
     let alloc = rt.alloc();
     let rows = io::read_to_string(alloc, rt.stdin())?;
     let mut report = String::new(alloc);
@@ -27,7 +38,7 @@ fn tell_row(alloc: Global, report: &mut String, row: &str) -> io::Result<()> {
             Ok(writeln!(report)?)
         }
         Err(DecodeError::Fault(fault)) => Ok(writeln!(report, "{:?} {}", fault.kind, fault.at)?),
-        Err(DecodeError::OutOfMemory) => Err(io::Error::other("no memory")),
+        Err(DecodeError::OutOfMemory) => Err(io::ErrorKind::OutOfMemory.into()),
     }
 }
 
