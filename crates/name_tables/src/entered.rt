@@ -1,8 +1,7 @@
 ghost use Rattle.std.specs.Prelude.{◌≡◌, ◌≤◌, ◌<◌, ◌++◌, ◌∷◌, [], ℕ, length, IsTrue, IfOk, OnOk, OnErr, None, Some};
 ghost use Rattle.std.specs.List.{slice_get};
 ghost use Rattle.std.specs.Option.{option_copied};
-ghost use Rattle.name_tables.specs.Entered.{AreGone, Enters, found_before, IsRising, Removes, RemovesAll, value_at};
-ghost use Rattle.name_tables.specs.declared.entered.Entry.{Entry};
+ghost use Rattle.name_tables.specs.Entered.{Enters, found_before, IsRising, Removes, value_at};
 
 use pool_types::Definition;
 use std::alloc::{AllocError, Global};
@@ -48,28 +47,29 @@ impl InFile for u32 {
     }
 }
 
-/// Values that were entered under numbers. Those that lie in later files can be taken away: a log
-/// tells which these are. Contracts see them as the list of the value of each number, or none.
+/// Values that were entered under numbers. Those that lie in later files can be taken away. Contracts
+/// see them as the list of the value of each number, or none.
 #[derive(Drop)]
 pub(crate) struct Entered<T: InFile> {
     values: Vec<Option<T>>,
-    /// An entry for each value, in the order in which they were entered.
-    log: Vec<Entry>,
+    order: Order,
 }
 
-/// That a value was entered.
+/// What is known of the files of values.
 #[derive(Clone, Copy)]
-struct Entry {
-    number: u32,
-    /// The greatest file of the values that were entered up to this one.
+struct Order {
+    /// None lies in a later file.
     newest: u32,
+    /// That none lies in an earlier file than one of a lower number, as where each is entered behind
+    /// all others and the files come in order.
+    is_rising: bool,
 }
 
 impl<T: InFile> Model for Entered<T> {
     ghost use Rattle.std.specs.Prelude.{List};
     ghost use Rattle.std.specs.Coded.{coded_list, coded_option};
     ghost use Rattle.std.specs.declared.option.Option.{Option};
-    ghost use Rattle.name_tables.specs.Entered.{IsLogged, IsRising};
+    ghost use Rattle.name_tables.specs.Entered.{AreOrdered};
 
     ghost Value = { List (Option T) };
 
@@ -77,8 +77,33 @@ impl<T: InFile> Model for Entered<T> {
 
     ghost view = { λ entered. entered.values.items };
 
-    ghost invariant = { λ entered. IsRising entered.log.items
-        × IsLogged T.file_of entered.values.items entered.log.items };
+    ghost invariant = { λ entered. AreOrdered T.file_of entered.values.items entered.order };
+}
+
+impl Order {
+    /// What is known once a value of a file is entered, behind all others or not.
+    fn with_file(self, file: u32, is_last: bool) -> Order
+        ensures newest { self.newest ≤ result.newest }
+        ensures file { file ≤ result.newest }
+        ensures rising { IsTrue result.is_rising
+            → IsTrue self.is_rising × IsTrue is_last × (self.newest ≤ file) }
+    {
+        Order {
+            newest: self.newest.max(file),
+            is_rising: self.is_rising && is_last && self.newest <= file,
+        }
+    }
+
+    /// What is known once no value lies in a file or in a later one.
+    fn before(self, file: u32) -> Order
+        ensures newest { (n : ℕ) → n ≤ self.newest → n < file → n ≤ result.newest }
+        ensures rising { result.is_rising ≡ self.is_rising }
+    {
+        Order {
+            newest: self.newest.min(file),
+            ..self
+        }
+    }
 }
 
 impl<T: InFile> Entered<T> {
@@ -86,9 +111,13 @@ impl<T: InFile> Entered<T> {
     pub(crate) fn new(alloc: Global) -> Entered<T>
         ensures { result ≡ [] }
     {
+        let order = Order {
+            newest: 0,
+            is_rising: true,
+        };
         Entered {
             values: Vec::new(alloc),
-            log: Vec::new(alloc),
+            order,
         }
     }
 
@@ -115,24 +144,38 @@ impl<T: InFile> Entered<T> {
         ensures err { OnErr result ((k : ℕ) → value_at self.new k ≡ value_at self.old k) }
         ensures len { (n : ℕ) → length self.old ≤ n → number < n → length self.new ≤ n }
     {
-        let file = value.file();
-        log(&mut self.log, number, file)?;
-        pad(&mut self.values, number as usize)?;
-        set(&mut self.values, number as usize, value)
+        let number = number as usize;
+        pad(&mut self.values, number)?;
+        self.order = self
+            .order
+            .with_file(value.file(), number == self.values.len());
+        set(&mut self.values, number, value)
     }
 
-    /// Takes away the values that lie in a file or in a later one. The entries of what goes are
-    /// looked at, and go as well, unless something of an earlier file stands among them.
+    /// Takes away the values that lie in a file or in a later one. Where files rise with numbers, no
+    /// more is looked at than what goes.
     pub(crate) fn remove_from(&mut self, file: u32)
         ensures values { (k : ℕ)
             → value_at self.new k ≡ found_before T.file_of file (value_at self.old k) }
         ensures len { length self.new ≤ length self.old }
     {
-        let first = entries_before(&self.log, file);
-        if remove_all(&mut self.values, &self.log[first..], file) {
-            self.log.truncate(first);
-        }
+        let first = self.first_from(file);
+        remove_all(&mut self.values, first, file);
         trim(&mut self.values);
+        self.order = self.order.before(file);
+    }
+
+    /// A number before which no value lies in a file or in a later one.
+    fn first_from(&self, file: u32) -> usize
+        ensures within { result ≤ length self.now }
+        ensures earlier { (k : ℕ) (x : T) → k < result → value_at self.now k ≡ Some x
+            → T.file_of x < file }
+    {
+        if self.order.is_rising {
+            numbers_before(&self.values, file)
+        } else {
+            0
+        }
     }
 
     /// The same values.
@@ -142,12 +185,14 @@ impl<T: InFile> Entered<T> {
     pub(crate) fn clone(&self, alloc: Global) -> Result<Entered<T>, AllocError>
         ensures { IfOk result (λ copy. copy ≡ self.now) }
     {
-        let log = self.log.clone()?;
         let mut values = Vec::with_capacity(alloc, self.values.len())?;
         for value in &self.values {
             values.push(copy_option(alloc, value)?)?;
         }
-        Ok(Entered { values, log })
+        Ok(Entered {
+            values,
+            order: self.order,
+        })
     }
 }
 
@@ -169,25 +214,6 @@ fn value_of<T>(values: &[Option<T>], number: usize) -> Option<&T>
     ensures { option_copied result ≡ value_at values.now number }
 {
     values.get(number)?.as_ref()
-}
-
-/// Logs that a value of a file is entered under a number.
-///
-/// # Errors
-/// `AllocError` where memory was refused.
-fn log(entries: &mut Vec<Entry>, number: u32, file: u32) -> Result<(), AllocError>
-    requires { IsRising entries.old.items }
-    ensures rising { IsRising entries.new.items }
-    ensures ok { OnOk result ((e : Entry) × (e.number ≡ number) × (file ≤ e.newest)
-        × (entries.new.items ≡ entries.old.items ++ e ∷ [])) }
-    ensures err { OnErr result (entries.new.items ≡ entries.old.items) }
-{
-    let newest = match entries.last() {
-        Some(last) if file < last.newest => last.newest,
-        _ => file,
-    };
-    entries.push(Entry { number, newest })?;
-    Ok(())
 }
 
 /// Has at least as many numbers as a number: those that come have no value.
@@ -225,48 +251,53 @@ fn set<T: Drop>(values: &mut Vec<Option<T>>, number: usize, value: T) -> Result<
     Ok(())
 }
 
-/// How many entries stand before the first of a file or of a later one.
-fn entries_before(entries: &[Entry], file: u32) -> usize
-    requires { IsRising entries.now }
-    ensures within { result ≤ length entries.now }
-    ensures earlier { (j : ℕ) (e : Entry) → j < result → slice_get entries.now j ≡ Some e
-        → e.newest < file }
+/// How many numbers stand before the first from which on no value lies in an earlier file than a
+/// given one.
+fn numbers_before<T: InFile>(values: &[Option<T>], file: u32) -> usize
+    requires { IsRising T.file_of values.now }
+    ensures within { result ≤ length values.now }
+    ensures earlier { (k : ℕ) (x : T) → k < result → value_at values.now k ≡ Some x
+        → T.file_of x < file }
 {
-    let mut count = entries.len();
-    while count > 0 && entries[count - 1].newest >= file {
+    let mut count = values.len();
+    while count > 0 && !lies_before(value_of(values, count - 1), file) {
         count -= 1;
     }
     count
 }
 
-/// Takes away the values of the numbers of entries, where they lie in a file or in a later one, and
-/// tells whether none of them is left.
-fn remove_all<T: InFile>(values: &mut Vec<Option<T>>, entries: &[Entry], file: u32) -> bool
-    ensures removes { RemovesAll T.file_of values.old.items values.new.items entries.now file }
-    ensures gone { IsTrue result → AreGone values.new.items entries.now }
-    ensures len { length values.new.items ≡ length values.old.items }
+/// Whether there is a value, and it lies in a file before a given one.
+fn lies_before<T: InFile>(value: Option<&T>, file: u32) -> bool
+    ensures { IsTrue result → (x : T) × (option_copied value.entry ≡ Some x)
+        × (T.file_of x < file) }
 {
-    let mut is_gone = true;
-    for entry in entries {
-        is_gone = remove(values, entry.number as usize, file) && is_gone;
+    match value {
+        Some(value) => value.file() < file,
+        None => false,
     }
-    is_gone
 }
 
-/// Takes away the value of one number, where it lies in a file or in a later one, and tells whether
-/// it is not left.
-fn remove<T: InFile>(values: &mut Vec<Option<T>>, number: usize, file: u32) -> bool
+/// Takes away the values from a number on that lie in a file or in a later one.
+fn remove_all<T: InFile>(values: &mut Vec<Option<T>>, first: usize, file: u32)
+    ensures later { (k : ℕ) → first ≤ k → value_at values.new.items k
+        ≡ found_before T.file_of file (value_at values.old.items k) }
+    ensures earlier { (k : ℕ) → k < first
+        → value_at values.new.items k ≡ value_at values.old.items k }
+    ensures len { length values.new.items ≡ length values.old.items }
+{
+    for number in first..values.len() {
+        remove(values, number, file);
+    }
+}
+
+/// Takes away the value of one number, where it lies in a file or in a later one.
+fn remove<T: InFile>(values: &mut Vec<Option<T>>, number: usize, file: u32)
     ensures removes { Removes T.file_of values.old.items values.new.items number file }
-    ensures gone { IsTrue result → value_at values.new.items number ≡ None }
     ensures len { length values.new.items ≡ length values.old.items }
 {
     match value_of(values, number) {
-        Some(value) if value.file() < file => false,
-        Some(_) => {
-            values[number] = None;
-            true
-        }
-        None => true,
+        Some(value) if value.file() >= file => values[number] = None,
+        _ => {}
     }
 }
 

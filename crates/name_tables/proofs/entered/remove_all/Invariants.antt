@@ -1,11 +1,11 @@
-use Rattle.std.proofs.Common.{◌≡◌, true, length, take}
-use Rattle.name_tables.specs.Entered.{AreGone, RemovesAll}
+use Rattle.std.proofs.Common.{◌≡◌, ◌≤◌, ◌<◌, ◌⊎◌, ℕ, length}
+use Rattle.name_tables.specs.Entered.{found_before, value_at}
 use Rattle.name_tables.proofs.entered.remove_all.Given as goal
 
--- the numbers of the entries so far have lost their values
-abbrev pub invariant-loop-entry : goal.invariant-loop-entry
-invariant-loop-entry g l = record {
-  removes : RemovesAll g.T.InFile.file_of l.fn.values.items l.values.items (take l.entry-index l.entries) l.file;
-  gone : l.is_gone ≡ true → AreGone l.values.items (take l.entry-index l.entries);
+-- the values of the numbers so far are gone, and the others are what they were
+abbrev pub invariant-loop-number : goal.invariant-loop-number
+invariant-loop-number g l = record {
+  gone : (k : ℕ) → l.first ≤ k → k < l.number → value_at l.values.items k ≡ found_before g.T.InFile.file_of l.file (value_at l.fn.values.items k);
+  others : (k : ℕ) → (k < l.first) ⊎ (l.number ≤ k) → value_at l.values.items k ≡ value_at l.fn.values.items k;
   len : length l.values.items ≡ length l.fn.values.items;
 }

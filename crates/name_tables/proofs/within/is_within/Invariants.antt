@@ -1,4 +1,4 @@
-use Rattle.std.proofs.Common.{◌<◌, ◌≤◌, ℕ}
+use Rattle.std.proofs.Common.{◌<◌, ℕ}
 use Rattle.name_tables.specs.Within.{AreCompared, IsWithinAt}
 use Rattle.name_tables.proofs.within.is_within.Given as goal
 
