@@ -1,5 +1,6 @@
 pub mod Syntax
 pub mod CamelCase
+pub mod KeyDigests
 pub mod Enumeration
 pub mod Names
 pub mod FirstPass

@@ -7,6 +7,7 @@ ghost use Rattle.pool_faults.specs.Labels.{label_in};
 ghost use Rattle.record_walk.specs.Faults.{Tells, named_files};
 ghost use Rattle.name_pass.specs.CamelCase.{camel_case_key, name_path, camel_case_fault, camel_case_faults, message_own_faults};
 
+use crate::key_digests::have_distinct_digests;
 use plain_data::Text;
 use pool_faults::{DescriptorErrorKind, Label};
 use pool_types::{Syntax, syntax_at};
@@ -36,8 +37,27 @@ pub fn check_camel_case_names(
 {
     match syntax_at(faults.files(), file) {
         Syntax::Proto2 => Ok(()),
-        Syntax::Proto3 => check_keys(faults, file, path, message.field.as_slice()),
+        Syntax::Proto3 => check_fields(faults, file, path, message.field.as_slice()),
     }
+}
+
+/// Appends to `faults` one for each field whose key an earlier field has. Keys are made only where
+/// two digests of keys are the same.
+fn check_fields(
+    faults: &mut Faults,
+    file: u32,
+    path: &[i32],
+    fields: &[FieldDescriptorProto],
+) -> Result<(), AllocError>
+    requires { fits_list fields.now ≡ true }
+    ensures told { OnOk result (Tells faults.old faults.new
+        (camel_case_faults (named_files faults.old) file path.now fields.now)) }
+    ensures labels { faults.new.labels ≡ faults.old.labels }
+{
+    if fields.len() < 2 || have_distinct_digests(faults.alloc, fields)? {
+        return Ok(());
+    }
+    check_keys(faults, file, path, fields)
 }
 
 /// Appends to `faults` one for each field whose key an earlier field has.

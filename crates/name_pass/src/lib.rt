@@ -3,6 +3,7 @@
 
 mod camel_case;
 mod enumeration;
+mod key_digests;
 mod names;
 mod syntax;
 
