@@ -17,4 +17,5 @@ pub mod Changed
 pub mod Reached
 pub mod Rests
 pub mod Cursors
+pub mod Passing
 pub mod Tells

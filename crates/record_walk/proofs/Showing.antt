@@ -1,5 +1,7 @@
 -- What is left to be shown to a visitor.
-use Rattle.std.proofs.Common.{◌≡◌, ◌↔◌, List, [], ◌++◌, refl, ap, sym, subst, ◌∙◌, append_assoc, append-nil}
+use Rattle.std.proofs.Common.{◌≡◌, ◌↔◌, Bool, true, List, [], ◌∷◌, ◌++◌, refl, ap, sym, subst, ◌∙◌, append_assoc, append-nil}
+use Rattle.std.specs.List.{AllByRecursion}
+use Rattle.record_walk.specs.Parts.{is_part}
 use Rattle.record_walk.specs.Shown.{Shown}
 use Rattle.record_walk.specs.Visitor.{Progress, HasSeen}
 
@@ -22,6 +24,18 @@ module _ {A : List Shown → Progress} {R : List Shown → Type 0} {B : List Sho
 
   pub ready-rest : (rest : List Shown) → Remains A R B S all rest → R all → S rest
   ready-rest rest left r = subst S (append-nil rest) ((left.ready_is []).1 (subst R (sym (append-nil all)) r))
+
+  -- parts are passed over, where they change nothing
+  pub remains-past : (wanted : Bool) → ((d : Shown) (more : List Shown) → is_part d.proto ≡ true → wanted ≡ true → S (d ∷ []) → (B (d ∷ more) ≡ B more) × (S (d ∷ more) ↔ S more))
+      → ((ds es : List Shown) → S (ds ++ es) → S ds) → R all → (parts rest : List Shown) → AllByRecursion (λ d. (is_part d.proto ≡ true) × (wanted ≡ true)) parts
+      → Remains A R B S all (parts ++ rest) → Remains A R B S all rest
+  remains-past wanted pass front r [] rest are left = left
+  remains-past wanted pass front r (d ∷ parts) rest are left =
+      let over = λ (more : List Shown). pass d ((parts ++ rest) ++ more) are.0.0 are.0.1 (ready-first (d ∷ []) (parts ++ rest) left r front) in
+      remains-past wanted pass front r parts rest are.1 (record {
+        after_is = λ more. sym (over more).0 ∙ left.after_is more;
+        ready_is = λ more. (λ s. (left.ready_is more).0 ((over more).1.1 s), λ s. (over more).1.0 ((left.ready_is more).1 s));
+      })
 
   -- nothing is left
   pub remains-none : {rest : List Shown} → rest ≡ [] → Remains A R B S all rest → HasSeen A R B S all

@@ -13,6 +13,7 @@ pub mod Walking
 pub mod Visitor
 pub mod Declaration
 pub mod Cursor
+pub mod Parts
 pub mod Short
 pub mod Faults
 pub mod Place

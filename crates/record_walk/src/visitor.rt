@@ -1,6 +1,7 @@
-ghost use Rattle.std.specs.Prelude.{◌≡◌, ℕ, List, [], ◌∷◌, ◌++◌, OnOk, None, Some};
+ghost use Rattle.std.specs.Prelude.{◌≡◌, ℕ, List, [], ◌∷◌, ◌++◌, IsTrue, OnOk, None, Some};
 ghost use Rattle.pool_types.specs.Contents.{Contents};
 ghost use Rattle.record_walk.specs.Visitor.{Progress, HasSeen};
+ghost use Rattle.record_walk.specs.Parts.{PartsChangeNothing};
 ghost use Rattle.record_walk.specs.Protos.{of_message, of_field, of_oneof, of_service, of_method, of_enum, of_value, of_extension};
 ghost use Rattle.record_walk.specs.Shown.{Shown, file_shown, shown_as};
 
@@ -178,6 +179,14 @@ pub trait Visitor: Drop {
             (shown_as path.now full_name.now file parent index (of_extension extension.now) ∷ [])) }
         ensures kept { kept self.new ≡ kept self.old }
         ensures borrows { borrows self.new ≡ borrows self.old };
+
+    /// Whether fields, oneofs, methods and values change nothing of what it shows, so that `walk`
+    /// need not show it any.
+    fn skips_parts(&self) -> bool
+        ensures { IsTrue result → PartsChangeNothing after ready }
+    {
+        false
+    }
 
     /// It may be shown a front of a list that it may be shown.
     ghost front_ready: { (v : Self) (ds es : List Shown) → ready v (ds ++ es) → ready v ds };

@@ -98,7 +98,8 @@ fn visit_left(cursor: &mut Cursor, visitor: &mut dyn Visitor) -> Result<(), Allo
 }
 
 /// Shows a visitor whose type is known what the records of linked files declare, or of files that
-/// are being linked, in the order and under the conditions of `visit`.
+/// are being linked, in the order and under the conditions of `visit`. Fields, oneofs, methods and
+/// values are passed over where they change nothing, as `Visitor::skips_parts` says.
 ///
 /// What the visitor holds by `&mut` it holds after any answer too.
 ///
@@ -170,7 +171,8 @@ fn walk_file<'a, V: Visitor>(
     Ok(())
 }
 
-/// Shows a visitor the declarations that are still to come, as `visit_left` does.
+/// Shows a visitor the declarations that are still to come, as `visit_left` does, or those that it
+/// does not skip.
 fn walk_left<V: Visitor>(cursor: &mut Cursor, visitor: &mut V) -> Result<(), AllocError>
     requires sound { IsSound cursor.old }
     requires ready { V.ready visitor.old (left cursor.old) }
@@ -181,7 +183,8 @@ fn walk_left<V: Visitor>(cursor: &mut Cursor, visitor: &mut V) -> Result<(), All
     ensures kept { V.kept visitor.new ≡ V.kept visitor.old }
     ensures borrows { V.borrows visitor.new ≡ V.borrows visitor.old }
 {
-    while let Some(declaration) = cursor.advance()? {
+    let skips_parts = visitor.skips_parts();
+    while let Some(declaration) = cursor.advance_past(skips_parts)? {
         declaration.show(&cursor.site, visitor)?;
     }
     Ok(())

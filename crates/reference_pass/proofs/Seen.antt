@@ -1,9 +1,11 @@
 -- One more declaration is shown to the second pass.
-use Rattle.std.proofs.Common.{◌≡◌, List, [], ◌∷◌, ◌++◌, refl, ap, sym, ◌∙◌, append-nil, append_assoc}
+use Rattle.std.proofs.Common.{◌≡◌, ◌↔◌, true, List, [], ◌∷◌, ◌++◌, refl, ap, sym, ◌∙◌, append-nil, append_assoc}
 use Rattle.std.specs.List.{fold}
 use Rattle.pool_types.specs.declared.contents.extension.ExtensionDescriptorInner.{ExtensionDescriptorInner}
 use Rattle.record_walk.specs.declared.faults.Faults.{Faults as PassFaults}
 use Rattle.record_walk.specs.FullNames.{CanBeRead}
+use Rattle.record_walk.specs.Parts.{is_part}
+use Rattle.record_walk.specs.Protos.{Proto, of_file, of_message, of_field, of_oneof, of_service, of_method, of_enum, of_value, of_extension}
 use Rattle.record_walk.specs.Visitor.{HasSeen, Progress}
 use Rattle.record_walk.specs.Shown.{Shown}
 use Rattle.reference_pass.specs.SecondPass.{owner_faults}
@@ -67,3 +69,22 @@ pub passed : (v : ResolveVisitor) (d : Shown) → reference_step (setting_of v.r
 passed v d nothing can =
     let s = setting_of v.reading in
     shown s s (state_of v) (state_of v) d refl can (sym (nothing ∙ with-none s (state_of v)))
+
+-- nothing is made of a part
+part-stays : (s : Setting) (a : ReferenceState) (d : Shown) (p : Proto) → is_part p ≡ true → with_declarations s a (record d { proto = p } ∷ []) ≡ a
+part-stays s a d (of_field f) part = with-none s a
+part-stays s a d (of_oneof o) part = with-none s a
+part-stays s a d (of_method m) part = with-none s a
+part-stays s a d (of_value v) part = with-none s a
+part-stays s a d (of_file f) part = absurd (cc)
+part-stays s a d (of_message m) part = absurd (cc)
+part-stays s a d (of_service v) part = absurd (cc)
+part-stays s a d (of_enum e) part = absurd (cc)
+part-stays s a d (of_extension x) part = absurd (cc)
+
+-- so parts change nothing
+pub parts-change-nothing : (v : ResolveVisitor) (d : Shown) (rest : List Shown) → is_part d.proto ≡ true → CanBeRead (d ∷ [])
+    → (after (setting_of v.reading) (state_of v) (d ∷ rest) ≡ after (setting_of v.reading) (state_of v) rest) × (CanBeRead (d ∷ rest) ↔ CanBeRead rest)
+parts-change-nothing v d rest part can =
+    let s = setting_of v.reading in
+    (ap (λ a. after s a rest) (part-stays s (state_of v) d d.proto part), (λ (all : CanBeRead (d ∷ rest)). all.1, λ (all : CanBeRead rest). (can.0, all)))

@@ -17,8 +17,8 @@ use std::alloc::AllocError;
 /// well, makes the items of messages, enums, services and extensions, and gathers the faults of
 /// imports, of fields, of extensions, of values and of references. Extensions are read behind those
 /// of the pool. A message is read with its oneofs and fields, an enum with its values, and a service
-/// with its methods. The full name of each declaration that it is shown ends with the declared name,
-/// and its lists are short enough for a pool.
+/// with its methods; it need not be shown these parts. The full name of each declaration that it is
+/// shown ends with the declared name, and its lists are short enough for a pool.
 ///
 /// What it shows once a list has been shown to it is the fold of one step over the list. It changes
 /// nothing of the pool.
@@ -193,5 +193,9 @@ impl Visitor for ResolveVisitor<'_> {
         };
         let item = read_extension(&mut self.reading, place, extension, earlier)?;
         self.items.push_extension(item)
+    }
+
+    fn skips_parts(&self) -> bool {
+        true
     }
 }

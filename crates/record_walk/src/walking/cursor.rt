@@ -1,6 +1,7 @@
 ghost use Rattle.std.specs.Prelude.{suc, ◌≡◌, ◌<◌, ◌+◌, ◌^◌, true, IfOk, OnOk};
 ghost use Rattle.record_walk.specs.Counts.{lists_fit};
 ghost use Rattle.record_walk.specs.Cursor.{Advances, Begins, IsSound};
+ghost use Rattle.record_walk.specs.Parts.{AdvancesPast};
 ghost use Rattle.record_walk.specs.Protos.{of_file};
 ghost use Rattle.record_walk.specs.Walking.{Room, within_file};
 
@@ -75,5 +76,15 @@ impl<'a> Cursor<'a> {
         self.rows
             .push_inner(part, index, self.site.depth(), at.depth.scope)?;
         Ok(Some(Located { index, part }))
+    }
+
+    /// The next declaration; where that is wanted, lists of fields, oneofs, methods and values that
+    /// come before it are passed over.
+    pub(crate) fn advance_past(&mut self, wanted: bool) -> Result<Option<Located<'a>>, AllocError>
+        requires { IsSound self.old }
+        ensures { IfOk result (λ next. AdvancesPast wanted self.old self.new next) }
+    {
+        self.rows.pass_parts(wanted);
+        self.advance()
     }
 }

@@ -1,5 +1,6 @@
 ghost use Rattle.std.specs.Prelude.{◌≡◌, ◌<◌, ◌^◌};
 ghost use Rattle.record_walk.specs.Counts.{counting};
+ghost use Rattle.record_walk.specs.Parts.{is_part};
 ghost use Rattle.record_walk.specs.Protos.{name_of};
 ghost use Rattle.record_walk.specs.Walking.{WithinLimits, index_at, proto_of};
 
@@ -36,6 +37,16 @@ impl<'a> Part<'a> {
             Part::EnumValue(_, value) => value.name(),
             Part::Extension(_, extension) => extension.name(),
         }
+    }
+
+    /// Whether it is a part of the record that it stands in: a field, oneof, method or value.
+    pub(crate) fn is_part(self) -> bool
+        ensures { result ≡ is_part (proto_of self.entry) }
+    {
+        matches!(
+            self,
+            Part::Field(..) | Part::Oneof(..) | Part::Method(..) | Part::EnumValue(..)
+        )
     }
 
     /// The index of the next of this kind: how many were counted, or the position where none is.

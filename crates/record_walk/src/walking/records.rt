@@ -1,4 +1,5 @@
 ghost use Rattle.std.specs.Prelude.{◌≡◌, [], ◌∷◌, IfSome, MatchOption};
+ghost use Rattle.record_walk.specs.Parts.{hold_parts};
 ghost use Rattle.record_walk.specs.Walking.{parent_in, parent_of, proto_of, protos_in};
 
 use super::part::Part;
@@ -21,6 +22,19 @@ pub(crate) enum Records<'a> {
 }
 
 impl<'a> Records<'a> {
+    /// Whether they are parts of the record around them: fields, oneofs, methods or values.
+    pub(crate) fn hold_parts(self) -> bool
+        ensures { result ≡ hold_parts self.entry }
+    {
+        matches!(
+            self,
+            Records::Fields(..)
+                | Records::Oneofs(..)
+                | Records::Methods(..)
+                | Records::EnumValues(..)
+        )
+    }
+
     /// The first record, and those behind it.
     pub(crate) fn split_first(self) -> Option<(Part<'a>, Records<'a>)>
         ensures records { MatchOption result (protos_in self.entry ≡ [])

@@ -1,6 +1,7 @@
-ghost use Rattle.std.specs.Prelude.{◌≡◌, [], ◌∷◌, None, OnOk, MatchOption};
+ghost use Rattle.std.specs.Prelude.{◌≡◌, List, [], ◌∷◌, None, IsTrue, OnOk, MatchOption};
+ghost use Rattle.record_walk.specs.Parts.{AreParts, PassesLists};
 ghost use Rattle.record_walk.specs.Walking.{parent_in, proto_of, protos_in};
-ghost use Rattle.record_walk.specs.Cursor.{file_lines, inner_lines, line, line_in, lines, message_lines, stacked, stacked_all};
+ghost use Rattle.record_walk.specs.Cursor.{Line, file_lines, inner_lines, line, line_in, lines, message_lines, stacked, stacked_all};
 
 use super::part::Part;
 use super::records::Records;
@@ -37,6 +38,26 @@ impl<'a> Rows<'a> {
             (λ row. lines self.old ≡ line_in row ∷ lines self.new) }
     {
         self.list.pop()
+    }
+
+    /// Takes off the lists of parts that come next, where that is wanted.
+    pub(crate) fn pass_parts(&mut self, wanted: bool)
+        ensures { PassesLists wanted (lines self.old) (lines self.new) }
+    {
+        while wanted && self.begins_with_parts() {
+            self.pop();
+        }
+    }
+
+    /// Whether a list of parts comes next.
+    fn begins_with_parts(&self) -> bool
+        ensures { IsTrue result → (l : Line) × (ls : List Line) × (lines self.now ≡ l ∷ ls)
+            × AreParts l.protos }
+    {
+        match self.list.last() {
+            Some(row) => row.part.is_part() && row.rest.hold_parts(),
+            None => false,
+        }
     }
 
     /// Adds a list, which is the next one, unless it is empty.

@@ -1,8 +1,10 @@
-use Rattle.std.proofs.Common.{length, None, [], ◌∷◌, refl, ap, sym, subst, ◌∙◌, arith}
+use Rattle.std.proofs.Common.{length, length-append, None, Some, [], ◌∷◌, refl, ap, sym, subst, ◌∙◌, arith}
 use Rattle.record_walk.specs.Counts.{counted}
-use Rattle.record_walk.specs.Cursor.{Advances, Comes, left}
+use Rattle.record_walk.specs.Cursor.{left}
+use Rattle.record_walk.specs.Parts.{AdvancesPast}
 use Rattle.record_walk.specs.Walking.{located}
-use Rattle.record_walk.proofs.Showing.{remains-all, remains-as, remains-fewer, remains-none, ready-first}
+use Rattle.record_walk.proofs.Passing.{passes-counts}
+use Rattle.record_walk.proofs.Showing.{remains-all, remains-as, remains-fewer, remains-none, remains-past, ready-first}
 use Rattle.record_walk.proofs.walking.walk_left.Goals as goal
 
 pub loop-declaration-init : goal.loop-declaration-init
@@ -11,21 +13,27 @@ loop-declaration-init g c = record { sound = c.requires.sound; remains = remains
 pub show-requires : goal.show-requires
 show-requires g c =
     let L = c.loop-declaration in
-    let next = c.advance.new.self in
+    let next = c.advance_past.new.self in
     let d = located next.site c.in-Some.declaration in
-    let comes : Comes L.cursor next d = subst (Advances L.cursor next) c.in-Some.is c.in_ok-declaration.ensures in
-    ready-first (d ∷ []) (left next) (remains-as comes.left_is L.invariant.remains) c.requires.ready (g.met.V.Visitor.front_ready L.visitor)
+    let went : AdvancesPast c.skips_parts-skips_parts.result L.cursor next (Some c.in-Some.declaration) = subst (AdvancesPast c.skips_parts-skips_parts.result L.cursor next) c.in-Some.is c.in_ok-declaration.ensures in
+    let front = g.met.V.Visitor.front_ready L.visitor in
+    let remains = remains-past c.skips_parts-skips_parts.result (λ d more part want. c.skips_parts-skips_parts.ensures want L.visitor d more part) front c.requires.ready went.1.parts (left went.0) went.1.are_parts
+    (remains-as went.1.left_is L.invariant.remains) in
+    ready-first (d ∷ []) (left next) (remains-as went.2.left_is remains) c.requires.ready front
 
 pub loop-declaration-preserved : goal.loop-declaration-preserved
 loop-declaration-preserved g c =
     let L = c.loop-declaration in
-    let next = c.advance.new.self in
+    let next = c.advance_past.new.self in
     let d = located next.site c.in-Some.declaration in
-    let comes : Comes L.cursor next d = subst (Advances L.cursor next) c.in-Some.is c.in_ok-declaration.ensures in
+    let went : AdvancesPast c.skips_parts-skips_parts.result L.cursor next (Some c.in-Some.declaration) = subst (AdvancesPast c.skips_parts-skips_parts.result L.cursor next) c.in-Some.is c.in_ok-declaration.ensures in
+    let front = g.met.V.Visitor.front_ready L.visitor in
+    let remains = remains-past c.skips_parts-skips_parts.result (λ d more part want. c.skips_parts-skips_parts.ensures want L.visitor d more part) front c.requires.ready went.1.parts (left went.0) went.1.are_parts
+    (remains-as went.1.left_is L.invariant.remains) in
     record {
-      sound = comes.sound;
-      remains = remains-fewer (d ∷ []) (left next) (remains-as comes.left_is L.invariant.remains) c.in_ok-show.ensures.ok;
-      counts = ap (λ k. counted k (left next)) comes.counts_are ∙ ap (counted L.cursor.counts) (sym comes.left_is) ∙ L.invariant.counts;
+      sound = went.2.sound;
+      remains = remains-fewer (d ∷ []) (left next) (remains-as went.2.left_is remains) c.in_ok-show.ensures.ok;
+      counts = ap (λ k. counted k (left next)) went.2.counts_are ∙ ap (counted went.0.counts) (sym went.2.left_is) ∙ passes-counts c.skips_parts-skips_parts.result L.cursor went.0 went.1 ∙ L.invariant.counts;
       kept = c.in_ok-show.ensures.kept ∙ L.invariant.kept;
       borrows = c.in_ok-show.ensures.borrows ∙ L.invariant.borrows;
     }
@@ -33,17 +41,21 @@ loop-declaration-preserved g c =
 pub loop-declaration-smaller : goal.loop-declaration-smaller
 loop-declaration-smaller g c =
     let L = c.loop-declaration in
-    let next = c.advance.new.self in
-    let comes : Comes L.cursor next (located next.site c.in-Some.declaration) = subst (Advances L.cursor next) c.in-Some.is c.in_ok-declaration.ensures in
-    omega (arith, ap length comes.left_is)
+    let next = c.advance_past.new.self in
+    let went : AdvancesPast c.skips_parts-skips_parts.result L.cursor next (Some c.in-Some.declaration) = subst (AdvancesPast c.skips_parts-skips_parts.result L.cursor next) c.in-Some.is c.in_ok-declaration.ensures in
+    let long = length-append went.1.parts (left went.0) in
+    omega (arith, ap length went.2.left_is, ap length went.1.left_is, long)
 
 pub returns : goal.returns
 returns g c =
     let L = c.loop-declaration in
-    let ended : Advances L.cursor c.advance.new.self None = subst (Advances L.cursor c.advance.new.self) c.in_default.is c.in_ok-declaration.ensures in
+    let next = c.advance_past.new.self in
+    let went : AdvancesPast c.skips_parts-skips_parts.result L.cursor next None = subst (AdvancesPast c.skips_parts-skips_parts.result L.cursor next) c.in_default.is c.in_ok-declaration.ensures in
+    let remains = remains-past c.skips_parts-skips_parts.result (λ d more part want. c.skips_parts-skips_parts.ensures want L.visitor d more part) (g.met.V.Visitor.front_ready L.visitor) c.requires.ready went.1.parts (left went.0) went.1.are_parts
+    (remains-as went.1.left_is L.invariant.remains) in
     record {
-      ok = remains-none ended.0 L.invariant.remains;
-      counts = ended.1 ∙ ap (counted L.cursor.counts) (sym ended.0) ∙ L.invariant.counts;
+      ok = remains-none went.2.0 remains;
+      counts = went.2.1 ∙ ap (counted went.0.counts) (sym went.2.0) ∙ passes-counts c.skips_parts-skips_parts.result L.cursor went.0 went.1 ∙ L.invariant.counts;
       kept = L.invariant.kept;
       borrows = L.invariant.borrows;
     }
