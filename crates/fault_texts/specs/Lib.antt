@@ -1,0 +1,6 @@
+pub mod FaultKinds
+pub mod Remedies
+pub mod Elements
+pub mod Lines
+pub mod PlainFaults
+pub mod JsonFaults

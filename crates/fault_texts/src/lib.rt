@@ -1,0 +1,16 @@
+//! Faults as texts: as lines for people, and as objects of JSON.
+#![tactic(auto)]
+
+mod elements;
+mod json_faults;
+mod kinds;
+mod lines;
+mod plain_faults;
+mod remedies;
+
+pub use elements::{element_of, file_named};
+pub use json_faults::json_fault;
+pub use kinds::{fault_code, related_label};
+pub use lines::write_line;
+pub use plain_faults::write_fault_lines;
+pub use remedies::remedy;
