@@ -1,5 +1,5 @@
 -- Lines for people: a text without characters that a terminal would obey or hide.
-use Rattle.std.specs.Prelude.{ℕ, ◌/◌, ◌%◌, Bool, ◌==◌, ◌&&◌, ◌||◌, nat_lt, nat_le, List, [], ◌∷◌, ◌++◌, codes, if◌then◌else◌}
+use Rattle.std.specs.Prelude.{◌≡◌, ℕ, ◌/◌, ◌%◌, Bool, true, false, not, ◌==◌, ◌&&◌, ◌||◌, nat_le, List, [], ◌∷◌, ◌++◌, codes, if◌then◌else◌}
 use Rattle.std.specs.Char.{digit_char, encode_utf8}
 use Rattle.std.specs.List.{flat_map}
 use Rattle.std.specs.Str.{chars}
@@ -26,3 +26,13 @@ plain_char c = if is_hidden c then unit_escape c else encode_utf8 c
 -- a text as a line, with its end
 unfoldable pub line : List ℕ → List ℕ
 line text = flat_map plain_char (chars text) ++ 10 ∷ []
+
+-- whether a text's last byte is a line feed, and no other is one
+abbrev pub ends_once : List ℕ → Bool
+ends_once [] = false
+ends_once (c ∷ []) = c == 10
+ends_once (c ∷ d ∷ bs) = not (c == 10) && ends_once (d ∷ bs)
+
+-- law: a line has one line feed, its last byte
+abbrev pub LinesEndOnce : Type 0
+LinesEndOnce = (text : List ℕ) → ends_once (line text) ≡ true

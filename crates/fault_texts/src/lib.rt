@@ -4,6 +4,7 @@
 mod elements;
 mod json_faults;
 mod kinds;
+pub mod laws;
 mod lines;
 mod plain_faults;
 mod remedies;
