@@ -1,0 +1,9 @@
+pub mod Batches
+pub mod Verdicts
+pub mod Accepted
+pub mod Refused
+pub mod Unread
+pub mod Objects
+pub mod Answers
+pub mod Arguments
+pub mod Statuses

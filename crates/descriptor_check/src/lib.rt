@@ -1,0 +1,20 @@
+//! The check of descriptor sets: from their bytes to the verdict on their files, as text.
+#![tactic(auto)]
+
+mod accepted;
+mod answer;
+mod arguments;
+mod batches;
+mod checking;
+mod inputs;
+mod objects;
+mod refused;
+mod unread;
+mod verdicts;
+
+pub use answer::{Answer, Status, Wanted};
+pub use arguments::{HELP, Job, Request, VERSION, read_arguments};
+pub use batches::{BatchError, Flaw, NotASet, read_batch};
+pub use checking::{check, complain, tell};
+pub use inputs::Input;
+pub use verdicts::{Verdict, verdict_on};
