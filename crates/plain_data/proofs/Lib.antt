@@ -4,4 +4,5 @@ pub mod Numbers
 pub mod Texts
 pub mod WholeNumbers
 pub mod Positions
+pub mod Rows
 pub mod Enumerated

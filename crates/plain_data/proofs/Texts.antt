@@ -1,12 +1,12 @@
 -- A hash map from strings, and the finite map from texts that it is seen as.
-use Rattle.std.proofs.Common.{◌≡◌, ℕ, Bool, true, false, cond, List, [], ◌∷◌, ◌++◌, Option, None, Some, refl, ap, sym, ◌∙◌, subst, inl, inr, ◌⊎◌, string_bytes, Decides, length, map as each, filter}
+use Rattle.std.proofs.Common.{◌≡◌, ℕ, Bool, true, false, cond, List, [], ◌∷◌, ◌++◌, Option, None, Some, refl, ap, sym, ◌∙◌, subst, inl, inr, ◌⊎◌, string_bytes, Decides, map as each, filter}
 use Rattle.std.specs.Cmp.Lexicographic.{slice_cmp, nat_list_cmp_total, nat_list_eq_equiv, texts_ties, bytes_decides}
 use Rattle.std.specs.FinMap as map
 use Rattle.std.specs.FinMap.{from_entries, from_entries_push, get-insert, get-from_entries, same_map, slice_cmp-IsAntisymmetric, nat_cmp-IsAntisymmetric}
 use Rattle.std.specs.HashMap as hash
 use Rattle.std.specs.HashMap.{HashMap, get_by_text}
 use Rattle.std.specs.Iterator.{Yields}
-use Rattle.std.specs.List.{AllByRecursion, AllZip, IsDistinct}
+use Rattle.std.specs.List.{AllByRecursion, IsDistinct}
 use Rattle.std.specs.Map.{lookup, keys_of}
 use Rattle.std.specs.Map.Iter.{TakesFirst}
 use Rattle.std.specs.Ordering.{nat_cmp}
@@ -14,17 +14,17 @@ use Rattle.std.specs.Str.{bytes_eq}
 use Rattle.std.specs.String.{string_eq, string_eq_equiv}
 use Rattle.std.specs.declared.string.String.{String}
 use Rattle.std.proofs.lemmas.Bool.Decides.{Decides-like}
-use Rattle.std.proofs.lemmas.List.{length-map, map-append}
+use Rattle.std.proofs.lemmas.List.{map-append}
 use Rattle.std.proofs.lemmas.Map.Entries.{option_filter, lookup-filter-values}
 use Rattle.std.proofs.lemmas.Map.Iter.{rest_more, rest_so_far}
 use Rattle.std.proofs.lemmas.Map.Lookups.{hash_map_eq-Decides}
 use Rattle.std.proofs.lemmas.Map.Text.{hash_map_updates_text}
 use Rattle.plain_data.specs.Exact.{Exact}
 use Rattle.plain_data.specs.Maps.{ByText, texts, by_text}
-use Rattle.plain_data.proofs.Entries.{get-lookup, len-from_entries}
+use Rattle.plain_data.proofs.Entries.{get-lookup}
 
 -- finite maps that have the same under each text are one
-same_texts : {X : Type 0} (m n : ByText X) → ((key : List ℕ) → map.get m key ≡ map.get n key) → m ≡ n
+pub same_texts : {X : Type 0} (m n : ByText X) → ((key : List ℕ) → map.get m key ≡ map.get n key) → m ≡ n
 same_texts = same_map nat_list_cmp_total (slice_cmp-IsAntisymmetric nat_cmp-IsAntisymmetric)
 
 lookup-texts : {A X : Type 0} (es : List (String A × X)) (key : List ℕ) → lookup (bytes_eq key) (texts es) ≡ lookup (λ k. bytes_eq key (string_bytes k)) es
@@ -69,17 +69,6 @@ get-retained test m n unique is key =
     ∙ ap (lookup (bytes_eq key)) (ap texts is ∙ texts-filter test m.entries)
     ∙ lookup-filter-values nat_list_eq_equiv test key (texts m.entries) (distinct-texts m.entries unique)
     ∙ ap (option_filter test) (lookup-texts m.entries key ∙ sym (get-by_text m key))
-
--- the finite map has as many entries
-pub len-by_text : {A S X : Type 0} (m : HashMap (String A) X S) → hash.IsUnique string_eq m → map.len (by_text m) ≡ length m.entries
-len-by_text m unique = len-from_entries (slice_cmp nat_cmp) bytes_eq texts_ties nat_list_cmp_total (texts m.entries) (distinct-texts m.entries unique) ∙ length-map m.entries _
-
--- entries that are clones stand under the same bytes
-pub texts-clone : {A X : Type 0} (es fs : List (String A × X)) → AllZip (λ p q. (string_bytes q.0 ≡ string_bytes p.0) × (q.1 ≡ p.1)) es fs → texts fs ≡ texts es
-texts-clone [] [] clones = refl
-texts-clone [] (f ∷ fs) clones = absurd clones
-texts-clone (e ∷ es) [] clones = absurd clones
-texts-clone (e ∷ es) (f ∷ fs) clones = λ i. (clones.0.0 i, clones.0.1 i) ∷ texts-clone es fs clones.1 i
 
 -- a text has no value, or it is the bytes of a string
 key-found : {A X : Type 0} (es : List (String A × X)) (key : List ℕ) → (lookup (λ k. bytes_eq key (string_bytes k)) es ≡ None) ⊎ ((k : String A) × (string_bytes k ≡ key))

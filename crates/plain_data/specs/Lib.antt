@@ -5,3 +5,5 @@ pub mod Each
 pub mod Lists
 pub mod WholeNumbers
 pub mod TruthValues
+pub mod TextRows
+pub mod Paths

@@ -1,5 +1,0 @@
-use Rattle.std.proofs.Common.{rules}
-use Rattle.plain_data.proofs.text_map.TextMap.from_map.Goals as goal
-
-pub returns : goal.returns
-returns c = search rules

@@ -1,0 +1,162 @@
+ghost use Rattle.std.specs.Prelude.{◌≡◌, [], ◌∷◌, ◌++◌, ◌≤◌, take, length, IfOk};
+ghost use Rattle.plain_data.specs.Paths.{numbers_of};
+
+use crate::Duplicate;
+use std::alloc::{AllocError, Global};
+use std::marker::Model;
+
+/// The place of a declaration in the record of its file: field numbers and positions, up to eight
+/// of which take no memory. Contracts see it as the list of them.
+#[derive(Drop)]
+pub struct Path {
+    numbers: Numbers,
+}
+
+/// The numbers of a path.
+#[derive(Drop)]
+enum Numbers {
+    /// The first so many of eight.
+    Few([i32; 8], u8),
+    Many(Vec<i32>),
+}
+
+/// How many numbers take no memory.
+const INLINE: usize = 8;
+
+impl Model for Path {
+    ghost use Rattle.std.specs.Prelude.{List, ℤ};
+    ghost use Rattle.plain_data.specs.Paths.{numbers_of, IsWithin};
+
+    ghost Value = { List ℤ };
+
+    ghost view = { λ path. numbers_of path.numbers };
+
+    ghost invariant = { λ path. IsWithin path.numbers };
+}
+
+impl Path {
+    /// A copy of the numbers.
+    ///
+    /// # Errors
+    /// `AllocError` where memory was refused.
+    pub fn from_slice(alloc: Global, numbers: &[i32]) -> Result<Path, AllocError>
+        ensures { IfOk result (λ path. path ≡ numbers.now) }
+    {
+        let len = numbers.len();
+        if len > INLINE {
+            return Ok(Path {
+                numbers: Numbers::Many(Vec::from_slice(alloc, numbers)?),
+            });
+        }
+        Ok(Path {
+            numbers: Numbers::Few(inline(numbers), len as u8),
+        })
+    }
+
+    /// A copy of the numbers, and two more behind them.
+    ///
+    /// # Errors
+    /// `AllocError` where memory was refused.
+    pub fn below(
+        alloc: Global,
+        numbers: &[i32],
+        tag: i32,
+        position: i32,
+    ) -> Result<Path, AllocError>
+        ensures { IfOk result (λ path. path ≡ numbers.now ++ tag ∷ position ∷ []) }
+    {
+        let len = numbers.len();
+        if len > INLINE - 2 {
+            let mut many = Vec::with_capacity(alloc, len.saturating_add(2))?;
+            many.extend_from_slice(numbers)?;
+            many.push(tag)?;
+            many.push(position)?;
+            return Ok(Path {
+                numbers: Numbers::Many(many),
+            });
+        }
+        let mut few = inline(numbers);
+        few[len] = tag;
+        few[len + 1] = position;
+        Ok(Path {
+            numbers: Numbers::Few(few, len as u8 + 2),
+        })
+    }
+
+    /// A copy of the numbers, and one more behind them.
+    ///
+    /// # Errors
+    /// `AllocError` where memory was refused.
+    pub fn part(alloc: Global, numbers: &[i32], tag: i32) -> Result<Path, AllocError>
+        ensures { IfOk result (λ path. path ≡ numbers.now ++ tag ∷ []) }
+    {
+        let len = numbers.len();
+        if len > INLINE - 1 {
+            let mut many = Vec::with_capacity(alloc, len.saturating_add(1))?;
+            many.extend_from_slice(numbers)?;
+            many.push(tag)?;
+            return Ok(Path {
+                numbers: Numbers::Many(many),
+            });
+        }
+        let mut few = inline(numbers);
+        few[len] = tag;
+        Ok(Path {
+            numbers: Numbers::Few(few, len as u8 + 1),
+        })
+    }
+
+    /// The numbers, as they are borrowed.
+    pub fn as_slice(&self) -> &[i32]
+        ensures { result.now ≡ self.now }
+    {
+        match &self.numbers {
+            Numbers::Few(numbers, len) => &numbers[..*len as usize],
+            Numbers::Many(numbers) => numbers.as_slice(),
+        }
+    }
+
+    /// An equal path.
+    ///
+    /// # Errors
+    /// `AllocError` where memory was refused.
+    pub fn clone(&self, alloc: Global) -> Result<Path, AllocError>
+        ensures { IfOk result (λ copy. copy ≡ self.now) }
+    {
+        let numbers = match &self.numbers {
+            Numbers::Few(numbers, len) => Numbers::Few(*numbers, *len),
+            Numbers::Many(numbers) => Numbers::Many(Vec::from_slice(alloc, numbers.as_slice())?),
+        };
+        Ok(Path { numbers })
+    }
+}
+
+/// The numbers, and zeros behind them.
+fn inline(numbers: &[i32]) -> [i32; 8]
+    requires { length numbers.now ≤ 8 }
+    ensures { take (length numbers.now) result ≡ numbers.now }
+{
+    let mut few = [0; 8];
+    few[..numbers.len()].copy_from_slice(numbers);
+    few
+}
+
+impl Duplicate for Path {
+    fn duplicate(&self, alloc: Global) -> Result<Path, AllocError> {
+        self.clone(alloc)
+    }
+}
+
+impl PartialEq for Path {
+    ghost use Rattle.std.specs.Cmp.{int_eq_equiv, partial_equiv_from_equiv};
+    ghost use Rattle.std.specs.Cmp.Lexicographic.{pointwise, lists_per};
+    ghost use Rattle.std.specs.Ordering.{int_eq};
+
+    ghost eq = { pointwise int_eq };
+
+    ghost laws = { lists_per (partial_equiv_from_equiv int_eq_equiv) };
+
+    fn eq(&self, other: &Path) -> bool {
+        self.as_slice() == other.as_slice()
+    }
+}
