@@ -1,5 +1,5 @@
 -- What the maps of fields tell of the next field, and what they are behind it.
-use Rattle.std.proofs.Common.{◌≡◌, ℕ, suc, ◌+◌, ◌<◌, ◌^◌, ℤ, pos, negsuc, Bool, true, false, cond, List, [], ◌∷◌, ◌++◌, length, take, get_or, reverse, find, None, Some, Option, IfSome, refl, ap, sym, ◌∙◌, subst, arith, FitsSigned}
+use Rattle.std.proofs.Common.{◌≡◌, ℕ, suc, ◌+◌, ◌<◌, ◌≤◌, ◌^◌, ℤ, pos, negsuc, Bool, true, false, cond, List, [], ◌∷◌, ◌++◌, length, take, get_or, reverse, find, None, Some, Option, IfSome, MatchOption, refl, ap, sym, ◌∙◌, subst, arith, FitsSigned}
 use Rattle.std.specs.Bool.{Decides}
 use Rattle.std.specs.Cmp.{IsTotalOrder}
 use Rattle.std.specs.FinMap as map
@@ -21,12 +21,13 @@ use Rattle.plain_data.specs.Lists.{listed}
 use Rattle.proto_types.specs.Readers.{number_of, text_of}
 use Rattle.proto_types.specs.declared.file.FileDescriptorProto.{FileDescriptorProto}
 use Rattle.record_walk.specs.Counts.{fits_list}
-use Rattle.plain_data.specs.Maps.{inserted}
+use Rattle.plain_data.specs.Maps.{ByNumber, ByText, inserted}
 use Rattle.field_rules.specs.declared.maps.FieldMaps.{FieldMaps}
 use Rattle.field_rules.specs.Duplicates.{latest, number_duplicate, json_name_duplicate, same_number, same_json_name}
 use Rattle.field_rules.specs.Maps.{keyed, by_number, by_json_name, item_number}
-use Rattle.field_rules.specs.MapsOf.{AreMapsOf}
+use Rattle.field_rules.specs.MapsOf.{AreMapsOf, JsonNamesDiffer}
 use Rattle.field_rules.proofs.Latest.{get-keyed, keyed-next, same-latest}
+use Rattle.field_rules.proofs.Differing.{key-missing}
 
 -- numbers of 32 bits that an item holds alike are one
 item_number-bits : (x : ℤ) → item_number x ≡ cast_unsigned w32 x
@@ -66,43 +67,71 @@ latest-json_name name fields =
     get-keyed nat_list_cmp_total (λ f. f.json_name) name fields
     ∙ (λ i. option_map (λ e. e.0) (latest (λ g. option_map_or (λ own. is_eq-slice_cmp name own i) g.json_name false) fields))
 
-module _ (files : List FileDescriptorProto) (file : ℕ) (path : List ℤ) (position : ℕ) (f : FieldDescriptorProto) (maps : FieldMaps) (earlier : List FieldDescriptorProto) (are : AreMapsOf maps earlier) where
-  -- what is told of a number by the map is what earlier fields tell
-  pub number-told : (number : ℤ) → number ≡ number_of f.number → FitsSigned w32 number
-      → listed (option_map (λ first. same_number files file path number first position) (map.get maps.numbers (item_number number))) ≡ number_duplicate files file path earlier position f
-  number-told number is fits =
+module _ (files : List FileDescriptorProto) (file : ℕ) (path : List ℤ) (position : ℕ) (f : FieldDescriptorProto) (earlier : List FieldDescriptorProto) where
+  -- what is told of a number by a map is what earlier fields tell
+  pub number-told : (numbers : ByNumber ℕ) → numbers ≡ by_number earlier → All (λ g. FitsSigned w32 (number_of g.number)) earlier
+      → (number : ℤ) → number ≡ number_of f.number → FitsSigned w32 number
+      → listed (option_map (λ first. same_number files file path number first position) (map.get numbers (item_number number))) ≡ number_duplicate files file path earlier position f
+  number-told numbers are fit number is fits =
       ap (λ found. listed (option_map (λ first. same_number files file path number first position) found))
-      (ap (λ m. map.get m (item_number number)) are.numbers ∙ latest-number number fits earlier are.numbers_fit)
+      (ap (λ m. map.get m (item_number number)) are ∙ latest-number number fits earlier fit)
       ∙ ap listed (mapped (λ first. same_number files file path number first position) (latest (λ g. int_eq (number_of g.number) number) earlier))
       ∙ ap (λ n. listed (option_map (λ e. same_number files file path n e.0 position) (latest (λ g. int_eq (number_of g.number) n) earlier))) is
 
-  name-told : (name : List ℕ)
-      → listed (option_map (λ first. same_json_name files file path name first position) (map.get maps.json_names name))
+  name-told : (names : ByText ℕ) → names ≡ by_json_name earlier → (name : List ℕ)
+      → listed (option_map (λ first. same_json_name files file path name first position) (map.get names name))
       ≡ listed (option_map (λ e. same_json_name files file path name e.0 position) (latest (λ g. option_map_or (bytes_eq name) g.json_name false) earlier))
-  name-told name =
+  name-told names are name =
       ap (λ found. listed (option_map (λ first. same_json_name files file path name first position) found))
-      (ap (λ m. map.get m name) are.json_names ∙ latest-json_name name earlier)
+      (ap (λ m. map.get m name) are ∙ latest-json_name name earlier)
       ∙ ap listed (mapped (λ first. same_json_name files file path name first position) (latest (λ g. option_map_or (bytes_eq name) g.json_name false) earlier))
 
   -- the same of a JSON name
-  pub json_name-told : option_map_or (λ name. listed (option_map (λ first. same_json_name files file path name first position) (map.get maps.json_names name))) f.json_name []
+  pub json_name-told : (names : ByText ℕ) → names ≡ by_json_name earlier
+      → option_map_or (λ name. listed (option_map (λ first. same_json_name files file path name first position) (map.get names name))) f.json_name []
       ≡ json_name_duplicate files file path earlier position f
-  json_name-told = λ i. option_map_or (λ name. name-told name i) f.json_name []
+  json_name-told names are = λ i. option_map_or (λ name. name-told names are name i) f.json_name []
+
+-- where no two fields have one JSON name, none is told
+pub no-json_name : (files : List FileDescriptorProto) (file : ℕ) (path : List ℤ) (fields : List FieldDescriptorProto) (i : ℕ) (f : FieldDescriptorProto) → i < length fields → f ≡ get_or fields i f
+    → JsonNamesDiffer fields → json_name_duplicate files file path (take i fields) i f ≡ []
+no-json_name files file path fields i f below is differ =
+    sym (json_name-told files file path i f (take i fields) (by_json_name (take i fields)) refl) ∙ next f.json_name refl
+  where
+    next : (name : Option (List ℕ)) → f.json_name ≡ name → option_map_or (λ k. listed (option_map (λ first. same_json_name files file path k first i) (map.get (by_json_name (take i fields)) k))) name [] ≡ []
+    next None given = refl
+    next (Some name) given =
+        ap (λ found. listed (option_map (λ first. same_json_name files file path name first i) found))
+        (key-missing nat_list_cmp_total (λ g. g.json_name) fields i f name below is given differ)
 
 -- the maps behind the next field
-pub next-maps : (maps : FieldMaps) (fields : List FieldDescriptorProto) (i : ℕ) (f : FieldDescriptorProto) (number : ℤ) (name : List ℕ) → i < length fields → f ≡ get_or fields i f
-    → number ≡ number_of f.number → name ≡ text_of f.name → FitsSigned w32 number → AreMapsOf maps (take i fields)
-    → (new : FieldMaps) → new.numbers ≡ map.insert maps.numbers (item_number number) i → new.names ≡ map.insert maps.names name i
-    → new.json_names ≡ option_map_or (λ k. map.insert maps.json_names k i) f.json_name maps.json_names → AreMapsOf new (take (i + 1) fields)
-next-maps maps fields i f number name below is number_is name_is fits are new numbers names json_names = record {
+pub next-maps : (maps : FieldMaps) (fields : List FieldDescriptorProto) (i : ℕ) (f : FieldDescriptorProto) (number : ℤ) → i < length fields → f ≡ get_or fields i f
+    → number ≡ number_of f.number → FitsSigned w32 number → AreMapsOf maps fields i
+    → (new : FieldMaps) → new.numbers ≡ map.insert maps.numbers (item_number number) i → new.names ≡ maps.names → new.json_names ≡ maps.json_names
+    → MatchOption new.earlier (JsonNamesDiffer fields) (λ earlier. earlier ≡ by_json_name (take (i + 1) fields)) → AreMapsOf new fields (i + 1)
+next-maps maps fields i f number below is number_is fits are new numbers names json_names earlier = record {
   numbers = numbers ∙ (λ j. map.insert (are.numbers j) (item_number (number_is j)) i) ∙ sym (keyed-next (λ g. Some (item_number (number_of g.number))) fields i f below is);
-  names = names ∙ (λ j. map.insert (are.names j) (name_is j) i) ∙ sym (keyed-next (λ g. Some (text_of g.name)) fields i f below is);
-  json_names = json_names ∙ (λ j. option_map_or (λ k. map.insert (are.json_names j) k i) f.json_name (are.json_names j)) ∙ sym (keyed-next (λ g. g.json_name) fields i f below is);
+  names = names ∙ are.names;
+  json_names = json_names ∙ are.json_names;
+  earlier = earlier;
   numbers_fit =
       let Fits : FieldDescriptorProto → Type 0 = λ g. FitsSigned w32 (number_of g.number) in
       subst (All Fits) (sym (take_more fields i f below ∙ ap (λ g. take i fields ++ g ∷ []) (sym is)))
       (All-push Fits (take i fields) f are.numbers_fit (subst (FitsSigned w32) number_is fits));
 }
+
+-- where no field was read
+pub none-read : (names : Option (ByText ℕ)) (given : ℕ) (json_names : ByText ℕ) (fields : List FieldDescriptorProto) → MatchOption names (given ≤ map.len json_names) (λ found. found ≡ map.empty)
+    → given ≡ length (keyed (λ f. f.json_name) fields) → json_names ≡ by_json_name fields → MatchOption names (JsonNamesDiffer fields) (λ earlier. earlier ≡ by_json_name [])
+none-read None given json_names fields fits is made = let many = ap map.len made in omega (arith, fits, is, many)
+none-read (Some found) given json_names fields empty is made = empty
+
+-- the JSON names of the fields before the next one, and its own
+pub next-earlier : (fields : List FieldDescriptorProto) (i : ℕ) (f : FieldDescriptorProto) → i < length fields → f ≡ get_or fields i f
+    → (earlier new : ByText ℕ) → earlier ≡ by_json_name (take i fields) → new ≡ option_map_or (λ k. map.insert earlier k i) f.json_name earlier
+    → new ≡ by_json_name (take (i + 1) fields)
+next-earlier fields i f below is earlier new are made =
+    made ∙ (λ j. option_map_or (λ k. map.insert (are j) k i) f.json_name (are j)) ∙ sym (keyed-next (λ g. g.json_name) fields i f below is)
 
 below-test : {X : Type 0} (b : Bool) (n : ℕ) (x : X) (rest : ℕ) (later : Option (ℕ × X)) → IfSome later (λ e. e.0 < n + 1 + rest)
     → IfSome (option_or later (cond b (Some (n, x)) None)) (λ e. e.0 < n + suc rest)
@@ -134,10 +163,10 @@ short-held {R = R} total key fields i short below m is q =
     subst (λ found. IfSome found (λ first. first < 2 ^ 31)) (sym (ap (λ m. map.get m q) is ∙ get-keyed total key q (take i fields)))
     (short-positions (length (take i fields)) (find test (reverse (enumerate_from 0 (take i fields)))) (short-front fields i short below) (found-below test 0 (take i fields)))
 
-pub short-numbers : (maps : FieldMaps) (fields : List FieldDescriptorProto) (i : ℕ) → fits_list fields ≡ true → i < length fields → AreMapsOf maps (take i fields)
+pub short-numbers : (maps : FieldMaps) (fields : List FieldDescriptorProto) (i : ℕ) → fits_list fields ≡ true → i < length fields → AreMapsOf maps fields i
     → (key : ℕ) → IfSome (map.get maps.numbers key) (λ first. first < 2 ^ 31)
 short-numbers maps fields i short below are = short-held nat_cmp_total (λ f. Some (item_number (number_of f.number))) fields i short below maps.numbers are.numbers
 
-pub short-json_names : (maps : FieldMaps) (fields : List FieldDescriptorProto) (i : ℕ) → fits_list fields ≡ true → i < length fields → AreMapsOf maps (take i fields)
-    → (key : List ℕ) → IfSome (map.get maps.json_names key) (λ first. first < 2 ^ 31)
-short-json_names maps fields i short below are = short-held nat_list_cmp_total (λ f. f.json_name) fields i short below maps.json_names are.json_names
+pub short-json_names : (names : ByText ℕ) (fields : List FieldDescriptorProto) (i : ℕ) → fits_list fields ≡ true → i < length fields → names ≡ by_json_name (take i fields)
+    → (key : List ℕ) → IfSome (map.get names key) (λ first. first < 2 ^ 31)
+short-json_names names fields i short below are = short-held nat_list_cmp_total (λ f. f.json_name) fields i short below names are

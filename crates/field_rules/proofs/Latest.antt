@@ -12,6 +12,7 @@ use Rattle.std.proofs.lemmas.List.Elements.{filter_map-append}
 use Rattle.std.proofs.lemmas.List.Folds.{find-append}
 use Rattle.std.proofs.lemmas.List.Sums.{fold-append}
 use Rattle.proto_types.specs.declared.records.field.FieldDescriptorProto.{FieldDescriptorProto}
+use Rattle.plain_data.specs.Lists.{listed}
 use Rattle.plain_data.specs.Maps.{inserted}
 use Rattle.plain_data.proofs.Enumerated.{entries-next}
 use Rattle.field_rules.specs.Maps.{keyed}
@@ -82,14 +83,25 @@ module _ {X : Type 0} (t u : X → Bool) where
       ∙ sym (find-append (λ (e : ℕ × X). u e.1) (reverse es) (e ∷ []))
       ∙ sym (ap (find (λ (e : ℕ × X). u e.1)) (reverse-append (e ∷ []) es))
 
+-- what is there, in a list of its own
+pub listed-option : {X : Type 0} (found : Option X) → listed found ≡ cons_option found []
+listed-option None = refl
+listed-option (Some x) = refl
+
+-- the keys of fields behind one more: its own, where it has one
+pub keyed-more : {K : Type 0} (key : FieldDescriptorProto → Option K) (fields : List FieldDescriptorProto) (i : ℕ) (f : FieldDescriptorProto) → i < length fields → f ≡ get_or fields i f
+    → keyed key (take (i + 1) fields) ≡ keyed key (take i fields) ++ cons_option (option_map (λ k. (k, i)) (key f)) []
+keyed-more {K} key fields i f below is =
+    let entry : ℕ × FieldDescriptorProto → Option (K × ℕ) = λ e. option_map (λ k. (k, e.0)) (key e.1) in
+    ap (filter_map entry) (entries-next fields i f below is)
+    ∙ filter_map-append entry (enumerate_from 0 (take i fields)) ((i, f) ∷ [])
+
 -- a map of keys behind one more field: its key, where it has one, is put in
 pub keyed-next : {K : Type 0} {R : K → K → Ordering} (key : FieldDescriptorProto → Option K) (fields : List FieldDescriptorProto) (i : ℕ) (f : FieldDescriptorProto) → i < length fields → f ≡ get_or fields i f
     → inserted {R = R} (keyed key (take (i + 1) fields)) ≡ option_map_or (λ k. map.insert (inserted {R = R} (keyed key (take i fields))) k i) (key f) (inserted {R = R} (keyed key (take i fields)))
 keyed-next {K} {R} key fields i f below is =
-    let entry : ℕ × FieldDescriptorProto → Option (K × ℕ) = λ e. option_map (λ k. (k, e.0)) (key e.1) in
-    ap (λ es. inserted {R = R} (filter_map entry es)) (entries-next fields i f below is)
-    ∙ ap (inserted {R = R}) (filter_map-append entry (enumerate_from 0 (take i fields)) ((i, f) ∷ []))
-    ∙ fold-append (λ (m : FinMap R ℕ) (e : K × ℕ). map.insert m e.0 e.1) map.empty (keyed key (take i fields)) (filter_map entry ((i, f) ∷ []))
+    ap (inserted {R = R}) (keyed-more key fields i f below is)
+    ∙ fold-append (λ (m : FinMap R ℕ) (e : K × ℕ). map.insert m e.0 e.1) map.empty (keyed key (take i fields)) (cons_option (option_map (λ k. (k, i)) (key f)) [])
     ∙ one (key f) (inserted {R = R} (keyed key (take i fields)))
   where
     one : (k : Option K) (m : FinMap R ℕ) → fold (λ (m : FinMap R ℕ) (e : K × ℕ). map.insert m e.0 e.1) m (cons_option (option_map (λ k. (k, i)) k) []) ≡ option_map_or (λ k. map.insert m k i) k m

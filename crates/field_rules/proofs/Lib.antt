@@ -1,4 +1,5 @@
 pub mod NamesBegin
+pub mod Differing
 pub mod Each
 pub mod Tells
 pub mod First

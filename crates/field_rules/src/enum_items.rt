@@ -75,9 +75,10 @@ fn read_values(
         ≡ value_items (enum_at place.entry enumeration.now) enumeration.now.value) }
     ensures begin { IfOk result (λ items. All (λ v. BeginsAtBoundary v.id) items.items) }
 {
-    let mut items = Vec::new(alloc);
+    let values = enumeration.value.as_slice();
+    let mut items = Vec::with_capacity(alloc, values.len())?;
     let own_name = enumeration.name();
-    for (position, value) in enumeration.value.as_slice().iter().enumerate() {
+    for (position, value) in values.iter().enumerate() {
         let id = identity_beside(
             alloc,
             place,

@@ -13,6 +13,7 @@ mod enum_ranges;
 mod enum_tables;
 mod enum_values;
 mod extension_ranges;
+mod field_names;
 mod field_number;
 mod identities;
 mod maps;

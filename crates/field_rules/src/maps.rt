@@ -1,4 +1,4 @@
-ghost use Rattle.std.specs.Prelude.{◌≡◌, ◌+◌, ◌<◌, ◌^◌, ℕ, List, true, [], IfOk, IfSome, OnOk};
+ghost use Rattle.std.specs.Prelude.{◌≡◌, ◌+◌, ◌<◌, ◌≤◌, ◌^◌, ℕ, List, true, [], IfOk, IfSome, MatchOption, OnOk};
 ghost use Rattle.std.specs.Prelude.{length, take, get_or};
 ghost use Rattle.std.specs.FinMap as finite;
 ghost use Rattle.std.specs.Option.{option_map, option_map_or};
@@ -12,31 +12,44 @@ ghost use Rattle.field_rules.specs.MapsOf.{AreMapsOf};
 ghost use Rattle.field_rules.specs.Maps.{item_number};
 
 use crate::Owner;
+use crate::field_names::{json_name_list, name_list};
 use plain_data::{NumberMap, Text, TextMap};
 use pool_faults::DescriptorErrorKind;
 use proto_types::{FieldDescriptorProto, tag};
 use record_walk::{Faults, Place};
 use std::alloc::{AllocError, Global};
 
-/// The maps of a message, of the fields that were read so far: from number, name and given JSON
-/// name to the position of the latest field that has it, from 0.
+/// The maps of a message: from number, name and given JSON name to the position of the latest field
+/// that has it, from 0. The map of numbers is one of the fields that were read so far.
 #[derive(Drop)]
 pub struct FieldMaps {
     pub numbers: NumberMap,
     pub names: TextMap,
     pub json_names: TextMap,
+    /// The JSON names of the fields that were read so far, where two fields of the message have
+    /// one.
+    pub earlier: Option<TextMap>,
 }
 
 impl FieldMaps {
-    /// The maps of no fields, which take no memory.
-    pub fn new(alloc: Global) -> FieldMaps
-        ensures { AreMapsOf result [] }
+    /// The maps of the fields of a message, of which none was read.
+    ///
+    /// # Errors
+    /// `AllocError` where memory was refused.
+    pub fn new(alloc: Global, fields: &[FieldDescriptorProto]) -> Result<FieldMaps, AllocError>
+        requires { fits_list fields.now ≡ true }
+        ensures { IfOk result (λ maps. AreMapsOf maps fields.now 0) }
     {
-        FieldMaps {
+        let names = name_list(alloc, fields)?.into_map()?;
+        let json_list = json_name_list(alloc, fields)?;
+        let given = json_list.len();
+        let json_names = json_list.into_map()?;
+        Ok(FieldMaps {
             numbers: NumberMap::new(alloc),
-            names: TextMap::new(alloc),
-            json_names: TextMap::new(alloc),
-        }
+            names,
+            earlier: earlier_names(alloc, &json_names, given),
+            json_names,
+        })
     }
 
     /// Enters the field of a message with a position, from 0, after those before it. That one of
@@ -53,10 +66,9 @@ impl FieldMaps {
     ) -> Result<(), AllocError>
         requires short { fits_list (out-DescriptorProto owner.message.now).field ≡ true }
         requires there { position < length (out-DescriptorProto owner.message.now).field }
-        requires maps { AreMapsOf self.old
-            (take position (out-DescriptorProto owner.message.now).field) }
+        requires maps { AreMapsOf self.old (out-DescriptorProto owner.message.now).field position }
         ensures maps { OnOk result (AreMapsOf self.new
-            (take (position + 1) (out-DescriptorProto owner.entry.message.now).field)) }
+            (out-DescriptorProto owner.entry.message.now).field (position + 1)) }
         ensures faults { OnOk result (Tells faults.old faults.new
             (duplicate_faults (named_files faults.old)
             owner.entry.place.file owner.entry.place.path.now
@@ -67,8 +79,22 @@ impl FieldMaps {
         let number = field.number();
         check_number(faults, owner.place, &self.numbers, position, number)?;
         self.numbers.insert(item_number(number), position as u32)?;
-        self.names.insert(field.name(), position as u32)?;
-        enter_json_name(faults, owner.place, &mut self.json_names, position, field)
+        match &mut self.earlier {
+            Some(earlier) => enter_json_name(faults, owner.place, earlier, position, field),
+            None => Ok(()),
+        }
+    }
+}
+
+/// A map without names, where a map of so many JSON names lacks some: two fields have one then.
+fn earlier_names(alloc: Global, json_names: &TextMap, given: usize) -> Option<TextMap>
+    ensures { MatchOption result (given ≤ finite.len json_names.now) (λ names. names
+        ≡ finite.empty) }
+{
+    if json_names.len() < given {
+        Some(TextMap::new(alloc))
+    } else {
+        None
     }
 }
 

@@ -1,4 +1,4 @@
-ghost use Rattle.std.specs.Prelude.{◌≡◌, true, [], IfOk, OnOk};
+ghost use Rattle.std.specs.Prelude.{◌≡◌, true, [], length, IfOk, OnOk};
 ghost use Rattle.std.specs.List.{All};
 ghost use Rattle.proto_types.specs.declared.message.DescriptorProto.{out-DescriptorProto};
 ghost use Rattle.record_walk.specs.Counts.{lists_fit};
@@ -47,7 +47,7 @@ pub fn read_message(
 {
     let alloc = reading.faults.alloc;
     let id = identity(alloc, place, message.name())?;
-    let mut maps = FieldMaps::new(alloc);
+    let mut maps = FieldMaps::new(alloc, message.field.as_slice())?;
     let ranges = MessageRanges::new(alloc, message)?;
     let fields = read_fields(reading, Owner { place, message }, &ranges, &mut maps)?;
     let oneofs = read_oneofs(alloc, place, message)?;
@@ -73,14 +73,15 @@ fn read_fields(
 ) -> Result<Vec<FieldDescriptorInner>, AllocError>
     requires short { lists_fit (of_message owner.message.now) ≡ true }
     requires ranges { AreRangesOf ranges.now owner.message.now }
-    requires maps { AreMapsOf maps.old [] }
+    requires maps { AreMapsOf maps.old (out-DescriptorProto owner.message.now).field 0 }
     ensures items { IfOk result (λ items. items.items
         ≡ field_items (setting_of reading.old)
         (out-DescriptorProto owner.entry.message.now).oneof_decl
         (inside_of owner.entry.place) (out-DescriptorProto owner.entry.message.now).field) }
     ensures begin { IfOk result (λ items. All (λ f. BeginsAtBoundary f.id) items.items) }
     ensures maps { OnOk result (AreMapsOf maps.new
-        (out-DescriptorProto owner.entry.message.now).field) }
+        (out-DescriptorProto owner.entry.message.now).field
+        (length (out-DescriptorProto owner.entry.message.now).field)) }
     ensures faults { OnOk result (ReadingTells reading.old reading.new
         (faults_of_fields (setting_of reading.old)
         (message_at owner.entry.place owner.entry.message.now, owner.entry.message.now)

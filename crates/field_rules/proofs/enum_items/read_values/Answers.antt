@@ -22,12 +22,12 @@ pub loop-position-preserved : goal.loop-position-preserved
 loop-position-preserved c =
     let d = shown_at c.args.place (of_enum c.args.enumeration.now) in
     let i = c.loop-position.position in
-    let v = c.value-item.result in
+    let v = c.index-values-position.result in
     let named : List ℕ → List ℕ → Identity = λ own name. named_at d.file (entry_path d.path VALUE i) (take (length d.full_name - length own) d.full_name ++ name) name in
     let id = c.in_ok-id.ensures.id ∙ ap (λ own. named own c.name.result.now) c.name-own_name.ensures ∙ ap (λ name. named (text_of c.args.enumeration.now.name) name) c.name.ensures in
     let number : to_z w32 (of_z w32 c.number.result) ≡ number_of v.number = grind (arith, to_z-of_z, c.number.ensures) in
-    let below = subst (λ (xs : List EnumValueDescriptorProto). i < length xs) c.as_slice-value-items.ensures c.loop-position-test.true in
-    let is = subst (λ (xs : List EnumValueDescriptorProto). v ≡ get_or xs i v) c.as_slice-value-items.ensures c.value-item.is in
+    let below = subst (λ (xs : List EnumValueDescriptorProto). i < length xs) c.as_slice-values.ensures c.loop-position-test.true in
+    let is = subst (λ (xs : List EnumValueDescriptorProto). v ≡ get_or xs i v) c.as_slice-values.ensures c.index-values-position.is in
     let Begins : EnumValueDescriptorInner → Type 0 = λ g. BeginsAtBoundary g.id in
     record {
       items = c.in_ok-push.ensures.items ∙ (λ j. c.loop-position.invariant.items j ++ record { id = id j; number = number j } ∷ [])

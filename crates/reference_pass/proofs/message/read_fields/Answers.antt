@@ -1,5 +1,5 @@
 use Rattle.std.proofs.lemmas.Grind.{common_steps}
-use Rattle.std.proofs.Common.{List, ◌<◌, length, get_or, subst, ◌++◌, ◌∷◌, [], ap, ◌∙◌, sym, refl, take, arith}
+use Rattle.std.proofs.Common.{◌≡◌, List, ◌<◌, length, get_or, subst, ◌++◌, ◌∷◌, [], ap, ◌∙◌, sym, refl, take, arith}
 use Rattle.std.proofs.lemmas.List.Elements.{All-push}
 use Rattle.std.specs.List.{All}
 use Rattle.proto_types.specs.Field.{no_field}
@@ -7,6 +7,7 @@ use Rattle.proto_types.specs.declared.records.field.FieldDescriptorProto.{FieldD
 use Rattle.proto_types.specs.declared.message.DescriptorProto.{out-DescriptorProto}
 use Rattle.pool_types.specs.declared.contents.field.FieldDescriptorInner.{FieldDescriptorInner}
 use Rattle.field_rules.specs.Duplicates.{duplicate_faults}
+use Rattle.field_rules.specs.MapsOf.{AreMapsOf}
 use Rattle.reference_pass.specs.SecondPass.{Owner, field_faults}
 use Rattle.reference_pass.specs.Items.{field_item}
 use Rattle.reference_pass.specs.Reading.{setting_of}
@@ -48,5 +49,10 @@ returns-clause-faults c = grind (arith, common_steps)
 pub returns-clause-items : goal.returns-clause-items
 returns-clause-items c = grind (arith, common_steps)
 
+-- all fields are entered
 pub returns-clause-maps : goal.returns-clause-maps
-returns-clause-maps c = grind (arith, common_steps)
+returns-clause-maps c =
+    let m = out-DescriptorProto c.args.owner.message.now in
+    let same : length c.as_slice-fields.result.now ≡ length m.field = ap length c.as_slice-fields.ensures in
+    let done : c.loop-position.position ≡ length m.field = grind (arith, common_steps, same) in
+    subst (AreMapsOf c.loop-position.maps m.field) done c.loop-position.invariant.maps

@@ -18,6 +18,6 @@ invariant-loop-position l =
     record {
       items : l.items.items ≡ field_items s (out-DescriptorProto m).oneof_decl (inside_of l.owner.place) so_far;
       begin : All (λ f. BeginsAtBoundary f.id) l.items.items;
-      maps : AreMapsOf l.maps so_far;
+      maps : AreMapsOf l.maps (out-DescriptorProto m).field l.position;
       faults : ReadingTells l.initial.reading l.reading (faults_of_fields s (message_at l.owner.place m, m) so_far);
     }
