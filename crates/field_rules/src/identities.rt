@@ -5,9 +5,9 @@ ghost use Rattle.proto_types.specs.Paths.{entry_path};
 ghost use Rattle.field_rules.specs.Identities.{named_at, before_ending};
 ghost use Rattle.field_rules.specs.NamesBegin.{BeginsAtBoundary};
 
-use plain_data::{Items, Text};
+use plain_data::{Path, Text};
 use pool_types::Identity;
-use proto_types::{entry_path, join};
+use proto_types::join;
 use record_walk::Place;
 use std::alloc::{AllocError, Global};
 
@@ -22,7 +22,7 @@ pub fn identity(alloc: Global, place: Place, name: &str) -> Result<Identity, All
     ensures begins { IfOk result (λ id. EndsWith place.entry.full_name.now name.now
         → BeginsAtBoundary id) }
 {
-    let path = Items::from_slice(alloc, place.path)?;
+    let path = Path::from_slice(alloc, place.path)?;
     let full_name = Text::from_str(alloc, place.full_name)?;
     Ok(named_at(place.file, path, full_name, name))
 }
@@ -46,7 +46,7 @@ pub fn identity_inside(
         (join place.entry.full_name.now name.now) name.now) }
     ensures begins { IfOk result (λ id. BeginsAtBoundary id) }
 {
-    let path = Items::from_vec(entry_path(alloc, place.path, tag, position)?);
+    let path = Path::below(alloc, place.path, tag, position as i32)?;
     let full_name = Text::from_string(join(alloc, place.full_name, name)?);
     Ok(named_at(place.file, path, full_name, name))
 }
@@ -73,14 +73,16 @@ pub fn identity_beside(
         (before_ending place.entry.full_name.now own_name.now ++ name.now) name.now) }
     ensures begins { IfOk result (λ id. BeginsAtBoundary id) }
 {
-    let path = Items::from_vec(entry_path(alloc, place.path, tag, position)?);
+    let path = Path::below(alloc, place.path, tag, position as i32)?;
     let around = front(place.full_name, own_name);
-    let full_name = Text::from_string(format!(in alloc; "{around}{name}")?);
-    Ok(named_at(place.file, path, full_name, name))
+    let mut full_name = String::with_capacity(alloc, around.len().saturating_add(name.len()))?;
+    full_name.push_str(around)?;
+    full_name.push_str(name)?;
+    Ok(named_at(place.file, path, Text::from_string(full_name), name))
 }
 
 /// Where a declaration of this full name stands, which ends with its name.
-fn named_at(file: u32, path: Items<i32>, full_name: Text, name: &str) -> Identity
+fn named_at(file: u32, path: Path, full_name: Text, name: &str) -> Identity
     ensures id { result ≡ named_at file path full_name name.now }
     ensures begins { EndsWith full_name name.now → BeginsAtBoundary result }
 {

@@ -2,7 +2,7 @@
 use crate::told::{Told, mark};
 use name_resolution::{ResolveNameFilter, ResolveNameResult, resolve_in_parts, resolve_name};
 use name_tables::{HashedNames, NameTable, PartNames};
-use plain_data::Items;
+use plain_data::Path;
 use pool_types::{Definition, DefinitionKind};
 use std::alloc::{AllocError, Global};
 use std::collections::BTreeSet;
@@ -45,7 +45,7 @@ fn add<N: NameTable>(names: &mut N, name: &str, definition: Definition) -> Resul
 fn definition(alloc: Global) -> Result<Definition, AllocError> {
     Ok(Definition {
         file: 0,
-        path: Items::from_slice(alloc, &[4, 0])?,
+        path: Path::from_slice(alloc, &[4, 0])?,
         kind: DefinitionKind::Message(0),
     })
 }

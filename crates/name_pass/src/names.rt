@@ -7,7 +7,7 @@ ghost use Rattle.name_pass.specs.FirstPass.{holder_faults};
 
 use crate::{check_camel_case_names, check_enum_values, check_syntax};
 use name_tables::{FileNames, NameTable, PoolNames};
-use plain_data::{Items, Text};
+use plain_data::{Path, Text};
 use pool_faults::DescriptorErrorKind;
 use pool_types::{Definition, DefinitionKind};
 use proto_types::{
@@ -43,7 +43,7 @@ impl NameVisitor<'_, '_> {
         &mut self,
         name: &str,
         file: u32,
-        path: Items<i32>,
+        path: Path,
         kind: DefinitionKind,
     ) -> Result<(), AllocError>
         requires { first_new self.old ≤ file }
@@ -85,7 +85,7 @@ impl NameVisitor<'_, '_> {
             (state_of self.old) (package_entry file name.now ∷ [])) }
         ensures stays { Stays self.old self.new }
     {
-        let path = Items::from_slice(self.alloc, &[tag::file::PACKAGE])?;
+        let path = Path::from_slice(self.alloc, &[tag::file::PACKAGE])?;
         self.enter(name, file, path, DefinitionKind::Package)
     }
 
@@ -119,10 +119,8 @@ impl NameVisitor<'_, '_> {
             ∷ [])) }
         ensures stays { Stays self.old self.new }
     {
-        let mut name_path = Vec::with_capacity(self.alloc, path.len() + 1)?;
-        name_path.extend_from_slice(path)?;
-        name_path.push(tag::message::NAME)?;
-        self.enter(full_name, file, Items::from_vec(name_path), kind)
+        let name_path = Path::part(self.alloc, path, tag::message::NAME)?;
+        self.enter(full_name, file, name_path, kind)
     }
 }
 

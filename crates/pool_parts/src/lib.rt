@@ -8,7 +8,7 @@
 //!
 //! ```
 //! let mut names = PoolNames::new(alloc);
-//! let path = Items::from_slice(alloc, &[4, 0, 1])?;
+//! let path = Path::from_slice(alloc, &[4, 0, 1])?;
 //! let definition = Definition {
 //!     file: 0,
 //!     path,
@@ -30,7 +30,7 @@ pub use name_resolution::{
     resolve_name, visible_from,
 };
 pub use name_tables::{FileNames, HashedNames, NameTable, PartNames, Parts, PoolNames, Scope};
-pub use plain_data::{Items, NumberMap, Text, TextMap};
+pub use plain_data::{Items, NumberMap, Path, Text, TextMap};
 pub use pool_faults::{DescriptorError, DescriptorErrorKind, Label, Labelled, label_at};
 pub use pool_types::{
     Cardinality, DefaultValue, Definition, DefinitionKind, EnumDescriptor, EnumDescriptorInner,

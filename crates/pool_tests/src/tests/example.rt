@@ -1,7 +1,7 @@
 //! The example of the face `pool_parts`, as its first page has it.
 
 use pool_parts::{
-    Definition, DefinitionKind, Items, NameTable, PoolNames, ResolveNameFilter, resolve_name,
+    Definition, DefinitionKind, NameTable, Path, PoolNames, ResolveNameFilter, resolve_name,
 };
 use std::collections::BTreeSet;
 use std::test::Fail;
@@ -10,7 +10,7 @@ use std::test::Fail;
 fn the_example_is_run(rt: HostRuntime) -> Result<(), Fail> {
     let alloc = rt.alloc();
     let mut names = PoolNames::new(alloc);
-    let path = Items::from_slice(alloc, &[4, 0, 1])?;
+    let path = Path::from_slice(alloc, &[4, 0, 1])?;
     let definition = Definition {
         file: 0,
         path,

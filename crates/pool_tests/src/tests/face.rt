@@ -8,7 +8,7 @@ use pool_parts::{
     FileDescriptorInner, FileDescriptorProto, FileNames, HashedNames, Identity, Items, Kind,
     KindIndex, Label, Labelled, MessageDescriptor, MessageDescriptorInner, MethodDescriptor,
     MethodDescriptorInner, NameTable, NumberMap, OneofDescriptor, OneofDescriptorInner, PartNames,
-    Parts, PoolNames, ResolveNameFilter, ResolveNameResult, Scope, ServiceDescriptor,
+    Parts, Path, PoolNames, ResolveNameFilter, ResolveNameResult, Scope, ServiceDescriptor,
     ServiceDescriptorInner, Syntax, Text, TextMap, ValueFault, cardinality_of, label_at,
     named_kind, parents_count, parse_simple_value, resolve_in_parts, resolve_name, simple_kind,
     unescape_c_escape_string, visible_from,

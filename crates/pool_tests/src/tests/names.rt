@@ -1,18 +1,18 @@
 //! A table of names, by its trait alone.
 
 use name_tables::{FileNames, HashedNames, NameTable};
-use plain_data::Items;
+use plain_data::Path;
 use pool_types::{Definition, DefinitionKind};
 use std::alloc::{AllocError, Global};
 use std::process::Abort;
 use std::test::Fail;
 
-fn package_of(alloc: Global, file: u32) -> Definition {
-    Definition {
+fn package_of(alloc: Global, file: u32) -> Result<Definition, AllocError> {
+    Ok(Definition {
         file,
-        path: Items::new(alloc),
+        path: Path::from_slice(alloc, &[])?,
         kind: DefinitionKind::Package,
-    }
+    })
 }
 
 /// Enters a name where the table lacks it, and tells whether it did.
@@ -30,9 +30,9 @@ fn later_files_go_and_a_copy_stays<N: NameTable>(
     alloc: Global,
     table: &mut N,
 ) -> Result<(), AllocError> {
-    assert!(rt; enter(table, "p", package_of(alloc, 0))?);
-    assert!(rt; enter(table, "q", package_of(alloc, 1))?);
-    assert!(rt; !enter(table, "q", package_of(alloc, 2))?);
+    assert!(rt; enter(table, "p", package_of(alloc, 0)?)?);
+    assert!(rt; enter(table, "q", package_of(alloc, 1)?)?);
+    assert!(rt; !enter(table, "q", package_of(alloc, 2)?)?);
     let mut copy = table.clone()?;
     assert!(rt; copy.same(table));
     table.remove_from(1);

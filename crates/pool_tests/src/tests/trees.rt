@@ -4,7 +4,7 @@ use super::meanings::meaning;
 use super::names::enter;
 use name_resolution::{ResolveNameFilter, resolve_in_parts, resolve_name};
 use name_tables::{HashedNames, NameTable, PartNames, Parts};
-use plain_data::Items;
+use plain_data::Path;
 use pool_types::{Definition, DefinitionKind};
 use std::alloc::{AllocError, Global};
 use std::collections::BTreeSet;
@@ -18,19 +18,19 @@ const ODD: [&str; 5] = ["a", "a.b", "a..b", "a.", ""];
 /// Names that are not among them.
 const ABSENT: [&str; 4] = [".", "a..", "b", "a.b."];
 
-fn message_of(alloc: Global, file: u32) -> Definition {
-    Definition {
+fn message_of(alloc: Global, file: u32) -> Result<Definition, AllocError> {
+    Ok(Definition {
         file,
-        path: Items::new(alloc),
+        path: Path::from_slice(alloc, &[])?,
         kind: DefinitionKind::Message(0),
-    }
+    })
 }
 
 /// Enters names by the files 0, 1, and so on, unless the table has them.
 fn enter_all<N: NameTable>(alloc: Global, table: &mut N, names: &[&str]) -> Result<(), AllocError> {
     let mut file = 0;
     for name in names {
-        enter(table, name, message_of(alloc, file))?;
+        enter(table, name, message_of(alloc, file)?)?;
         file = 1u32.saturating_add(file);
     }
     Ok(())

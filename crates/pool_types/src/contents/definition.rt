@@ -3,7 +3,7 @@ ghost use Rattle.std.specs.Str.{IsCharBoundary};
 ghost use Rattle.pool_types.specs.Definition.{is_package, is_parent};
 
 use crate::FileDescriptor;
-use plain_data::{Items, Text};
+use plain_data::{Path, Text};
 use std::alloc::{AllocError, Global};
 
 /// Where a declaration stands, and its name.
@@ -11,7 +11,7 @@ use std::alloc::{AllocError, Global};
 pub struct Identity {
     pub file: u32,
     /// Field numbers and positions, from the file to the declaration.
-    pub path: Items<i32>,
+    pub path: Path,
     pub full_name: Text,
     /// The byte of the full name at which the declared name begins, from 0.
     pub name_index: usize,
@@ -22,7 +22,7 @@ pub struct Identity {
 pub struct Definition {
     pub file: u32,
     /// The declaration's path, followed by the number of its name.
-    pub path: Items<i32>,
+    pub path: Path,
     pub kind: DefinitionKind,
 }
 
@@ -81,7 +81,7 @@ impl Identity {
     {
         Ok(Identity {
             file: self.file,
-            path: Items::from_slice(alloc, self.path.as_slice())?,
+            path: self.path.clone(alloc)?,
             full_name: self.full_name.clone(alloc)?,
             name_index: self.name_index,
         })
@@ -120,7 +120,7 @@ impl Definition {
     {
         Ok(Definition {
             file: self.file,
-            path: Items::from_slice(alloc, self.path.as_slice())?,
+            path: self.path.clone(alloc)?,
             kind: self.kind,
         })
     }

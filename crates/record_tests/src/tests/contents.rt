@@ -1,7 +1,7 @@
 //! The data of a pool's contents.
 
 use super::copies::check_made;
-use plain_data::{Items, NumberMap, Text, TextMap, same};
+use plain_data::{Items, NumberMap, Path, Text, TextMap, same};
 use pool_types::{
     Cardinality, DefaultValue, Definition, DefinitionKind, EnumDescriptorInner,
     EnumValueDescriptorInner, ExtensionDescriptorInner, FieldDescriptorInner, FileDescriptor,
@@ -16,7 +16,7 @@ use std::test::Fail;
 fn identity(alloc: Global) -> Result<Identity, AllocError> {
     Ok(Identity {
         file: 0,
-        path: Items::from_slice(alloc, &[4, 0])?,
+        path: Path::from_slice(alloc, &[4, 0])?,
         full_name: Text::from_str(alloc, "p.M")?,
         name_index: 2,
     })
@@ -26,7 +26,7 @@ fn identity(alloc: Global) -> Result<Identity, AllocError> {
 fn definition(alloc: Global, kind: DefinitionKind) -> Result<Definition, AllocError> {
     Ok(Definition {
         file: 0,
-        path: Items::from_slice(alloc, &[4, 0, 1])?,
+        path: Path::from_slice(alloc, &[4, 0, 1])?,
         kind,
     })
 }

@@ -1,7 +1,7 @@
 //! Texts, lists, and names in scopes.
 
 use super::copies::check_made;
-use plain_data::{Items, Text, duplicate_option, duplicates};
+use plain_data::{Items, NameList, Path, Text, duplicate_option, duplicates};
 use proto_types::join;
 use std::alloc::{AllocError, Global};
 use std::process::Abort;
@@ -104,6 +104,59 @@ fn names_are_joined_to_their_scope(rt: HostRuntime) -> Result<(), Fail> {
     for (scope, name, wanted) in NAMES {
         let full_name = join(rt.alloc(), scope, name)?;
         assert!(rt; full_name.as_str() == *wanted, "{full_name}");
+    }
+    Ok(())
+}
+
+/// Asserts that a path has these numbers, and that it equals its copy and no other path.
+fn check_path(
+    rt: &impl Abort,
+    alloc: Global,
+    path: &Path,
+    wanted: &[i32],
+) -> Result<(), AllocError> {
+    let other = Path::part(alloc, wanted, 0)?;
+    assert!(rt; path.as_slice() == wanted);
+    assert!(rt; *path == path.clone(alloc)? && *path != other);
+    Ok(())
+}
+
+#[test]
+fn paths_have_room_for_many_numbers(rt: HostRuntime) -> Result<(), Fail> {
+    let alloc = rt.alloc();
+    let mut wanted = Vec::new(alloc);
+    for number in 1..12 {
+        wanted.push(number)?;
+        let path = Path::from_slice(alloc, &wanted)?;
+        check_path(&rt, alloc, &path, &wanted)?;
+        let part = Path::part(alloc, &wanted, 0)?;
+        let inside = Path::below(alloc, &wanted, 0, 0)?;
+        assert!(rt; inside == Path::part(alloc, part.as_slice(), 0)?);
+    }
+    Ok(())
+}
+
+/// A list of so many names, of which each has one letter more than the one before.
+fn long_list(alloc: Global, names: u32) -> Result<NameList, AllocError> {
+    let mut list = NameList::with_capacity(alloc, 0, 0)?;
+    let mut name = String::new(alloc);
+    for number in 0..names {
+        list.push(name.as_str(), number)?;
+        name.push('n')?;
+    }
+    Ok(list)
+}
+
+#[test]
+fn a_map_is_made_of_few_and_of_many_names(rt: HostRuntime) -> Result<(), Fail> {
+    let alloc = rt.alloc();
+    for names in [1, 64, 65, 200] {
+        let mut twice = long_list(alloc, names)?;
+        twice.push("", names)?;
+        let (once, twice) = (long_list(alloc, names)?.into_map()?, twice.into_map()?);
+        assert!(rt; once.len() == twice.len() && once != twice);
+        assert!(rt; once.get("") == Some(0) && twice.get("") == Some(names));
+        assert!(rt; once.get("nn") == twice.get("nn") && once.get("n.n").is_none());
     }
     Ok(())
 }

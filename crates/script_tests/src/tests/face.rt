@@ -14,10 +14,11 @@ use descriptor_linker::{
     Labels, Location, MemoryInput, MemoryOutput, MessageDescriptor, MessageDescriptorInner,
     MethodDescriptor, MethodDescriptorInner, MethodDescriptorProto, NameTable, NameVisitor,
     NewItems, NumberMap, OneofDescriptor, OneofDescriptorInner, OneofDescriptorProto, Open,
-    Options, PartNames, PoolNames, ReaderInput, RecordBuilder, Report, ReportOutput, ReservedRange,
-    ResolveVisitor, Scope, Script, ScriptError, ScriptFault, ScriptInput, ScriptReader,
-    ServiceDescriptor, ServiceDescriptorInner, ServiceDescriptorProto, SourceCodeInfo, Statement,
-    Syntax, Text, TextMap, Unread, Visitor, WriterOutput, files_of, read_script, report_of, run,
+    Options, PartNames, Path, PoolNames, ReaderInput, RecordBuilder, Report, ReportOutput,
+    ReservedRange, ResolveVisitor, Scope, Script, ScriptError, ScriptFault, ScriptInput,
+    ScriptReader, ServiceDescriptor, ServiceDescriptorInner, ServiceDescriptorProto,
+    SourceCodeInfo, Statement, Syntax, Text, TextMap, Unread, Visitor, WriterOutput, files_of,
+    read_script, report_of, run,
 };
 use std::test::Fail;
 
