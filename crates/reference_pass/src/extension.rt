@@ -182,5 +182,9 @@ fn number_label(faults: &mut Faults, extension: &Identity) -> Result<Label, Allo
 fn bracketed(alloc: Global, text: &str) -> Result<Text, AllocError>
     ensures { IfOk result (λ t. t ≡ bracketed text.now) }
 {
-    Ok(Text::from_string(format!(in alloc; "[{text}]")?))
+    let mut bracketed = String::with_capacity(alloc, text.len().saturating_add(2))?;
+    bracketed.push('[')?;
+    bracketed.push_str(text)?;
+    bracketed.push(']')?;
+    Ok(Text::from_string(bracketed))
 }

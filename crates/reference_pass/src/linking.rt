@@ -1,7 +1,7 @@
 //! Records are linked where they stand, by the items of a pool. The items say what each reference
 //! means, so nothing is looked up by its name.
 
-ghost use Rattle.std.specs.Prelude.{◌≡◌, ◌∷◌, [], IfOk, OnOk, slice_get};
+ghost use Rattle.std.specs.Prelude.{◌≡◌, ◌∷◌, [], Some, IfOk, IsTrue, OnOk, slice_get};
 ghost use Rattle.std.specs.Option.{option_map, option_map_or};
 ghost use Rattle.proto_types.specs.Names.{join};
 ghost use Rattle.proto_types.specs.Readers.{text_of};
@@ -159,8 +159,7 @@ impl<'a> Linker<'a> {
             return Ok(());
         }
         if let Some(name) = self.kind_name(kind) {
-            let name = dotted(self.alloc, name)?;
-            field.type_name = Some(name);
+            write_dotted(self.alloc, name, &mut field.type_name)?;
             field.type_ = kind_number(field.field_type(), kind, field.type_);
         }
         Ok(())
@@ -273,8 +272,7 @@ impl<'a> Linker<'a> {
             ≡ reference_by (lists_of self.entry) message reference.old) }
     {
         if let Some(name) = self.message_name(message) {
-            let name = dotted(self.alloc, name)?;
-            *reference = Some(name);
+            write_dotted(self.alloc, name, reference)?;
         }
         Ok(())
     }
@@ -319,9 +317,41 @@ fn kind_number(written: FieldType, kind: KindIndex, given: Option<i32>) -> Optio
     }
 }
 
+/// Makes a reference a dot and a full name. One that is that already stays as it is, without a copy.
+fn write_dotted(
+    alloc: Global,
+    full_name: &str,
+    reference: &mut Option<Text>,
+) -> Result<(), AllocError>
+    ensures { OnOk result (reference.new ≡ Some (46 ∷ full_name.now)) }
+{
+    if is_dotted(reference, full_name) {
+        return Ok(());
+    }
+    let name = dotted(alloc, full_name)?;
+    *reference = Some(name);
+    Ok(())
+}
+
+/// Whether a reference is a dot and a full name.
+fn is_dotted(reference: &Option<Text>, full_name: &str) -> bool
+    ensures { IsTrue result → reference.now ≡ Some (46 ∷ full_name.now) }
+{
+    let Some(name) = reference else {
+        return false;
+    };
+    match name.as_str().strip_prefix('.') {
+        Some(rest) => rest == full_name,
+        None => false,
+    }
+}
+
 /// A dot and a full name.
 fn dotted(alloc: Global, full_name: &str) -> Result<Text, AllocError>
     ensures { IfOk result (λ name. name ≡ 46 ∷ full_name.now) }
 {
-    Ok(Text::from_string(format!(in alloc; ".{full_name}")?))
+    let mut name = String::with_capacity(alloc, full_name.len().saturating_add(1))?;
+    name.push('.')?;
+    name.push_str(full_name)?;
+    Ok(Text::from_string(name))
 }
