@@ -1,4 +1,4 @@
--- That the maps of a message are those of its fields, up to a position where they are read one by one.
+-- That the maps of a message are those of its fields, of which those before a position were read.
 use Rattle.std.specs.Prelude.{◌≡◌, ◌≤◌, ℕ, List, length, take, FitsSigned, MatchOption}
 use Rattle.std.specs.FinMap as map
 use Rattle.std.specs.Int.{w32}
@@ -14,7 +14,8 @@ JsonNamesDiffer fields = length (keyed (λ f. f.json_name) fields) ≤ map.len (
 
 -- maps are those of fields, of which the ones before a position were read; their numbers are of 32
 -- bits
-pub record AreMapsOf (maps : FieldMaps) (fields : List FieldDescriptorProto) (position : ℕ) : Type 0 where
+pub record AreMapsOf (maps : FieldMaps) (fields : List FieldDescriptorProto) (position : ℕ)
+    : Type 0 where
   pub numbers : maps.numbers ≡ by_number (take position fields)
   pub names : maps.names ≡ by_name fields
   pub json_names : maps.json_names ≡ by_json_name fields

@@ -317,7 +317,7 @@ fn kind_number(written: FieldType, kind: KindIndex, given: Option<i32>) -> Optio
     }
 }
 
-/// Makes a reference a dot and a full name. One that is that already stays as it is, without a copy.
+/// Makes a reference a dot and a full name. One that is so already stays, without a copy.
 fn write_dotted(
     alloc: Global,
     full_name: &str,
