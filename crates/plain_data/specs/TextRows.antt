@@ -77,7 +77,8 @@ Lacks bytes rows key = LacksFrom bytes rows key 0 (length rows)
 -- the texts of the rows from a position up to another rise
 abbrev pub IsRun : List ℕ → List Row → ℕ → ℕ → Type 0
 IsRun bytes rows from to =
-    (i j : ℕ) → from ≤ i → i < j → j < to → text_order (text_at bytes rows i) (text_at bytes rows j) ≡ Less
+    (i j : ℕ) → from ≤ i → i < j → j < to
+    → text_order (text_at bytes rows i) (text_at bytes rows j) ≡ Less
 
 -- where the run with an index begins, from 0, and the one before it ends
 abbrev pub bound : List ℕ → ℕ → ℕ
@@ -99,8 +100,10 @@ pub record IsSound (bytes : List ℕ) (rows : List Row) (runs : List ℕ) : Type
 -- entries have the text of each row up to a position, with its number
 abbrev pub Covers : List ℕ → List Row → ℕ → List (List ℕ × ℕ) → Type 0
 Covers bytes rows to entries =
-    (at : ℕ) → at < to → lookup (bytes_eq (text_at bytes rows at)) entries ≡ Some (slice_index_or rows at no_row).number
+    (at : ℕ) → at < to
+    → lookup (bytes_eq (text_at bytes rows at)) entries ≡ Some (slice_index_or rows at no_row).number
 
 -- no row up to a position has the text of a later one
 abbrev pub AreApart : List ℕ → List Row → ℕ → Type 0
-AreApart bytes rows to = (at : ℕ) → at < to → LacksFrom bytes rows (text_at bytes rows at) (at + 1) (length rows)
+AreApart bytes rows to =
+    (at : ℕ) → at < to → LacksFrom bytes rows (text_at bytes rows at) (at + 1) (length rows)
