@@ -24,6 +24,7 @@ entries_of bytes rows = each (λ row. (text_of bytes row, row.number)) rows
 abbrev pub made_of : List ℕ → List Row → ByText ℕ
 made_of bytes rows = map.from_entries (entries_of bytes rows)
 
+-- what stands for the row at a position past the end
 abbrev pub no_row : Row
 no_row = record { start = 0; end = 0; number = 0; hash = 0 }
 
@@ -31,14 +32,16 @@ no_row = record { start = 0; end = 0; number = 0; hash = 0 }
 abbrev pub text_at : List ℕ → List Row → ℕ → List ℕ
 text_at bytes rows at = text_of bytes (slice_index_or rows at no_row)
 
--- a number by which texts are told apart at first sight
+-- a digest with one byte more: 32 bits, as FNV-1a takes them in
 abbrev pub taken_in : ℕ → ℕ → ℕ
 taken_in digest byte = bit_xor digest byte * 16777619 % 2 ^ 32
 
+-- a digest with further bytes
 abbrev pub digest_from : ℕ → List ℕ → ℕ
 digest_from digest [] = digest
 digest_from digest (byte ∷ bytes) = digest_from (taken_in digest byte) bytes
 
+-- the digest of a text, by which texts are told apart at first sight
 abbrev pub digest_of : List ℕ → ℕ
 digest_of text = digest_from 2166136261 text
 
