@@ -148,7 +148,7 @@ fn branch_of(tree: &NameTree, latest: Option<&Latest>, name: &str) -> Option<u32
 /// that is near, else part by part.
 ///
 /// # Errors
-/// `AllocError` where memory was refused, or where there are 4,294,967,296 branches.
+/// `AllocError` where memory was refused.
 fn insert_name(tree: &mut NameTree, latest: Option<&Latest>, name: &str) -> Result<u32, AllocError>
     requires tree { IsTree tree.old }
     requires latest { IsLatest tree.old (option_copied latest) }
@@ -166,7 +166,7 @@ fn insert_name(tree: &mut NameTree, latest: Option<&Latest>, name: &str) -> Resu
 /// The branch of a name. It is inserted part by part where there is none.
 ///
 /// # Errors
-/// `AllocError` where memory was refused, or where there are 4,294,967,296 branches.
+/// `AllocError` where memory was refused.
 fn insert_parts(tree: &mut NameTree, name: &str) -> Result<u32, AllocError>
     requires { IsTree tree.old }
     ensures tree { IsTree tree.new }

@@ -139,7 +139,7 @@ pub(crate) fn has_name(nodes: &[Node], texts: &PartTexts, at: u32, name: &str) -
 /// Inserts a branch at the slot where it would be found.
 ///
 /// # Errors
-/// `AllocError` where memory was refused, or where there are 4,294,967,296 branches.
+/// `AllocError` where memory was refused, as it is past 4,294,967,296 branches.
 pub(crate) fn insert(
     texts: &mut PartTexts,
     nodes: &mut Vec<Node>,
@@ -158,6 +158,8 @@ pub(crate) fn insert(
         (rows texts.new nodes.new.items ≡ rows texts.old nodes.old.items) }
 {
     let Ok(at) = u32::try_from(nodes.len()) else {
+        // No number is left for a branch, so this asks for more room than can be granted.
+        nodes.reserve(usize::MAX)?;
         return Err(AllocError);
     };
     push_leaf(texts, nodes, key)?;

@@ -148,7 +148,7 @@ impl NameTree {
     /// The child of a branch with a part, which is inserted where there is none.
     ///
     /// # Errors
-    /// `AllocError` where memory was refused, or where there are 4,294,967,296 branches.
+    /// `AllocError` where memory was refused, as it is past 4,294,967,296 branches.
     pub fn insert(&mut self, parent: u32, part: &str) -> Result<u32, AllocError>
         requires { parent < length self.old }
         ensures ok { IfOk result (λ k. InsertsChild self.old self.new parent part.now k) }
