@@ -2,3 +2,4 @@ mod Texts
 mod Found
 mod Changed
 mod Linked
+mod Refused

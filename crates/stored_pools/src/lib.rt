@@ -2,5 +2,7 @@
 #![tactic(auto)]
 
 mod laws;
+mod storing;
 
 pub use laws::{linked_are_whole, stored_is_loaded};
+pub use storing::{LoadError, load, store};
