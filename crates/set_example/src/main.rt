@@ -3,26 +3,23 @@
 #![tactic(auto)]
 
 use descriptor_linker::DescriptorPool;
-use proto_records::{FileDescriptorSet, Items, decode, encode};
+use proto_records::{decode, encode};
 use script_answers::{write_counts, write_walk};
 use std::alloc::{AllocError, Global};
 use std::{fs, io};
+use stored_pools::{load, store};
 
 fn main(rt: HostRuntime) -> io::Result<()> {
     let alloc = rt.alloc();
     let bytes = fs::read(&rt, "well_known.pb")?;
     let mut report = String::new(alloc);
-    tell_set(alloc, &mut report, bytes.as_slice())?;
+    tell_same(
+        &mut report,
+        "written",
+        is_written_again(alloc, bytes.as_slice())?,
+    )?;
+    tell_pool(alloc, &mut report, &pool_of(alloc, bytes.as_slice())?)?;
     print!(rt; "{report}")
-}
-
-/// Tells whether a set is written as it was read, byte for byte, and of the pool of its files.
-fn tell_set(alloc: Global, report: &mut String, bytes: &[u8]) -> io::Result<()> {
-    let set = read_set(alloc, bytes)?;
-    let is_same = encode(alloc, &set)?.as_slice() == bytes;
-    tell_same(report, "written", is_same)?;
-    let pool = link(alloc, set)?;
-    tell_pool(alloc, report, &pool)
 }
 
 /// Tells whether a pool that is stored as a set is loaded as an equal pool, and what it declares.
@@ -33,33 +30,25 @@ fn tell_pool(alloc: Global, report: &mut String, pool: &DescriptorPool) -> io::R
     Ok(())
 }
 
-fn is_loaded_again(alloc: Global, pool: &DescriptorPool) -> io::Result<bool> {
-    let stored = store(alloc, pool)?;
-    let set = read_set(alloc, stored.as_slice())?;
-    Ok(link(alloc, set)? == *pool)
-}
-
-/// The set that bytes encode.
-fn read_set(alloc: Global, bytes: &[u8]) -> io::Result<FileDescriptorSet> {
+/// Whether a set is written as it was read, byte for byte.
+fn is_written_again(alloc: Global, bytes: &[u8]) -> io::Result<bool> {
     match decode(alloc, bytes) {
-        Ok(set) => Ok(set),
+        Ok(set) => Ok(encode(alloc, &set)?.as_slice() == bytes),
         Err(_fault) => Err(io::Error::other("the bytes are no descriptor set")),
     }
 }
 
-/// The pool of the files of a set.
-fn link(alloc: Global, set: FileDescriptorSet) -> io::Result<DescriptorPool> {
-    let mut pool = DescriptorPool::new(alloc);
-    match pool.build_files(set.file.into_vec()) {
-        Ok(()) => Ok(pool),
-        Err(_error) => Err(io::Error::other("the set breaks a rule")),
-    }
+fn is_loaded_again(alloc: Global, pool: &DescriptorPool) -> io::Result<bool> {
+    let stored = store(alloc, pool)?;
+    Ok(pool_of(alloc, stored.as_slice())? == *pool)
 }
 
-/// The set of the linked files of a pool.
-fn store(alloc: Global, pool: &DescriptorPool) -> Result<Vec<u8>, AllocError> {
-    let file = Items::from_vec(pool.linked_files()?);
-    encode(alloc, &FileDescriptorSet { file })
+/// The pool of the files of a set.
+fn pool_of(alloc: Global, bytes: &[u8]) -> io::Result<DescriptorPool> {
+    match load(alloc, bytes) {
+        Ok(pool) => Ok(pool),
+        Err(_error) => Err(io::Error::other("the bytes are no set that breaks no rule")),
+    }
 }
 
 fn tell_same(report: &mut String, what: &str, is_same: bool) -> Result<(), AllocError> {
