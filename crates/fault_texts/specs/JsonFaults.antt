@@ -11,7 +11,7 @@ use Rattle.pool_faults.specs.Fault.{fault_text, shown_label}
 use Rattle.json_strings.specs.JsonStrings.{json_string}
 use Rattle.fault_texts.specs.Elements.{element_of}
 use Rattle.fault_texts.specs.FaultKinds.{fault_code, related_label}
-use Rattle.fault_texts.specs.Remedies.{remedy}
+use Rattle.fault_texts.specs.Notes.{note}
 
 -- numbers as an array
 abbrev pub json_numbers : List ℤ → List ℕ
@@ -67,9 +67,9 @@ json_head fault =
 abbrev pub json_tail : List FileDescriptorProto → DescriptorErrorKind → List ℕ
 json_tail files fault =
     codes "\"related\":" ++ (json_related files (related_label fault)
-    ++ (codes ",\"note\":" ++ json_string (remedy fault)))
+    ++ (codes ",\"note\":" ++ json_string (note files fault)))
 
--- a fault: its code, its text, where it stands, its second place, and what to do
+-- a fault: its code, its text, where it stands, its second place, and what is told beside it
 unfoldable pub json_fault : List FileDescriptorProto → DescriptorErrorKind → List ℕ
 json_fault files fault =
     codes "{" ++ (json_head fault ++ (codes "," ++ (json_place files (shown_label fault)

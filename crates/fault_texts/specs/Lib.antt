@@ -4,3 +4,5 @@ pub mod Elements
 pub mod Lines
 pub mod PlainFaults
 pub mod JsonFaults
+pub mod DeclaringFiles
+pub mod Notes

@@ -10,7 +10,7 @@ use Rattle.pool_faults.specs.Fault.{fault_text, shown_label}
 use Rattle.fault_texts.specs.Elements.{element_of}
 use Rattle.fault_texts.specs.FaultKinds.{related_label, related_words}
 use Rattle.fault_texts.specs.Lines.{line}
-use Rattle.fault_texts.specs.Remedies.{remedy}
+use Rattle.fault_texts.specs.Notes.{note}
 
 -- a line and a column of a file
 abbrev pub position_words : List ℕ → ℤ → ℤ → List ℕ
@@ -63,11 +63,11 @@ abbrev pub related_line : List FileDescriptorProto → DescriptorErrorKind → L
 related_line files fault =
     option_map_or (λ label. line (second_words files fault label)) (related_label fault) []
 
--- what to do about a fault
-abbrev pub note_words : DescriptorErrorKind → List ℕ
-note_words fault = codes "  note: " ++ remedy fault
+-- what is told beside a fault
+abbrev pub note_words : List FileDescriptorProto → DescriptorErrorKind → List ℕ
+note_words files fault = codes "  note: " ++ note files fault
 
 -- the lines of a fault
 unfoldable pub fault_lines : List FileDescriptorProto → DescriptorErrorKind → List ℕ
 fault_lines files fault = line (fault_words files fault)
-    ++ (related_line files fault ++ line (note_words fault))
+    ++ (related_line files fault ++ line (note_words files fault))

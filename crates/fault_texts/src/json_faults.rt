@@ -6,7 +6,7 @@ ghost use Rattle.fault_texts.specs.JsonFaults as spec;
 
 use crate::elements::element_of;
 use crate::kinds::{fault_code, fault_message, related_label};
-use crate::remedies::remedy;
+use crate::notes::note;
 use json_strings::json_string;
 use plain_data::Text;
 use pool_faults::{DescriptorErrorKind, Label};
@@ -137,7 +137,7 @@ fn json_head(alloc: Global, fault: &DescriptorErrorKind) -> Result<String, Alloc
     format!(in alloc; "\"code\":\"{code}\",\"message\":{message}")
 }
 
-/// The second place of a fault, and what to do, as two members of an object.
+/// The second place of a fault, and what is told beside it, as two members of an object.
 fn json_tail(
     alloc: Global,
     files: &[FileDescriptorProto],
@@ -146,12 +146,12 @@ fn json_tail(
     ensures { IfOk result (λ s. string_bytes s ≡ spec.json_tail files.now fault.now) }
 {
     let related = json_related(alloc, files, related_label(fault))?;
-    let note = json_string(alloc, remedy(fault))?;
+    let note = json_string(alloc, note(alloc, files, fault)?.as_str())?;
     format!(in alloc; "\"related\":{related},\"note\":{note}")
 }
 
-/// A fault as an object of JSON: its code, its text, where it stands, its second place, and what to
-/// do. Elements are told by the records of the files.
+/// A fault as an object of JSON: its code, its text, where it stands, its second place, and what is
+/// told beside it. Elements are told by the records of the files.
 ///
 /// # Errors
 /// `AllocError` where memory was refused.

@@ -1,11 +1,13 @@
 //! Faults as texts: as lines for people, and as objects of JSON.
 #![tactic(auto)]
 
+mod declared;
 mod elements;
 mod json_faults;
 mod kinds;
 pub mod laws;
 mod lines;
+mod notes;
 mod plain_faults;
 mod remedies;
 
@@ -13,5 +15,6 @@ pub use elements::{element_of, file_named};
 pub use json_faults::json_fault;
 pub use kinds::{fault_code, related_label};
 pub use lines::write_line;
+pub use notes::note;
 pub use plain_faults::write_fault_lines;
 pub use remedies::remedy;

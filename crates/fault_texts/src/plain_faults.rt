@@ -7,7 +7,7 @@ ghost use Rattle.fault_texts.specs.PlainFaults as spec;
 use crate::elements::element_of;
 use crate::kinds::{fault_message, related_label, related_words};
 use crate::lines::write_line;
-use crate::remedies::remedy;
+use crate::notes::note;
 use pool_faults::{DescriptorErrorKind, Label};
 use proto_types::FileDescriptorProto;
 use std::alloc::{AllocError, Global};
@@ -156,12 +156,17 @@ fn write_related_line(
     }
 }
 
-/// What to do about a fault.
-fn note_words(alloc: Global, fault: &DescriptorErrorKind) -> Result<String, AllocError>
-    ensures { IfOk result (λ s. string_bytes s ≡ spec.note_words fault.now) }
+/// What is told beside a fault.
+fn note_words(
+    alloc: Global,
+    files: &[FileDescriptorProto],
+    fault: &DescriptorErrorKind,
+) -> Result<String, AllocError>
+    ensures { IfOk result (λ s. string_bytes s ≡ spec.note_words files.now fault.now) }
 {
-    let remedy = remedy(fault);
-    format!(in alloc; "  note: {remedy}")
+    let note = note(alloc, files, fault)?;
+    let note = note.as_str();
+    format!(in alloc; "  note: {note}")
 }
 
 /// Writes a fault as lines for people: where it stands and its text; where its second place stands,
@@ -182,6 +187,6 @@ pub fn write_fault_lines(
     let words = fault_words(alloc, files, fault)?;
     write_line(text, words.as_str())?;
     write_related_line(alloc, text, files, fault)?;
-    let note = note_words(alloc, fault)?;
+    let note = note_words(alloc, files, fault)?;
     write_line(text, note.as_str())
 }
