@@ -46,6 +46,15 @@ abbrev pub no_verdict : List ℕ → Answer
 no_verdict words =
     record { status = status.NoVerdict; report = []; complaint = complaint words }
 
+-- the same of wrong arguments, with those that there are
+abbrev pub wrong_arguments : List ℕ → Answer
+wrong_arguments words = record {
+  status = status.NoVerdict;
+  report = [];
+  complaint = complaint words
+      ++ codes "usage: check_descriptors [--json] [--max-faults N] FILE...\n";
+}
+
 -- where an input is no set: a line, and an object where one is wanted
 abbrev pub unread_answer : Wanted → NotASet → Answer
 unread_answer w n = record {

@@ -159,6 +159,25 @@ pub fn complain(alloc: Global, words: &str) -> Result<Answer, AllocError>
     })
 }
 
+/// The answer to wrong arguments: why they are, and those that there are.
+///
+/// # Errors
+/// `AllocError` where memory was refused.
+pub fn complain_of_arguments(alloc: Global, words: &str) -> Result<Answer, AllocError>
+    ensures { IfOk result (λ answer. answer ≡ spec.wrong_arguments words.now) }
+{
+    let line = complaint(alloc, words)?;
+    let line = line.as_str();
+    let complaint = format!(in alloc;
+        "{line}usage: check_descriptors [--json] [--max-faults N] FILE...\n"
+    )?;
+    Ok(Answer {
+        status: Status::NoVerdict,
+        report: Text::new(alloc),
+        complaint: Text::from_string(complaint),
+    })
+}
+
 /// A line of the program's for the standard error.
 fn complaint(alloc: Global, words: &str) -> Result<Text, AllocError>
     ensures { IfOk result (λ text. text ≡ spec.complaint words.now) }

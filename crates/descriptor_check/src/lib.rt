@@ -15,6 +15,6 @@ mod verdicts;
 pub use answer::{Answer, Status, Wanted};
 pub use arguments::{HELP, Job, Request, VERSION, read_arguments};
 pub use batches::{BatchError, Flaw, NotASet, read_batch};
-pub use checking::{check, complain, tell};
+pub use checking::{check, complain, complain_of_arguments, tell};
 pub use inputs::Input;
 pub use verdicts::{Verdict, verdict_on};
