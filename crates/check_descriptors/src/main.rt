@@ -7,7 +7,8 @@ ghost use Rattle.descriptor_check.specs.Statuses.{status_number};
 ghost use Rattle.check_descriptors.specs.Endings.{EndsAs};
 
 use descriptor_check::{
-    Answer, HELP, Input, Job, Request, Status, VERSION, check, complain, read_arguments, tell,
+    Answer, HELP, Input, Job, Request, Status, VERSION, check, complain, complain_of_arguments,
+    read_arguments, tell,
 };
 use plain_data::{Items, Text};
 use std::alloc::{AllocError, Global};
@@ -55,7 +56,7 @@ fn answer(rt: &HostRuntime) -> Result<Answer, AllocError> {
         Request::Check(job) => check_files(rt, &job),
         Request::Help => tell(alloc, HELP),
         Request::Version => tell(alloc, VERSION),
-        Request::Wrong(words) => complain(alloc, words.as_str()),
+        Request::Wrong(words) => complain_of_arguments(alloc, words.as_str()),
     }
 }
 
