@@ -7,6 +7,7 @@ use Rattle.record_walk.specs.declared.counts.Counts.{Counts}
 abbrev pub counted : ℕ → List ℕ → List ℕ → List ℕ
 counted n one many = decimal n ++ (codes " " ++ (if n == 1 then one else many))
 
+-- the line of an accepted batch
 abbrev pub accepted_text : Counts → List ℕ
 accepted_text c =
     codes "accepted: " ++ (counted c.files (codes "file") (codes "files")

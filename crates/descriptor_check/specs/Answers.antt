@@ -25,14 +25,17 @@ use Rattle.descriptor_check.specs.declared.verdicts.Verdict.TheVariants.{Accepte
 abbrev pub told : Status → List ℕ → Answer
 told st text = record { status = st; report = text; complaint = [] }
 
+-- what is answered of an accepted batch
 abbrev pub accepted_answer : Wanted → Counts → Answer
 accepted_answer w counts =
     told status.Accepted (if w.is_json then accepted_json counts else accepted_text counts)
 
+-- of a refused one, whose faults these are
 abbrev pub refused_answer : Wanted → List FileDescriptorProto → List DescriptorErrorKind → Answer
 refused_answer w files faults = told status.Refused
     (if w.is_json then refused_json files w.most faults else refused_text files w.most faults)
 
+-- of one that has too much of a kind
 abbrev pub too_many_answer : Wanted → CountKind → Answer
 too_many_answer w kind =
     told status.Refused (if w.is_json then too_many_json kind else too_many_text kind)

@@ -67,6 +67,7 @@ abbrev pub with_files : Job → List (List ℕ) → Request
 with_files job [] = Wrong (codes "no file is named")
 with_files job (_ ∷ _) = Check job
 
+-- what is asked once all words are read
 abbrev pub finished : Reading → Request
 finished (reading.Reads job) = with_files job job.files
 finished (reading.Awaits job) = Wrong (codes "--max-faults: give a number from 0 on")

@@ -24,20 +24,24 @@ head verdict counts too_many =
 abbrev pub tail : ℕ → List ℕ → List ℕ
 tail more error = codes "\"more\":" ++ (decimal more ++ (codes ",\"error\":" ++ error))
 
+-- the object of an accepted batch
 abbrev pub accepted_json : Counts → List ℕ
 accepted_json counts =
     object (head (codes "accepted") (json_counts counts) (codes "null")) [] (tail 0 (codes "null"))
 
+-- the object of a refused one, with so many faults at most
 abbrev pub refused_json : List FileDescriptorProto → ℕ → List DescriptorErrorKind → List ℕ
 refused_json files most faults =
     object (head (codes "refused") (codes "null") (codes "null"))
     (json_faults files (take most faults)) (tail (length faults - most) (codes "null"))
 
+-- the object of one that has too much of a kind
 abbrev pub too_many_json : CountKind → List ℕ
 too_many_json kind =
     object (head (codes "refused") (codes "null") (json_string (count_word kind))) []
     (tail 0 (codes "null"))
 
+-- the object where there is no verdict, with the reason as a string
 abbrev pub unread_json : List ℕ → List ℕ
 unread_json words =
     object (head (codes "none") (codes "null") (codes "null")) [] (tail 0 (json_string words))

@@ -15,6 +15,7 @@ abbrev pub more_line : ℕ → ℕ → List ℕ
 more_line most n =
     if nat_lt most n then codes "and " ++ (decimal (n - most) ++ codes " more\n") else []
 
+-- the last line of a refused batch
 abbrev pub refused_line : ℕ → List ℕ
 refused_line n = codes "refused: " ++ (counted n (codes "fault") (codes "faults") ++ codes "\n")
 
