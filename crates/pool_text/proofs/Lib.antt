@@ -1,0 +1,2 @@
+pub mod BytesText
+pub mod Steps

@@ -1,0 +1,9 @@
+use Rattle.std.proofs.Common.{◌≡◌, ◌++◌, string_bytes, take}
+use Rattle.std.specs.List.{flat_map}
+use Rattle.pool_text.specs.Items.{message_text}
+use Rattle.pool_text.proofs.message.write_messages.Given as goal
+
+-- the messages before the index are told
+abbrev pub invariant-loop-index : goal.invariant-loop-index
+invariant-loop-index l =
+    string_bytes l.text ≡ string_bytes l.initial.text ++ flat_map (message_text l.pool) (take l.index l.pool.messages)

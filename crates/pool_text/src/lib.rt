@@ -1,0 +1,40 @@
+//! A pool as a text, in the terms of protobuf: lines for each file, message, enum, service and
+//! extension, and for each of their parts; and the faults of a refused batch as a text.
+#![tactic(auto)]
+
+mod enumeration;
+mod extension;
+mod faults;
+mod field;
+mod file;
+mod head;
+mod message;
+mod service;
+mod values;
+mod words;
+
+ghost use Rattle.std.specs.Prelude.{◌≡◌, IfOk, string_bytes};
+ghost use Rattle.pool_text.specs.Items.{pool_text};
+
+use descriptor_pool::DescriptorPool;
+pub use faults::faults_text;
+use std::alloc::{AllocError, Global};
+
+/// All that a pool has, as a text: its files, messages, enums, services and extensions, each kind
+/// in the order of linking. A line names an item or a part of one by its full name, and what it
+/// refers to as well, so it is the same whatever stands before it in the pool. The tables by which
+/// parts are looked up are not told: they follow from the parts.
+///
+/// # Errors
+/// `AllocError` where memory was refused.
+pub fn describe(alloc: Global, pool: &DescriptorPool) -> Result<String, AllocError>
+    ensures { IfOk result (λ text. string_bytes text ≡ pool_text pool.now) }
+{
+    let mut text = String::new(alloc);
+    file::write_files(&mut text, pool)?;
+    message::write_messages(&mut text, alloc, pool)?;
+    enumeration::write_enums(&mut text, alloc, pool)?;
+    service::write_services(&mut text, alloc, pool)?;
+    extension::write_extensions(&mut text, alloc, pool)?;
+    Ok(text)
+}

@@ -1,0 +1,215 @@
+//! Words of the text of a pool.
+
+ghost use Rattle.std.specs.Prelude.{◌≡◌, IfOk, string_bytes};
+ghost use Rattle.pool_faults.specs.Fault.{path_text};
+ghost use Rattle.pool_text.specs.Words as spec;
+
+use descriptor_pool::DescriptorPool;
+use pool_types::{
+    Cardinality, EnumDescriptor, FileDescriptor, Identity, KindIndex, MessageDescriptor, Syntax,
+};
+use record_lists::find_field_proto;
+use std::alloc::{AllocError, Global};
+
+/// A name as a word: two quotes where it is empty.
+pub(super) fn alone(name: &str) -> &str
+    ensures { result.now ≡ spec.alone name.now }
+{
+    if name.is_empty() { "''" } else { name }
+}
+
+/// The name of a file, as a word.
+pub(super) fn file_name(pool: &DescriptorPool, file: u32) -> &str
+    ensures { result.now ≡ spec.file_name pool.now file }
+{
+    match pool.file(FileDescriptor::new(file)) {
+        Some(file) => alone(file.raw.name()),
+        None => alone(""),
+    }
+}
+
+/// The full name of a message, as a word.
+pub(super) fn message_name(pool: &DescriptorPool, message: u32) -> &str
+    ensures { result.now ≡ spec.message_name pool.now message }
+{
+    match pool.message(MessageDescriptor::new(message)) {
+        Some(message) => alone(message.id.full_name()),
+        None => alone(""),
+    }
+}
+
+/// The full name of an enum, as a word.
+fn enum_name(pool: &DescriptorPool, enumeration: u32) -> &str
+    ensures { result.now ≡ spec.enum_name pool.now enumeration }
+{
+    match pool.enum_(EnumDescriptor::new(enumeration)) {
+        Some(enumeration) => alone(enumeration.id.full_name()),
+        None => alone(""),
+    }
+}
+
+/// The word for a syntax.
+pub(super) fn syntax_word(syntax: Syntax) -> &'static str
+    ensures { result.now ≡ spec.syntax_word syntax }
+{
+    match syntax {
+        Syntax::Proto2 => "proto2",
+        Syntax::Proto3 => "proto3",
+    }
+}
+
+/// The word for how often a field stands in a message.
+fn cardinality_word(cardinality: Cardinality) -> &'static str
+    ensures { result.now ≡ spec.cardinality_word cardinality }
+{
+    match cardinality {
+        Cardinality::Optional => "optional",
+        Cardinality::Required => "required",
+        Cardinality::Repeated => "repeated",
+    }
+}
+
+/// The words for whether a field is packed, and whether a message tells that it is set.
+pub(super) fn flag_words(is_packed: bool, supports_presence: bool) -> &'static str
+    ensures { result.now ≡ spec.flag_words is_packed supports_presence }
+{
+    match (is_packed, supports_presence) {
+        (true, true) => " packed presence",
+        (true, false) => " packed",
+        (false, true) => " presence",
+        (false, false) => "",
+    }
+}
+
+/// The kind of a field.
+fn kind_words(alloc: Global, pool: &DescriptorPool, kind: KindIndex) -> Result<String, AllocError>
+    ensures { IfOk result (λ s. string_bytes s ≡ spec.kind_words pool.now kind) }
+{
+    match kind {
+        KindIndex::Message(message) => {
+            let name = message_name(pool, message);
+            format!(in alloc; "message {name}")
+        }
+        KindIndex::Group(message) => {
+            let name = message_name(pool, message);
+            format!(in alloc; "group {name}")
+        }
+        KindIndex::Enum(enumeration) => {
+            let name = enum_name(pool, enumeration);
+            format!(in alloc; "enum {name}")
+        }
+        _ => format!(in alloc; "{kind:?}"),
+    }
+}
+
+/// How often a field stands in a message, and its kind.
+pub(super) fn type_words(
+    alloc: Global,
+    pool: &DescriptorPool,
+    cardinality: Cardinality,
+    kind: KindIndex,
+) -> Result<String, AllocError>
+    ensures { IfOk result (λ s. string_bytes s ≡ spec.type_words pool.now cardinality kind) }
+{
+    let cardinality = cardinality_word(cardinality);
+    let kind = kind_words(alloc, pool, kind)?;
+    format!(in alloc; "{cardinality} {kind}")
+}
+
+/// The path of a declaration, and where its declared name begins.
+pub(super) fn place_words(alloc: Global, id: &Identity) -> Result<String, AllocError>
+    ensures { IfOk result (λ s. string_bytes s ≡ spec.place_words id.now) }
+{
+    let path = path_words(alloc, id.path())?;
+    let index = index_words(alloc, id)?;
+    format!(in alloc; "{path}{index}")
+}
+
+/// A path.
+pub(super) fn path_words(alloc: Global, path: &[i32]) -> Result<String, AllocError>
+    ensures { IfOk result (λ s. string_bytes s ≡ path_text path.now) }
+{
+    format!(in alloc; "{path:?}")
+}
+
+/// The byte at which the declared name begins, where it is not the last part of the full name.
+fn index_words(alloc: Global, id: &Identity) -> Result<String, AllocError>
+    ensures { IfOk result (λ s. string_bytes s ≡ spec.index_words id.now) }
+{
+    let index = id.name_index;
+    if has_dot_from(id.full_name(), index) {
+        format!(in alloc; " name_index {index}")
+    } else {
+        Ok(String::new(alloc))
+    }
+}
+
+/// Whether a text has a dot from a byte on.
+fn has_dot_from(text: &str, index: usize) -> bool
+    ensures { result ≡ spec.has_dot_from text.now index }
+{
+    match text.as_bytes().get(index..) {
+        Some(rest) => rest.contains(&b'.'),
+        None => false,
+    }
+}
+
+/// The number of the type that is written for a kind.
+fn type_number(kind: KindIndex) -> i32
+    ensures { result ≡ spec.type_number kind }
+{
+    match kind {
+        KindIndex::Double => 1,
+        KindIndex::Float => 2,
+        KindIndex::Int64 => 3,
+        KindIndex::Uint64 => 4,
+        KindIndex::Int32 => 5,
+        KindIndex::Fixed64 => 6,
+        KindIndex::Fixed32 => 7,
+        KindIndex::Bool => 8,
+        KindIndex::String => 9,
+        KindIndex::Group(_) => 10,
+        KindIndex::Message(_) => 11,
+        KindIndex::Bytes => 12,
+        KindIndex::Uint32 => 13,
+        KindIndex::Enum(_) => 14,
+        KindIndex::Sfixed32 => 15,
+        KindIndex::Sfixed64 => 16,
+        KindIndex::Sint32 => 17,
+        KindIndex::Sint64 => 18,
+    }
+}
+
+/// The number of the type that the linked record of a field or an extension has.
+fn written_type(pool: &DescriptorPool, id: &Identity) -> Option<i32>
+    ensures { result ≡ spec.written_type pool.now id.now }
+{
+    let file = pool.file(FileDescriptor::new(id.file))?;
+    find_field_proto(&file.raw, id.path())?.type_
+}
+
+/// A number of a type, where it is not the one that is written for the kind.
+fn number_words(alloc: Global, kind: KindIndex, number: i32) -> Result<String, AllocError>
+    ensures { IfOk result (λ s. string_bytes s ≡ spec.number_words kind number) }
+{
+    if number == type_number(kind) {
+        Ok(String::new(alloc))
+    } else {
+        format!(in alloc; " type {number}")
+    }
+}
+
+/// The same of the type that the linked record of a field or an extension has.
+pub(super) fn written_words(
+    alloc: Global,
+    pool: &DescriptorPool,
+    id: &Identity,
+    kind: KindIndex,
+) -> Result<String, AllocError>
+    ensures { IfOk result (λ s. string_bytes s ≡ spec.written_words pool.now id.now kind) }
+{
+    match written_type(pool, id) {
+        Some(number) => number_words(alloc, kind, number),
+        None => format!(in alloc; " type none"),
+    }
+}
