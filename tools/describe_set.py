@@ -1,0 +1,303 @@
+#!/usr/bin/env python3
+"""Tells what protobuf's own pool has of schemas, in the form of `describe` of the crate pool_text.
+
+    python3 describe_set.py text SOURCE..
+    python3 describe_set.py write
+    python3 describe_set.py compare
+
+`text` writes the text of sources and of all that they import, behind a line with the counts, as a
+row has it. Each fact is asked of the linked descriptors of protobuf's Python package; asked of the
+records are paths, the JSON names and the texts of fractions that were given, and whether a list is
+packed, for which that package has no word.
+
+Each file NAME.proto of crates/item_rows/data/protoc/ is a row; imported/ there has what they import
+of one another. `write` writes the NAME.script and the NAME.text of each, and `compare` tells
+whether the stored ones are what is made, with status 1 where one is not. They were made by protoc
+3.21.12; with another version the files of protobuf may differ.
+
+Needed are protoc, its include directory with google/protobuf/compiler/plugin.proto, and protobuf's
+Python package: protobuf-compiler, libprotoc-dev and python3-protobuf on Debian. That package
+serves the system's own Python, /usr/bin/python3.
+"""
+
+from __future__ import annotations
+
+import argparse
+import json
+import sys
+import warnings
+from collections import Counter
+from collections.abc import Iterator
+from pathlib import Path
+from typing import TYPE_CHECKING
+
+from descriptor_script import (
+    COUNTED_KINDS,
+    Element,
+    ScriptWriter,
+    ToolError,
+    compiled_files,
+    descriptor_records,
+    script_bytes,
+    unsayable,
+    write_output,
+)
+
+if TYPE_CHECKING:
+    from google.protobuf.descriptor import Descriptor, FieldDescriptor, FileDescriptor
+    from google.protobuf.descriptor_pb2 import FieldDescriptorProto, FileDescriptorProto
+
+ROWS = Path(__file__).resolve().parent.parent / "crates" / "item_rows" / "data" / "protoc"
+
+LABELS = {1: "optional", 2: "required", 3: "repeated"}
+
+REPEATED = 3
+
+UNPACKABLE = ("string", "group", "message", "bytes")
+
+
+def alone(name: str) -> str:
+    """A name as a word."""
+    return name or "''"
+
+
+def json_string(text: str) -> str:
+    """A text as a string of JSON, in which the two separators of lines are escaped too."""
+    told = json.dumps(text, ensure_ascii=False)
+    return told.replace("\u2028", "\\u2028").replace("\u2029", "\\u2029")
+
+
+def type_word(field: FieldDescriptor) -> str:
+    """The type of a field, as a .proto file has it, or `message`, `group` or `enum`."""
+    name: str = descriptor_records().FieldDescriptorProto.Type.Name(field.type)
+    return name[len("TYPE_") :].lower()
+
+
+def kind_words(field: FieldDescriptor) -> str:
+    """How often a field stands in a message, its type, and what it names."""
+    named = field.message_type or field.enum_type
+    words = [LABELS[field.label], type_word(field)]
+    return " ".join(words + ([alone(named.full_name)] if named else []))
+
+
+def is_packed(field: FieldDescriptor, record: FieldDescriptorProto) -> bool:
+    """Whether the values of a field are encoded as one run of bytes."""
+    if field.label != REPEATED or type_word(field) in UNPACKABLE:
+        return False
+    if record.options.HasField("packed"):
+        return bool(record.options.packed)
+    return bool(field.file.syntax == "proto3")
+
+
+def default_words(field: FieldDescriptor, record: FieldDescriptorProto) -> str:
+    """The default value of a field, where one was given."""
+    if not record.HasField("default_value"):
+        return ""
+    value = field.default_value
+    if isinstance(value, bool):
+        told = str(value).lower()
+    elif isinstance(value, str):
+        told = json_string(value)
+    elif isinstance(value, bytes):
+        told = str(list(value))
+    elif isinstance(value, float):
+        told = record.default_value
+    else:
+        told = str(value)
+    return f" default {told}"
+
+
+def field_line(field: FieldDescriptor, element: Element) -> str:
+    """A field of a message."""
+    words = f"  {kind_words(field)} {field.full_name} = {field.number} {list(element.path)}"
+    if field.containing_oneof:
+        oneof = f"{field.containing_type.full_name}.{field.containing_oneof.name}"
+        words += f" oneof {oneof}"
+    words += " packed" * is_packed(field, element.record) + " presence" * field.has_presence
+    if element.has("json_name"):
+        words += f" json_name {alone(field.json_name)}"
+    return words + default_words(field, element.record)
+
+
+class PoolText:
+    """What protobuf's own pool has of some files, of which each stands behind all that it
+    imports."""
+
+    def __init__(self, files: list[FileDescriptorProto]) -> None:
+        from google.protobuf import descriptor_pool
+
+        self.files = files
+        self.pool = descriptor_pool.DescriptorPool()
+        with warnings.catch_warnings():
+            warnings.simplefilter("ignore")
+            for file in files:
+                self.pool.Add(file)
+        self.declared = [
+            (file.name, element)
+            for file in files
+            for element in Element.of_file(file).declarations()
+        ]
+
+    def of_kind(self, kind: str) -> Iterator[tuple[str, Element]]:
+        """The elements of a kind, each with the name of its file."""
+        for file_name, element in self.declared:
+            if element.kind == kind:
+                yield file_name, element
+
+    def counts_line(self) -> str:
+        """How many the pool has of each kind that is counted."""
+        counts = Counter(element.kind for _, element in self.declared)
+        counts["file"] = len(self.files)
+        return " ".join(["ok", *(str(counts[kind[:-1]]) for kind in COUNTED_KINDS)])
+
+    def lines(self) -> Iterator[str]:
+        """All that the pool has."""
+        for file in self.files:
+            yield from self._file(self.pool.FindFileByName(file.name))
+        for file_name, element in self.of_kind("message"):
+            yield from self._message(file_name, element)
+        for file_name, element in self.of_kind("enum"):
+            yield from self._enum(file_name, element)
+        for file_name, element in self.of_kind("service"):
+            yield from self._service(file_name, element)
+        for file_name, element in self.of_kind("extension"):
+            yield from self._extension(file_name, element)
+
+    def _file(self, file: FileDescriptor) -> Iterator[str]:
+        """A file, what it imports and what it sees: itself, what it imports, and what is imported
+        publicly by what it sees."""
+        yield f"file {file.name} {file.syntax}"
+        if file.package:
+            yield f"  package {file.package}"
+        for imported in file.dependencies:
+            yield f"  import {imported.name}"
+        seen = {file.name}
+        left = list(file.dependencies)
+        while left:
+            imported = left.pop()
+            if imported.name not in seen:
+                seen.add(imported.name)
+                left += imported.public_dependencies
+        for other in self.files:
+            if other.name in seen:
+                yield f"  sees {other.name}"
+
+    def _message(self, file_name: str, element: Element) -> Iterator[str]:
+        """A message, its oneofs, its fields, and what extends it."""
+        message = self.pool.FindMessageTypeByName(element.full_name)
+        yield head(file_name, element)
+        yield from parent(message.containing_type)
+        for oneof, part in zip(message.oneofs, element.entries("oneof_decl")):
+            fields = "".join(f" {field.full_name}" for field in oneof.fields)
+            yield f"  oneof {part.full_name} {list(part.path)}{fields}"
+        for field, part in zip(message.fields, element.entries("field")):
+            yield field_line(field, part)
+        for _, extension in self.of_kind("extension"):
+            linked = self.pool.FindExtensionByName(extension.full_name)
+            if linked.containing_type is message:
+                yield f"  extended {linked.full_name} = {linked.number}"
+
+    def _enum(self, file_name: str, element: Element) -> Iterator[str]:
+        """An enum and its values."""
+        enum = self.pool.FindEnumTypeByName(element.full_name)
+        yield head(file_name, element)
+        yield from parent(enum.containing_type)
+        if enum.GetOptions().allow_alias:
+            yield "  allow_alias"
+        for value, part in zip(enum.values, element.entries("value")):
+            yield f"  value {part.full_name} = {value.number} {list(part.path)}"
+
+    def _service(self, file_name: str, element: Element) -> Iterator[str]:
+        """A service and its methods."""
+        service = self.pool.FindServiceByName(element.full_name)
+        yield head(file_name, element)
+        for method, part in zip(service.methods, element.entries("method")):
+            types = f"({method.input_type.full_name}) returns ({method.output_type.full_name})"
+            yield f"  rpc {method.full_name} {types} {list(part.path)}"
+
+    def _extension(self, file_name: str, element: Element) -> Iterator[str]:
+        """An extension: what it extends, and what it is as a field."""
+        extension = self.pool.FindExtensionByName(element.full_name)
+        yield head(file_name, element)
+        yield from parent(extension.extension_scope)
+        words = f"  extends {extension.containing_type.full_name} = {extension.number}"
+        words += f" {kind_words(extension)}" + " packed" * is_packed(extension, element.record)
+        words += f" json_name [{extension.full_name}]"
+        yield words + default_words(extension, element.record)
+
+
+def head(file_name: str, element: Element) -> str:
+    """The first line of an item."""
+    return f"{element.kind} {element.full_name} {file_name} {list(element.path)}"
+
+
+def parent(message: Descriptor) -> Iterator[str]:
+    """The message around an item, where it is nested."""
+    if message:
+        yield f"  in {message.full_name}"
+
+
+def refuse_default(field: Element) -> None:
+    """Raises, since a row has no default value that no statement can say."""
+    raise unsayable(field, "default_value", field.record.default_value)
+
+
+def script_lines(files: list[FileDescriptorProto]) -> Iterator[str]:
+    """The script of a row."""
+    writer = ScriptWriter(refuse_default)
+    for file in files:
+        yield from writer.file(file, ())
+    yield "link"
+
+
+def text_bytes(files: list[FileDescriptorProto]) -> bytes:
+    """The text of a row: what the pool counts, and what it has."""
+    text = PoolText(files)
+    return script_bytes([text.counts_line(), *text.lines()])
+
+
+def made() -> Iterator[tuple[Path, bytes]]:
+    """The files of all rows, each with what is made."""
+    for source in sorted(ROWS.glob("*.proto")):
+        files = compiled_files([str(source)], [str(ROWS), str(ROWS / "imported")])
+        yield source.with_suffix(".script"), script_bytes(script_lines(files))
+        yield source.with_suffix(".text"), text_bytes(files)
+
+
+def compare() -> bool:
+    """Tells of each stored file that is not what is made, and answers whether all are."""
+    same = True
+    for path, data in made():
+        if not path.exists() or path.read_bytes() != data:
+            print(f"{path.name}: different")
+            same = False
+    return same
+
+
+def main() -> None:
+    """Does what is asked for, or tells what is wrong with status 2."""
+    parser = argparse.ArgumentParser(
+        description=__doc__, formatter_class=argparse.RawDescriptionHelpFormatter
+    )
+    asked = parser.add_subparsers(dest="what", required=True)
+    asked.add_parser("write", help="write the files of all rows")
+    asked.add_parser("compare", help="tell which stored files are not what is made")
+    text = asked.add_parser("text", help="write the text of sources")
+    text.add_argument("sources", nargs="+", metavar="SOURCE")
+    text.add_argument("-I", action="append", default=[], dest="directories", metavar="DIR")
+    arguments = parser.parse_args()
+    try:
+        if arguments.what == "text":
+            write_output(text_bytes(compiled_files(arguments.sources, arguments.directories)))
+        elif arguments.what == "write":
+            for path, data in made():
+                path.write_bytes(data)
+        else:
+            sys.exit(0 if compare() else 1)
+    except (ToolError, OSError) as fault:
+        print(f"{parser.prog}: {fault}", file=sys.stderr)
+        sys.exit(2)
+
+
+if __name__ == "__main__":
+    main()
