@@ -2,47 +2,110 @@
 use crate::scripts;
 use crate::told::{Told, mark};
 use descriptor_pool::{BuildError, DescriptorPool};
+use proto_types::FileDescriptorProto;
 use std::alloc::{AllocError, Global};
 
-/// A pool that has the batch of a script.
-fn pool_of(alloc: Global, script: &str) -> Result<DescriptorPool, AllocError> {
-    let mut pool = DescriptorPool::new(alloc);
-    match pool.build_files(scripts::files(alloc, script)?) {
-        Ok(()) => Ok(pool),
-        Err(_) => Err(AllocError),
+/// How linking ended.
+#[derive(Clone, Copy, PartialEq)]
+enum Ended {
+    Linked,
+    Refused,
+    TooMany,
+    OutOfMemory,
+}
+
+impl Ended {
+    /// A word for it.
+    fn word(self) -> &'static str {
+        match self {
+            Ended::Linked => "linked",
+            Ended::Refused => "refused",
+            Ended::TooMany => "too many",
+            Ended::OutOfMemory => "out of memory",
+        }
     }
 }
 
-/// Links a second batch. The pool should then be the one that took the batch before, with memory
-/// enough, and after a refusal what it was.
+/// Three pools that have the first batch: one for the trial, and two to compare it with.
+#[derive(Drop)]
+struct Pools {
+    pool: DescriptorPool,
+    /// Stays as it is.
+    before: DescriptorPool,
+    /// Takes the second batch with memory enough.
+    ample: DescriptorPool,
+}
+
+/// Links a batch into a pool.
+fn build(pool: &mut DescriptorPool, batch: Vec<FileDescriptorProto>) -> Ended {
+    match pool.build_files(batch) {
+        Ok(()) => Ended::Linked,
+        Err(BuildError::OutOfMemory) => Ended::OutOfMemory,
+        Err(BuildError::TooMany(_)) => Ended::TooMany,
+        Err(BuildError::Descriptor(_)) => Ended::Refused,
+    }
+}
+
+/// A pool that has the batch of a script.
+fn pool_of(alloc: Global, script: &str) -> Result<DescriptorPool, AllocError> {
+    let batch = scripts::files(alloc, script)?;
+    let mut pool = DescriptorPool::new(alloc);
+    match build(&mut pool, batch) {
+        Ended::Linked => Ok(pool),
+        _ => Err(AllocError),
+    }
+}
+
+/// The pools of a trial, which have the batch of a script.
+fn pools_of(alloc: Global, script: &str) -> Result<Pools, AllocError> {
+    let before = pool_of(alloc, script)?;
+    let ample = pool_of(alloc, script)?;
+    let pool = pool_of(alloc, script)?;
+    Ok(Pools {
+        pool,
+        before,
+        ample,
+    })
+}
+
+/// Links a second batch. The pool should then be the one that took the batch with memory enough,
+/// and after a refusal what it was.
 pub(crate) fn link(alloc: Global, script: &str) -> Result<Told, AllocError> {
-    let mut pool = pool_of(alloc, scripts::FIRST)?;
-    let before = pool.clone()?;
-    let mut ample = pool.clone()?;
-    let is_linked = ample.build_files(scripts::files(alloc, script)?).is_ok();
+    let mut pools = pools_of(alloc, scripts::FIRST)?;
+    link_once(alloc, &mut pools, script)
+}
+
+/// The same of three pools.
+fn link_once(alloc: Global, pools: &mut Pools, script: &str) -> Result<Told, AllocError> {
+    let wanted = build(&mut pools.ample, scripts::files(alloc, script)?);
+    let (opened, closed, ended) = link_marked(alloc, &mut pools.pool, script)?;
+    let is_right = match ended {
+        Ended::OutOfMemory => pools.pool == pools.before,
+        _ => ended == wanted && pools.pool == pools.ample,
+    };
+    Told::new(opened, closed, ended.word(), is_right)
+}
+
+/// Links a batch between two marks.
+fn link_marked(
+    alloc: Global,
+    pool: &mut DescriptorPool,
+    script: &str,
+) -> Result<(String, String, Ended), AllocError> {
     let batch = scripts::files(alloc, script)?;
     let opened = mark(alloc)?;
-    let ending = pool.build_files(batch);
+    let ended = build(pool, batch);
     let closed = mark(alloc)?;
-    let is_right = match ending {
-        Ok(()) => is_linked && pool == ample && pool != before,
-        Err(BuildError::OutOfMemory) => pool == before,
-        Err(_) => !is_linked && pool == before,
-    };
-    Told::new(opened, closed, answer(&ending), is_right)
+    Ok((opened, closed, ended))
 }
 
 /// Links a batch whose files the pool has. The pool should then be what it was, whatever memory is
 /// refused.
 pub(crate) fn link_known(alloc: Global) -> Result<Told, AllocError> {
-    let mut pool = pool_of(alloc, scripts::FIRST)?;
-    let before = pool.clone()?;
-    let batch = scripts::files(alloc, scripts::FIRST)?;
-    let opened = mark(alloc)?;
-    let ending = pool.build_files(batch);
-    let closed = mark(alloc)?;
-    let is_right = ending.is_ok() && pool == before;
-    Told::new(opened, closed, answer(&ending), is_right)
+    let mut pools = pools_of(alloc, scripts::FIRST)?;
+    let (opened, closed, ended) = link_marked(alloc, &mut pools.pool, scripts::FIRST)?;
+    let is_right = ended == Ended::Linked && pools.pool == pools.before;
+    Told::new(opened, closed, ended.word(), is_right)
 }
 
 /// The most copies of a batch that are linked into one pool.
@@ -52,31 +115,26 @@ const MOST: usize = 10_000;
 /// refusal before it the pool should be what it was, and in the end the one that took the batch with
 /// memory enough, or what it was if that refused the batch.
 pub(crate) fn link_again_and_again(alloc: Global, script: &str) -> Result<Told, AllocError> {
-    let mut pool = pool_of(alloc, scripts::EXTENDED)?;
-    let before = pool.clone()?;
-    let mut ample = pool.clone()?;
-    let is_linked = ample.build_files(scripts::files(alloc, script)?).is_ok();
-    let mut is_right = is_linked == (ample != before);
-    for _ in 0..MOST {
-        let batch = scripts::files(alloc, script)?;
-        let opened = mark(alloc)?;
-        let ending = pool.build_files(batch);
-        let closed = mark(alloc)?;
-        if !matches!(ending, Err(BuildError::OutOfMemory)) {
-            is_right = is_right && pool == ample && is_linked == ending.is_ok();
-            return Told::new(opened, closed, answer(&ending), is_right);
-        }
-        is_right = is_right && pool == before;
-    }
-    Told::new(mark(alloc)?, mark(alloc)?, "out of memory each time", false)
+    let mut pools = pools_of(alloc, scripts::EXTENDED)?;
+    let wanted = build(&mut pools.ample, scripts::files(alloc, script)?);
+    link_copies(alloc, &mut pools, script, wanted)
 }
 
-/// A word for how linking ended.
-fn answer(ending: &Result<(), BuildError>) -> &'static str {
-    match ending {
-        Ok(()) => "linked",
-        Err(BuildError::OutOfMemory) => "out of memory",
-        Err(BuildError::TooMany(_)) => "too many",
-        Err(BuildError::Descriptor(_)) => "refused",
+/// The same of three pools, of which one has taken the batch.
+fn link_copies(
+    alloc: Global,
+    pools: &mut Pools,
+    script: &str,
+    wanted: Ended,
+) -> Result<Told, AllocError> {
+    let mut is_right = (wanted == Ended::Linked) == (pools.ample != pools.before);
+    for _ in 0..MOST {
+        let (opened, closed, ended) = link_marked(alloc, &mut pools.pool, script)?;
+        if ended != Ended::OutOfMemory {
+            is_right = is_right && ended == wanted && pools.pool == pools.ample;
+            return Told::new(opened, closed, ended.word(), is_right);
+        }
+        is_right = is_right && pools.pool == pools.before;
     }
+    Told::new(mark(alloc)?, mark(alloc)?, "out of memory each time", false)
 }

@@ -8,75 +8,65 @@ use pool_types::{
 };
 use std::alloc::{AllocError, Global};
 
-/// A copy of the pool of a set.
-pub(crate) fn pool(alloc: Global, set: &[u8]) -> Result<Told, AllocError> {
-    let (pool, before) = (link(alloc, set)?, link(alloc, set)?);
-    let opened = mark(alloc)?;
-    let copy = pool.clone();
-    let closed = mark(alloc)?;
-    let is_same = copy.as_ref().ok().is_none_or(|copy| *copy == pool);
-    let is_right = is_same && pool == before;
-    Told::new(opened, closed, answer(copy.is_ok()), is_right)
-}
-
 /// A copy of the record of a set's first file.
 pub(crate) fn record(alloc: Global, set: &[u8]) -> Result<Told, AllocError> {
     let (files, others) = (read(alloc, set)?, read(alloc, set)?);
-    copied(
-        alloc,
-        files.file.as_slice().first(),
-        others.file.as_slice().first(),
-    )
+    let (files, others) = (files.file.as_slice(), others.file.as_slice());
+    copied(alloc, files.first(), others.first())
 }
 
-/// A copy of the item of the first file.
-pub(crate) fn file_item(alloc: Global, set: &[u8]) -> Result<Told, AllocError> {
-    let first = FileDescriptor::new(0);
-    copied(
-        alloc,
-        link(alloc, set)?.file(first),
-        link(alloc, set)?.file(first),
-    )
+/// A copy of what a trial names, in the pool of a set, or none where there is no such trial.
+pub(crate) fn in_a_pool(alloc: Global, name: &str, set: &[u8]) -> Result<Option<Told>, AllocError> {
+    let (pool, before) = (link(alloc, set)?, link(alloc, set)?);
+    in_pools(alloc, name, &pool, &before)
 }
 
-/// A copy of the item of the first message.
-pub(crate) fn message_item(alloc: Global, set: &[u8]) -> Result<Told, AllocError> {
-    let first = MessageDescriptor::new(0);
-    copied(
-        alloc,
-        link(alloc, set)?.message(first),
-        link(alloc, set)?.message(first),
-    )
+/// The same in a pool, which is equal to another: the pool itself, or its first item of a kind.
+fn in_pools(
+    alloc: Global,
+    name: &str,
+    pool: &DescriptorPool,
+    before: &DescriptorPool,
+) -> Result<Option<Told>, AllocError> {
+    let told = match name {
+        "pool" => copied_pool(alloc, pool, before)?,
+        "file_item" => {
+            let first = FileDescriptor::new(0);
+            copied(alloc, pool.file(first), before.file(first))?
+        }
+        "message_item" => {
+            let first = MessageDescriptor::new(0);
+            copied(alloc, pool.message(first), before.message(first))?
+        }
+        "enum_item" => {
+            let first = EnumDescriptor::new(0);
+            copied(alloc, pool.enum_(first), before.enum_(first))?
+        }
+        "service_item" => {
+            let first = ServiceDescriptor::new(0);
+            copied(alloc, pool.service(first), before.service(first))?
+        }
+        "extension_item" => {
+            let first = ExtensionDescriptor::new(0);
+            copied(alloc, pool.extension(first), before.extension(first))?
+        }
+        _ => return Ok(None),
+    };
+    Ok(Some(told))
 }
 
-/// A copy of the item of the first enum.
-pub(crate) fn enum_item(alloc: Global, set: &[u8]) -> Result<Told, AllocError> {
-    let first = EnumDescriptor::new(0);
-    copied(
-        alloc,
-        link(alloc, set)?.enum_(first),
-        link(alloc, set)?.enum_(first),
-    )
-}
-
-/// A copy of the item of the first service.
-pub(crate) fn service_item(alloc: Global, set: &[u8]) -> Result<Told, AllocError> {
-    let first = ServiceDescriptor::new(0);
-    copied(
-        alloc,
-        link(alloc, set)?.service(first),
-        link(alloc, set)?.service(first),
-    )
-}
-
-/// A copy of the item of the first extension.
-pub(crate) fn extension_item(alloc: Global, set: &[u8]) -> Result<Told, AllocError> {
-    let first = ExtensionDescriptor::new(0);
-    copied(
-        alloc,
-        link(alloc, set)?.extension(first),
-        link(alloc, set)?.extension(first),
-    )
+/// Copies a pool, which is equal to another.
+fn copied_pool(
+    alloc: Global,
+    pool: &DescriptorPool,
+    before: &DescriptorPool,
+) -> Result<Told, AllocError> {
+    let opened = mark(alloc)?;
+    let copy = pool.clone();
+    let closed = mark(alloc)?;
+    let is_same = copy.as_ref().ok().is_none_or(|copy| *copy == *pool);
+    let is_right = is_same && *pool == *before;
+    Told::new(opened, closed, answer(copy.is_ok()), is_right)
 }
 
 /// Copies a value, which is equal to another. One that is absent is wrong.

@@ -107,20 +107,14 @@ fn trial_of_sets(alloc: Global, name: &str, set: &[u8]) -> Result<Option<Told>, 
     let told = match name {
         "decode" => sets::decoded(alloc, set)?,
         "encode" => sets::encoded(alloc, set)?,
-        "pool" => copies::pool(alloc, set)?,
         "record" => copies::record(alloc, set)?,
-        "file_item" => copies::file_item(alloc, set)?,
-        "message_item" => copies::message_item(alloc, set)?,
-        "enum_item" => copies::enum_item(alloc, set)?,
-        "service_item" => copies::service_item(alloc, set)?,
-        "extension_item" => copies::extension_item(alloc, set)?,
-        _ => return trial_of_names(alloc, name),
+        _ => return trial_of_names(alloc, name, set),
     };
     Ok(Some(told))
 }
 
-/// The same of the trials over tables of names.
-fn trial_of_names(alloc: Global, name: &str) -> Result<Option<Told>, AllocError> {
+/// The same of the trials over tables of names, and over the set's pool.
+fn trial_of_names(alloc: Global, name: &str, set: &[u8]) -> Result<Option<Told>, AllocError> {
     let told = match name {
         "table" => names::copy_hashed(alloc)?,
         "tree" => names::copy_tree(alloc)?,
@@ -131,7 +125,7 @@ fn trial_of_names(alloc: Global, name: &str) -> Result<Option<Told>, AllocError>
         "resolve" => names::resolve_hashed(alloc)?,
         "resolve_over_tree" => names::resolve_tree(alloc)?,
         "resolve_in_parts" => names::resolve_as_tree(alloc)?,
-        _ => return Ok(None),
+        _ => return copies::in_a_pool(alloc, name, set),
     };
     Ok(Some(told))
 }
