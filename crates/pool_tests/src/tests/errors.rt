@@ -33,48 +33,6 @@ const REFUSED: &[(&str, &str)] = &[
         - a different file named 'a.proto' has already been added\n\
         - none\n",
     ),
-    (
-        "file a.proto\nmessage M\nfield f 0 optional message N ~\nfield g 1 optional group ~ ~\n\
-        field h 2 optional ~ .M.f ~\nend\nend\n",
-        "invalid field number '0'\n\
-        a.proto: invalid field number '0'\n\
-        a.proto [4, 0, 2, 0, 3]\n\
-        - invalid field number '0'\n\
-        - invalid field number '0'\n\
-        - a.proto: invalid field number '0'\n\
-        - a.proto [4, 0, 2, 0, 3]\n\
-        - name 'N' is not defined\n\
-        - name 'N' is not defined\n\
-        - a.proto: name 'N' is not defined\n\
-        - a.proto [4, 0, 2, 0, 6]\n\
-        - missing required field at [4, 0, 2, 1, 6]\n\
-        - missing required field at [4, 0, 2, 1, 6]\n\
-        - a.proto: missing required field at [4, 0, 2, 1, 6]\n\
-        - a.proto [4, 0, 2, 1, 6]\n\
-        - 'M.f' is not a message or enum type\n\
-        - 'M.f' is not a message or enum type\n\
-        - a.proto: 'M.f' is not a message or enum type\n\
-        - a.proto [4, 0, 2, 2, 6]\n",
-    ),
-    (
-        "file a.proto\nsyntax proto3\nenum E\nvalue A 1\nend\nenum F\nend\nend\n\
-        file b.proto\nsyntax x\nend\n",
-        "the first value for proto3 enums must be 0\n\
-        a.proto: the first value for proto3 enums must be 0\n\
-        a.proto [5, 0, 2, 0, 2]\n\
-        - the first value for proto3 enums must be 0\n\
-        - the first value for proto3 enums must be 0\n\
-        - a.proto: the first value for proto3 enums must be 0\n\
-        - a.proto [5, 0, 2, 0, 2]\n\
-        - enums must have at least one value\n\
-        - enums must have at least one value\n\
-        - a.proto: enums must have at least one value\n\
-        - a.proto [5, 1]\n\
-        - unknown syntax 'x'\n\
-        - unknown syntax 'x'\n\
-        - b.proto: unknown syntax 'x'\n\
-        - b.proto [12]\n",
-    ),
 ];
 
 /// What an error tells.

@@ -17,33 +17,6 @@ const PLACES: &[(&str, &str, &str)] = &[
         "Some(2) Some(0)\n[3, 0] Some(2) Some(0) Some([2, 0, 2, 16])\n",
     ),
     (
-        "a span of four numbers",
-        "file a.proto\nimport b.proto\nat 3,0 2,1,4,16\nend\n",
-        "Some(2) Some(1)\n[3, 0] Some(2) Some(1) Some([2, 1, 4, 16])\n",
-    ),
-    (
-        "a span with a negative number",
-        "file a.proto\nimport b.proto\nat 3,0 -1,0,3\nend\n",
-        "None None\n[3, 0] None None None\n",
-    ),
-    (
-        "a span of two numbers, before one of three",
-        "file a.proto\npackage p\nmessage M\nend\nmessage M\nend\nat 4,1,1 7,8\nat 4,1,1 7,8,9\n\
-        end\n",
-        "None None\n[4, 1, 1] None None None\n",
-    ),
-    (
-        "a span on the last line that there is",
-        "file a.proto\nimport b.proto\nat 3,0 2147483647,0,3\nend\n",
-        "Some(2147483647) Some(0)\n\
-        [3, 0] Some(2147483647) Some(0) Some([2147483647, 0, 2147483647, 3])\n",
-    ),
-    (
-        "no location, in the first of two faults",
-        "file a.proto\nimport b.proto\nimport c.proto\nat 3,1 2,0,16\nend\n",
-        "None None\n[3, 0] None None None\n[3, 1] Some(2) Some(0) Some([2, 0, 2, 16])\n",
-    ),
-    (
         "no label",
         "file a.proto\nend\nfile a.proto\nend\n",
         "None None\nnone\n",

@@ -198,7 +198,7 @@ const VALUES: &[(KindIndex, &str, &str)] = &[
 ];
 
 /// Tells a default value: its type, and what it is.
-pub(super) fn write_value(report: &mut String, value: &DefaultValue) -> Result<(), AllocError> {
+fn write_value(report: &mut String, value: &DefaultValue) -> Result<(), AllocError> {
     match value {
         DefaultValue::I32(number) => write!(report, "i32 {number}"),
         DefaultValue::I64(number) => write!(report, "i64 {number}"),
