@@ -1,6 +1,9 @@
-//! A batch with extensions that is refused.
+//! Extensions by their messages and numbers, and a batch with extensions that is refused.
 
-use super::batches::is_same;
+use super::batches::{is_same, pool_of};
+use descriptor_pool::DescriptorPool;
+use pool_types::{ExtensionDescriptor, MessageDescriptor};
+use std::process::Abort;
 use std::test::Fail;
 
 /// Messages, of which the first has an extension.
@@ -14,5 +17,21 @@ const REFUSED: &str = "file b.proto\nimport a.proto\nextend e 100 optional int32
 #[test]
 fn a_refused_batch_leaves_no_extension(rt: HostRuntime) -> Result<(), Fail> {
     assert!(rt; is_same(rt.alloc(), &[EARLIER, REFUSED], &[EARLIER])?);
+    Ok(())
+}
+
+/// Asserts which extensions messages have for numbers: the first message has one, and there are
+/// three.
+fn check_found(rt: &impl Abort, pool: &DescriptorPool) {
+    let (first, second) = (MessageDescriptor::new(0), MessageDescriptor::new(1));
+    assert!(rt; pool.get_extension(first, 1) == Some(ExtensionDescriptor::new(0)));
+    assert!(rt; pool.get_extension(first, 2).is_none());
+    assert!(rt; pool.get_extension(second, 1).is_none());
+    assert!(rt; pool.get_extension(MessageDescriptor::new(3), 1).is_none());
+}
+
+#[test]
+fn an_extension_is_found_by_its_message_and_its_number(rt: HostRuntime) -> Result<(), Fail> {
+    check_found(&rt, &pool_of(rt.alloc(), &[EARLIER])?);
     Ok(())
 }
