@@ -1,2 +1,4 @@
 pub mod Linked
 pub mod FilesIn
+pub mod Grouping
+pub mod Shown

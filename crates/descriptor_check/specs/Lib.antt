@@ -1,6 +1,7 @@
 pub mod Batches
 pub mod Verdicts
 pub mod Accepted
+pub mod Grouped
 pub mod Refused
 pub mod Unread
 pub mod Objects

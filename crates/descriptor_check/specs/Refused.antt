@@ -1,28 +1,54 @@
 -- The faults of a batch that is refused, for people and as an array of JSON.
-use Rattle.std.specs.Prelude.{ℕ, ◌-◌, List, [], ◌∷◌, ◌++◌, codes, length, take, nat_lt, if◌then◌else◌}
-use Rattle.std.specs.Fmt.{decimal}
+use Rattle.std.specs.Prelude.{ℕ, zero, suc, List, [], ◌∷◌, ◌++◌, codes, fold, length, take, drop}
+use Rattle.std.specs.BTreeSet.{insert_key}
+use Rattle.std.specs.Cmp.Lexicographic.{slice_cmp}
 use Rattle.std.specs.List.{flat_map}
+use Rattle.std.specs.Ordering.{nat_cmp}
+use Rattle.std.specs.declared.option.Option.{Option}
+use Rattle.std.specs.declared.option.Option.TheVariants.{None, Some}
+use Rattle.pool_faults.specs.Fault.{shown_label}
 use Rattle.pool_faults.specs.declared.fault.DescriptorErrorKind.{DescriptorErrorKind}
+use Rattle.pool_faults.specs.declared.label.Label.{Label}
 use Rattle.proto_types.specs.declared.file.FileDescriptorProto.{FileDescriptorProto}
 use Rattle.record_walk.specs.declared.counts.CountKind.{CountKind}
 use Rattle.record_walk.specs.declared.counts.CountKind.TheVariants as too_many
 use Rattle.fault_texts.specs.JsonFaults.{json_fault}
 use Rattle.fault_texts.specs.PlainFaults.{fault_lines}
-use Rattle.descriptor_check.specs.Accepted.{counted}
+use Rattle.descriptor_check.specs.Grouped.{grouped, grouped_count}
 
--- how many faults are not told
-abbrev pub more_line : ℕ → ℕ → List ℕ
-more_line most n =
-    if nat_lt most n then codes "and " ++ (decimal (n - most) ++ codes " more\n") else []
+-- a set of names, in their order, with the file of a label, if there is one
+abbrev pub with_file : List (List ℕ) → Option Label → List (List ℕ)
+with_file names None = names
+with_file names (Some label) = insert_key (slice_cmp nat_cmp) names label.file
+
+-- a set of names with the file that a fault shows, where it shows one
+abbrev pub with_shown : List (List ℕ) → DescriptorErrorKind → List (List ℕ)
+with_shown names fault = with_file names (shown_label fault)
+
+-- the names of the files in which faults lie: each that the label of one of them shows, once
+abbrev pub files_shown : List DescriptorErrorKind → List (List ℕ)
+files_shown faults = fold with_shown [] faults
+
+-- in how many files faults lie, where there is one
+abbrev pub in_files : ℕ → List ℕ
+in_files zero = []
+in_files (suc n) = codes " in " ++ grouped_count (suc n) (codes "file") (codes "files")
+
+-- how many faults are not told, and in how many files these lie
+abbrev pub more_line : List DescriptorErrorKind → List ℕ
+more_line [] = []
+more_line (f ∷ fs) = codes "and " ++ (grouped (length (f ∷ fs)) ++ (codes " more"
+    ++ (in_files (length (files_shown (f ∷ fs))) ++ codes "\n")))
 
 -- the last line of a refused batch
 abbrev pub refused_line : ℕ → List ℕ
-refused_line n = codes "refused: " ++ (counted n (codes "fault") (codes "faults") ++ codes "\n")
+refused_line n =
+    codes "refused: " ++ (grouped_count n (codes "fault") (codes "faults") ++ codes "\n")
 
--- the first faults, how many more there are, and how many there are
+-- the first faults, how many more there are and in how many files, and how many there are
 abbrev pub refused_text : List FileDescriptorProto → ℕ → List DescriptorErrorKind → List ℕ
 refused_text files most faults = flat_map (fault_lines files) (take most faults)
-    ++ (more_line most (length faults) ++ refused_line (length faults))
+    ++ (more_line (drop most faults) ++ refused_line (length faults))
 
 -- faults with a comma between each two
 abbrev pub json_faults : List FileDescriptorProto → List DescriptorErrorKind → List ℕ

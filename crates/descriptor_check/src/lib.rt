@@ -6,6 +6,7 @@ mod answer;
 mod arguments;
 mod batches;
 mod checking;
+mod grouped;
 mod inputs;
 mod objects;
 mod refused;

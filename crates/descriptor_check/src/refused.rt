@@ -1,16 +1,18 @@
 //! The faults of a batch that is refused.
 
-ghost use Rattle.std.specs.Prelude.{◌≡◌, ◌∷◌, ◌++◌, IfOk, OnOk, string_bytes, take};
+ghost use Rattle.std.specs.Prelude.{◌≡◌, ◌∷◌, ◌++◌, IfOk, OnOk, string_bytes, take, drop, length, map};
 ghost use Rattle.std.specs.List.{flat_map};
 ghost use Rattle.fault_texts.specs.JsonFaults as json;
 ghost use Rattle.fault_texts.specs.PlainFaults as plain;
 ghost use Rattle.descriptor_check.specs.Refused as spec;
 
+use crate::grouped::{grouped, grouped_count};
 use fault_texts::{json_fault, write_fault_lines};
 use pool_faults::DescriptorErrorKind;
 use proto_types::FileDescriptorProto;
 use record_walk::CountKind;
 use std::alloc::{AllocError, Global};
+use std::collections::BTreeSet;
 
 /// Writes faults as lines.
 fn write_faults(
@@ -28,29 +30,66 @@ fn write_faults(
     Ok(())
 }
 
-/// Writes how many faults are not told, if some are not.
-fn write_more(text: &mut String, most: usize, count: usize) -> Result<(), AllocError>
-    ensures { OnOk result (string_bytes text.new ≡ string_bytes text.old
-        ++ spec.more_line most count) }
+/// How many files faults lie in, by the names that their labels show.
+fn count_files(alloc: Global, faults: &[DescriptorErrorKind]) -> Result<usize, AllocError>
+    ensures { IfOk result (λ n. n ≡ length (spec.files_shown faults.now)) }
 {
-    if most < count {
-        let more = count - most;
-        writeln!(text, "and {more} more")
-    } else {
-        Ok(())
+    let mut names = BTreeSet::new(alloc);
+    for fault in faults {
+        add_file(&mut names, fault)?;
+    }
+    Ok(names.len())
+}
+
+/// Adds the file that a fault shows to a set of names, where it shows one.
+#[tactic(auto, using(crate::proofs::Shown::insert_shown))]
+fn add_file<'a>(
+    names: &mut BTreeSet<&'a str>,
+    fault: &'a DescriptorErrorKind,
+) -> Result<(), AllocError>
+    ensures { OnOk result (map (λ s. s.now) names.new.keys
+        ≡ spec.with_shown (map (λ s. s.now) names.old.keys) fault.now) }
+{
+    match fault.label() {
+        Some(label) => {
+            names.insert(label.file())?;
+            Ok(())
+        }
+        None => Ok(()),
     }
 }
 
-/// Writes how many faults there are.
-fn write_count(text: &mut String, count: usize) -> Result<(), AllocError>
-    ensures { OnOk result (string_bytes text.new ≡ string_bytes text.old
-        ++ spec.refused_line count) }
+/// In how many files faults lie, where there is one.
+fn in_files(alloc: Global, count: usize) -> Result<String, AllocError>
+    ensures { IfOk result (λ s. string_bytes s ≡ spec.in_files count) }
 {
-    if count == 1 {
-        writeln!(text, "refused: {count} fault")
-    } else {
-        writeln!(text, "refused: {count} faults")
+    if count == 0 {
+        return Ok(String::new(alloc));
     }
+    let files = grouped_count(alloc, count, "file", "files")?;
+    let files = files.as_str();
+    format!(in alloc; " in {files}")
+}
+
+/// How many faults are not told, and in how many files these lie.
+fn more_line(alloc: Global, untold: &[DescriptorErrorKind]) -> Result<String, AllocError>
+    ensures { IfOk result (λ s. string_bytes s ≡ spec.more_line untold.now) }
+{
+    if untold.is_empty() {
+        return Ok(String::new(alloc));
+    }
+    let more = grouped(alloc, untold.len())?;
+    let files = in_files(alloc, count_files(alloc, untold)?)?;
+    format!(in alloc; "and {more} more{files}\n")
+}
+
+/// How many faults there are.
+fn refused_line(alloc: Global, count: usize) -> Result<String, AllocError>
+    ensures { IfOk result (λ s. string_bytes s ≡ spec.refused_line count) }
+{
+    let faults = grouped_count(alloc, count, "fault", "faults")?;
+    let faults = faults.as_str();
+    format!(in alloc; "refused: {faults}\n")
 }
 
 /// The first of some faults.
@@ -64,7 +103,19 @@ pub(crate) fn first_faults(faults: &[DescriptorErrorKind], most: usize) -> &[Des
     }
 }
 
-/// The first faults, how many more there are, and how many there are, for people.
+/// The faults behind the first.
+fn further_faults(faults: &[DescriptorErrorKind], most: usize) -> &[DescriptorErrorKind]
+    ensures { result.now ≡ drop most faults.now }
+{
+    if most < faults.len() {
+        &faults[most..]
+    } else {
+        &[]
+    }
+}
+
+/// The first faults, how many more there are and in how many files, and how many there are, for
+/// people.
 pub(crate) fn refused_text(
     alloc: Global,
     files: &[FileDescriptorProto],
@@ -75,8 +126,10 @@ pub(crate) fn refused_text(
 {
     let mut text = String::new(alloc);
     write_faults(alloc, &mut text, files, first_faults(faults, most))?;
-    write_more(&mut text, most, faults.len())?;
-    write_count(&mut text, faults.len())?;
+    let more = more_line(alloc, further_faults(faults, most))?;
+    text.push_str(more.as_str())?;
+    let count = refused_line(alloc, faults.len())?;
+    text.push_str(count.as_str())?;
     Ok(text)
 }
 
