@@ -18,7 +18,10 @@ from pathlib import Path
 
 TOP = Path(__file__).resolve().parent.parent
 PAGE = TOP / "docs" / "DEFINITIONS.md"
-DEFINITION = re.compile(r"(?:abbrev )?pub (?:record |data )?(?!mod )(\S+)")
+# A unit is what unfolds where another definition names it, and says nothing itself.
+DEFINITION = re.compile(
+    r"(?:(?:abbrev|unfoldable) )*pub (?:record |data )?(?!mod )(\S+)(?!\S| : Unit)"
+)
 PREFACE = """\
 # The definitions
 

@@ -8,6 +8,7 @@ use Rattle.proto_types.specs.declared.records.enumeration.EnumReservedRange.{Enu
 use Rattle.proto_types.specs.declared.records.enumeration.EnumDescriptorProto.{EnumDescriptorProto}
 use Rattle.descriptor_decoding.specs.Options.{options_merged, no_enum_options, enum_options_merged, unread, unread_merged}
 
+-- what a field makes of a value of an enum
 unfoldable pub value_merged : ℕ → Merge EnumValueDescriptorProto
 value_merged levels n v m = by_number n m (
     row 1 (text_merged v m.name) (λ x. record m { name = x }) ∷
@@ -15,11 +16,13 @@ value_merged levels n v m = by_number n m (
     row 3 (options_merged unread (within levels unread_merged) v m.options)
     (λ x. record m { options = x }) ∷ [])
 
+-- what a field makes of a reserved range of an enum
 unfoldable pub enum_range_merged : ℕ → Merge EnumReservedRange
 enum_range_merged levels n v m = by_number n m (
     row 1 (Ok (int32_merged v m.start)) (λ x. record m { start = x }) ∷
     row 2 (Ok (int32_merged v m.«end»)) (λ x. record m { «end» = x }) ∷ [])
 
+-- what a field makes of an enum
 unfoldable pub enum_merged : ℕ → Merge EnumDescriptorProto
 enum_merged levels n v m = by_number n m (
     row 1 (text_merged v m.name) (λ x. record m { name = x }) ∷

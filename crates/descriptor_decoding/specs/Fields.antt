@@ -5,6 +5,7 @@ use Rattle.descriptor_decoding.specs.Parts.{bool_merged, int32_merged, text_merg
 use Rattle.proto_types.specs.declared.records.field.FieldDescriptorProto.{FieldDescriptorProto}
 use Rattle.descriptor_decoding.specs.Options.{options_merged, no_field_options, field_options_merged}
 
+-- what a field makes of a field
 unfoldable pub field_merged : ℕ → Merge FieldDescriptorProto
 field_merged levels n v m = by_number n m (
     row 1 (text_merged v m.name) (λ x. record m { name = x }) ∷

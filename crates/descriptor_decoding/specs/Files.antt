@@ -17,6 +17,7 @@ use Rattle.descriptor_decoding.specs.Messages.{message_merged_at}
 use Rattle.descriptor_decoding.specs.Services.{service_merged}
 use Rattle.descriptor_decoding.specs.Sources.{source_merged}
 
+-- what a field makes of a file
 unfoldable pub file_merged : ℕ → Merge FileDescriptorProto
 file_merged levels n v m = by_number n m (
     row 1 (text_merged v m.name) (λ x. record m { name = x }) ∷
@@ -38,6 +39,7 @@ file_merged levels n v m = by_number n m (
     row 11 (int32s_merged v m.weak_dependency) (λ x. record m { weak_dependency = x }) ∷
     row 12 (text_merged v m.syntax) (λ x. record m { syntax = x }) ∷ [])
 
+-- what a field makes of a set of files
 unfoldable pub file_set_merged : ℕ → Merge FileDescriptorSet
 file_set_merged levels n v m = by_number n m (
     row 1 (messages_merged no_file (within levels file_merged) v m.file)

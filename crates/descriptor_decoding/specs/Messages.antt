@@ -13,12 +13,14 @@ use Rattle.descriptor_decoding.specs.Options.{options_merged, unread, unread_mer
 use Rattle.descriptor_decoding.specs.Enums.{enum_merged}
 use Rattle.descriptor_decoding.specs.Fields.{field_merged}
 
+-- what a field makes of a oneof
 unfoldable pub oneof_merged : ℕ → Merge OneofDescriptorProto
 oneof_merged levels n v m = by_number n m (
     row 1 (text_merged v m.name) (λ x. record m { name = x }) ∷
     row 2 (options_merged unread (within levels unread_merged) v m.options)
     (λ x. record m { options = x }) ∷ [])
 
+-- what a field makes of a range of extensions
 unfoldable pub extension_range_merged : ℕ → Merge ExtensionRange
 extension_range_merged levels n v m = by_number n m (
     row 1 (Ok (int32_merged v m.start)) (λ x. record m { start = x }) ∷
@@ -26,6 +28,7 @@ extension_range_merged levels n v m = by_number n m (
     row 3 (options_merged unread (within levels unread_merged) v m.options)
     (λ x. record m { options = x }) ∷ [])
 
+-- what a field makes of a reserved range of a message
 unfoldable pub reserved_range_merged : ℕ → Merge ReservedRange
 reserved_range_merged levels n v m = by_number n m (
     row 1 (Ok (int32_merged v m.start)) (λ x. record m { start = x }) ∷
@@ -56,6 +59,7 @@ message_row levels inner n v m = let d = out-DescriptorProto m in by_number n m 
     row 10 (texts_merged v d.reserved_name)
     (λ x. roll-DescriptorProto (record d { reserved_name = x })) ∷ [])
 
+-- what a field makes of a message in which so many levels of others may be nested
 unfoldable pub message_merged_at : ℕ → Merge DescriptorProto
 message_merged_at zero = message_row zero None
 message_merged_at (suc levels) =

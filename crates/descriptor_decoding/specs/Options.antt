@@ -13,6 +13,7 @@ use Rattle.proto_types.specs.declared.records.options.Unread.{Unread}
 abbrev pub given : {T : Type 0} → T → Option (Options T) → Options T
 given empty part = unwrap_or part (record { encoded = []; value = empty })
 
+-- options: their bytes stand one behind another, and what is read of them counts in order
 unfoldable pub options_merged : {T : Type 0} → T → Option (Reader T) → Value
     → Option (Options T) → Result (Option (Options T)) WireFault
 options_merged empty inner (Len bytes ends) part =
@@ -33,13 +34,16 @@ no_enum_options = record { allow_alias = None }
 abbrev pub unread : Unread
 unread = record {}
 
+-- what a field makes of a field's options
 unfoldable pub field_options_merged : ℕ → Merge FieldOptions
 field_options_merged levels n v m = by_number n m (
     row 2 (Ok (bool_merged v m.packed)) (λ x. record m { packed = x }) ∷ [])
 
+-- what a field makes of an enum's options
 unfoldable pub enum_options_merged : ℕ → Merge EnumOptions
 enum_options_merged levels n v m = by_number n m (
     row 2 (Ok (bool_merged v m.allow_alias)) (λ x. record m { allow_alias = x }) ∷ [])
 
+-- what a field makes of options of which nothing is read: nothing
 unfoldable pub unread_merged : ℕ → Merge Unread
 unread_merged levels n v m = Ok m

@@ -29,10 +29,12 @@ bool_merged other part = part
 abbrev pub text_of : ℕ → List ℕ → Result (List ℕ) WireFault
 text_of ends bytes = if is_utf8 bytes then Ok bytes else Err (fault NotUtf8 ends bytes)
 
+-- of a text that may be missing the last one counts
 unfoldable pub text_merged : Value → Option (List ℕ) → Result (Option (List ℕ)) WireFault
 text_merged (Len bytes ends) part = text_of ends bytes >>= λ t. Ok (Some t)
 text_merged other part = Ok part
 
+-- repeated texts
 unfoldable pub texts_merged : Value → List (List ℕ) → Result (List (List ℕ)) WireFault
 texts_merged (Len bytes ends) items = text_of ends bytes >>= λ t. Ok (items ++ t ∷ [])
 texts_merged other items = Ok items

@@ -7,6 +7,7 @@ use Rattle.proto_types.specs.declared.records.service.MethodDescriptorProto.{Met
 use Rattle.proto_types.specs.declared.records.service.ServiceDescriptorProto.{ServiceDescriptorProto}
 use Rattle.descriptor_decoding.specs.Options.{options_merged, unread, unread_merged}
 
+-- what a field makes of a method
 unfoldable pub method_merged : ℕ → Merge MethodDescriptorProto
 method_merged levels n v m = by_number n m (
     row 1 (text_merged v m.name) (λ x. record m { name = x }) ∷
@@ -17,6 +18,7 @@ method_merged levels n v m = by_number n m (
     row 5 (Ok (bool_merged v m.client_streaming)) (λ x. record m { client_streaming = x }) ∷
     row 6 (Ok (bool_merged v m.server_streaming)) (λ x. record m { server_streaming = x }) ∷ [])
 
+-- what a field makes of a service
 unfoldable pub service_merged : ℕ → Merge ServiceDescriptorProto
 service_merged levels n v m = by_number n m (
     row 1 (text_merged v m.name) (λ x. record m { name = x }) ∷

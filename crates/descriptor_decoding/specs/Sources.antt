@@ -6,6 +6,7 @@ use Rattle.proto_types.specs.Source.{no_location}
 use Rattle.proto_types.specs.declared.records.source.Location.{Location}
 use Rattle.proto_types.specs.declared.records.source.SourceCodeInfo.{SourceCodeInfo}
 
+-- what a field makes of a location
 unfoldable pub location_merged : ℕ → Merge Location
 location_merged levels n v m = by_number n m (
     row 1 (int32s_merged v m.path) (λ x. record m { path = x }) ∷
@@ -15,6 +16,7 @@ location_merged levels n v m = by_number n m (
     row 6 (texts_merged v m.leading_detached_comments)
     (λ x. record m { leading_detached_comments = x }) ∷ [])
 
+-- what a field makes of a file's locations
 unfoldable pub source_merged : ℕ → Merge SourceCodeInfo
 source_merged levels n v m = by_number n m (
     row 1 (messages_merged no_location (within levels location_merged) v m.location)

@@ -9,6 +9,7 @@ unfoldable pub digits : ℕ → ℕ → List ℕ
 digits zero n = n ∷ []
 digits (suc k) n = if nat_lt n 128 then n ∷ [] else (128 + n % 128) ∷ digits k (n / 128)
 
+-- the shortest varint of a number below 2 ^ 64
 unfoldable pub varint_of : ℕ → List ℕ
 varint_of n = digits 9 n
 
