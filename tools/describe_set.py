@@ -39,9 +39,9 @@ from descriptor_script import (
     compiled_files,
     descriptor_records,
     script_bytes,
-    unsayable,
     write_output,
 )
+from descriptors_to_script import refuse_default
 
 if TYPE_CHECKING:
     from google.protobuf.descriptor import Descriptor, FieldDescriptor, FileDescriptor
@@ -235,11 +235,6 @@ def parent(message: Descriptor) -> Iterator[str]:
     """The message around an item, where it is nested."""
     if message:
         yield f"  in {message.full_name}"
-
-
-def refuse_default(field: Element) -> None:
-    """Raises, since a row has no default value that no statement can say."""
-    raise unsayable(field, "default_value", field.record.default_value)
 
 
 def script_lines(files: list[FileDescriptorProto]) -> Iterator[str]:

@@ -35,6 +35,7 @@ from descriptor_script import (
     Element,
     ScriptWriter,
     ToolError,
+    Unsayable,
     distinct_files,
     has_source,
     printable,
@@ -90,6 +91,11 @@ def warn_of_lost_positions(program: str, files: list[FileDescriptorProto]) -> No
         )
 
 
+def refuse_default(field: Element) -> None:
+    """Raises: a default value that no statement can say is an error."""
+    raise unsayable(field, "default_value", field.record.default_value)
+
+
 class ScriptOfSets:
     """Makes the script of files, and tells what it leaves out."""
 
@@ -100,10 +106,12 @@ class ScriptOfSets:
 
     def leave_out(self, field: Element) -> None:
         """Leaves out a default value, with a warning; where nothing may be, raises."""
-        fault = unsayable(field, "default_value", field.record.default_value)
-        if self.strict:
-            raise fault
-        warn(self.program, printable(f"{self.file_name}: {fault}, so it is left out"))
+        try:
+            refuse_default(field)
+        except Unsayable as fault:
+            if self.strict:
+                raise
+            warn(self.program, printable(f"{self.file_name}: {fault}, so it is left out"))
 
     def lines(self, files: Iterable[FileDescriptorProto], commands: list[str]) -> Iterator[str]:
         """The lines of the files, and then the commands."""

@@ -35,6 +35,7 @@ import argparse
 import sys
 from collections import Counter
 from collections.abc import Iterator
+from functools import lru_cache
 from pathlib import Path
 from typing import TYPE_CHECKING
 
@@ -47,14 +48,23 @@ from descriptor_script import (
     descriptor_records,
     script_bytes,
     source_locations,
-    unsayable,
     write_output,
 )
+from descriptors_to_script import refuse_default
 
 if TYPE_CHECKING:
     from google.protobuf.descriptor_pb2 import FileDescriptorProto
 
 STORED = Path(__file__).resolve().parent.parent / "crates"
+
+STORED_AS = {
+    "parts": "memory_trials/stdin",
+    "script": "well_known/stdin",
+    "report": "well_known/stdout",
+    "set": "set_example/data/well_known.pb",
+    "told": "set_example/stdout",
+}
+"""What can be asked for, and where it is stored."""
 
 FILES = (
     "google/protobuf/any.proto",
@@ -175,11 +185,6 @@ class Report:
         yield from told
 
 
-def refuse_default(field: Element) -> None:
-    """Raises, since none of these files has a default value that no statement can say."""
-    raise unsayable(field, "default_value", field.record.default_value)
-
-
 def script_lines(files: list[FileDescriptorProto]) -> Iterator[str]:
     """The script."""
     writer = ScriptWriter(refuse_default)
@@ -221,23 +226,31 @@ def filled_files() -> list[FileDescriptorProto]:
     return files
 
 
-def made(files: list[FileDescriptorProto]) -> dict[str, tuple[str, bytes]]:
-    """What is asked for by each word: where it is stored, and what is made."""
-    return {
-        "parts": ("memory_trials/stdin", set_bytes(filled_files())),
-        "script": ("well_known/stdin", script_bytes(script_lines(files))),
-        "report": ("well_known/stdout", script_bytes(report_lines(files))),
-        "set": ("set_example/data/well_known.pb", set_bytes(files)),
-        "told": ("set_example/stdout", script_bytes(told_lines(files))),
-    }
+@lru_cache(maxsize=None)
+def well_known_files(directories: tuple[str, ...]) -> list[FileDescriptorProto]:
+    """protobuf's own files, as protoc describes them once."""
+    return compiled_files(list(FILES), list(directories))
 
 
-def compare(stored: dict[str, tuple[str, bytes]]) -> bool:
-    """Tells of each stored file whether it is what was made, and answers whether all are."""
-    same = {name: (STORED / name).read_bytes() == data for name, data in stored.values()}
-    for name, is_same in same.items():
+def made(what: str, directories: tuple[str, ...]) -> bytes:
+    """What is asked for by a word."""
+    if what == "parts":
+        return set_bytes(filled_files())
+    files = well_known_files(directories)
+    if what == "set":
+        return set_bytes(files)
+    makers = {"script": script_lines, "report": report_lines, "told": told_lines}
+    return script_bytes(makers[what](files))
+
+
+def compare(directories: tuple[str, ...]) -> bool:
+    """Tells of each stored file whether it is what is made, and answers whether all are."""
+    same = True
+    for what, name in STORED_AS.items():
+        is_same = (STORED / name).read_bytes() == made(what, directories)
         print(f"crates/{name}: {'the same' if is_same else 'different'}")
-    return all(same.values())
+        same = same and is_same
+    return same
 
 
 def main() -> None:
@@ -245,7 +258,7 @@ def main() -> None:
     parser = argparse.ArgumentParser(
         description=__doc__, formatter_class=argparse.RawDescriptionHelpFormatter
     )
-    parser.add_argument("what", choices=("script", "report", "set", "told", "parts", "compare"))
+    parser.add_argument("what", choices=(*STORED_AS, "compare"))
     parser.add_argument(
         "-I",
         action="append",
@@ -256,10 +269,10 @@ def main() -> None:
     )
     asked = parser.parse_args()
     try:
-        stored = made(compiled_files(list(FILES), asked.directories))
+        directories = tuple(asked.directories)
         if asked.what == "compare":
-            sys.exit(0 if compare(stored) else 1)
-        write_output(stored[asked.what][1])
+            sys.exit(0 if compare(directories) else 1)
+        write_output(made(asked.what, directories))
     except (ToolError, OSError) as fault:
         print(f"{parser.prog}: {fault}", file=sys.stderr)
         sys.exit(2)
