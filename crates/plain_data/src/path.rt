@@ -3,6 +3,7 @@ ghost use Rattle.plain_data.specs.Paths.{numbers_of};
 
 use crate::Duplicate;
 use std::alloc::{AllocError, Global};
+use std::fmt;
 use std::marker::Model;
 
 /// The place of a declaration in the record of its file: field numbers and positions, up to eight
@@ -158,5 +159,11 @@ impl PartialEq for Path {
 
     fn eq(&self, other: &Path) -> bool {
         self.as_slice() == other.as_slice()
+    }
+}
+
+impl fmt::Debug for Path {
+    fn fmt<W: fmt::Write>(&self, f: &mut fmt::Formatter<W>) -> fmt::Result {
+        self.as_slice().fmt(f)
     }
 }

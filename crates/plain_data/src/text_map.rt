@@ -9,6 +9,7 @@ ghost use Rattle.plain_data.specs.TextRows.{digest_of, IsDigested, AreDigested, 
 use crate::Duplicate;
 use std::alloc::{AllocError, Global};
 use std::cmp::Ordering;
+use std::fmt;
 use std::marker::Model;
 
 /// A map from texts to numbers. All texts stand in one list of bytes. Contracts see it as the
@@ -541,5 +542,12 @@ impl PartialEq for TextMap {
         let (runs, other_runs) = (self.runs.as_slice(), other.runs.as_slice());
         covers(bytes, rows, other_bytes, other_rows, other_runs)
             && covers(other_bytes, other_rows, bytes, rows, runs)
+    }
+}
+
+/// How many entries there are.
+impl fmt::Debug for TextMap {
+    fn fmt<W: fmt::Write>(&self, f: &mut fmt::Formatter<W>) -> fmt::Result {
+        f.debug_struct("TextMap").field("len", &self.len()).finish()
     }
 }

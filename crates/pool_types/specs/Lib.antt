@@ -4,4 +4,5 @@ pub mod Syntaxes
 pub mod Contents
 pub mod ContentsCode
 pub mod Extension
+pub mod LookUps
 pub mod Exact

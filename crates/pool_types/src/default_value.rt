@@ -4,7 +4,7 @@ use plain_data::{Duplicate, Items, Text};
 use std::alloc::{AllocError, Global};
 
 /// The default value of a field.
-#[derive(PartialEq, Drop)]
+#[derive(PartialEq, Debug, Drop)]
 pub enum DefaultValue {
     I32(i32),
     I64(i64),

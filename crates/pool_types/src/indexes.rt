@@ -3,58 +3,58 @@
 ghost use Rattle.std.specs.Prelude.{◌≡◌};
 
 /// The index of a file, from 0 in the order of linking.
-#[derive(Clone, Copy, PartialEq, Eq)]
+#[derive(Clone, Copy, PartialEq, Eq, Debug)]
 pub struct FileDescriptor {
     pub index: u32,
 }
 
 /// The index of a message, from 0 in the order of the walk.
-#[derive(Clone, Copy, PartialEq, Eq)]
+#[derive(Clone, Copy, PartialEq, Eq, Debug)]
 pub struct MessageDescriptor {
     pub index: u32,
 }
 
 /// The index of an enum, from 0 in the order of the walk.
-#[derive(Clone, Copy, PartialEq, Eq)]
+#[derive(Clone, Copy, PartialEq, Eq, Debug)]
 pub struct EnumDescriptor {
     pub index: u32,
 }
 
 /// The index of a service, from 0 in the order of the walk.
-#[derive(Clone, Copy, PartialEq, Eq)]
+#[derive(Clone, Copy, PartialEq, Eq, Debug)]
 pub struct ServiceDescriptor {
     pub index: u32,
 }
 
 /// The index of an extension, from 0 in the order of the walk.
-#[derive(Clone, Copy, PartialEq, Eq)]
+#[derive(Clone, Copy, PartialEq, Eq, Debug)]
 pub struct ExtensionDescriptor {
     pub index: u32,
 }
 
 /// A field by its message and its position there, from 0.
-#[derive(Clone, Copy, PartialEq, Eq)]
+#[derive(Clone, Copy, PartialEq, Eq, Debug)]
 pub struct FieldDescriptor {
     pub parent: MessageDescriptor,
     pub index: u32,
 }
 
 /// A oneof by its message and its position there, from 0.
-#[derive(Clone, Copy, PartialEq, Eq)]
+#[derive(Clone, Copy, PartialEq, Eq, Debug)]
 pub struct OneofDescriptor {
     pub parent: MessageDescriptor,
     pub index: u32,
 }
 
 /// A value by its enum and its position there, from 0.
-#[derive(Clone, Copy, PartialEq, Eq)]
+#[derive(Clone, Copy, PartialEq, Eq, Debug)]
 pub struct EnumValueDescriptor {
     pub parent: EnumDescriptor,
     pub index: u32,
 }
 
 /// A method by its service and its position there, from 0.
-#[derive(Clone, Copy, PartialEq, Eq)]
+#[derive(Clone, Copy, PartialEq, Eq, Debug)]
 pub struct MethodDescriptor {
     pub parent: ServiceDescriptor,
     pub index: u32,

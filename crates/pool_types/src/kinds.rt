@@ -9,7 +9,7 @@ use std::cmp::Ordering;
 use std::fmt;
 
 /// Which of the two languages a file is written in.
-#[derive(Clone, Copy, PartialEq, Eq, Hash)]
+#[derive(Clone, Copy, PartialEq, Eq, Hash, Debug)]
 pub enum Syntax {
     Proto2,
     Proto3,
@@ -96,7 +96,7 @@ pub enum KindIndex {
 }
 
 /// The type of a field, a message or an enum by its typed index. A group is a message.
-#[derive(Copy, PartialEq, Eq)]
+#[derive(Copy, PartialEq, Eq, Debug)]
 pub enum Kind {
     Double,
     Float,

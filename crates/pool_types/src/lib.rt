@@ -7,6 +7,7 @@ mod default_value;
 mod exact;
 mod indexes;
 mod kinds;
+mod look_ups;
 mod syntaxes;
 
 pub use contents::{

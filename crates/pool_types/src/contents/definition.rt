@@ -7,7 +7,7 @@ use plain_data::{Path, Text};
 use std::alloc::{AllocError, Global};
 
 /// Where a declaration stands, and its name.
-#[derive(PartialEq, Drop)]
+#[derive(PartialEq, Debug, Drop)]
 pub struct Identity {
     pub file: u32,
     /// Field numbers and positions, from the file to the declaration.
@@ -18,7 +18,7 @@ pub struct Identity {
 }
 
 /// What a name means.
-#[derive(PartialEq, Drop)]
+#[derive(PartialEq, Debug, Drop)]
 pub struct Definition {
     pub file: u32,
     /// The declaration's path, followed by the number of its name.
@@ -28,7 +28,7 @@ pub struct Definition {
 
 /// What kind of thing it is, with its own index, or for a part the index of its message, service or
 /// enum.
-#[derive(Clone, Copy, PartialEq)]
+#[derive(Clone, Copy, PartialEq, Debug)]
 pub enum DefinitionKind {
     Package,
     Message(u32),

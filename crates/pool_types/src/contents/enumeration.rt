@@ -5,7 +5,7 @@ use plain_data::{Duplicate, Items, TextMap};
 use std::alloc::{AllocError, Global};
 
 /// An enum, with its values in the order of their positions.
-#[derive(PartialEq, Drop)]
+#[derive(PartialEq, Debug, Drop)]
 pub struct EnumDescriptorInner {
     pub id: Identity,
     /// The index of the message around it, where it is nested.
@@ -21,7 +21,7 @@ pub struct EnumDescriptorInner {
 }
 
 /// A value of an enum.
-#[derive(PartialEq, Drop)]
+#[derive(PartialEq, Debug, Drop)]
 pub struct EnumValueDescriptorInner {
     pub id: Identity,
     pub number: i32,

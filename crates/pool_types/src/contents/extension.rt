@@ -6,7 +6,7 @@ use plain_data::{Duplicate, Text, duplicate_option};
 use std::alloc::{AllocError, Global};
 
 /// An extension: a field of a message that isn't declared in it.
-#[derive(PartialEq, Drop)]
+#[derive(PartialEq, Debug, Drop)]
 pub struct ExtensionDescriptorInner {
     pub id: Identity,
     /// The index of the message around it, where it is nested.

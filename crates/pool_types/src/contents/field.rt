@@ -6,7 +6,7 @@ use plain_data::{Duplicate, Text, duplicate_option};
 use std::alloc::{AllocError, Global};
 
 /// A field of a message.
-#[derive(PartialEq, Drop)]
+#[derive(PartialEq, Debug, Drop)]
 pub struct FieldDescriptorInner {
     pub id: Identity,
     pub number: u32,

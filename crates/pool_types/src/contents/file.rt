@@ -5,6 +5,7 @@ use plain_data::{Duplicate, Items};
 use proto_types::FileDescriptorProto;
 use std::alloc::{AllocError, Global};
 use std::collections::BTreeSet;
+use std::fmt;
 
 /// A file: its syntax, its linked record, and the files that it knows. Files are told by their
 /// indexes, from 0 in the order of linking.
@@ -41,5 +42,16 @@ impl FileDescriptorInner {
 impl Duplicate for FileDescriptorInner {
     fn duplicate(&self, alloc: Global) -> Result<FileDescriptorInner, AllocError> {
         self.clone(alloc)
+    }
+}
+
+/// The record is told by the name of the file alone.
+impl fmt::Debug for FileDescriptorInner {
+    fn fmt<W: fmt::Write>(&self, f: &mut fmt::Formatter<W>) -> fmt::Result {
+        f.debug_struct("FileDescriptorInner")
+            .field("syntax", &self.syntax)
+            .field("name", &self.raw.name())
+            .field("dependencies", &self.dependencies)
+            .finish_non_exhaustive()
     }
 }

@@ -7,7 +7,7 @@ use plain_data::{Duplicate, Items, NumberMap, TextMap};
 use std::alloc::{AllocError, Global};
 
 /// A message, with its fields and its oneofs in the order of their positions.
-#[derive(PartialEq, Drop)]
+#[derive(PartialEq, Debug, Drop)]
 pub struct MessageDescriptorInner {
     pub id: Identity,
     /// The index of the message around it, where it is nested.

@@ -5,7 +5,7 @@ use plain_data::{Duplicate, Items};
 use std::alloc::{AllocError, Global};
 
 /// A oneof of a message.
-#[derive(PartialEq, Drop)]
+#[derive(PartialEq, Debug, Drop)]
 pub struct OneofDescriptorInner {
     pub id: Identity,
     /// The positions of its fields among those of the message, from 0, in rising order.

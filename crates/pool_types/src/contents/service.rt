@@ -5,14 +5,14 @@ use plain_data::{Duplicate, Items};
 use std::alloc::{AllocError, Global};
 
 /// A service, with its methods in the order of their positions.
-#[derive(PartialEq, Drop)]
+#[derive(PartialEq, Debug, Drop)]
 pub struct ServiceDescriptorInner {
     pub id: Identity,
     pub methods: Items<MethodDescriptorInner>,
 }
 
 /// A method of a service.
-#[derive(PartialEq, Drop)]
+#[derive(PartialEq, Debug, Drop)]
 pub struct MethodDescriptorInner {
     pub id: Identity,
     /// The index of the message that it takes.
