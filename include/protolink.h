@@ -88,7 +88,7 @@ typedef uint8_t protolink_status;
 
 enum {
     PROTOLINK_DONE = 0,      /* it did, or found, what was asked */
-    PROTOLINK_REFUSED = 1,   /* the files break rules: the reports tell all faults of the first pass */
+    PROTOLINK_REFUSED = 1,   /* the files break rules, which the reports tell */
     PROTOLINK_FAULT = 2,     /* the bytes are not what they should be: the reports tell where */
     PROTOLINK_NO_MEMORY = 3, /* memory was refused */
     PROTOLINK_SHORT = 4,     /* the buffer is too short: the length that is needed is told */
@@ -115,7 +115,8 @@ enum {
 /*
  * An item of a pool. The index is that of the message, enum, service or extension; of a field or a
  * oneof it is its message's, of a method its service's, of a value its enum's, and the position is
- * then that in there. Otherwise the position is 0. Of a package both are 0.
+ * then that in there. Of the others the position is 0, and calls do not look at it. Of a package
+ * the index is PROTOLINK_NONE.
  */
 typedef struct protolink_item {
     uint32_t kind;     /* PROTOLINK_PACKAGE to PROTOLINK_EXTENSION */
@@ -169,24 +170,24 @@ enum {
 
 /* A file. */
 typedef struct protolink_file_info {
-    uint32_t syntax;     /* PROTOLINK_PROTO2 or PROTOLINK_PROTO3 */
-    size_t dependencies; /* how many files it imports */
+    uint32_t syntax;  /* PROTOLINK_PROTO2 or PROTOLINK_PROTO3 */
+    uint64_t imports; /* how many files it imports */
 } protolink_file_info;
 
 /* A message. */
 typedef struct protolink_message_info {
-    uint32_t file;     /* the index of its file */
-    uint32_t parent;   /* the index of the message around it, or PROTOLINK_NONE */
-    size_t fields;     /* how many fields it has */
-    size_t oneofs;     /* how many oneofs it has, those of optional fields of proto3 too */
-    size_t extensions; /* how many extensions of the pool extend it */
+    uint32_t file;       /* the index of its file */
+    uint32_t parent;     /* the index of the message around it, or PROTOLINK_NONE */
+    uint64_t fields;     /* how many fields it has */
+    uint64_t oneofs;     /* how many oneofs it has, those of optional fields of proto3 too */
+    uint64_t extensions; /* how many extensions of the pool extend it */
 } protolink_message_info;
 
 /* A field of a message. */
 typedef struct protolink_field_info {
     uint32_t number;
     uint32_t cardinality;       /* PROTOLINK_OPTIONAL, .._REQUIRED, .._REPEATED */
-    uint32_t type;              /* PROTOLINK_TYPE_DOUBLE to .._SINT64 */
+    uint32_t kind;              /* its type: PROTOLINK_TYPE_DOUBLE to .._SINT64 */
     uint32_t type_index;        /* the index of the type's message or enum, or PROTOLINK_NONE */
     uint32_t oneof;             /* the position of its oneof in the message, or PROTOLINK_NONE */
     uint32_t is_packed;         /* 1 where its values are encoded as one run of bytes, else 0 */
@@ -196,15 +197,15 @@ typedef struct protolink_field_info {
 
 /* A oneof of a message. */
 typedef struct protolink_oneof_info {
-    size_t fields; /* how many fields of the message are in it */
+    uint64_t fields; /* how many fields of the message are in it */
 } protolink_oneof_info;
 
 /* An enum. */
 typedef struct protolink_enum_info {
     uint32_t file;        /* the index of its file */
     uint32_t parent;      /* the index of the message around it, or PROTOLINK_NONE */
+    uint64_t values;      /* how many values it has */
     uint32_t allow_alias; /* 1 where two values may have one number, else 0 */
-    size_t values;        /* how many values it has */
 } protolink_enum_info;
 
 /* A value of an enum. */
@@ -214,8 +215,8 @@ typedef struct protolink_enum_value_info {
 
 /* A service. */
 typedef struct protolink_service_info {
-    uint32_t file;  /* the index of its file */
-    size_t methods; /* how many methods it has */
+    uint32_t file;    /* the index of its file */
+    uint64_t methods; /* how many methods it has */
 } protolink_service_info;
 
 /* A method of a service. */
@@ -231,7 +232,7 @@ typedef struct protolink_extension_info {
     uint32_t extendee;    /* the index of the message whose field it is */
     uint32_t number;
     uint32_t cardinality; /* PROTOLINK_OPTIONAL, .._REQUIRED, .._REPEATED */
-    uint32_t type;        /* PROTOLINK_TYPE_DOUBLE to .._SINT64 */
+    uint32_t kind;        /* its type: PROTOLINK_TYPE_DOUBLE to .._SINT64 */
     uint32_t type_index;  /* the index of the type's message or enum, or PROTOLINK_NONE */
     uint32_t is_packed;   /* 1 where its values are encoded as one run of bytes, else 0 */
     uint32_t has_default; /* 1 where a default value was given, else 0 */
@@ -267,12 +268,13 @@ protolink_status protolink_pool_add_file(protolink_pool *pool, const uint8_t *by
 protolink_status protolink_pool_add_script(protolink_pool *pool, const uint8_t *script, size_t len);
 
 /*
- * THE REPORT of the last call that was to link files, in lines, each ended by a line feed:
+ * THE REPORT of the last call that was to link files, in lines for people as docs/CHECK.md has
+ * them, each ended by a line feed:
  *
- *   behind PROTOLINK_REFUSED   `refused N`, and a line for each of the N faults, never none, in
- *                              order: `FILE:LINE:COLUMN: TEXT` where its place is known. Lines and
- *                              columns count from 1. The texts are those of docs/RULES.md.
- *   behind PROTOLINK_FAULT     one line, which tells the byte or the line, and what is wrong.
+ *   behind PROTOLINK_REFUSED   each fault, never none, in order, `FILE:LINE:COLUMN: TEXT` where its
+ *                              place is known, with lines of notes behind it. Lines and columns
+ *                              count from 1. The last line tells how many faults there are.
+ *   behind PROTOLINK_FAULT     one line: the byte, or the line of the script, and what is wrong.
  *   behind PROTOLINK_TOO_MANY  one line, which names the kind.
  *
  * Behind any other status, and of an empty pool, it is empty. The call takes no memory.
@@ -389,21 +391,28 @@ protolink_status protolink_extension(
     protolink_pool *pool, uint32_t extension, protolink_extension_info *info);
 
 /*
- * A FILE THAT A FILE IMPORTS, by its position among the imports.
+ * LISTS OF ITEMS, by position: a file that a file imports, among its imports; an extension that
+ * extends a message, and a field that is in a oneof, each in rising order.
  *
- *   PROTOLINK_DONE       *dependency is the index of the imported file.
- *   PROTOLINK_NOT_FOUND  the pool has no such file, or the file no such import. Nothing is written.
+ *   PROTOLINK_DONE       *imported or *extension is an index, *field a position in the message.
+ *   PROTOLINK_NOT_FOUND  the pool has no such item, or the list no such position. Nothing is
+ *                        written.
  */
-protolink_status protolink_file_dependency(
-    protolink_pool *pool, uint32_t file, uint32_t position, uint32_t *dependency);
+protolink_status protolink_file_import(
+    protolink_pool *pool, uint32_t file, uint32_t position, uint32_t *imported);
+protolink_status protolink_message_extension(
+    protolink_pool *pool, uint32_t message, uint32_t position, uint32_t *extension);
+protolink_status protolink_oneof_field(
+    protolink_pool *pool, uint32_t message, uint32_t oneof, uint32_t position, uint32_t *field);
 
 /*
- * A FIELD OF A MESSAGE by its name, by its JSON name, by its number. Of two fields with one it is
- * the later. By the JSON name those are found to which one was given, as protoc gives it to all.
+ * A FIELD OF A MESSAGE by its name, by its JSON name, by its number, and a VALUE OF AN ENUM by its
+ * name. Of two with one it is the later. By the JSON name those fields are found to which one was
+ * given, as protoc gives it to all. Names are those that are declared, without a scope.
  *
- *   PROTOLINK_DONE       *position is the field's position in the message.
- *   PROTOLINK_NOT_FOUND  the pool has no such message, the message no such field, or the bytes are
- *                        no text. Nothing is written.
+ *   PROTOLINK_DONE       *position is the position in the message or the enum.
+ *   PROTOLINK_NOT_FOUND  the pool has no such message or enum, which has no such part, or the bytes
+ *                        are no text. Nothing is written.
  */
 protolink_status protolink_field_by_name(
     protolink_pool *pool, uint32_t message, const uint8_t *name, size_t name_len,
@@ -413,6 +422,9 @@ protolink_status protolink_field_by_json_name(
     uint32_t *position);
 protolink_status protolink_field_by_number(
     protolink_pool *pool, uint32_t message, uint32_t number, uint32_t *position);
+protolink_status protolink_enum_value_by_name(
+    protolink_pool *pool, uint32_t enumeration, const uint8_t *name, size_t name_len,
+    uint32_t *position);
 
 /*
  * THE NAME OF A FILE, and its package, which is empty where it has none.
