@@ -1,0 +1,204 @@
+//! Why files are not linked.
+
+use crate::json::{parse, Value};
+use std::error::Error;
+use std::fmt;
+
+/// Memory was refused.
+#[derive(Debug, Clone, Copy, PartialEq, Eq)]
+pub struct OutOfMemory;
+
+impl fmt::Display for OutOfMemory {
+    fn fmt(&self, f: &mut fmt::Formatter<'_>) -> fmt::Result {
+        f.write_str("memory was refused")
+    }
+}
+
+impl Error for OutOfMemory {}
+
+/// Why files were not linked. The pool is what it was.
+#[derive(Debug, Clone, PartialEq, Eq)]
+#[non_exhaustive]
+pub enum DescriptorError {
+    /// The files break rules: all faults of the first pass that finds any, in order, never none.
+    Refused(Vec<Fault>),
+    /// The bytes are no such set or file, or the script has a fault: where, and what is wrong.
+    Unreadable(String),
+    /// There is too much of a kind, which is named.
+    TooMany(String),
+    /// Memory was refused.
+    OutOfMemory,
+}
+
+/// A rule that files break, and where.
+#[derive(Debug, Clone, PartialEq, Eq, Default)]
+#[non_exhaustive]
+pub struct Fault {
+    /// Its kind, as `DuplicateName`.
+    pub code: String,
+    /// Its text, as `name 'p.M' is defined twice`.
+    pub message: String,
+    /// The name of the file, where the fault shows a place, and so `path`.
+    pub file: Option<String>,
+    /// The line where it begins in the source, from 1, where that is known, and so `column`.
+    pub line: Option<u32>,
+    /// The column where it begins in the source, from 1.
+    pub column: Option<u32>,
+    /// The path of the part at fault in the record of its file: numbers of fields, and positions
+    /// from 0.
+    pub path: Option<Vec<i32>>,
+    /// The full name of the innermost declaration, where there is one.
+    pub element: Option<String>,
+    /// Its second place, or none: the first holder, the range, or what a name means.
+    pub related: Vec<Place>,
+    /// What to do, or where a name is declared.
+    pub note: String,
+}
+
+/// A place in a file.
+#[derive(Debug, Clone, PartialEq, Eq, Default)]
+#[non_exhaustive]
+pub struct Place {
+    /// The name of the file.
+    pub file: Option<String>,
+    /// The line where it begins in the source, from 1, where that is known, and so `column`.
+    pub line: Option<u32>,
+    /// The column where it begins in the source, from 1.
+    pub column: Option<u32>,
+    /// The path in the record of the file.
+    pub path: Option<Vec<i32>>,
+    /// The full name of the innermost declaration, where there is one.
+    pub element: Option<String>,
+}
+
+impl Fault {
+    fn new(value: &Value) -> Fault {
+        let place = Place::new(value);
+        let related = value.member("related").map_or(&[][..], Value::items);
+        Fault {
+            code: text(value, "code").unwrap_or_default(),
+            message: text(value, "message").unwrap_or_default(),
+            file: place.file,
+            line: place.line,
+            column: place.column,
+            path: place.path,
+            element: place.element,
+            related: related.iter().map(Place::new).collect(),
+            note: text(value, "note").unwrap_or_default(),
+        }
+    }
+}
+
+impl Place {
+    fn new(value: &Value) -> Place {
+        Place {
+            file: text(value, "file"),
+            line: number(value, "line"),
+            column: number(value, "column"),
+            path: value.member("path").and_then(path),
+            element: text(value, "element"),
+        }
+    }
+}
+
+fn text(value: &Value, name: &str) -> Option<String> {
+    Some(value.member(name)?.as_text()?.to_owned())
+}
+
+fn number(value: &Value, name: &str) -> Option<u32> {
+    u32::try_from(value.member(name)?.as_number()?).ok()
+}
+
+fn path(value: &Value) -> Option<Vec<i32>> {
+    match value {
+        Value::Array(numbers) => numbers
+            .iter()
+            .map(|number| i32::try_from(number.as_number()?).ok())
+            .collect(),
+        _ => None,
+    }
+}
+
+impl DescriptorError {
+    /// The faults of a report of JSON. Where it is not what was expected, its text is a fault.
+    pub(crate) fn refused(json: &str) -> DescriptorError {
+        let told = parse(json);
+        let faults = told.as_ref().and_then(|told| told.member("faults"));
+        let mut faults: Vec<Fault> = faults
+            .map_or(&[][..], Value::items)
+            .iter()
+            .map(Fault::new)
+            .collect();
+        if faults.is_empty() {
+            faults.push(Fault {
+                message: json.trim_end().to_owned(),
+                ..Fault::default()
+            });
+        }
+        DescriptorError::Refused(faults)
+    }
+
+    pub(crate) fn unreadable(json: &str) -> DescriptorError {
+        DescriptorError::Unreadable(member_or_all(json, "error"))
+    }
+
+    pub(crate) fn too_many(json: &str) -> DescriptorError {
+        DescriptorError::TooMany(member_or_all(json, "too_many"))
+    }
+
+    /// The faults of files that break rules, or none where files were not linked for another reason.
+    #[must_use]
+    pub fn faults(&self) -> &[Fault] {
+        match self {
+            DescriptorError::Refused(faults) => faults,
+            _ => &[],
+        }
+    }
+}
+
+/// A text of the report, or where it is not what was expected, the report.
+fn member_or_all(json: &str, name: &str) -> String {
+    parse(json)
+        .and_then(|told| text(&told, name))
+        .unwrap_or_else(|| json.trim_end().to_owned())
+}
+
+/// `FILE:LINE:COLUMN: MESSAGE`, or `FILE: ELEMENT: MESSAGE` where the source is not known.
+impl fmt::Display for Fault {
+    fn fmt(&self, f: &mut fmt::Formatter<'_>) -> fmt::Result {
+        if let Some(file) = &self.file {
+            write!(f, "{file}:")?;
+            match (self.line, self.column, &self.element) {
+                (Some(line), Some(column), _) => write!(f, "{line}:{column}: ")?,
+                (_, _, Some(element)) => write!(f, " {element}: ")?,
+                _ => f.write_str(" ")?,
+            }
+        }
+        f.write_str(&self.message)
+    }
+}
+
+impl fmt::Display for DescriptorError {
+    fn fmt(&self, f: &mut fmt::Formatter<'_>) -> fmt::Result {
+        match self {
+            DescriptorError::Refused(faults) => match &faults[..] {
+                [] => f.write_str("the files break rules"),
+                [fault] => write!(f, "{fault}"),
+                [first, ..] => write!(f, "{first} (and {} more)", faults.len() - 1),
+            },
+            DescriptorError::Unreadable(words) => f.write_str(words),
+            DescriptorError::TooMany(kind) => write!(f, "too many {kind}"),
+            DescriptorError::OutOfMemory => OutOfMemory.fmt(f),
+        }
+    }
+}
+
+impl Error for DescriptorError {}
+
+impl Error for Fault {}
+
+impl From<OutOfMemory> for DescriptorError {
+    fn from(_: OutOfMemory) -> DescriptorError {
+        DescriptorError::OutOfMemory
+    }
+}

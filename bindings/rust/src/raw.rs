@@ -1,0 +1,273 @@
+//! The calls of the library, each as a safe function. All `unsafe` code of the crate stands here.
+//!
+//! Of each call the same is to be seen, and is not said again below. The pool is null or what the
+//! library left there. It is not `Sync`, and no reference into it is ever lent, so one call at a
+//! time uses it. Each other pointer is that of a slice or a value that is borrowed for the call, so
+//! it is not null, and it is passed with the slice's own length. What is written is borrowed by
+//! `&mut`, so it overlaps nothing. The calls take any numbers.
+
+use crate::faults::OutOfMemory;
+use crate::ffi;
+use std::cell::UnsafeCell;
+
+/// How long a text may be that is had by one call.
+const FIRST_ROOM: usize = 128;
+
+/// A pool of the library.
+pub(crate) struct RawPool {
+    pool: UnsafeCell<ffi::Pool>,
+}
+
+// SAFETY: that a pool may be handed to another thread is proved of the library's handle.
+unsafe impl Send for RawPool {}
+
+/// How a call ended that was to link files. The pool is as it was after all but `Done`.
+#[derive(Debug, Clone, Copy, PartialEq, Eq)]
+pub(crate) enum Added {
+    Done,
+    Refused,
+    Fault,
+    TooMany,
+    OutOfMemory,
+}
+
+fn added(status: u8) -> Added {
+    match status {
+        ffi::DONE => Added::Done,
+        ffi::REFUSED => Added::Refused,
+        ffi::FAULT => Added::Fault,
+        ffi::TOO_MANY => Added::TooMany,
+        _ => Added::OutOfMemory,
+    }
+}
+
+impl RawPool {
+    pub const fn new() -> RawPool {
+        RawPool {
+            pool: UnsafeCell::new(ffi::Pool::EMPTY),
+        }
+    }
+
+    pub fn add_set(&mut self, bytes: &[u8]) -> Added {
+        let pool = self.pool.get_mut();
+        added(unsafe { ffi::protolink_pool_add_set(pool, bytes.as_ptr(), bytes.len()) })
+    }
+
+    pub fn add_file(&mut self, bytes: &[u8]) -> Added {
+        let pool = self.pool.get_mut();
+        added(unsafe { ffi::protolink_pool_add_file(pool, bytes.as_ptr(), bytes.len()) })
+    }
+
+    pub fn add_script(&mut self, script: &[u8]) -> Added {
+        let pool = self.pool.get_mut();
+        added(unsafe { ffi::protolink_pool_add_script(pool, script.as_ptr(), script.len()) })
+    }
+
+    pub fn try_clone(&self) -> Result<RawPool, OutOfMemory> {
+        let mut copy = RawPool::new();
+        match unsafe { ffi::protolink_pool_clone(self.pool.get(), copy.pool.get_mut()) } {
+            ffi::DONE => Ok(copy),
+            _ => Err(OutOfMemory),
+        }
+    }
+
+    /// What a call writes to a buffer, or none where the pool does not have it.
+    fn written<T: Clone + Default>(
+        &self,
+        room: usize,
+        call: impl Fn(*mut ffi::Pool, *mut T, usize, *mut usize) -> u8,
+    ) -> Result<Option<Vec<T>>, OutOfMemory> {
+        let mut buffer = vec![T::default(); room];
+        let mut length = 0;
+        loop {
+            let status = call(
+                self.pool.get(),
+                buffer.as_mut_ptr(),
+                buffer.len(),
+                &mut length,
+            );
+            match status {
+                ffi::DONE => {
+                    buffer.truncate(length);
+                    return Ok(Some(buffer));
+                }
+                ffi::SHORT => buffer.resize(length, T::default()),
+                ffi::NO_MEMORY => return Err(OutOfMemory),
+                _ => return Ok(None),
+            }
+        }
+    }
+
+    /// A text of a call that takes no memory.
+    fn text(
+        &self,
+        call: impl Fn(*mut ffi::Pool, *mut u8, usize, *mut usize) -> u8,
+    ) -> Option<String> {
+        let bytes = self.written(FIRST_ROOM, call).ok()??;
+        Some(String::from_utf8_lossy(&bytes).into_owned())
+    }
+
+    /// A value that a call writes, or none where the pool does not have it.
+    fn value<T: Default>(&self, call: impl FnOnce(*mut ffi::Pool, *mut T) -> u8) -> Option<T> {
+        let mut value = T::default();
+        match call(self.pool.get(), &mut value) {
+            ffi::DONE => Some(value),
+            _ => None,
+        }
+    }
+
+    pub fn report(&self) -> String {
+        self.text(|p, at, room, len| unsafe { ffi::protolink_pool_report(p, at, room, len) })
+            .unwrap_or_default()
+    }
+
+    pub fn report_json(&self) -> String {
+        self.text(|p, at, room, len| unsafe { ffi::protolink_pool_report_json(p, at, room, len) })
+            .unwrap_or_default()
+    }
+
+    pub fn linked(&self) -> Result<Vec<u8>, OutOfMemory> {
+        let linked = self.written(0, |p, at, room, len| unsafe {
+            ffi::protolink_pool_linked(p, at, room, len)
+        })?;
+        Ok(linked.unwrap_or_default())
+    }
+
+    pub fn linked_file(&self, file: u32) -> Result<Option<Vec<u8>>, OutOfMemory> {
+        self.written(0, |p, at, room, len| unsafe {
+            ffi::protolink_pool_linked_file(p, file, at, room, len)
+        })
+    }
+
+    pub fn find(&self, name: &str) -> Option<(ffi::Item, u32)> {
+        let mut file = 0;
+        let item = self.value(|p, item| unsafe {
+            ffi::protolink_pool_find(p, name.as_ptr(), name.len(), item, &mut file)
+        })?;
+        Some((item, file))
+    }
+
+    pub fn find_path(&self, name: &str) -> Option<Vec<i32>> {
+        self.written(16, |p, at, room, len| unsafe {
+            ffi::protolink_pool_find_path(p, name.as_ptr(), name.len(), at, room, len)
+        })
+        .ok()?
+    }
+
+    pub fn counts(&self) -> ffi::Counts {
+        let mut counts = ffi::Counts::default();
+        unsafe { ffi::protolink_pool_counts(self.pool.get(), &mut counts) };
+        counts
+    }
+
+    pub fn extension_numbered(&self, message: u32, number: u32) -> Option<u32> {
+        self.value(|p, at| unsafe { ffi::protolink_pool_extension(p, message, number, at) })
+    }
+
+    pub fn file(&self, file: u32) -> Option<ffi::FileInfo> {
+        self.value(|p, info| unsafe { ffi::protolink_file(p, file, info) })
+    }
+
+    pub fn message(&self, message: u32) -> Option<ffi::MessageInfo> {
+        self.value(|p, info| unsafe { ffi::protolink_message(p, message, info) })
+    }
+
+    pub fn field(&self, message: u32, position: u32) -> Option<ffi::FieldInfo> {
+        self.value(|p, info| unsafe { ffi::protolink_field(p, message, position, info) })
+    }
+
+    pub fn oneof(&self, message: u32, position: u32) -> Option<ffi::OneofInfo> {
+        self.value(|p, info| unsafe { ffi::protolink_oneof(p, message, position, info) })
+    }
+
+    pub fn enumeration(&self, enumeration: u32) -> Option<ffi::EnumInfo> {
+        self.value(|p, info| unsafe { ffi::protolink_enum(p, enumeration, info) })
+    }
+
+    pub fn enum_value(&self, enumeration: u32, position: u32) -> Option<ffi::EnumValueInfo> {
+        self.value(|p, info| unsafe { ffi::protolink_enum_value(p, enumeration, position, info) })
+    }
+
+    pub fn service(&self, service: u32) -> Option<ffi::ServiceInfo> {
+        self.value(|p, info| unsafe { ffi::protolink_service(p, service, info) })
+    }
+
+    pub fn method(&self, service: u32, position: u32) -> Option<ffi::MethodInfo> {
+        self.value(|p, info| unsafe { ffi::protolink_method(p, service, position, info) })
+    }
+
+    pub fn extension(&self, extension: u32) -> Option<ffi::ExtensionInfo> {
+        self.value(|p, info| unsafe { ffi::protolink_extension(p, extension, info) })
+    }
+
+    pub fn import(&self, file: u32, position: u32) -> Option<u32> {
+        self.value(|p, at| unsafe { ffi::protolink_file_import(p, file, position, at) })
+    }
+
+    pub fn message_extension(&self, message: u32, position: u32) -> Option<u32> {
+        self.value(|p, at| unsafe { ffi::protolink_message_extension(p, message, position, at) })
+    }
+
+    pub fn oneof_field(&self, message: u32, oneof: u32, position: u32) -> Option<u32> {
+        self.value(|p, at| unsafe { ffi::protolink_oneof_field(p, message, oneof, position, at) })
+    }
+
+    pub fn field_named(&self, message: u32, name: &str) -> Option<u32> {
+        self.value(|p, at| unsafe {
+            ffi::protolink_field_by_name(p, message, name.as_ptr(), name.len(), at)
+        })
+    }
+
+    pub fn field_json_named(&self, message: u32, name: &str) -> Option<u32> {
+        self.value(|p, at| unsafe {
+            ffi::protolink_field_by_json_name(p, message, name.as_ptr(), name.len(), at)
+        })
+    }
+
+    pub fn field_numbered(&self, message: u32, number: u32) -> Option<u32> {
+        self.value(|p, at| unsafe { ffi::protolink_field_by_number(p, message, number, at) })
+    }
+
+    pub fn enum_value_named(&self, enumeration: u32, name: &str) -> Option<u32> {
+        self.value(|p, at| unsafe {
+            ffi::protolink_enum_value_by_name(p, enumeration, name.as_ptr(), name.len(), at)
+        })
+    }
+
+    pub fn file_name(&self, file: u32) -> Option<String> {
+        self.text(|p, at, room, len| unsafe { ffi::protolink_file_name(p, file, at, room, len) })
+    }
+
+    pub fn file_package(&self, file: u32) -> Option<String> {
+        self.text(|p, at, room, len| unsafe { ffi::protolink_file_package(p, file, at, room, len) })
+    }
+
+    pub fn name(&self, item: ffi::Item) -> Option<String> {
+        self.text(|p, at, room, len| unsafe { ffi::protolink_name(p, &item, at, room, len) })
+    }
+
+    pub fn full_name(&self, item: ffi::Item) -> Option<String> {
+        self.text(|p, at, room, len| unsafe { ffi::protolink_full_name(p, &item, at, room, len) })
+    }
+
+    pub fn json_name(&self, item: ffi::Item) -> Option<String> {
+        self.text(|p, at, room, len| unsafe { ffi::protolink_json_name(p, &item, at, room, len) })
+    }
+
+    pub fn default(&self, item: ffi::Item) -> Result<Option<Vec<u8>>, OutOfMemory> {
+        self.written(FIRST_ROOM, |p, at, room, len| unsafe {
+            ffi::protolink_default(p, &item, at, room, len)
+        })
+    }
+}
+
+impl Drop for RawPool {
+    fn drop(&mut self) {
+        unsafe { ffi::protolink_pool_clear(self.pool.get_mut()) }
+    }
+}
+
+/// The version of the library: a thousand thousands for the first number, a thousand for the second.
+pub(crate) fn version() -> u32 {
+    unsafe { ffi::protolink_version() }
+}

@@ -1,0 +1,337 @@
+//! A pool from its files to what it has, and why files are not linked.
+
+use protolink::{
+    Cardinality, DefaultValue, Definition, DescriptorError, DescriptorPool, Kind, Syntax,
+};
+use std::sync::Mutex;
+use std::thread;
+
+/// Two files, the second of which the first imports, with one declaration of each kind.
+const SHOP: &str = "\
+file shop/order.proto
+package shop.v1
+import shop/base.proto
+message Order
+field id 1 required int64 ~ ~
+json id
+field lines 2 repeated message .shop.v1.Order.Line ~
+field status 3 optional enum .shop.v1.Status ~
+default PAID
+field note 4 optional string ~ 0
+default none
+field raw 5 repeated int32 ~ ~
+packed true
+oneof choice
+extensions 100 200
+message Line
+field count 1 optional int32 ~ ~
+default -7
+json amount
+end
+end
+extend weight 100 optional double ~ .shop.v1.Order
+default 1.5
+enum Kind
+value PLAIN 0
+value GIFT 3
+end
+service Shop
+method Get .shop.v1.Order .shop.v1.Order.Line
+end
+end
+file shop/base.proto
+package shop.v1
+syntax proto2
+enum Status
+value UNKNOWN 0
+value PAID 5
+end
+end
+";
+
+/// Two faults: the one has a place in the source, the other has none.
+const FAULTY: &str = "\
+file a.proto
+package p
+message M
+field f 1 optional message .p.None ~
+field g 2 optional message .p.None ~
+end
+at 4,0,2,0,6 7,8,9
+end
+";
+
+fn shop() -> DescriptorPool {
+    let mut pool = DescriptorPool::new();
+    if let Err(error) = pool.add_script(SHOP) {
+        panic!("{error}\n{}", pool.report());
+    }
+    pool
+}
+
+#[test]
+fn an_empty_pool_has_nothing() {
+    let pool = DescriptorPool::new();
+    assert_eq!(pool.files().len(), 0);
+    assert!(pool.find("p").is_none());
+    assert!(pool.get_message_by_name("p.M").is_none());
+    assert_eq!(pool.encode_to_vec(), b"");
+    assert_eq!(pool.report(), "");
+    assert_eq!(pool.clone().counts(), pool.counts());
+}
+
+#[test]
+fn files_tell_what_they_are() {
+    let pool = shop();
+    let names: Vec<_> = pool.files().map(|file| file.name()).collect();
+    assert_eq!(names, ["shop/order.proto", "shop/base.proto"]);
+    let order = pool.get_file_by_name("shop/order.proto").unwrap();
+    assert_eq!(order.package_name(), "shop.v1");
+    assert_eq!(order.syntax(), Syntax::Proto2);
+    let imported: Vec<_> = order.dependencies().collect();
+    assert_eq!(
+        imported,
+        [pool.get_file_by_name("shop/base.proto").unwrap()]
+    );
+    assert!(pool.get_file_by_name("none.proto").is_none());
+}
+
+#[test]
+fn messages_have_their_fields() {
+    let pool = shop();
+    let order = pool.get_message_by_name(".shop.v1.Order").unwrap();
+    assert_eq!((order.name(), order.index()), ("Order".to_string(), 0));
+    assert_eq!(order.parent_file().name(), "shop/order.proto");
+    assert_eq!(order.parent_message(), None);
+    let fields: Vec<_> = order.fields().map(|f| (f.name(), f.number())).collect();
+    let wanted = [
+        ("id", 1),
+        ("lines", 2),
+        ("status", 3),
+        ("note", 4),
+        ("raw", 5),
+    ];
+    assert_eq!(
+        fields,
+        wanted.map(|(name, number)| (name.to_string(), number))
+    );
+    let line = pool.get_message_by_name("shop.v1.Order.Line").unwrap();
+    assert_eq!(line.parent_message(), Some(order));
+    let lines = order.get_field(2).unwrap();
+    assert_eq!(lines.kind(), Kind::Message(line));
+    assert_eq!(lines.cardinality(), Cardinality::Repeated);
+    assert!(!lines.supports_presence() && !lines.is_packed() && !lines.is_group());
+    assert_eq!(lines.full_name(), "shop.v1.Order.lines");
+    assert_eq!(lines.parent_message(), order);
+    assert_eq!(order.get_field_by_name("lines"), Some(lines));
+    assert!(order.get_field_by_name("raw").unwrap().is_packed());
+    assert!(order.get_field(1).unwrap().supports_presence());
+    assert_eq!(order.get_field(6), None);
+    assert_eq!(order.get_field_by_name("line"), None);
+    assert_eq!(order.get_field_by_json_name("id"), order.get_field(1));
+    assert_eq!(line.get_field_by_json_name("amount"), line.get_field(1));
+    assert_eq!(
+        line.get_field(1).unwrap().json_name().as_deref(),
+        Some("amount")
+    );
+    assert_eq!(lines.json_name(), None);
+}
+
+#[test]
+fn fields_have_defaults() {
+    let pool = shop();
+    let order = pool.get_message_by_name("shop.v1.Order").unwrap();
+    let default = |number| order.get_field(number).unwrap().default_value();
+    assert_eq!(default(1), None);
+    assert_eq!(default(3), Some(DefaultValue::EnumNumber(5)));
+    assert_eq!(default(4), Some(DefaultValue::String("none".to_string())));
+    let line = pool.get_message_by_name("shop.v1.Order.Line").unwrap();
+    let count = line.get_field(1).unwrap();
+    assert_eq!(count.default_value(), Some(DefaultValue::Number(-7)));
+    let weight = order.get_extension(100).unwrap();
+    assert_eq!(
+        weight.default_value(),
+        Some(DefaultValue::Float("1.5".to_string()))
+    );
+}
+
+#[test]
+fn oneofs_and_extensions_belong_to_messages() {
+    let pool = shop();
+    let order = pool.get_message_by_name("shop.v1.Order").unwrap();
+    let choice = order.oneofs().next().unwrap();
+    assert_eq!(choice.name(), "choice");
+    let note = order.get_field_by_name("note").unwrap();
+    assert_eq!(choice.fields().collect::<Vec<_>>(), [note]);
+    assert_eq!(note.containing_oneof(), Some(choice));
+    assert_eq!(order.get_field(1).unwrap().containing_oneof(), None);
+    let weight = pool.get_extension_by_name("shop.v1.weight").unwrap();
+    assert_eq!(order.extensions().collect::<Vec<_>>(), [weight]);
+    assert_eq!(order.get_extension(100), Some(weight));
+    assert_eq!(order.get_extension(101), None);
+    assert_eq!(weight.containing_message(), order);
+    assert_eq!((weight.number(), weight.kind()), (100, Kind::Double));
+    assert_eq!(weight.json_name(), "[shop.v1.weight]");
+    assert_eq!(weight.parent_message(), None);
+}
+
+#[test]
+fn enums_and_services_have_their_parts() {
+    let pool = shop();
+    let status = pool.get_enum_by_name("shop.v1.Status").unwrap();
+    let values: Vec<_> = status.values().map(|v| (v.name(), v.number())).collect();
+    assert_eq!(
+        values,
+        [("UNKNOWN".to_string(), 0), ("PAID".to_string(), 5)]
+    );
+    assert_eq!(status.get_value(5), status.get_value_by_name("PAID"));
+    assert_eq!(status.get_value(6), None);
+    assert_eq!(status.get_value(5).unwrap().full_name(), "shop.v1.PAID");
+    assert_eq!(status.get_value(5).unwrap().parent_enum(), status);
+    assert!(!status.allows_alias());
+    let shop = pool.get_service_by_name("shop.v1.Shop").unwrap();
+    let get = shop.methods().next().unwrap();
+    assert_eq!(get.full_name(), "shop.v1.Shop.Get");
+    assert_eq!(get.input().full_name(), "shop.v1.Order");
+    assert_eq!(get.output().full_name(), "shop.v1.Order.Line");
+    assert_eq!(get.parent_service(), shop);
+    assert_eq!(get.parent_file().name(), "shop/order.proto");
+}
+
+#[test]
+fn names_mean_definitions() {
+    let pool = shop();
+    let order = pool.get_message_by_name("shop.v1.Order").unwrap();
+    let found = pool.find("shop.v1.Order.note").unwrap();
+    let note = order.get_field_by_name("note").unwrap();
+    assert_eq!(found.definition, Definition::Field(note));
+    assert_eq!(found.path, [4, 0, 2, 3, 1]);
+    assert_eq!(found.file.name(), "shop/order.proto");
+    let package = pool.find("shop").unwrap();
+    assert_eq!(
+        (package.definition, package.path),
+        (Definition::Package, vec![2])
+    );
+    let gift = pool.find("shop.v1.GIFT").unwrap().definition;
+    let kind = pool.get_enum_by_name("shop.v1.Kind").unwrap();
+    assert_eq!(gift, Definition::EnumValue(kind.get_value(3).unwrap()));
+    let get = pool.find("shop.v1.Shop.Get").unwrap().definition;
+    assert!(matches!(get, Definition::Method(method) if method.name() == "Get"));
+    let choice = pool.find("shop.v1.Order.choice").unwrap().definition;
+    assert!(matches!(choice, Definition::Oneof(oneof) if oneof.name() == "choice"));
+    assert!(pool.find("shop.v1.Order.none").is_none());
+    assert!(pool.get_enum_by_name("shop.v1.Order").is_none());
+}
+
+#[test]
+fn a_refusal_tells_all_faults_and_changes_nothing() {
+    let mut pool = shop();
+    let before = pool.encode_to_vec();
+    let error = pool.add_script(FAULTY).unwrap_err();
+    let faults = error.faults();
+    assert_eq!(faults.len(), 2);
+    let first = &faults[0];
+    assert_eq!(first.code, "NameNotFound");
+    assert_eq!(first.file.as_deref(), Some("a.proto"));
+    assert_eq!((first.line, first.column), (Some(8), Some(9)));
+    assert_eq!(first.path.as_deref(), Some(&[4, 0, 2, 0, 6][..]));
+    assert_eq!(first.element.as_deref(), Some("p.M.f"));
+    assert_eq!(first.to_string(), format!("a.proto:8:9: {}", first.message));
+    assert!(!first.note.is_empty());
+    assert_eq!((faults[1].line, faults[1].column), (None, None));
+    assert_eq!(
+        faults[1].to_string(),
+        format!("a.proto: p.M.g: {}", first.message)
+    );
+    assert!(pool.report().starts_with(&format!("{first}\n")));
+    assert_eq!(pool.encode_to_vec(), before);
+    assert!(pool.find("p").is_none());
+}
+
+#[test]
+fn a_second_place_is_told() {
+    let mut pool = shop();
+    let error = pool
+        .add_script("file b.proto\nmessage A\nend\nmessage A\nend\nend\n")
+        .unwrap_err();
+    let fault = &error.faults()[0];
+    assert_eq!(fault.code, "DuplicateName");
+    assert_eq!(fault.path.as_deref(), Some(&[4, 1, 1][..]));
+    assert_eq!(fault.related[0].path.as_deref(), Some(&[4, 0, 1][..]));
+    assert_eq!(fault.related[0].element.as_deref(), Some("A"));
+}
+
+#[test]
+fn what_cannot_be_read_is_told() {
+    let mut pool = shop();
+    let error = pool.decode_file_descriptor_set([0x0a, 0x05]).unwrap_err();
+    assert!(
+        matches!(&error, DescriptorError::Unreadable(words) if words.contains("byte 2")),
+        "{error}"
+    );
+    let error = pool
+        .add_script("file a.proto\nnonsense\nend\n")
+        .unwrap_err();
+    assert!(
+        matches!(&error, DescriptorError::Unreadable(words) if words.contains("line 2")),
+        "{error}"
+    );
+    assert_eq!(error.faults(), []);
+    assert_eq!(pool.files().len(), 2);
+}
+
+#[test]
+fn linked_files_are_linked_again() {
+    let pool = shop();
+    let set = pool.encode_to_vec();
+    let again = DescriptorPool::decode(&set).unwrap();
+    assert_eq!(again.counts(), pool.counts());
+    assert_eq!(again.encode_to_vec(), set);
+    let mut apart = DescriptorPool::new();
+    let files: Vec<_> = pool.files().map(|file| file.encode_to_vec()).collect();
+    assert!(apart.add_file_descriptor_proto(&files[0]).is_err());
+    apart.add_file_descriptor_proto(&files[1]).unwrap();
+    apart.add_file_descriptor_proto(&files[0]).unwrap();
+    assert_eq!(apart.counts(), pool.counts());
+    let mut together = DescriptorPool::new();
+    together.add_file_descriptor_protos(files).unwrap();
+    assert_eq!(together.encode_to_vec(), set);
+    together.add_file_descriptor_set(&set).unwrap();
+    assert_eq!(together.encode_to_vec(), set);
+}
+
+#[test]
+fn a_copy_is_apart() {
+    let mut pool = shop();
+    let copy = pool.clone();
+    pool.add_script("file c.proto\nmessage C\nend\nend\n")
+        .unwrap();
+    assert!(pool.get_message_by_name("C").is_some());
+    assert!(copy.get_message_by_name("C").is_none());
+    assert_eq!(copy.files().len(), 2);
+}
+
+#[test]
+fn a_pool_may_be_handed_over_and_shared_by_a_lock() {
+    let pool = shop();
+    let pool = thread::spawn(move || {
+        assert!(pool.get_message_by_name("shop.v1.Order").is_some());
+        pool
+    });
+    let shared = Mutex::new(pool.join().unwrap());
+    thread::scope(|scope| {
+        for _ in 0..4 {
+            scope.spawn(|| {
+                for _ in 0..100 {
+                    let pool = shared.lock().unwrap();
+                    assert!(pool.find("shop.v1.Order.id").is_some());
+                }
+            });
+        }
+    });
+}
+
+#[test]
+fn the_library_has_the_version_of_the_crate() {
+    assert_eq!(DescriptorPool::library_version(), env!("CARGO_PKG_VERSION"));
+}
