@@ -146,7 +146,7 @@ impl DescriptorError {
         DescriptorError::TooMany(member_or_all(json, "too_many"))
     }
 
-    /// The faults of files that break rules, or none where files were not linked for another reason.
+    /// The faults of files that break rules, or none where it is another error.
     #[must_use]
     pub fn faults(&self) -> &[Fault] {
         match self {

@@ -28,6 +28,13 @@ pub struct Item {
 
 #[repr(C)]
 #[derive(Clone, Copy, Default)]
+pub struct Found {
+    pub item: Item,
+    pub file: u32,
+}
+
+#[repr(C)]
+#[derive(Clone, Copy, Default)]
 pub struct Counts {
     pub files: u32,
     pub messages: u32,
@@ -168,8 +175,7 @@ extern "C" {
         pool: *mut Pool,
         name: *const u8,
         name_len: usize,
-        item: *mut Item,
-        file: *mut u32,
+        found: *mut Found,
     ) -> u8;
     pub fn protolink_pool_find_path(
         pool: *mut Pool,

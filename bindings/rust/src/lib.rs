@@ -1,14 +1,15 @@
 //! Linked protobuf descriptions, by a linker whose promises are proved.
 //!
-//! A [`DescriptorPool`] takes in descriptor sets, as `protoc --include_imports -o FILE` writes them,
-//! gives every declaration a full name and an index, finds what each type name means, and refuses
-//! what breaks the rules of the language, with all faults as data. After a refusal the pool is what
-//! it was. Names of calls are those of `prost-reflect` where they do the same.
+//! A [`DescriptorPool`] takes in descriptor sets, as `protoc --include_imports -o FILE` writes
+//! them, gives every declaration a full name and an index, finds what each type name means, and
+//! refuses what breaks the rules of the language, with all faults as data. After a refusal the pool
+//! is what it was. Names of calls are those of `prost-reflect` where they do the same.
 //!
 //! ```
 //! use protolink::{DescriptorError, DescriptorPool};
 //!
-//! # let set = b"\x0a\x24\x0a\x07a.proto\x12\x04shop\x22\x13\x0a\x05Order\x12\x0a\x0a\x02id\x18\x01\x20\x01\x28\x05";
+//! # let set = b"\x0a\x24\x0a\x07a.proto\x12\x04shop\x22\x13\x0a\x05Order\x12\x0a\
+//! #     \x0a\x02id\x18\x01\x20\x01\x28\x05";
 //! let mut pool = DescriptorPool::new();
 //! match pool.decode_file_descriptor_set(set) {
 //!     Ok(()) => {}
@@ -28,8 +29,8 @@
 //! ```
 //!
 //! The linker itself is `libprotolink.a`, whose calls are proved for all arguments that their types
-//! allow. What is trusted besides is this crate: its declarations of these calls, and its reading of
-//! what they write.
+//! allow. What is trusted besides is this crate: its declarations of these calls, and its reading
+//! of what they write.
 
 #![warn(missing_docs)]
 

@@ -110,8 +110,8 @@ impl DescriptorPool {
         self.answer(added)
     }
 
-    /// Links the file of a `FileDescriptorProto`, as a batch of its own. Where the pool has a file of
-    /// its name, it is passed over unread.
+    /// Links the file of a `FileDescriptorProto`, as a batch of its own. Where the pool has a file
+    /// of its name, it is passed over unread.
     ///
     /// # Errors
     /// Why it is not linked. The pool is then what it was.
@@ -186,8 +186,8 @@ impl DescriptorPool {
         }
     }
 
-    /// What the last call tells that was to link files, in lines for people, with notes; empty where
-    /// it linked them, or memory was refused.
+    /// What the last call tells that was to link files, in lines for people, with notes; empty
+    /// where it linked them, or memory was refused.
     #[must_use]
     pub fn report(&self) -> String {
         self.raw.report()
@@ -223,10 +223,10 @@ impl DescriptorPool {
     /// What a full name means, which may have one leading dot.
     #[must_use]
     pub fn find(&self, full_name: &str) -> Option<Found<'_>> {
-        let (item, file) = self.raw.find(full_name)?;
+        let found = self.raw.find(full_name)?;
         Some(Found {
-            definition: self.definition(item),
-            file: FileDescriptor::new(self, file),
+            definition: self.definition(found.item),
+            file: FileDescriptor::new(self, found.file),
             path: self.raw.find_path(full_name)?,
         })
     }
@@ -253,7 +253,7 @@ impl DescriptorPool {
     /// The message with a full name.
     #[must_use]
     pub fn get_message_by_name(&self, name: &str) -> Option<MessageDescriptor<'_>> {
-        match self.definition(self.raw.find(name)?.0) {
+        match self.definition(self.raw.find(name)?.item) {
             Definition::Message(message) => Some(message),
             _ => None,
         }
@@ -262,7 +262,7 @@ impl DescriptorPool {
     /// The enum with a full name.
     #[must_use]
     pub fn get_enum_by_name(&self, name: &str) -> Option<EnumDescriptor<'_>> {
-        match self.definition(self.raw.find(name)?.0) {
+        match self.definition(self.raw.find(name)?.item) {
             Definition::Enum(enumeration) => Some(enumeration),
             _ => None,
         }
@@ -271,7 +271,7 @@ impl DescriptorPool {
     /// The service with a full name.
     #[must_use]
     pub fn get_service_by_name(&self, name: &str) -> Option<ServiceDescriptor<'_>> {
-        match self.definition(self.raw.find(name)?.0) {
+        match self.definition(self.raw.find(name)?.item) {
             Definition::Service(service) => Some(service),
             _ => None,
         }
@@ -280,7 +280,7 @@ impl DescriptorPool {
     /// The extension with a full name.
     #[must_use]
     pub fn get_extension_by_name(&self, name: &str) -> Option<ExtensionDescriptor<'_>> {
-        match self.definition(self.raw.find(name)?.0) {
+        match self.definition(self.raw.find(name)?.item) {
             Definition::Extension(extension) => Some(extension),
             _ => None,
         }

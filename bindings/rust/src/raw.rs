@@ -139,12 +139,10 @@ impl RawPool {
         })
     }
 
-    pub fn find(&self, name: &str) -> Option<(ffi::Item, u32)> {
-        let mut file = 0;
-        let item = self.value(|p, item| unsafe {
-            ffi::protolink_pool_find(p, name.as_ptr(), name.len(), item, &mut file)
-        })?;
-        Some((item, file))
+    pub fn find(&self, name: &str) -> Option<ffi::Found> {
+        self.value(|p, found| unsafe {
+            ffi::protolink_pool_find(p, name.as_ptr(), name.len(), found)
+        })
     }
 
     pub fn find_path(&self, name: &str) -> Option<Vec<i32>> {
@@ -267,7 +265,7 @@ impl Drop for RawPool {
     }
 }
 
-/// The version of the library: a thousand thousands for the first number, a thousand for the second.
+/// The version of the library: a million for the first number, a thousand for the second.
 pub(crate) fn version() -> u32 {
     unsafe { ffi::protolink_version() }
 }

@@ -1,0 +1,93 @@
+/* Links descriptor sets as one pool, and prints the verdict.
+ *
+ *     cc check_set.c $(pkg-config --cflags --libs protolink) -o check_set
+ *     protoc --include_imports -o set.pb shop/order.proto && ./check_set set.pb
+ *
+ * Exit status: 0 linked, 1 refused, 2 no verdict. */
+#include <protolink.h>
+
+#include <stdio.h>
+#include <stdlib.h>
+
+/* The bytes of a file, which the caller frees, or NULL. */
+static uint8_t *read_whole(const char *name, size_t *len)
+{
+    FILE *file = fopen(name, "rb");
+    uint8_t *bytes = NULL;
+    size_t room = 1 << 16;
+    *len = 0;
+    while (file != NULL && (bytes = realloc(bytes, room)) != NULL) {
+        *len += fread(bytes + *len, 1, room - *len, file);
+        if (*len < room)
+            break;
+        room *= 2;
+    }
+    if (file != NULL && (ferror(file) || fclose(file) != 0)) {
+        free(bytes);
+        return NULL;
+    }
+    return bytes;
+}
+
+/* Prints the report of the last call, which tells why nothing was linked. */
+static void print_report(protolink_pool *pool)
+{
+    uint8_t none = 0;
+    size_t length = 0;
+    uint8_t *text;
+    protolink_pool_report(pool, &none, 0, &length);
+    text = malloc(length + 1);
+    if (text == NULL)
+        return;
+    if (protolink_pool_report(pool, text, length, &length) == PROTOLINK_DONE)
+        fwrite(text, 1, length, stdout);
+    free(text);
+}
+
+/* Prints the full names of all messages. */
+static void print_messages(protolink_pool *pool)
+{
+    protolink_counts counts;
+    protolink_item item = { PROTOLINK_MESSAGE, 0, 0 };
+    protolink_pool_counts(pool, &counts);
+    for (item.index = 0; item.index < counts.messages; item.index++) {
+        uint8_t name[512];
+        size_t length;
+        if (protolink_full_name(pool, &item, name, sizeof name, &length) == PROTOLINK_DONE)
+            printf("%.*s\n", (int)length, (const char *)name);
+        else
+            printf("(a name of %lu bytes)\n", (unsigned long)length);
+    }
+}
+
+/* Links a set, and answers the exit status. */
+static int add(protolink_pool *pool, const char *name)
+{
+    size_t len;
+    uint8_t *bytes = read_whole(name, &len);
+    protolink_status status;
+    if (bytes == NULL) {
+        perror(name);
+        return 2;
+    }
+    status = protolink_pool_add_set(pool, bytes, len);
+    free(bytes);
+    if (status == PROTOLINK_DONE)
+        return 0;
+    if (status == PROTOLINK_NO_MEMORY)
+        puts("memory was refused");
+    print_report(pool);
+    return status == PROTOLINK_REFUSED || status == PROTOLINK_TOO_MANY ? 1 : 2;
+}
+
+int main(int argc, char **argv)
+{
+    protolink_pool pool = PROTOLINK_POOL_EMPTY;
+    int status = argc > 1 ? 0 : 2;
+    for (int n = 1; n < argc && status == 0; n++)
+        status = add(&pool, argv[n]);
+    if (status == 0)
+        print_messages(&pool);
+    protolink_pool_clear(&pool);
+    return status;
+}

@@ -1,0 +1,248 @@
+#!/usr/bin/env python3
+"""Compares the declarations of the library's calls with its exports, name by name and type by type.
+
+    python3 compare_header.py
+
+The exports are those of crates/protolink_c, with the structs that they take. Held to them are
+include/protolink.h, the declarations of the Rust crate (bindings/rust/src/ffi.rs) and those of the
+Python module (bindings/python/protolink.py), which may lack some calls. A struct is compared by its
+members, in order, with their types; a slice is a pointer and a length. The constants of the Rust
+crate are held to those of the header.
+
+Tells each difference in a line, and in a last line how much was compared. Exit status: 0 all is the
+same, 1 something differs.
+"""
+
+from __future__ import annotations
+
+import ctypes
+import re
+import sys
+from pathlib import Path
+from typing import NamedTuple, Optional
+
+TOP = Path(__file__).resolve().parent.parent
+HEADER = TOP / "include/protolink.h"
+RUST = TOP / "bindings/rust/src/ffi.rs"
+PYTHON = TOP / "bindings/python/protolink.py"
+EXPORTS = (TOP / "crates/protolink_c/src", TOP / "crates/pool_face/src")
+
+Members = list[tuple[str, str]]
+"""The members of a struct: names and types."""
+
+
+class Call(NamedTuple):
+    """A call: the types of its parameters and of its result. A struct stands with its members."""
+
+    parameters: tuple[str, ...]
+    result: str
+
+
+class Declared(NamedTuple):
+    """What one file declares."""
+
+    calls: dict[str, Call]
+    constants: dict[str, int]
+
+
+def pointer(inner: str, is_const: bool) -> str:
+    return f"const {inner} *" if is_const else f"{inner} *"
+
+
+def struct(members: Members) -> str:
+    """A struct as a type: what counts are its members."""
+    return "{" + ", ".join(f"{type_} {name}" for name, type_ in members) + "}"
+
+
+def matching(pattern: str, text: str) -> list[tuple[str, ...]]:
+    return [match.groups("") for match in re.finditer(pattern, text, re.MULTILINE | re.DOTALL)]
+
+
+def parts(text: str) -> list[str]:
+    """What stands between commas and is not empty."""
+    return [part.strip() for part in text.split(",") if part.strip()]
+
+
+# C
+
+C_TYPES = {
+    "uint8_t": "u8",
+    "uint32_t": "u32",
+    "uint64_t": "u64",
+    "int32_t": "i32",
+    "size_t": "usize",
+    "void": "void",
+    "protolink_status": "u8",
+}
+
+
+def header() -> Declared:
+    """What the header declares."""
+    text = re.sub(r"/\*.*?\*/", "", HEADER.read_text(), flags=re.DOTALL)
+    types = dict(C_TYPES)
+
+    def declaration(words: str) -> tuple[str, str]:
+        found = re.fullmatch(r"(const )?(\w+) (\*?)(\w+)", " ".join(words.split()))
+        if found is None:
+            raise ValueError(f"{HEADER}: {words}")
+        plain = types[found[2]]
+        return found[4], pointer(plain, bool(found[1])) if found[3] else plain
+
+    for name, inner, _ in matching(r"typedef struct (\w+) \{(.*?)\} (\w+);", text):
+        types[name] = struct([declaration(member) for member in inner.split(";") if member.strip()])
+    calls = {}
+    for result, name, inner in matching(r"^(\w+) (protolink_\w+)\(([^)]*)\);", text):
+        listed = [] if inner.strip() == "void" else parts(inner)
+        calls[name] = Call(tuple(declaration(part)[1] for part in listed), types[result])
+    constants = {name: int(number) for name, number in matching(r"(PROTOLINK_\w+) = (\d+)", text)}
+    constants["PROTOLINK_NONE"] = 2**32 - 1
+    return Declared(calls, constants)
+
+
+# Rust
+
+RUST_TYPES = {name: name for name in ("u8", "u32", "u64", "i32", "usize")} | {"c_void": "void"}
+
+
+def rust() -> Declared:
+    """What the Rust crate declares."""
+    text = re.sub(r"//.*", "", RUST.read_text())
+    types = dict(RUST_TYPES)
+
+    def declaration(words: str) -> tuple[str, str]:
+        found = re.fullmatch(r"(?:pub )?(\w+): (?:\*(const|mut) )?(\w+)", " ".join(words.split()))
+        if found is None:
+            raise ValueError(f"{RUST}: {words}")
+        plain = types[found[3]]
+        return found[1], pointer(plain, found[2] == "const") if found[2] else plain
+
+    for name, inner in matching(r"#\[repr\(C\)\][^{]*?pub struct (\w+) \{(.*?)\}", text):
+        types[name] = struct([declaration(member) for member in parts(inner)])
+    calls = {}
+    for name, inner, result in matching(r"pub fn (protolink_\w+)\((.*?)\)(?: -> (\w+))?;", text):
+        parameters = tuple(declaration(part)[1] for part in parts(inner))
+        calls[name] = Call(parameters, types[result] if result else "void")
+    constants = matching(r"pub const (\w+): u(?:8|32) = (\w+|u32::MAX);", text)
+    numbers = {name: 2**32 - 1 if said == "u32::MAX" else int(said) for name, said in constants}
+    return Declared(calls, {f"PROTOLINK_{name}": number for name, number in numbers.items()})
+
+
+# Rattle
+
+RATTLE_TYPES = {name: name for name in ("u8", "u32", "u64", "i32", "usize")} | {"()": "void"}
+
+
+def exports() -> Declared:
+    """What the library exports."""
+    files = sorted(path for folder in EXPORTS for path in folder.rglob("*.rt"))
+    text = "\n".join(re.sub(r"//.*", "", path.read_text()) for path in files)
+    types = dict(RATTLE_TYPES)
+
+    def plain(words: str) -> str:
+        found = re.fullmatch(r"\*(const|mut) (.+)", words)
+        return pointer(types[found[2]], found[1] == "const") if found else types[words]
+
+    def passed(words: str) -> list[str]:
+        """The types that a parameter is passed as: none, one, or a pointer and a length."""
+        if words == "Global":
+            return []
+        found = re.fullmatch(r"&(mut )?(?:\[(\w+)\]|(\w+))", words)
+        if found is None:
+            return [plain(words)]
+        at = pointer(types[found[2] or found[3]], not found[1])
+        return [at, "usize"] if found[2] else [at]
+
+    for name, inner in matching(r"#\[repr\(C\)\][^{]*?pub struct (\w+) \{(.*?)^\}", text):
+        members = matching(r"^ *(?:pub )?(\w+): ([^,]+),", re.sub(r"pub ghost .*", "", inner))
+        types[name] = struct([(member, plain(type_)) for member, type_ in members])
+    calls = {}
+    pattern = r'#\[unsafe\(no_mangle\)\]\s*pub extern "C" fn (\w+)\((.*?)\)(?: -> (\w+))?\s'
+    for name, inner, result in matching(pattern, text):
+        said = [part.split(": ", 1)[1] for part in parts(inner)]
+        parameters = tuple(type_ for words in said for type_ in passed(words))
+        calls[name] = Call(parameters, types[result] if result else "void")
+    return Declared(calls, {})
+
+
+# Python
+
+PYTHON_TYPES = {
+    ctypes.c_uint8: "u8",
+    ctypes.c_uint32: "u32",
+    ctypes.c_size_t: "usize",
+    ctypes.c_int32: "i32",
+    ctypes.c_void_p: "void *",
+    ctypes.c_char_p: "u8 *",
+}
+
+
+def python() -> Declared:
+    """What the Python module declares. It cannot say that what a pointer leads to is constant."""
+    front = PYTHON.read_text().split("\n_lib = ")[0]
+    names: dict = {"__name__": "protolink", "__file__": str(PYTHON)}
+    sys.modules.setdefault("protolink", type(sys)("protolink"))
+    exec(compile(front, str(PYTHON), "exec"), names)  # pylint: disable=exec-used
+
+    def type_of(said: Optional[type]) -> str:
+        if said is None:
+            return "void"
+        if said in PYTHON_TYPES:
+            return PYTHON_TYPES[said]
+        if issubclass(said, ctypes.Structure):
+            return struct([(name, type_of(member)) for name, member in said._fields_])
+        return pointer(type_of(said._type_), False)
+
+    return Declared(
+        {
+            name: Call(tuple(map(type_of, parameters)), type_of(result))
+            for name, (result, parameters) in names["_CALLS"].items()
+        },
+        {},
+    )
+
+
+def without_const(call: Call) -> Call:
+    return Call(tuple(type_.replace("const ", "") for type_ in call.parameters), call.result)
+
+
+def differences(where: str, declared: Declared, wanted: Declared, is_whole: bool) -> list[str]:
+    """What is declared otherwise than it is exported."""
+    found = []
+    for name in sorted(declared.calls.keys() | wanted.calls.keys()):
+        said, exported = declared.calls.get(name), wanted.calls.get(name)
+        if exported is None:
+            found.append(f"{where}: {name} is not exported")
+        elif said is None and is_whole:
+            found.append(f"{where}: {name} is missing")
+        elif said is not None and said != (exported if is_whole else without_const(exported)):
+            found.append(f"{where}: {name} is {said}, and exported as {exported}")
+    return found
+
+
+def constant_differences(declared: Declared, wanted: Declared) -> list[str]:
+    """What constants of the Rust crate are not those of the header."""
+    return [
+        f"{RUST.name}: {name} is {number}, and {wanted.constants.get(name)} in the header"
+        for name, number in declared.constants.items()
+        if wanted.constants.get(name) != number
+    ]
+
+
+def main() -> int:
+    """Tells what differs, and answers the exit status."""
+    exported, in_c, in_rust = exports(), header(), rust()
+    found = differences(HEADER.name, in_c, exported, True)
+    found += differences(RUST.name, in_rust, exported, True)
+    found += differences(PYTHON.name, python(), exported, False)
+    found += constant_differences(in_rust, in_c)
+    for line in found:
+        print(line)
+    print(f"{len(exported.calls)} calls, {len(in_rust.constants)} constants, {len(found)} differ")
+    return 1 if found or not exported.calls else 0
+
+
+if __name__ == "__main__":
+    if len(sys.argv) > 1:
+        print((__doc__ or "").strip())
+        sys.exit(0 if sys.argv[1:] in (["-h"], ["--help"]) else 2)
+    sys.exit(main())
