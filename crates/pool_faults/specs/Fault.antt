@@ -1,6 +1,7 @@
 -- The texts of faults.
 use Rattle.std.specs.Prelude.{ℕ, ℤ, pos, ◌+ℤ◌, ◌-ℤ◌, slice_get, slice_index_or, List, [], ◌∷◌, ◌++◌, codes, if◌then◌else◌}
 use Rattle.std.specs.Fmt.{signed_decimal}
+use Rattle.std.specs.List.{flat_map}
 use Rattle.std.specs.Option.{option_map_or, option_and_then}
 use Rattle.std.specs.Str.{bytes_eq}
 use Rattle.std.specs.declared.option.Option.{Option}
@@ -178,3 +179,12 @@ first_text faults = option_map_or fault_text (first_fault faults) []
 -- the text of the first of some faults behind the label that it shows
 abbrev pub first_labelled_text : List DescriptorErrorKind → List ℕ
 first_labelled_text faults = option_map_or labelled_text (first_fault faults) []
+
+-- a fault behind the label that it shows, behind a line feed
+abbrev pub further_line : DescriptorErrorKind → List ℕ
+further_line kind = 10 ∷ labelled_text kind
+
+-- faults behind the labels that they show, with a line feed between each two
+abbrev pub all_labelled_text : List DescriptorErrorKind → List ℕ
+all_labelled_text [] = []
+all_labelled_text (kind ∷ kinds) = labelled_text kind ++ flat_map further_line kinds

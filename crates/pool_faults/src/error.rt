@@ -1,7 +1,9 @@
-ghost use Rattle.std.specs.Prelude.{◌≡◌, ◌≢◌, []};
+ghost use Rattle.std.specs.Prelude.{◌≡◌, ◌≢◌, [], Some};
+ghost use Rattle.std.specs.Fmt.{DisplaysOnOk};
+ghost use Rattle.std.specs.List.{flat_map};
 ghost use Rattle.std.specs.Option.{option_copied, option_map, option_and_then};
 ghost use Rattle.pool_faults.specs.Labels.{label_line, label_column};
-ghost use Rattle.pool_faults.specs.Fault.{first_label};
+ghost use Rattle.pool_faults.specs.Fault.{first_label, further_line};
 
 use crate::{DescriptorErrorKind, Label, Labelled};
 use plain_data::Items;
@@ -75,7 +77,6 @@ impl DescriptorError {
 }
 
 impl fmt::Display for DescriptorError {
-    ghost use Rattle.std.specs.Prelude.{Some};
     ghost use Rattle.pool_faults.specs.Fault.{first_text};
 
     ghost output = { λ e. Some (first_text e.errors) };
@@ -89,7 +90,6 @@ impl fmt::Display for DescriptorError {
 }
 
 impl fmt::Debug for DescriptorError {
-    ghost use Rattle.std.specs.Prelude.{Some};
     ghost use Rattle.pool_faults.specs.Fault.{first_labelled_text};
 
     ghost debug_output = { λ e. Some (first_labelled_text e.errors) };
@@ -106,3 +106,38 @@ impl fmt::Debug for DescriptorError {
 }
 
 impl Error for DescriptorError {}
+
+/// All faults of a batch, in order, each as `Labelled` tells it, with a line feed between each two.
+#[derive(Clone, Copy)]
+pub struct AllFaults<'a>(pub &'a DescriptorError);
+
+impl fmt::Display for AllFaults<'_> {
+    ghost use Rattle.pool_faults.specs.Fault.{all_labelled_text};
+
+    ghost output = { λ all. Some (all_labelled_text all.0.now.errors) };
+
+    fn fmt<W: fmt::Write>(&self, f: &mut fmt::Formatter<W>) -> fmt::Result {
+        match self.0.errors().split_first() {
+            Some((first, further)) => {
+                let first = Labelled(first);
+                write!(f, "{first}")?;
+                fmt_further(f, further)
+            }
+            None => Ok(()),
+        }
+    }
+}
+
+/// Writes faults as `Labelled` tells them, each behind a line feed.
+fn fmt_further<W: fmt::Write>(
+    f: &mut fmt::Formatter<W>,
+    faults: &[DescriptorErrorKind],
+) -> fmt::Result
+    ensures { DisplaysOnOk W.write_str_gives f.old result (Some (flat_map further_line faults.now)) f.new }
+{
+    for fault in faults {
+        let fault = Labelled(fault);
+        write!(f, "\n{fault}")?;
+    }
+    Ok(())
+}

@@ -10,7 +10,7 @@ mod label;
 mod labels;
 mod spans;
 
-pub use error::DescriptorError;
+pub use error::{AllFaults, DescriptorError};
 pub use fault::{DescriptorErrorKind, Labelled};
 pub use files::label_at;
 pub use label::Label;
