@@ -81,7 +81,7 @@ pub enum Statement {
 }
 
 /// What is wrong with a line, in the order in which a line is looked at.
-#[derive(Clone, Copy, PartialEq)]
+#[derive(Clone, Copy, PartialEq, Debug)]
 pub enum ScriptFault {
     /// The line's bytes are no UTF-8.
     BadText,
@@ -119,7 +119,7 @@ impl fmt::Display for ScriptFault {
 }
 
 /// Why no further statement of a script is told.
-#[derive(Clone, Copy, PartialEq)]
+#[derive(Clone, Copy, PartialEq, Debug)]
 pub enum ScriptError {
     /// A line, whose number counts from 1, has a fault, or the script ends before it.
     Fault(u64, ScriptFault),
