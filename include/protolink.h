@@ -8,8 +8,9 @@
  *
  *     protolink_pool pool = PROTOLINK_POOL_EMPTY;
  *     if (protolink_pool_add_set(&pool, bytes, len) == PROTOLINK_DONE) {
- *         protolink_found found;
- *         if (protolink_pool_find(&pool, name, name_len, &found) == PROTOLINK_DONE) { .. }
+ *         protolink_item item;
+ *         uint32_t file;
+ *         if (protolink_pool_find(&pool, name, name_len, &item, &file) == PROTOLINK_DONE) { .. }
  *     }
  *     protolink_pool_clear(&pool);
  *
@@ -122,12 +123,6 @@ typedef struct protolink_item {
     uint32_t index;
     uint32_t position;
 } protolink_item;
-
-/* What a full name means, and the index of the file that declares it. */
-typedef struct protolink_found {
-    protolink_item item;
-    uint32_t file;
-} protolink_found;
 
 /* How much a pool has of each kind that has indexes: these are those below the count. */
 typedef struct protolink_counts {
@@ -323,11 +318,12 @@ protolink_status protolink_pool_linked_file(
  * WHAT A FULL NAME MEANS. It may have one leading dot. Of a package, which several files may
  * declare, the file is the first that entered it.
  *
- *   PROTOLINK_DONE       *found is what it means.
+ *   PROTOLINK_DONE       *item is what it means, and *file the index of the file that declares it.
  *   PROTOLINK_NOT_FOUND  the pool has no such name, or the bytes are no text. Nothing is written.
  */
 protolink_status protolink_pool_find(
-    protolink_pool *pool, const uint8_t *name, size_t name_len, protolink_found *found);
+    protolink_pool *pool, const uint8_t *name, size_t name_len, protolink_item *item,
+    uint32_t *file);
 
 /*
  * WHERE A FULL NAME IS DECLARED: the path in the record of its file, to the name itself, as

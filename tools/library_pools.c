@@ -31,8 +31,7 @@ static int add(protolink_pool *pool, const char *script)
 /* What the first file has, by each call that looks something up. */
 static int look_up(protolink_pool *pool)
 {
-    protolink_found found;
-    protolink_item item = { PROTOLINK_FIELD, 0, 0 };
+    protolink_item item;
     protolink_counts counts;
     protolink_message_info message;
     protolink_field_info field;
@@ -41,11 +40,11 @@ static int look_up(protolink_pool *pool)
     uint8_t text[64];
     int32_t path[8];
     size_t length;
-    WANT(protolink_pool_find(pool, bytes("p.q.M.f"), 7, &found) == PROTOLINK_DONE);
-    WANT(found.item.kind == PROTOLINK_FIELD && found.item.index == 0 && found.file == 0);
+    WANT(protolink_pool_find(pool, bytes("p.q.M.f"), 7, &item, &number) == PROTOLINK_DONE);
+    WANT(item.kind == PROTOLINK_FIELD && item.index == 0 && item.position == 0 && number == 0);
     WANT(protolink_pool_find_path(pool, bytes("p.q.M"), 5, path, 8, &length) == PROTOLINK_DONE);
     WANT(length == 3 && path[0] == 4 && path[1] == 0 && path[2] == 1);
-    WANT(protolink_pool_find(pool, bytes("\xff"), 1, &found) == PROTOLINK_NOT_FOUND);
+    WANT(protolink_pool_find(pool, bytes("\xff"), 1, &item, &number) == PROTOLINK_NOT_FOUND);
     protolink_pool_counts(pool, &counts);
     WANT(counts.messages == 1 && counts.enums == 1 && counts.services == 1);
     WANT(protolink_message(pool, 0, &message) == PROTOLINK_DONE && message.fields == 1);

@@ -118,8 +118,9 @@ static int default_value(protolink_pool *pool)
 
 static int has(protolink_pool *pool, const char *name)
 {
-    protolink_found found;
-    return protolink_pool_find(pool, (const uint8_t *)name, strlen(name), &found)
+    protolink_item item;
+    uint32_t at;
+    return protolink_pool_find(pool, (const uint8_t *)name, strlen(name), &item, &at)
         == PROTOLINK_DONE;
 }
 

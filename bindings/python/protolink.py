@@ -141,10 +141,6 @@ class _Item(ctypes.Structure):
     ]
 
 
-class _Found(ctypes.Structure):
-    _fields_ = [("item", _Item), ("file", ctypes.c_uint32)]
-
-
 class _Counts(ctypes.Structure):
     _fields_ = [
         ("files", ctypes.c_uint32),
@@ -169,7 +165,7 @@ _CALLS = {
     "protolink_pool_report_json": (ctypes.c_uint8, (_POOL, *_BUFFER)),
     "protolink_pool_linked": (ctypes.c_uint8, (_POOL, *_BUFFER)),
     "protolink_pool_linked_file": (ctypes.c_uint8, (_POOL, ctypes.c_uint32, *_BUFFER)),
-    "protolink_pool_find": (ctypes.c_uint8, (_POOL, *_BYTES, ctypes.POINTER(_Found))),
+    "protolink_pool_find": (ctypes.c_uint8, (_POOL, *_BYTES, ctypes.POINTER(_Item), _NUMBER)),
     "protolink_pool_find_path": (ctypes.c_uint8, (_POOL, *_BYTES, *_PATH)),
     "protolink_pool_counts": (None, (_POOL, ctypes.POINTER(_Counts))),
     "protolink_pool_clone": (ctypes.c_uint8, (_POOL, _POOL)),
@@ -310,11 +306,11 @@ class Pool:
 
     def find(self, full_name: str) -> Optional[Definition]:
         """What a full name means, which may have one leading dot, or None."""
-        name, found = full_name.encode(), _Found()
-        if _lib.protolink_pool_find(self._pool, name, len(name), ctypes.byref(found)) != DONE:
+        name, item, file = full_name.encode(), _Item(), ctypes.c_uint32()
+        if _lib.protolink_pool_find(self._pool, name, len(name), item, file) != DONE:
             return None
-        item, path = found.item, self._path(name)
-        return Definition(KINDS[item.kind], item.index, item.position, found.file, path)
+        path = self._path(name)
+        return Definition(KINDS[item.kind], item.index, item.position, file.value, path)
 
     def _path(self, name: bytes) -> tuple[int, ...]:
         length = ctypes.c_size_t()

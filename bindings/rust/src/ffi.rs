@@ -28,13 +28,6 @@ pub struct Item {
 
 #[repr(C)]
 #[derive(Clone, Copy, Default)]
-pub struct Found {
-    pub item: Item,
-    pub file: u32,
-}
-
-#[repr(C)]
-#[derive(Clone, Copy, Default)]
 pub struct Counts {
     pub files: u32,
     pub messages: u32,
@@ -175,7 +168,8 @@ extern "C" {
         pool: *mut Pool,
         name: *const u8,
         name_len: usize,
-        found: *mut Found,
+        item: *mut Item,
+        file: *mut u32,
     ) -> u8;
     pub fn protolink_pool_find_path(
         pool: *mut Pool,

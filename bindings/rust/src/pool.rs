@@ -223,10 +223,10 @@ impl DescriptorPool {
     /// What a full name means, which may have one leading dot.
     #[must_use]
     pub fn find(&self, full_name: &str) -> Option<Found<'_>> {
-        let found = self.raw.find(full_name)?;
+        let (item, file) = self.raw.find(full_name)?;
         Some(Found {
-            definition: self.definition(found.item),
-            file: FileDescriptor::new(self, found.file),
+            definition: self.definition(item),
+            file: FileDescriptor::new(self, file),
             path: self.raw.find_path(full_name)?,
         })
     }
@@ -253,7 +253,7 @@ impl DescriptorPool {
     /// The message with a full name.
     #[must_use]
     pub fn get_message_by_name(&self, name: &str) -> Option<MessageDescriptor<'_>> {
-        match self.definition(self.raw.find(name)?.item) {
+        match self.definition(self.raw.find(name)?.0) {
             Definition::Message(message) => Some(message),
             _ => None,
         }
@@ -262,7 +262,7 @@ impl DescriptorPool {
     /// The enum with a full name.
     #[must_use]
     pub fn get_enum_by_name(&self, name: &str) -> Option<EnumDescriptor<'_>> {
-        match self.definition(self.raw.find(name)?.item) {
+        match self.definition(self.raw.find(name)?.0) {
             Definition::Enum(enumeration) => Some(enumeration),
             _ => None,
         }
@@ -271,7 +271,7 @@ impl DescriptorPool {
     /// The service with a full name.
     #[must_use]
     pub fn get_service_by_name(&self, name: &str) -> Option<ServiceDescriptor<'_>> {
-        match self.definition(self.raw.find(name)?.item) {
+        match self.definition(self.raw.find(name)?.0) {
             Definition::Service(service) => Some(service),
             _ => None,
         }
@@ -280,7 +280,7 @@ impl DescriptorPool {
     /// The extension with a full name.
     #[must_use]
     pub fn get_extension_by_name(&self, name: &str) -> Option<ExtensionDescriptor<'_>> {
-        match self.definition(self.raw.find(name)?.item) {
+        match self.definition(self.raw.find(name)?.0) {
             Definition::Extension(extension) => Some(extension),
             _ => None,
         }

@@ -139,10 +139,12 @@ impl RawPool {
         })
     }
 
-    pub fn find(&self, name: &str) -> Option<ffi::Found> {
-        self.value(|p, found| unsafe {
-            ffi::protolink_pool_find(p, name.as_ptr(), name.len(), found)
-        })
+    pub fn find(&self, name: &str) -> Option<(ffi::Item, u32)> {
+        let mut file = 0;
+        let item = self.value(|p, item| unsafe {
+            ffi::protolink_pool_find(p, name.as_ptr(), name.len(), item, &mut file)
+        })?;
+        Some((item, file))
     }
 
     pub fn find_path(&self, name: &str) -> Option<Vec<i32>> {
