@@ -59,6 +59,9 @@ AGAIN = "one_pool"
 UNMOVED = ("known",)
 """The trials whose call succeeds whatever memory is refused."""
 
+SECONDS = 600
+"""The time that a run has."""
+
 OUT_OF_MEMORY = 3
 """The exit status of protolink that was refused memory."""
 
@@ -219,17 +222,27 @@ class Shim:
         ending = run([*prefix, *case.words], case.input, {**os.environ, **words})
         if not self.told.exists():
             return ending, None
-        return ending, Counts(*map(int, self.told.read_text().split()))
+        try:
+            return ending, Counts(*map(int, self.told.read_text().split()))
+        except (TypeError, ValueError):
+            return ending, None
 
 
 def run(words: list[str], given: bytes, environment: dict[str, str]) -> Ending:
     """Runs a program on an input."""
     try:
         done = subprocess.run(
-            words, input=given, env=environment, stdout=subprocess.PIPE, check=False
+            words,
+            input=given,
+            env=environment,
+            stdout=subprocess.PIPE,
+            timeout=SECONDS,
+            check=False,
         )
     except OSError as fault:
         raise ToolError(f"{words[0]} cannot be run: {fault.strerror}") from fault
+    except subprocess.TimeoutExpired as fault:
+        raise ToolError(f"{words[0]} did not end within {SECONDS} seconds") from fault
     return Ending(done.returncode, done.stdout)
 
 
