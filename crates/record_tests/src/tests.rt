@@ -1,19 +1,14 @@
-//! What no contract says of records: whether calls succeed, what scripts make of them, worked
-//! walks.
+//! What no contract says of records: whether calls succeed, and worked numbers, paths and walks.
+//! That copies equal what they are of is tried by the trials of refused memory too.
 
-mod contents;
-mod copies;
 mod counting;
 mod example;
 mod face;
 mod finding;
-mod indexes;
 mod laws;
-mod plain;
 mod reading;
 mod showing;
 mod visiting;
-mod whole;
 
 use proto_types::FileDescriptorProto;
 use std::alloc::{AllocError, Global};

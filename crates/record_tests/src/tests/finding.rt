@@ -1,7 +1,7 @@
 //! The records that paths lead to.
 
+use super::counting::EVERY_KIND;
 use super::files_of;
-use super::whole::WHOLE_SCRIPT;
 use proto_types::{
     DescriptorProto, EnumDescriptorProto, EnumValueDescriptorProto, FieldDescriptorProto,
     FileDescriptorProto, MethodDescriptorProto, OneofDescriptorProto, ServiceDescriptorProto,
@@ -98,7 +98,7 @@ fn check_nowhere(rt: &impl Abort, file: &FileDescriptorProto) {
 
 #[test]
 fn paths_lead_to_records(rt: HostRuntime) -> Result<(), Fail> {
-    let files = files_of(rt.alloc(), WHOLE_SCRIPT)?;
+    let files = files_of(rt.alloc(), EVERY_KIND)?;
     assert!(rt; !files.is_empty());
     for file in &files {
         check(&rt, file);

@@ -12,10 +12,9 @@ use visitor_example::fields_of;
 #[test]
 fn laws_are_called(rt: HostRuntime) -> Result<(), Fail> {
     let files = files_of(rt.alloc(), EVERY_KIND)?;
-    let more = files_of(rt.alloc(), "file b.proto\nmessage B\nend\nend\n")?;
     declared_paths(NONE, &files);
     declared_indexes(NONE, &files);
-    declared_in_turn(NONE, &files, &more);
+    declared_in_turn(NONE, &files, &files);
     declared_changed(NONE, &files);
     Ok(())
 }

@@ -17,11 +17,10 @@ const SOME: Counts = Counts {
     ..NONE
 };
 
-/// What the walk shows, the counts of a pool, files, and a line for each declaration of them that
-/// is shown: its kind, file, parent, index, path and full name.
-const WALKS: &[(&str, Counts, &str, &str)] = &[
+/// The counts of a pool, files, and a line for each declaration of them that is shown: its kind,
+/// file, parent, index, path and full name.
+const WALKS: &[(Counts, &str, &str)] = &[
     (
-        "each kind is shown in order",
         NONE,
         EVERY_KIND,
         "File 0 None 0 [] a.proto\n\
@@ -37,7 +36,6 @@ const WALKS: &[(&str, Counts, &str, &str)] = &[
         Extension 0 None 1 [7, 0] p.x\n",
     ),
     (
-        "files are numbered on from a pool",
         SOME,
         "file a.proto\nmessage A\nend\nend\nfile b.proto\nmessage B\nend\nend\n",
         "File 3 None 3 [] a.proto\n\
@@ -45,7 +43,6 @@ const WALKS: &[(&str, Counts, &str, &str)] = &[
         File 4 None 4 [] b.proto\n\
         Message 4 None 6 [4, 0] B\n",
     ),
-    ("no files show nothing", NONE, "", ""),
 ];
 
 /// A lister that was shown files.
@@ -80,73 +77,47 @@ fn lines(alloc: Global, list: &[Declaration]) -> Result<String, AllocError> {
     Ok(text)
 }
 
+/// A line for each declaration that a lister keeps.
+fn shown_lines(
+    rt: &impl Abort,
+    alloc: Global,
+    base: Counts,
+    files: &[FileDescriptorProto],
+) -> Result<String, AllocError> {
+    let lister = listed(rt, alloc, base, files)?;
+    lines(alloc, lister.declarations())
+}
+
+/// A line for each declaration of the list that a call makes.
+fn listed_lines(
+    rt: &impl Abort,
+    alloc: Global,
+    base: Counts,
+    files: &[FileDescriptorProto],
+) -> Result<String, AllocError> {
+    assert!(rt; base.with_files(files).is_ok());
+    lines(alloc, &list_declarations(alloc, base, files)?)
+}
+
 fn check(
     rt: &impl Abort,
     alloc: Global,
-    base: Counts,
-    script: &str,
-    wanted: &str,
+    files: &[FileDescriptorProto],
+    row: (Counts, &str),
 ) -> Result<(), AllocError> {
-    let files = files_of(alloc, script)?;
-    let lister = listed(rt, alloc, base, &files)?;
-    let report = lines(alloc, lister.declarations())?;
-    assert!(rt; report.as_str() == wanted, "{report}");
-    Ok(())
-}
-
-fn check_list(
-    rt: &impl Abort,
-    alloc: Global,
-    base: Counts,
-    script: &str,
-    wanted: &str,
-) -> Result<(), AllocError> {
-    let files = files_of(alloc, script)?;
-    assert!(rt; base.with_files(&files).is_ok());
-    let list = list_declarations(alloc, base, &files)?;
-    let report = lines(alloc, &list)?;
-    assert!(rt; report.as_str() == wanted, "{report}");
+    let (base, wanted) = row;
+    let shown = shown_lines(rt, alloc, base, files)?;
+    assert!(rt; shown.as_str() == wanted, "{shown}");
+    let listed = listed_lines(rt, alloc, base, files)?;
+    assert!(rt; listed.as_str() == wanted, "{listed}");
     Ok(())
 }
 
 #[test]
 fn files_are_walked_over(rt: HostRuntime) -> Result<(), Fail> {
-    for (name, base, script, wanted) in WALKS {
-        check(&rt, rt.alloc(), *base, script, wanted)?;
-        check_list(&rt, rt.alloc(), *base, script, wanted)?;
+    for (base, script, wanted) in WALKS {
+        let files = files_of(rt.alloc(), script)?;
+        check(&rt, rt.alloc(), &files, (*base, wanted))?;
     }
-    Ok(())
-}
-
-/// A file with a message inside another, and so on, 64 of them.
-fn nested(alloc: Global) -> Result<String, AllocError> {
-    let mut script = String::from_str(alloc, "file a.proto\n")?;
-    for _ in 0..64 {
-        script.push_str("message M\n")?;
-    }
-    for _ in 0..65 {
-        script.push_str("end\n")?;
-    }
-    Ok(script)
-}
-
-/// How many declarations there are, and of the last its parent, its index and the lengths of its
-/// path and of its full name.
-fn last_report(alloc: Global, list: &[Declaration]) -> Result<String, AllocError> {
-    let count = list.len();
-    let Some(last) = list.last() else {
-        return String::from_str(alloc, "none");
-    };
-    let (parent, index) = (last.parent, last.index);
-    let (path_len, name_len) = (last.path.as_slice().len(), last.full_name.as_str().len());
-    format!(in alloc; "{count} {parent:?} {index} {path_len} {name_len}")
-}
-
-#[test]
-fn nested_messages_are_all_listed(rt: HostRuntime) -> Result<(), Fail> {
-    let files = files_of(rt.alloc(), nested(rt.alloc())?.as_str())?;
-    let lister = listed(&rt, rt.alloc(), NONE, &files)?;
-    let report = last_report(rt.alloc(), lister.declarations())?;
-    assert!(rt; report.as_str() == "65 Some(62) 63 128 127", "{report}");
     Ok(())
 }

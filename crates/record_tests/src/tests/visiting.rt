@@ -10,7 +10,6 @@ use proto_types::{
     DescriptorProto, EnumDescriptorProto, EnumValueDescriptorProto, FieldDescriptorProto,
     FileDescriptorProto, MethodDescriptorProto, OneofDescriptorProto, ServiceDescriptorProto,
 };
-use record_lists::Lister;
 use record_walk::{Visitor, visit, visit_each};
 use std::alloc::{AllocError, Global};
 use std::cell::Cell;
@@ -193,15 +192,17 @@ fn check_no_visitors(rt: &impl Abort, alloc: Global, files: &[FileDescriptorProt
     assert!(rt; visit_each(alloc, NONE, files, &mut visitors).is_ok());
 }
 
-fn show_listers(
+/// Shows files to two visitors in turn, which take as many declarations as are left to both.
+fn show_two(
     rt: &impl Abort,
     alloc: Global,
     files: &[FileDescriptorProto],
+    left: &Rc<Cell<u32>>,
 ) -> Result<(), AllocError> {
     assert!(rt; NONE.with_files(files).is_ok());
     let mut visitors: Vec<Box<dyn Visitor>> = Vec::new(alloc);
-    visitors.push(Box::new(alloc, Lister::new(alloc))?)?;
-    visitors.push(Box::new(alloc, Lister::new(alloc))?)?;
+    visitors.push(boxed(alloc, left)?)?;
+    visitors.push(boxed(alloc, left)?)?;
     visit_each(alloc, NONE, files, &mut visitors)
 }
 
@@ -209,34 +210,11 @@ fn show_listers(
 fn visitors_are_shown_files_in_turn(rt: HostRuntime) -> Result<(), Fail> {
     let files = files_of(rt.alloc(), EVERY_KIND)?;
     check_no_visitors(&rt, rt.alloc(), &files);
-    show_listers(&rt, rt.alloc(), &files)?;
-    Ok(())
-}
-
-/// Shows files to visitors that take as many declarations as are left to each.
-fn show_limited(
-    rt: &impl Abort,
-    alloc: Global,
-    files: &[FileDescriptorProto],
-    lefts: [&Rc<Cell<u32>>; 3],
-) -> Result<(), AllocError> {
-    assert!(rt; NONE.with_files(files).is_ok());
-    let [first, second, third] = lefts;
-    let mut visitors: Vec<Box<dyn Visitor>> = Vec::new(alloc);
-    visitors.push(boxed(alloc, first)?)?;
-    visitors.push(boxed(alloc, second)?)?;
-    visitors.push(boxed(alloc, third)?)?;
-    visit_each(alloc, NONE, files, &mut visitors)
-}
-
-#[test]
-fn a_visitor_behind_one_that_refuses_is_shown_nothing(rt: HostRuntime) -> Result<(), Fail> {
-    let first = Rc::new(rt.alloc(), Cell::new(11))?;
-    let second = Rc::new(rt.alloc(), Cell::new(10))?;
-    let third = Rc::new(rt.alloc(), Cell::new(11))?;
-    let files = files_of(rt.alloc(), EVERY_KIND)?;
-    let shown = show_limited(&rt, rt.alloc(), &files, [&first, &second, &third]);
-    assert!(rt; shown.is_err());
-    assert!(rt; (first.get(), second.get(), third.get()) == (0, 0, 11));
+    let left = Rc::new(rt.alloc(), Cell::new(23))?;
+    show_two(&rt, rt.alloc(), &files, &left)?;
+    assert!(rt; left.get() == 1);
+    left.set(21);
+    assert!(rt; show_two(&rt, rt.alloc(), &files, &left).is_err());
+    assert!(rt; left.get() == 0);
     Ok(())
 }
