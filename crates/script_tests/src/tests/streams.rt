@@ -1,22 +1,12 @@
 //! Devices over streams of the library, and runs over them.
 
-use super::scripts::{FIRST_REPORT, FIRST_SCRIPT, THREE_FILES, THREE_REPORT, count_of_beginning};
+use super::scripts::{FIRST_SCRIPT, THREE_FILES, THREE_REPORT, count_of_beginning};
 use descriptor_linker::{Ending, run};
 use script_devices::{MemoryOutput, ReaderInput, ReportOutput, ScriptInput, WriterOutput};
 use std::alloc::{AllocError, Global};
 use std::io::{self, Read, Write};
 use std::process::Abort;
 use std::test::Fail;
-
-/// A reader that always fails.
-#[derive(Clone, Copy)]
-struct Broken;
-
-impl Read for Broken {
-    fn read(&mut self, _buffer: &mut [u8]) -> io::Result<usize> {
-        Err(io::Error::other("broken"))
-    }
-}
 
 /// A reader that fails at its first read, and then gives bytes.
 #[derive(Drop)]
@@ -86,34 +76,6 @@ impl Write for Narrow {
     }
 }
 
-#[test]
-fn a_stream_is_read(rt: HostRuntime) {
-    let mut input = ReaderInput::new(b"abc".as_slice());
-    let mut buffer = [0u8; 2];
-    assert!(rt; input.read(&mut buffer).ok() == Some(2));
-    assert!(rt; buffer == [97, 98]);
-    assert!(rt; input.read(&mut buffer).ok() == Some(1));
-    assert!(rt; buffer == [99, 98]);
-    assert!(rt; input.read(&mut buffer).ok() == Some(0));
-    assert!(rt; input.failures() == 0);
-}
-
-/// Asserts that a writer of the library takes bytes, and that the write of none is not idle.
-fn check_writer(rt: &impl Abort, taken: &mut Vec<u8>) {
-    let mut output = WriterOutput::new(taken);
-    assert!(rt; output.write(b"abc").ok() == Some(3));
-    assert!(rt; output.write(b"").ok() == Some(0));
-    assert!(rt; output.idle() == 0);
-    assert!(rt; output.failures() == 0);
-}
-
-#[test]
-fn a_stream_is_written(rt: HostRuntime) {
-    let mut taken = Vec::new(rt.alloc());
-    check_writer(&rt, &mut taken);
-    assert!(rt; taken.as_slice() == b"abc".as_slice());
-}
-
 fn writer_with(alloc: Global, room: usize, fails: bool) -> Narrow {
     let taken = Vec::new(alloc);
     Narrow { taken, room, fails }
@@ -121,48 +83,6 @@ fn writer_with(alloc: Global, room: usize, fails: bool) -> Narrow {
 
 /// How a run ends, and how many of its reads or writes fail.
 type Ended = (Ending, u64);
-
-/// Reads the first script in two parts.
-fn ended_in_parts(alloc: Global, narrow: &mut Narrow) -> Ended {
-    let (front, back) = FIRST_SCRIPT.as_bytes().split_at(20);
-    let mut input = ReaderInput::new(front.chain(back));
-    let mut output = WriterOutput::new(narrow);
-    let ending = run(alloc, &mut input, &mut output);
-    (ending, output.failures())
-}
-
-/// Besides, how many bytes of the report a writer takes, or none where it takes other bytes.
-fn written_in_parts(alloc: Global, room: usize) -> (Ended, Option<usize>) {
-    let mut narrow = writer_with(alloc, room, true);
-    let ended = ended_in_parts(alloc, &mut narrow);
-    (
-        ended,
-        count_of_beginning(FIRST_REPORT, narrow.taken.as_slice()),
-    )
-}
-
-#[test]
-fn streams_are_read_and_written_in_parts(rt: HostRuntime) {
-    let (whole, count) = ((Ending::Whole, 0), FIRST_REPORT.len());
-    assert!(rt; written_in_parts(rt.alloc(), 1000) == (whole, Some(count)));
-    let failed = (Ending::Device, 1);
-    assert!(rt; written_in_parts(rt.alloc(), 7) == (failed, Some(7)));
-}
-
-/// Reads the first script, and then a reader that fails.
-fn ended_broken(alloc: Global, taken: &mut Vec<u8>) -> Ended {
-    let mut input = ReaderInput::new(FIRST_SCRIPT.as_bytes().chain(Broken));
-    let mut output = WriterOutput::new(taken);
-    let ending = run(alloc, &mut input, &mut output);
-    (ending, input.failures())
-}
-
-#[test]
-fn a_broken_reader_ends_the_run(rt: HostRuntime) {
-    let mut taken = Vec::new(rt.alloc());
-    assert!(rt; ended_broken(rt.alloc(), &mut taken) == (Ending::Device, 1));
-    assert!(rt; taken.is_empty());
-}
 
 /// Reads the first script from a reader that fails at its first read alone.
 fn ended_at_the_start(alloc: Global, taken: &mut Vec<u8>) -> Ended {
