@@ -105,7 +105,9 @@ fn compare_message(pool: &DescriptorPool, scope: &str, message: &DescriptorProto
         compare_enum(pool, &full_name, enumeration);
     }
     let nested = message.nested_type.iter();
-    1 + nested.map(|nested| compare_message(pool, &full_name, nested)).sum::<usize>()
+    1 + nested
+        .map(|nested| compare_message(pool, &full_name, nested))
+        .sum::<usize>()
 }
 
 fn compare_field(message: MessageDescriptor, field: &FieldDescriptorProto) {
@@ -134,8 +136,13 @@ fn compare_field(message: MessageDescriptor, field: &FieldDescriptorProto) {
 }
 
 fn compare_enum(pool: &DescriptorPool, scope: &str, enumeration: &EnumDescriptorProto) {
-    let told = pool.get_enum_by_name(&join(scope, enumeration.name())).expect("an enum");
-    let wanted = enumeration.value.iter().map(|value| (value.name().to_string(), value.number()));
+    let told = pool
+        .get_enum_by_name(&join(scope, enumeration.name()))
+        .expect("an enum");
+    let wanted = enumeration
+        .value
+        .iter()
+        .map(|value| (value.name().to_string(), value.number()));
     let values = told.values().map(|value| (value.name(), value.number()));
     assert!(values.eq(wanted));
 }
@@ -149,8 +156,14 @@ fn compare_services(pool: &DescriptorPool, file: &FileDescriptorProto) {
         let told = pool.get_service_by_name(&full_name).expect(&full_name);
         for (method, told) in service.method.iter().zip(told.methods()) {
             assert_eq!(told.name(), method.name());
-            assert_eq!(format!(".{}", told.input().full_name()), method.input_type());
-            assert_eq!(format!(".{}", told.output().full_name()), method.output_type());
+            assert_eq!(
+                format!(".{}", told.input().full_name()),
+                method.input_type()
+            );
+            assert_eq!(
+                format!(".{}", told.output().full_name()),
+                method.output_type()
+            );
         }
     }
 }
@@ -162,8 +175,9 @@ fn a_set_of_prost_is_linked_and_decoded() {
 
 #[test]
 fn sets_from_disk_are_linked_and_decoded() {
-    let Some(folder) = env::var_os("PROTOLINK_SETS") else {
-        return;
+    let folder = match env::var_os("PROTOLINK_SETS") {
+        Some(folder) => folder,
+        None => return,
     };
     let mut count = 0;
     for entry in fs::read_dir(Path::new(&folder)).expect("the folder of sets") {
