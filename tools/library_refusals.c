@@ -182,6 +182,31 @@ static int is_right(const struct trial *trial, long request)
     return right && blocks == before;
 }
 
+/* Whether calls on an empty pool find nothing and ask for no memory, but for those that add files. */
+static int asks_for_nothing(void)
+{
+    protolink_pool pool = PROTOLINK_POOL_EMPTY, copy = PROTOLINK_POOL_EMPTY;
+    protolink_message_info message;
+    protolink_counts counts;
+    uint8_t text[8];
+    size_t length = 1;
+    uint32_t at;
+    int right;
+    requests = 0;
+    right = protolink_pool_report(&pool, text, 8, &length) == PROTOLINK_DONE && length == 0;
+    right &= protolink_pool_report_json(&pool, text, 8, &length) == PROTOLINK_DONE && length == 0;
+    right &= protolink_pool_linked(&pool, text, 8, &length) == PROTOLINK_DONE && length == 0;
+    right &= linked_file(&pool) == PROTOLINK_NOT_FOUND && !has(&pool, "p.q.M");
+    right &= default_value(&pool) == PROTOLINK_NOT_FOUND;
+    right &= protolink_message(&pool, 0, &message) == PROTOLINK_NOT_FOUND;
+    right &= protolink_field_by_number(&pool, 0, 1, &at) == PROTOLINK_NOT_FOUND;
+    right &= protolink_pool_extension(&pool, 0, 1, &at) == PROTOLINK_NOT_FOUND;
+    protolink_pool_counts(&pool, &counts);
+    right &= counts.files == 0 && protolink_pool_clone(&pool, &copy) == PROTOLINK_DONE;
+    protolink_pool_clear(&pool);
+    return right && pool.at == NULL && copy.at == NULL && requests == 0;
+}
+
 /* The linked second file alone, and the set of both. */
 static int make_inputs(void)
 {
@@ -205,5 +230,7 @@ int main(void)
         printf("%s: %ld requests, %ld wrong\n", trials[n].name, count - 1, wrong);
         status = wrong > 0 ? 1 : status;
     }
-    return status;
+    int wrong = !asks_for_nothing();
+    printf("an empty pool: %ld requests, %d wrong\n", requests, wrong);
+    return status || wrong;
 }
