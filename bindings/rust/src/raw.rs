@@ -13,6 +13,9 @@ use std::cell::UnsafeCell;
 /// How long a text may be that is had by one call.
 const FIRST_ROOM: usize = 128;
 
+/// How long linked files may be that are had by one call: each further call encodes them again.
+const FIRST_ROOM_OF_FILES: usize = 1 << 16;
+
 /// A pool of the library.
 pub(crate) struct RawPool {
     pool: UnsafeCell<ffi::Pool>,
@@ -127,14 +130,14 @@ impl RawPool {
     }
 
     pub fn linked(&self) -> Result<Vec<u8>, OutOfMemory> {
-        let linked = self.written(0, |p, at, room, len| unsafe {
+        let linked = self.written(FIRST_ROOM_OF_FILES, |p, at, room, len| unsafe {
             ffi::protolink_pool_linked(p, at, room, len)
         })?;
         Ok(linked.unwrap_or_default())
     }
 
     pub fn linked_file(&self, file: u32) -> Result<Option<Vec<u8>>, OutOfMemory> {
-        self.written(0, |p, at, room, len| unsafe {
+        self.written(FIRST_ROOM_OF_FILES, |p, at, room, len| unsafe {
             ffi::protolink_pool_linked_file(p, file, at, room, len)
         })
     }
