@@ -13,19 +13,24 @@
 static uint8_t *read_whole(const char *name, size_t *len)
 {
     FILE *file = fopen(name, "rb");
-    uint8_t *bytes = NULL;
-    size_t room = 1 << 16;
-    *len = 0;
-    while (file != NULL && (bytes = realloc(bytes, room)) != NULL) {
-        *len += fread(bytes + *len, 1, room - *len, file);
-        if (*len < room)
-            break;
-        room *= 2;
-    }
-    if (file != NULL && (ferror(file) || fclose(file) != 0)) {
-        free(bytes);
+    uint8_t *bytes = NULL, *more;
+    size_t room = 1 << 15;
+    if (file == NULL)
         return NULL;
+    *len = 0;
+    do {
+        room *= 2;
+        more = realloc(bytes, room);
+        if (more == NULL)
+            break;
+        bytes = more;
+        *len += fread(bytes + *len, 1, room - *len, file);
+    } while (*len == room);
+    if (more == NULL || ferror(file)) {
+        free(bytes);
+        bytes = NULL;
     }
+    fclose(file);
     return bytes;
 }
 
