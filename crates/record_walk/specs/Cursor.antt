@@ -20,7 +20,7 @@ use Rattle.record_walk.specs.Counts.{counted, counting, list_limit}
 use Rattle.record_walk.specs.Protos.{Proto, of_message, of_field, of_oneof, of_service, of_method, of_enum, of_value, of_extension}
 use Rattle.record_walk.specs.Shown.{Shown, Surrounding, shown, inside, parts}
 use Rattle.record_walk.specs.Declarations.{enum_walk, message_walk}
-use Rattle.record_walk.specs.Walking.{Room, index_at, located, parent_of, proto_of, protos_in}
+use Rattle.record_walk.specs.Walking.{Room, index_at, located, parent_in, parent_of, proto_of, protos_in}
 
 -- what is left of a list, and how long the path and the scope are in which it stands
 pub record Line : Type 0 where
@@ -56,6 +56,13 @@ stacked_by (_ ∷ _) l ls = l ∷ ls
 -- lines with one more before them, unless it has no records
 abbrev pub stacked : Line → List Line → List Line
 stacked l ls = stacked_by l.protos l ls
+
+-- the first record of the first list is taken off, and what is left of that list comes next
+abbrev pub Steps : Row → List Line → List Line → Type 0
+Steps row old new =
+    (ls : List Line) × (old ≡ line_in row ∷ ls)
+    × (new ≡ stacked (line (record row.at { position = row.at.position + 1 }) (parent_in row.rest)
+    (protos_in row.rest)) ls)
 
 -- lines with further ones before them, those without records left out
 abbrev pub stacked_all : List Line → List Line → List Line

@@ -64,15 +64,14 @@ impl<'a> Cursor<'a> {
         requires { IsSound self.old }
         ensures { IfOk result (λ next. Advances self.old self.new next) }
     {
-        let Some(row) = self.rows.pop() else {
+        let Some(row) = self.rows.step() else {
             return Ok(None);
         };
-        let Row { part, rest, at } = row;
+        let Row { part, at, .. } = row;
         let index = part.index(self.counts, at.position);
         self.counts = part.counted(self.counts);
         self.site.cut(at.depth);
         self.site.enter(at, part.name())?;
-        self.rows.push(rest, at.next())?;
         self.rows
             .push_inner(part, index, self.site.depth(), at.depth.scope)?;
         Ok(Some(Located { index, part }))

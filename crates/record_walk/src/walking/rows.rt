@@ -1,7 +1,7 @@
-ghost use Rattle.std.specs.Prelude.{◌≡◌, List, [], ◌∷◌, None, IsTrue, OnOk, MatchOption};
+ghost use Rattle.std.specs.Prelude.{◌≡◌, ◌<◌, ◌^◌, List, [], ◌∷◌, None, IsTrue, OnOk, MatchOption};
 ghost use Rattle.record_walk.specs.Parts.{AreParts, PassesLists};
 ghost use Rattle.record_walk.specs.Walking.{parent_in, proto_of, protos_in};
-ghost use Rattle.record_walk.specs.Cursor.{Line, file_lines, inner_lines, line, line_in, lines, message_lines, stacked, stacked_all};
+ghost use Rattle.record_walk.specs.Cursor.{Line, Steps, file_lines, inner_lines, line, line_in, lines, message_lines, stacked, stacked_all};
 
 use super::part::Part;
 use super::records::Records;
@@ -38,6 +38,21 @@ impl<'a> Rows<'a> {
             (λ row. lines self.old ≡ line_in row ∷ lines self.new) }
     {
         self.list.pop()
+    }
+
+    /// Takes the next record off its list, and answers what was left of that.
+    pub(crate) fn step(&mut self) -> Option<Row<'a>>
+        requires { (row : Row) (ls : List Line) → lines self.old ≡ line_in row ∷ ls
+            → row.at.position < 2 ^ 31 }
+        ensures { MatchOption result ((lines self.old ≡ []) × (lines self.new ≡ []))
+            (λ row. Steps row (lines self.old) (lines self.new)) }
+    {
+        let row = self.list.pop()?;
+        if let Some((part, rest)) = row.rest.split_first() {
+            let at = row.at.next();
+            self.list.push_reserved(Row { part, rest, at });
+        }
+        Some(row)
     }
 
     /// Takes off the lists of parts that come next, where that is wanted.
