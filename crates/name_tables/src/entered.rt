@@ -135,6 +135,16 @@ impl<T: InFile> Entered<T> {
         value_of(&self.values, number)
     }
 
+    /// Makes room for so many numbers more.
+    ///
+    /// # Errors
+    /// `AllocError` where memory was refused.
+    pub(crate) fn reserve(&mut self, more: usize) -> Result<(), AllocError>
+        ensures { self.new ≡ self.old }
+    {
+        self.values.reserve(more)
+    }
+
     /// Enters a value under a number.
     ///
     /// # Errors

@@ -62,6 +62,17 @@ impl PartNames {
         }
     }
 
+    /// Makes room for so many names more, where each but its last part stands in the table.
+    ///
+    /// # Errors
+    /// `AllocError` where memory was refused.
+    pub fn reserve(&mut self, more: usize) -> Result<(), AllocError>
+        ensures { self.new ≡ self.old }
+    {
+        self.branches.tree.reserve(more)?;
+        self.branches.definitions.reserve(more)
+    }
+
     /// What a name inside a scope means, or none where the table lacks it.
     pub fn find_joined(&self, scope: &str, name: &str) -> Option<&Definition>
         ensures { option_copied result ≡ map.get self.now (join scope.now name.now) }

@@ -5,6 +5,9 @@ ghost use Rattle.name_tree.specs.PartTexts.{cut_from, RiseFrom};
 use std::alloc::{AllocError, Global};
 use std::marker::Model;
 
+/// About how many bytes a text has.
+const USUAL_LENGTH: usize = 16;
+
 /// Texts that stand one behind another in one buffer. Contracts see them as a list.
 #[derive(Drop)]
 pub(crate) struct PartTexts {
@@ -57,6 +60,17 @@ impl PartTexts {
         self.bytes.extend_from_slice(text)?;
         self.ends.push(self.bytes.len())?;
         Ok(())
+    }
+
+    /// Makes room for so many texts more, of names as they mostly are.
+    ///
+    /// # Errors
+    /// `AllocError` where memory was refused.
+    pub(crate) fn reserve(&mut self, more: usize) -> Result<(), AllocError>
+        ensures { self.new ≡ self.old }
+    {
+        self.ends.reserve(more)?;
+        self.bytes.reserve(more.saturating_mul(USUAL_LENGTH))
     }
 
     /// Takes away the last text.

@@ -167,6 +167,18 @@ impl NameTree {
         insert(&mut self.texts, &mut self.nodes, slot, key)
     }
 
+    /// Makes room for so many branches more, so that they can be inserted without a copy of those
+    /// that there are.
+    ///
+    /// # Errors
+    /// `AllocError` where memory was refused.
+    pub fn reserve(&mut self, more: usize) -> Result<(), AllocError>
+        ensures { self.new ≡ self.old }
+    {
+        self.nodes.reserve(more)?;
+        self.texts.reserve(more)
+    }
+
     /// Removes the last branch.
     fn pop(&mut self)
         requires { 0 < length self.old }

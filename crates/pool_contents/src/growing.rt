@@ -4,6 +4,7 @@ ghost use Rattle.pool_contents.specs.Extended.{LieBefore, with_extensions, with_
 ghost use Rattle.pool_contents.specs.Unlinked.{unlinked};
 
 use crate::DescriptorPoolInner;
+use crate::room::names_of_files;
 use name_resolution::{imported_files, visible_from};
 use name_tables::NameTable;
 use plain_data::{Items, NumberMap};
@@ -65,6 +66,7 @@ impl GrowingPool {
         ensures kept { rolled_back self.new ≡ rolled_back self.old }
     {
         self.inner.files.reserve(new.len())?;
+        self.inner.names.reserve(names_of_files(&new))?;
         for file in new {
             self.inner.files.push(unlinked(alloc, file))?;
         }

@@ -5,6 +5,7 @@ mod copy;
 mod growing;
 mod inner;
 mod look_ups;
+mod room;
 mod same;
 
 pub use growing::GrowingPool;
