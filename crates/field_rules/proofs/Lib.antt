@@ -9,6 +9,7 @@ pub mod Duplicates
 pub mod Listed
 pub mod Ascending
 pub mod Positions
+pub mod Rising
 pub mod Sorting
 pub mod Told
 pub mod Earlier

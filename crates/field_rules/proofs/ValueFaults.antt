@@ -1,5 +1,5 @@
 -- What a value of an enum tells.
-use Rattle.std.proofs.Common.{◌≡◌, ℕ, ℤ, Bool, true, false, cond, List, [], ◌++◌, take, Option, ap, sym, ◌∙◌, append-nil}
+use Rattle.std.proofs.Common.{◌≡◌, ◌<◌, ◌⊎◌, inl, inr, ℕ, ℤ, Bool, true, false, cond, List, [], ◌++◌, length, get_or, take, Option, refl, ap, sym, ◌∙◌, append-nil}
 use Rattle.std.specs.List.{enumerate_from}
 use Rattle.std.specs.Option.{option_map}
 use Rattle.proto_types.specs.declared.records.enumeration.EnumDescriptorProto.{EnumDescriptorProto}
@@ -11,8 +11,9 @@ use Rattle.pool_faults.specs.declared.fault.DescriptorErrorKind.{DescriptorError
 use Rattle.pool_faults.specs.declared.fault.DescriptorErrorKind.TheVariants as fault
 use Rattle.record_walk.specs.Shown.{Shown}
 use Rattle.field_rules.specs.EnumItems.{allows_alias}
-use Rattle.field_rules.specs.EnumValues.{number_label, reserved_faults, duplicate_faults, value_faults}
+use Rattle.field_rules.specs.EnumValues.{NumbersRise, number_label, reserved_faults, duplicate_faults, value_faults}
 use Rattle.field_rules.proofs.Earlier.{earliest, told-earliest}
+use Rattle.field_rules.proofs.Rising.{none-before}
 
 module _ (files : List FileDescriptorProto) (owner : Shown) (e : EnumDescriptorProto) (i : ℕ) (v : EnumValueDescriptorProto) (number : ℤ) (number_is : number ≡ number_of v.number) where
   abbrev n : ℤ
@@ -40,3 +41,16 @@ module _ (files : List FileDescriptorProto) (owner : Shown) (e : EnumDescriptorP
   told-shared alias alias_is on =
       sym (append-nil (reserved_faults files owner i number e.reserved_range))
       ∙ (λ j. reserved_faults files owner i (number_is j) e.reserved_range ++ ap (λ b. cond b [] (duplicate_faults files owner i n (take i e.value))) (sym on ∙ alias_is) j)
+
+  nothing : (b : Bool) (told : List DescriptorErrorKind) → told ≡ [] → [] ≡ cond b [] told
+  nothing true told none = refl
+  nothing false told none = sym none
+
+  -- where aliases are allowed, or numbers rise, reserved ranges are all that can be told
+  pub told-apart : (allows_alias e.options ≡ true) ⊎ NumbersRise e.value → i < length e.value → v ≡ get_or e.value i v → reserved_faults files owner i number e.reserved_range ≡ value_faults files owner e i v
+  told-apart (inl on) below is = told-shared (allows_alias e.options) refl on
+  told-apart (inr rising) below is =
+      let none : duplicate_faults files owner i n (take i e.value) ≡ [] =
+      ap (λ o. listed (option_map (λ x. again n x.0) o)) (none-before e.value i 0 v rising below is) in
+      sym (append-nil (reserved_faults files owner i number e.reserved_range))
+      ∙ (λ j. reserved_faults files owner i (number_is j) e.reserved_range ++ nothing (allows_alias e.options) (duplicate_faults files owner i n (take i e.value)) none j)

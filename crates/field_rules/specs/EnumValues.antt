@@ -1,7 +1,7 @@
 -- What the numbers of an enum's values break (descriptor.proto on `reserved_range` and
 -- `allow_alias`, and the protobuf language rules on enums).
-use Rattle.std.specs.Prelude.{ℕ, ℤ, List, [], ◌++◌, take, if◌then◌else◌}
-use Rattle.std.specs.List.{find, enumerate_from, flat_map}
+use Rattle.std.specs.Prelude.{◌≡◌, ℕ, ℤ, true, List, [], ◌++◌, length, take, int_lt, if◌then◌else◌}
+use Rattle.std.specs.List.{AllAdjacentBelow, find, enumerate_from, flat_map}
 use Rattle.std.specs.Option.{option_map}
 use Rattle.std.specs.Ordering.{int_eq}
 use Rattle.proto_types.specs.declared.tag.enum_.TheConstants as enumeration
@@ -60,3 +60,9 @@ module _ (files : List FileDescriptorProto) (owner : Shown) where
   -- the faults of all values of an enum, one value after another
   abbrev pub values_faults : EnumDescriptorProto → List DescriptorErrorKind
   values_faults e = flat_map (λ faults. faults) (map_enumerated (value_faults e) 0 e.value)
+
+-- the number of each value is less than that of the next
+abbrev pub NumbersRise : List EnumValueDescriptorProto → Type 0
+NumbersRise values =
+    AllAdjacentBelow (λ v w. int_lt (number_of v.number) (number_of w.number) ≡ true) values
+    (length values)

@@ -1,4 +1,4 @@
-ghost use Rattle.std.specs.Prelude.{◌≡◌, ◌<◌, ◌^◌, ℤ, Some, true, IfOk, IfSome, OnOk, unwrap_or, if◌then◌else◌};
+ghost use Rattle.std.specs.Prelude.{◌≡◌, ◌⊎◌, ◌<◌, ◌^◌, ℤ, Some, true, IsTrue, IfOk, IfSome, OnOk, unwrap_or, if◌then◌else◌};
 ghost use Rattle.std.specs.BTreeMap.{get};
 ghost use Rattle.std.specs.Option.{option_map};
 ghost use Rattle.std.specs.Ordering.{int_cmp, int_eq};
@@ -12,11 +12,11 @@ ghost use Rattle.pool_faults.specs.Labels.{entry_part_label};
 ghost use Rattle.record_walk.specs.Place.{enum_at};
 ghost use Rattle.record_walk.specs.Faults.{Tells, named_files};
 ghost use Rattle.field_rules.specs.EnumItems.{allows_alias};
-ghost use Rattle.field_rules.specs.EnumValues.{values_faults};
+ghost use Rattle.field_rules.specs.EnumValues.{NumbersRise, values_faults};
 
 use crate::enum_ranges::check_reserved;
 use pool_faults::{DescriptorErrorKind, Label};
-use proto_types::{EnumDescriptorProto, tag};
+use proto_types::{EnumDescriptorProto, EnumValueDescriptorProto, tag};
 use record_walk::{Faults, Place};
 use std::alloc::AllocError;
 use std::collections::BTreeMap;
@@ -39,15 +39,47 @@ pub fn check_values(
         (values_faults (named_files faults.old)
         (enum_at place.entry enumeration.now) enumeration.now)) }
 {
-    let alias = allows_alias(enumeration);
+    if allows_alias(enumeration) || numbers_rise(enumeration.value.as_slice()) {
+        return check_all_reserved(faults, place, enumeration);
+    }
     let mut positions = BTreeMap::new(faults.alloc);
     for (position, value) in enumeration.value.as_slice().iter().enumerate() {
         let number = value.number();
         let earlier = earlier_position(&mut positions, number, position)?;
         check_reserved(faults, place, enumeration, position, number)?;
-        if !alias {
-            check_duplicate(faults, place, number, earlier, position)?;
+        check_duplicate(faults, place, number, earlier, position)?;
+    }
+    Ok(())
+}
+
+/// Whether the number of each value is less than that of the next, so that no two have one number.
+fn numbers_rise(values: &[EnumValueDescriptorProto]) -> bool
+    ensures { IsTrue result → NumbersRise values.now }
+{
+    for next in 1..values.len() {
+        if values[next - 1].number() >= values[next].number() {
+            return false;
         }
+    }
+    true
+}
+
+/// Appends to `faults` what the numbers of an enum's values break whose numbers are not compared:
+/// they may be one, or none of them is that of an earlier value.
+fn check_all_reserved(
+    faults: &mut Faults,
+    place: Place,
+    enumeration: &EnumDescriptorProto,
+) -> Result<(), AllocError>
+    requires short { lists_fit (of_enum enumeration.now) ≡ true }
+    requires apart { (allows_alias enumeration.now.options ≡ true)
+        ⊎ NumbersRise enumeration.now.value }
+    ensures { OnOk result (Tells faults.old faults.new
+        (values_faults (named_files faults.old)
+        (enum_at place.entry enumeration.now) enumeration.now)) }
+{
+    for (position, value) in enumeration.value.as_slice().iter().enumerate() {
+        check_reserved(faults, place, enumeration, position, value.number())?;
     }
     Ok(())
 }

@@ -18,9 +18,8 @@ use Rattle.field_rules.proofs.Tells.{tells-next}
 use Rattle.record_walk.proofs.Tells.{same-files, tells-as, tells-two}
 use Rattle.field_rules.specs.EnumValues.{number_label, value_faults}
 use Rattle.field_rules.proofs.Earlier.{positions-next, below-next}
-use Rattle.field_rules.proofs.ValueFaults.{told-alone, told-shared}
+use Rattle.field_rules.proofs.ValueFaults.{told-alone}
 use Rattle.field_rules.proofs.enum_values.check_values.Goals as goal
-use Rattle.field_rules.proofs.enum_values.check_values.Goals.{then-not-alias+in_ok-check_duplicate, else-not-alias}
 
 -- one more value is checked: its number has a position, and its faults are told
 pub loop-position-preserved : goal.loop-position-preserved
@@ -42,21 +41,13 @@ loop-position-preserved c =
     let after = λ (m : ℤ). c.in_ok-earlier.ensures.positions m ∙ ap (λ o. if int_eq m n then Some (unwrap_or o i) else old m) c.in_ok-earlier.ensures.earlier in
     let reserved = c.in_ok-check_reserved.ensures in
     let again : List FileDescriptorProto → ℕ → DescriptorErrorKind = λ fs first. DuplicateEnumNumber n (number_label fs owner first) (number_label fs owner i) in
-    let next = λ (d : Faults) (told : List DescriptorErrorKind) (told_is : told ≡ value_faults files owner e i v) (tells : Tells b d told).
-    tells-next (λ fs. value_faults fs owner e) e.value i v below is c.loop-position.invariant.faults told_is tells in
     record {
       positions = positions-next e.value i v below is old new n number c.loop-position.invariant.positions after;
       below = below-next i old new n c.loop-position.invariant.below after;
-      faults = elim c.if-not-alias.branch [
-        | then-not-alias+in_ok-check_duplicate w ↦
-            rw w.faults-is (next _ _
-            (told-alone files owner e i v n number earlier c.allows_alias-alias.result c.allows_alias-alias.ensures w.if-not-alias.true
-            (c.in_ok-earlier.ensures.earlier ∙ c.loop-position.invariant.positions n))
-            (tells-two reserved (tells-as (ap (λ fs. listed (option_map (again fs) earlier)) (same-files reserved)) w.in_ok-check_duplicate.ensures)))
-        | else-not-alias w ↦
-            rw w.faults-is (next _ _
-            (told-shared files owner e i v n number c.allows_alias-alias.result c.allows_alias-alias.ensures w.if-not-alias.false) reserved)
-      ];
+      faults = tells-next (λ fs. value_faults fs owner e) e.value i v below is c.loop-position.invariant.faults
+          (told-alone files owner e i v n number earlier c.allows_alias.result c.allows_alias.ensures c.if-allows_alias.false
+          (c.in_ok-earlier.ensures.earlier ∙ c.loop-position.invariant.positions n))
+          (tells-two reserved (tells-as (ap (λ fs. listed (option_map (again fs) earlier)) (same-files reserved)) c.in_ok-check_duplicate.ensures));
     }
 
 pub returns : goal.returns
