@@ -85,6 +85,15 @@ module _ (names : ByText Definition) (seen : ℕ → Bool) (filter : ResolveName
   pub look-defined : (x : List ℕ) (def : Definition) → finite.get names x ≡ Some def → look names seen filter x ≡ judged seen filter x def
   look-defined x def is = ap (λ got. option_map_or (judged seen filter x) got not_found) is
 
+  -- it is found where it is wanted
+  pub look-wanted : (x : List ℕ) (def : Definition) → finite.get names x ≡ Some def → (seen def.file && is_match filter def.kind) ≡ true → look names seen filter x ≡ found x def
+  look-wanted x def is wanted = look-defined x def is ∙ both (seen def.file) (is_match filter def.kind) wanted
+    where
+      both : (s m : Bool) → (s && m) ≡ true → (if not s then not_imported x def.file else (if not m then invalid_type x def filter else found x def)) ≡ found x def
+      both true true are = refl
+      both true false are = absurd (cc)
+      both false m are = absurd (cc)
+
   -- that has none
   pub look-undefined : (x : List ℕ) → finite.get names x ≡ None → look names seen filter x ≡ not_found
   look-undefined x none = ap (λ got. option_map_or (judged seen filter x) got not_found) none

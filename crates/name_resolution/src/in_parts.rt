@@ -1,4 +1,4 @@
-ghost use Rattle.std.specs.Prelude.{◌≡◌, ◌∷◌, [], ℕ, Bool, false, IfOk, IfSome, IsOk, None, Some};
+ghost use Rattle.std.specs.Prelude.{◌≡◌, ◌∷◌, [], ℕ, List, Bool, false, IfOk, IfSome, IsOk, None, Some};
 ghost use Rattle.std.specs.BTreeSet.{contains_by};
 ghost use Rattle.std.specs.FinMap as finite;
 ghost use Rattle.std.specs.List.{find};
@@ -9,7 +9,7 @@ ghost use Rattle.pool_types.specs.Definition.{is_parent};
 ghost use Rattle.name_tree.specs.Parts.{parts};
 ghost use Rattle.name_resolution.specs.declared.filter.ResolveNameFilter.{ResolveNameFilter};
 ghost use Rattle.name_resolution.specs.Parents.{outer};
-ghost use Rattle.name_resolution.specs.Resolution.{resolution, resolution_in, not_found, look, simple, dotted, holds_first};
+ghost use Rattle.name_resolution.specs.Resolution.{found, resolution, resolution_in, not_found, look, simple, dotted, holds_first};
 
 use crate::filter::ResolveNameFilter;
 use crate::resolution::{ResolveNameResult, first_part};
@@ -47,6 +47,24 @@ pub fn resolve_in_parts<'a>(
         None if name.contains('.') => look_for_parts(alloc, wanted, names.scope(scope), name),
         None => look_outwards(alloc, wanted, names.scope(scope), name),
     }
+}
+
+/// The definition that a name with a leading dot means, where `resolve_in_parts` finds it, whatever
+/// the scope. Any other name has none here. No memory is taken.
+pub fn find_in_parts<'a>(
+    visible: &BTreeSet<u32>,
+    names: &'a PartNames,
+    name: &str,
+    filter: ResolveNameFilter,
+) -> Option<&'a Definition>
+    ensures { (scope : List ℕ) → IfSome result (λ def. (full : List ℕ)
+        × (resolution names.now (λ n. contains_by (nat_cmp n) visible.now) filter
+        scope name.now ≡ found full def.now)) }
+{
+    let full_name = name.strip_prefix('.')?;
+    let def = names.scope("").find(full_name)?;
+    let wanted = Wanted { visible, filter };
+    wanted.is_wanted(def).then_some(def)
 }
 
 /// What a name means in one scope alone.

@@ -12,7 +12,7 @@ mod wants;
 
 pub use filter::ResolveNameFilter;
 pub use imports::imported_files;
-pub use in_parts::resolve_in_parts;
+pub use in_parts::{find_in_parts, resolve_in_parts};
 pub use parents::{CandidateParents, parents_count};
 pub use resolution::{ResolveNameResult, resolve_name};
 pub use visibility::visible_from;

@@ -1,13 +1,14 @@
-ghost use Rattle.std.specs.Prelude.{◌≡◌, ◌++◌, ◌∷◌, [], IfOk, OnOk, slice_get};
+ghost use Rattle.std.specs.Prelude.{◌≡◌, ◌++◌, ◌∷◌, [], ℕ, List, IfOk, IfSome, OnOk, slice_get};
 ghost use Rattle.std.specs.Option.{option_copied};
 ghost use Rattle.plain_data.specs.Lists.{listed};
 ghost use Rattle.name_resolution.specs.References.{reference_fault};
-ghost use Rattle.name_resolution.specs.Resolution.{resolution_in};
+ghost use Rattle.name_resolution.specs.Resolution.{found, resolution_in};
 ghost use Rattle.reference_pass.specs.Setting.{resolve};
 ghost use Rattle.record_walk.specs.Faults.{Tells, named_files};
 
-use name_resolution::{ResolveNameFilter, ResolveNameResult, resolve_in_parts};
+use name_resolution::{ResolveNameFilter, ResolveNameResult, find_in_parts, resolve_in_parts};
 use name_tables::{FileNames, PoolNames};
+use pool_types::Definition;
 use record_walk::{Faults, Place};
 use std::alloc::AllocError;
 use std::collections::BTreeSet;
@@ -42,6 +43,22 @@ impl<'f> Reading<'f> {
         let nothing = BTreeSet::new(alloc);
         let visible = self.visible(place.file).unwrap_or(&nothing);
         resolve_in_parts(alloc, visible, self.names, place.full_name, written, filter)
+    }
+
+    /// The definition that a name means that a declaration writes, where it is found and the name
+    /// has a leading dot.
+    pub(crate) fn find(
+        &self,
+        place: Place,
+        filter: ResolveNameFilter,
+        written: &str,
+    ) -> Option<&'f Definition>
+        ensures { IfSome result (λ def. (full : List ℕ)
+            × (resolve (setting_of self.now) place.entry.file place.entry.full_name.now
+            filter written.now ≡ found full def.now)) }
+    {
+        let visible = self.visible(place.file)?;
+        find_in_parts(visible, self.names, written, filter)
     }
 
     /// The files that the file with an index sees.

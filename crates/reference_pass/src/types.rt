@@ -112,7 +112,13 @@ fn named_type(
         (shown_at place.entry (of_field field.now)) field.now))) [])) }
 {
     let (tag, filter) = (tag::field::TYPE_NAME, ResolveNameFilter::FieldType);
-    let meaning = reading.resolve_checked(place, tag, filter, field.type_name())?;
+    let written = field.type_name();
+    if field.default_value.is_none()
+        && let Some(def) = reading.find(place, filter, written)
+    {
+        return Ok((named_kind(field.field_type(), def.kind), None));
+    }
+    let meaning = reading.resolve_checked(place, tag, filter, written)?;
     let kind = kind_by_meaning(field.field_type(), &meaning);
     let default = named_default(reading, place, kind, &meaning, &field.default_value)?;
     Ok((kind, default))
