@@ -18,4 +18,7 @@ pub use arguments::{HELP, Job, Request, VERSION, read_arguments};
 pub use batches::{BatchError, Flaw, NotASet, read_batch};
 pub use checking::{check, complain, complain_of_arguments, tell};
 pub use inputs::Input;
+pub use objects::{refused_json, too_many_json, unread_json};
+pub use refused::{refused_text, too_many_text};
+pub use unread::bytes_words;
 pub use verdicts::{Verdict, verdict_on};

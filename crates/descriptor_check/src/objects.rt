@@ -44,7 +44,10 @@ pub(crate) fn accepted_json(alloc: Global, counts: Counts) -> Result<String, All
 }
 
 /// The object of a batch that is refused: its first faults, and how many more there are.
-pub(crate) fn refused_json(
+///
+/// # Errors
+/// `AllocError` where memory was refused.
+pub fn refused_json(
     alloc: Global,
     files: &[FileDescriptorProto],
     most: usize,
@@ -59,7 +62,10 @@ pub(crate) fn refused_json(
 }
 
 /// The object of a batch for which no pool has room.
-pub(crate) fn too_many_json(alloc: Global, kind: CountKind) -> Result<String, AllocError>
+///
+/// # Errors
+/// `AllocError` where memory was refused.
+pub fn too_many_json(alloc: Global, kind: CountKind) -> Result<String, AllocError>
     ensures { IfOk result (λ s. string_bytes s ≡ spec.too_many_json kind) }
 {
     let word = json_string(alloc, count_word(kind))?;
@@ -69,7 +75,10 @@ pub(crate) fn too_many_json(alloc: Global, kind: CountKind) -> Result<String, Al
 }
 
 /// The object where an input is no set.
-pub(crate) fn unread_json(alloc: Global, words: &str) -> Result<String, AllocError>
+///
+/// # Errors
+/// `AllocError` where memory was refused.
+pub fn unread_json(alloc: Global, words: &str) -> Result<String, AllocError>
     ensures { IfOk result (λ s. string_bytes s ≡ spec.unread_json words.now) }
 {
     let error = json_string(alloc, words)?;

@@ -116,7 +116,10 @@ fn further_faults(faults: &[DescriptorErrorKind], most: usize) -> &[DescriptorEr
 
 /// The first faults, how many more there are and in how many files, and how many there are, for
 /// people.
-pub(crate) fn refused_text(
+///
+/// # Errors
+/// `AllocError` where memory was refused.
+pub fn refused_text(
     alloc: Global,
     files: &[FileDescriptorProto],
     most: usize,
@@ -183,7 +186,10 @@ pub(crate) fn count_word(kind: CountKind) -> &'static str
 }
 
 /// The line that tells of what there is too much.
-pub(crate) fn too_many_text(alloc: Global, kind: CountKind) -> Result<String, AllocError>
+///
+/// # Errors
+/// `AllocError` where memory was refused.
+pub fn too_many_text(alloc: Global, kind: CountKind) -> Result<String, AllocError>
     ensures { IfOk result (λ s. string_bytes s ≡ spec.too_many_text kind) }
 {
     let word = count_word(kind);

@@ -24,7 +24,10 @@ fn wire_words(kind: WireFaultKind) -> &'static str
 }
 
 /// The first fault of bytes, and where it is.
-fn bytes_words(alloc: Global, fault: WireFault) -> Result<String, AllocError>
+///
+/// # Errors
+/// `AllocError` where memory was refused.
+pub fn bytes_words(alloc: Global, fault: WireFault) -> Result<String, AllocError>
     ensures { IfOk result (λ s. string_bytes s ≡ spec.bytes_words fault) }
 {
     let at = fault.at;
