@@ -1,0 +1,28 @@
+-- What is told of a call that added nothing: lines for people, and an object of JSON.
+use Rattle.std.specs.Prelude.{ℕ, List, [], length}
+use Rattle.pool_faults.specs.declared.fault.DescriptorErrorKind.{DescriptorErrorKind}
+use Rattle.proto_types.specs.declared.file.FileDescriptorProto.{FileDescriptorProto}
+use Rattle.record_walk.specs.declared.counts.CountKind.{CountKind}
+use Rattle.fault_texts.specs.Lines.{line}
+use Rattle.descriptor_check.specs.Objects.{refused_json, too_many_json, unread_json}
+use Rattle.descriptor_check.specs.Refused.{refused_text, too_many_text}
+use Rattle.pool_face.specs.declared.report.Report.{Report}
+
+-- nothing told
+abbrev pub no_report : Report
+no_report = record { lines = []; json = [] }
+
+-- all faults of files that break rules
+abbrev pub refused_report : List FileDescriptorProto → List DescriptorErrorKind → Report
+refused_report files faults = record {
+  lines = refused_text files (length faults) faults;
+  json = refused_json files (length faults) faults;
+}
+
+-- of what there is too much
+abbrev pub too_many_report : CountKind → Report
+too_many_report kind = record { lines = too_many_text kind; json = too_many_json kind }
+
+-- why bytes are no files
+abbrev pub fault_report : List ℕ → Report
+fault_report words = record { lines = line words; json = unread_json words }

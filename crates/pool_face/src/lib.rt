@@ -1,0 +1,21 @@
+//! A pool for callers that hold bytes and numbers: what is linked comes as bytes, what went wrong
+//! is told as text, and what the pool has is found by numbers and names.
+#![tactic(auto)]
+
+mod answers;
+mod finding;
+mod items;
+mod linked;
+mod names;
+mod numbers;
+mod reading;
+mod report;
+mod status;
+
+pub use answers::Answers;
+pub use numbers::{
+    EnumItem, ExtensionItem, FieldItem, FileItem, Found, Item, MessageItem, MethodItem, NONE,
+    OneofItem, PoolCounts, ServiceItem, ValueItem,
+};
+pub use report::Report;
+pub use status::Status;

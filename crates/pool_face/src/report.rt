@@ -1,0 +1,75 @@
+//! What is told of a call that added nothing.
+
+ghost use Rattle.std.specs.Prelude.{◌≡◌, IfOk, string_bytes};
+ghost use Rattle.pool_face.specs.Reports as spec;
+
+use descriptor_check::{refused_json, refused_text, too_many_json, too_many_text, unread_json};
+use fault_texts::write_line;
+use plain_data::Text;
+use pool_faults::DescriptorErrorKind;
+use proto_types::FileDescriptorProto;
+use record_walk::CountKind;
+use std::alloc::{AllocError, Global};
+
+/// What the last call that added files tells. Both texts are empty where it told nothing.
+#[derive(PartialEq, Drop)]
+pub struct Report {
+    /// Lines for people.
+    pub lines: Text,
+    /// An object of JSON, and the end of its line.
+    pub json: Text,
+}
+
+impl Report {
+    /// Nothing told, which takes no memory.
+    pub fn new(alloc: Global) -> Report
+        ensures { result ≡ spec.no_report }
+    {
+        Report {
+            lines: Text::new(alloc),
+            json: Text::new(alloc),
+        }
+    }
+}
+
+/// What is told of files that break rules: all faults, by the records of the files.
+pub(crate) fn refused_report(
+    alloc: Global,
+    files: &[FileDescriptorProto],
+    faults: &[DescriptorErrorKind],
+) -> Result<Report, AllocError>
+    ensures { IfOk result (λ report. report ≡ spec.refused_report files.now faults.now) }
+{
+    let lines = refused_text(alloc, files, faults.len(), faults)?;
+    let json = refused_json(alloc, files, faults.len(), faults)?;
+    Ok(as_report(lines, json))
+}
+
+/// What is told of files of which there are too many.
+pub(crate) fn too_many_report(alloc: Global, kind: CountKind) -> Result<Report, AllocError>
+    ensures { IfOk result (λ report. report ≡ spec.too_many_report kind) }
+{
+    let lines = too_many_text(alloc, kind)?;
+    let json = too_many_json(alloc, kind)?;
+    Ok(as_report(lines, json))
+}
+
+/// What is told of bytes that are no files.
+pub(crate) fn fault_report(alloc: Global, words: &str) -> Result<Report, AllocError>
+    ensures { IfOk result (λ report. report ≡ spec.fault_report words.now) }
+{
+    let mut lines = String::new(alloc);
+    write_line(&mut lines, words)?;
+    let json = unread_json(alloc, words)?;
+    Ok(as_report(lines, json))
+}
+
+/// Two texts as a report.
+fn as_report(lines: String, json: String) -> Report
+    ensures { result ≡ record { lines = string_bytes lines; json = string_bytes json } }
+{
+    Report {
+        lines: Text::from_string(lines),
+        json: Text::from_string(json),
+    }
+}
