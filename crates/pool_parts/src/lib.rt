@@ -7,17 +7,16 @@
 //! first file:
 //!
 //! ```
-//! let mut names = PoolNames::new(alloc);
+//! let mut seen = BTreeSet::new(alloc);
+//! seen.insert(0)?;
 //! let path = Path::from_slice(alloc, &[4, 0, 1])?;
 //! let definition = Definition {
 //!     file: 0,
 //!     path,
 //!     kind: DefinitionKind::Message(0),
 //! };
-//! let back = names.insert("p.M", definition)?;
-//! assert!(rt; back.is_none());
-//! let mut seen = BTreeSet::new(alloc);
-//! seen.insert(0)?;
+//! let mut names = PoolNames::new(alloc);
+//! names.insert("p.M", definition)?;
 //! let wanted = ResolveNameFilter::FieldType;
 //! let meant = resolve_name(alloc, &seen, &names, "p.N.f", "M", wanted)?;
 //! assert!(rt; meant.is_found());

@@ -1,4 +1,4 @@
-//! What no contract says of a pool: whether calls succeed, printed faults, worked batches.
+//! What no contract says of a pool: whether calls succeed, and worked batches that no script says.
 
 mod batches;
 mod errors;
@@ -8,13 +8,9 @@ mod extensions;
 mod face;
 mod kinds;
 mod laws;
-mod meanings;
-mod names;
-mod order;
 mod parts;
-mod places;
 mod rules;
-mod seen;
+mod scopes;
 mod trees;
 mod values;
 

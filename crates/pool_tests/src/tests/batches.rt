@@ -11,9 +11,6 @@ use std::test::Fail;
 pub(super) const FIRST: &str = "file a.proto\npackage p.q\nmessage M\n\
     field f 1 optional int32 ~ ~\nfield g 2 optional message .p.q.M ~\nend\nend\n";
 
-/// A file of one message.
-const GOOD: &str = "file good.proto\nmessage Good\nextensions 1 3\nend\nend\n";
-
 /// Gives a pool a batch, and says whether it takes that.
 fn take(alloc: Global, pool: &mut DescriptorPool, script: &str) -> Result<bool, AllocError> {
     match pool.build_files(files_of(alloc, script)?) {
@@ -23,11 +20,6 @@ fn take(alloc: Global, pool: &mut DescriptorPool, script: &str) -> Result<bool, 
     }
 }
 
-/// A file whose field means a message that is not there, and that declares an item of each kind.
-const BAD: &str = "file bad.proto\nmessage Bad\nfield f 1 optional message .Missing ~\n\
-    extensions 2 3\nend\nenum E\nvalue V 0\nend\nservice S\nend\n\
-    extend x 2 optional int32 ~ Bad\nend\n";
-
 /// A pool that was given batches in turn.
 pub(super) fn pool_of(alloc: Global, scripts: &[&str]) -> Result<DescriptorPool, AllocError> {
     let mut pool = DescriptorPool::new(alloc);
@@ -35,40 +27,6 @@ pub(super) fn pool_of(alloc: Global, scripts: &[&str]) -> Result<DescriptorPool,
         take(alloc, &mut pool, script)?;
     }
     Ok(pool)
-}
-
-/// Whether two pools have the same linked files.
-fn has_files_of(pool: &DescriptorPool, fresh: &DescriptorPool) -> Result<bool, AllocError> {
-    let files = pool.linked_files()?;
-    let others = fresh.linked_files()?;
-    Ok(files == others)
-}
-
-/// Asserts that two pools have the same files and messages, and nothing of the bad file.
-fn check_equal(
-    rt: &impl Abort,
-    pool: &DescriptorPool,
-    fresh: &DescriptorPool,
-) -> Result<(), AllocError> {
-    assert!(rt; pool.counts() == fresh.counts());
-    assert!(rt; has_files_of(pool, fresh)?);
-    let first = MessageDescriptor::new(0);
-    assert!(rt; pool.message(first) == fresh.message(first));
-    assert!(rt; pool.get_by_name("Good").is_some());
-    assert!(rt; pool.get_by_name("Bad").is_none());
-    Ok(())
-}
-
-fn check_traces(rt: &impl Abort, alloc: Global) -> Result<(), AllocError> {
-    let pool = pool_of(alloc, &[BAD, GOOD])?;
-    let fresh = pool_of(alloc, &[GOOD])?;
-    check_equal(rt, &pool, &fresh)
-}
-
-#[test]
-fn a_refused_batch_leaves_no_trace(rt: HostRuntime) -> Result<(), Fail> {
-    check_traces(&rt, rt.alloc())?;
-    Ok(())
 }
 
 /// A file with an extension.
@@ -134,40 +92,5 @@ fn check_grown(rt: &impl Abort, alloc: Global) -> Result<(), AllocError> {
 #[test]
 fn a_clone_stays_where_its_pool_refuses_or_grows(rt: HostRuntime) -> Result<(), Fail> {
     check_grown(&rt, rt.alloc())?;
-    Ok(())
-}
-
-/// A file, one that imports it, and both.
-const IMPORTED: &str = "file x.proto\npackage foo\nmessage Bar\nend\nend\n";
-
-const IMPORTING: &str = "file y.proto\npackage p\nimport x.proto\nmessage M\n\
-    field f 1 optional ~ foo.Bar ~\nend\nend\n";
-
-const BOTH: &str = "file x.proto\npackage foo\nmessage Bar\nend\nend\n\
-    file y.proto\npackage p\nimport x.proto\nmessage M\n\
-    field f 1 optional ~ foo.Bar ~\nend\nend\n";
-
-/// How many files batches give.
-fn file_count(alloc: Global, scripts: &[&str]) -> Result<u32, AllocError> {
-    let pool = pool_of(alloc, scripts)?;
-    Ok(pool.counts().files)
-}
-
-/// Whether batches that are given to a pool in turn give a pool that equals that of others.
-pub(super) fn is_same(
-    alloc: Global,
-    scripts: &[&str],
-    others: &[&str],
-) -> Result<bool, AllocError> {
-    let pool = pool_of(alloc, scripts)?;
-    let other = pool_of(alloc, others)?;
-    Ok(pool == other)
-}
-
-#[test]
-fn files_make_the_same_pool_in_two_batches_and_in_one(rt: HostRuntime) -> Result<(), Fail> {
-    assert!(rt; file_count(rt.alloc(), &[BOTH])? == 2);
-    assert!(rt; is_same(rt.alloc(), &[IMPORTED, IMPORTING], &[BOTH])?);
-    assert!(rt; !is_same(rt.alloc(), &[IMPORTED], &[BOTH])?);
     Ok(())
 }

@@ -1,24 +1,14 @@
-//! Extensions by their messages and numbers, and a batch with extensions that is refused.
+//! Extensions by their messages and numbers.
 
-use super::batches::{is_same, pool_of};
+use super::batches::pool_of;
 use descriptor_pool::DescriptorPool;
 use pool_types::{ExtensionDescriptor, MessageDescriptor};
 use std::process::Abort;
 use std::test::Fail;
 
 /// Messages, of which the first has an extension.
-const EARLIER: &str = "file a.proto\nmessage M\nextensions 1 536870912\nend\nmessage A\nend\n\
+const EXTENDED: &str = "file a.proto\nmessage M\nextensions 1 536870912\nend\nmessage A\nend\n\
     message B\nend\nextend x 1 optional int32 ~ M\nend\n";
-
-/// An extension of a message of an earlier batch, and one of a type that is not there.
-const REFUSED: &str = "file b.proto\nimport a.proto\nextend e 100 optional int32 ~ M\n\
-    extend g 101 optional message Nope M\nend\n";
-
-#[test]
-fn a_refused_batch_leaves_no_extension(rt: HostRuntime) -> Result<(), Fail> {
-    assert!(rt; is_same(rt.alloc(), &[EARLIER, REFUSED], &[EARLIER])?);
-    Ok(())
-}
 
 /// Asserts which extensions messages have for numbers: the first message has one, and there are
 /// three.
@@ -32,6 +22,6 @@ fn check_found(rt: &impl Abort, pool: &DescriptorPool) {
 
 #[test]
 fn an_extension_is_found_by_its_message_and_its_number(rt: HostRuntime) -> Result<(), Fail> {
-    check_found(&rt, &pool_of(rt.alloc(), &[EARLIER])?);
+    check_found(&rt, &pool_of(rt.alloc(), &[EXTENDED])?);
     Ok(())
 }

@@ -4,33 +4,11 @@
 use super::batches::pool_of;
 use super::files_of;
 use descriptor_pool::{BuildError, DescriptorPool};
-use pool_types::{
-    EnumDescriptor, EnumDescriptorInner, FieldDescriptorInner, MessageDescriptor,
-    MessageDescriptorInner,
-};
+use pool_types::{EnumDescriptor, EnumDescriptorInner, MessageDescriptor};
 use proto_types::{DescriptorProto, FileDescriptorProto};
 use std::alloc::{AllocError, Global};
 use std::fmt::Write;
 use std::test::Fail;
-
-/// A batch, and what the pool has of its messages up to the second: how many numbers, names and
-/// JSON names are mapped; of each field its name, its number and its oneof, the positions that its
-/// number and its name are mapped to, and its JSON name with its position; of each oneof its fields.
-const MESSAGES: &[(&str, &str)] = &[
-    (
-        "file a.proto\nmessage M\noneof o\nfield a 1 optional int32 ~ 0\n\
-        field b 2 optional int32 ~ ~\nfield c 3 optional int32 ~ 0\nend\nend\n",
-        "M 3 3 0\na 1 Some(0) Some(0) Some(0) none\nb 2 None Some(1) Some(1) none\n\
-        c 3 Some(0) Some(2) Some(2) none\noneof o [0, 2]\nnone\n",
-    ),
-    (
-        "file a.proto\nmessage M\nfield f 1 optional int32 ~ ~\njson ''\n\
-        field g 2 optional int32 ~ ~\njson f\nfield h 3 optional int32 ~ ~\njson x\njson ~\n\
-        end\nend\n",
-        "M 3 3 2\nf 1 None Some(0) Some(0) '' Some(0)\ng 2 None Some(1) Some(1) 'f' Some(1)\n\
-        h 3 None Some(2) Some(2) none\nnone\n",
-    ),
-];
 
 /// A batch, and what the pool has of its enums up to the second: whether aliases are allowed, how
 /// many names are mapped, and the number of each value with its position; of each value its name,
@@ -47,56 +25,6 @@ const ENUMS: &[(&str, &str)] = &[
         E false 3 [(-1, 1), (0, 2), (1, 0)]\nA 1 Some(0)\nB -1 Some(1)\nC 0 Some(2)\n",
     ),
 ];
-
-fn messages_report(alloc: Global, pool: &DescriptorPool) -> Result<String, AllocError> {
-    let mut report = String::new(alloc);
-    for index in 0..2 {
-        match pool.message(MessageDescriptor::new(index)) {
-            Some(message) => write_message(&mut report, message)?,
-            None => writeln!(&mut report, "none")?,
-        }
-    }
-    Ok(report)
-}
-
-fn write_message(report: &mut String, message: &MessageDescriptorInner) -> Result<(), AllocError> {
-    let (name, numbers) = (message.id.name(), message.field_numbers.len());
-    let (names, json_names) = (message.field_names.len(), message.field_json_names.len());
-    writeln!(report, "{name} {numbers} {names} {json_names}")?;
-    for field in message.fields.as_slice() {
-        write_field(report, message, field)?;
-    }
-    for oneof in message.oneofs.as_slice() {
-        let (name, fields) = (oneof.id.name(), oneof.fields.as_slice());
-        writeln!(report, "oneof {name} {fields:?}")?;
-    }
-    Ok(())
-}
-
-fn write_field(
-    report: &mut String,
-    message: &MessageDescriptorInner,
-    field: &FieldDescriptorInner,
-) -> Result<(), AllocError> {
-    let (name, number, oneof) = (field.id.name(), field.number, field.oneof);
-    let (by_number, by_name) = (
-        message.field_numbers.get(number),
-        message.field_names.get(name),
-    );
-    write!(
-        report,
-        "{name} {number} {oneof:?} {by_number:?} {by_name:?}"
-    )?;
-    match &field.json_name {
-        Some(json_name) => {
-            let json_name = json_name.as_str();
-            let by_json_name = message.field_json_names.get(json_name);
-            write!(report, " '{json_name}' {by_json_name:?}")?;
-        }
-        None => write!(report, " none")?,
-    }
-    writeln!(report)
-}
 
 fn enums_report(alloc: Global, pool: &DescriptorPool) -> Result<String, AllocError> {
     let mut report = String::new(alloc);
@@ -118,20 +46,6 @@ fn write_enum(report: &mut String, enumeration: &EnumDescriptorInner) -> Result<
         let (name, number) = (value.id.name(), value.number);
         let by_name = enumeration.value_names.get(name);
         writeln!(report, "{name} {number} {by_name:?}")?;
-    }
-    Ok(())
-}
-
-fn messages_of(alloc: Global, script: &str) -> Result<String, AllocError> {
-    let pool = pool_of(alloc, &[script])?;
-    messages_report(alloc, &pool)
-}
-
-#[test]
-fn messages_have_maps_and_oneofs(rt: HostRuntime) -> Result<(), Fail> {
-    for (script, wanted) in MESSAGES {
-        let report = messages_of(rt.alloc(), script)?;
-        assert!(rt; report.as_str() == *wanted, "{script}{report}");
     }
     Ok(())
 }

@@ -88,15 +88,12 @@ fn files_extending(
 }
 
 /// How a new pool takes a batch.
-pub(super) fn built(alloc: Global, files: Vec<FileDescriptorProto>) -> Result<(), BuildError> {
+fn built(alloc: Global, files: Vec<FileDescriptorProto>) -> Result<(), BuildError> {
     DescriptorPool::new(alloc).build_files(files)
 }
 
 /// A line for each fault of a batch.
-pub(super) fn faults_report(
-    alloc: Global,
-    files: Vec<FileDescriptorProto>,
-) -> Result<String, AllocError> {
+fn faults_report(alloc: Global, files: Vec<FileDescriptorProto>) -> Result<String, AllocError> {
     match built(alloc, files) {
         Ok(()) => Ok(String::new(alloc)),
         Err(BuildError::Descriptor(error)) => error_report(alloc, &error),

@@ -1,11 +1,9 @@
-//! Default values as they are written, and maps of items.
+//! Default values as they are written.
 
 use default_values::{EscapeFault, ValueFault, parse_simple_value};
-use plain_data::{Duplicate, NumberMap, TextMap};
 use pool_types::{DefaultValue, KindIndex};
 use std::alloc::{AllocError, Global};
 use std::fmt::Write;
-use std::process::Abort;
 use std::test::Fail;
 
 /// A kind, a text, and the value that it writes, or what is wrong with it.
@@ -258,52 +256,5 @@ fn default_values_are_read(rt: HostRuntime) -> Result<(), Fail> {
         let report = value_report(rt.alloc(), *kind, text)?;
         assert!(rt; report.as_str() == *wanted, "{text} {report}");
     }
-    Ok(())
-}
-
-/// A map in which a name has two entries.
-fn names(alloc: Global) -> Result<TextMap, AllocError> {
-    let mut names = TextMap::new(alloc);
-    names.insert("f", 0)?;
-    names.insert("f", 1)?;
-    Ok(names)
-}
-
-/// Asserts that a map equals its copy, which stays as it is where one more entry comes.
-fn check_names(rt: &impl Abort, alloc: Global, names: &mut TextMap) -> Result<(), AllocError> {
-    let copy = names.duplicate(alloc)?;
-    assert!(rt; copy == *names && copy.get("f") == Some(1));
-    names.insert("", 2)?;
-    assert!(rt; copy.get("").is_none() && copy != *names);
-    Ok(())
-}
-
-/// A map in which a number has two entries.
-fn numbers(alloc: Global) -> Result<NumberMap, AllocError> {
-    let mut numbers = NumberMap::new(alloc);
-    numbers.insert(5, 0)?;
-    numbers.insert(5, 1)?;
-    Ok(numbers)
-}
-
-/// Asserts that a map equals its copy, which stays as it is where one more entry comes.
-fn check_numbers(
-    rt: &impl Abort,
-    alloc: Global,
-    numbers: &mut NumberMap,
-) -> Result<(), AllocError> {
-    let copy = numbers.duplicate(alloc)?;
-    assert!(rt; copy == *numbers && copy.get(5) == Some(1));
-    numbers.insert(6, 2)?;
-    assert!(rt; copy.get(6).is_none() && copy != *numbers);
-    Ok(())
-}
-
-#[test]
-fn a_later_entry_of_a_map_stands(rt: HostRuntime) -> Result<(), Fail> {
-    let mut names = names(rt.alloc())?;
-    check_names(&rt, rt.alloc(), &mut names)?;
-    let mut numbers = numbers(rt.alloc())?;
-    check_numbers(&rt, rt.alloc(), &mut numbers)?;
     Ok(())
 }
