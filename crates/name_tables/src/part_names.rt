@@ -69,8 +69,10 @@ impl PartNames {
     pub fn reserve(&mut self, more: usize) -> Result<(), AllocError>
         ensures { self.new ≡ self.old }
     {
-        self.branches.tree.reserve(more)?;
-        self.branches.definitions.reserve(more)
+        // The root is a branch too.
+        let branches = more.saturating_add(1);
+        self.branches.tree.reserve(branches)?;
+        self.branches.definitions.reserve(branches)
     }
 
     /// What a name inside a scope means, or none where the table lacks it.
