@@ -23,7 +23,6 @@ returns c =
     let was = first-line c.args.self.now.list.items front row c.in_ok-row.ensures.items in
     elim c.match-split_first.branch [
       | in-Some w ↦
-          let at = record row.at { position = row.at.position + 1 } in
           rw w.self-is (
             ls,
             was,
