@@ -7,3 +7,4 @@ pub mod Extensions
 pub mod References
 pub mod Items
 pub mod Against
+pub mod Readers

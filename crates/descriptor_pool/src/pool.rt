@@ -1,5 +1,9 @@
 ghost use Rattle.std.specs.Prelude.{◌≡◌, [], IsOk, IfOk, IfSome, slice_get};
+ghost use Rattle.std.specs.FinMap as finite;
 ghost use Rattle.std.specs.Option.{option_copied, option_map};
+
+mod members;
+mod parts;
 
 use crate::build::link;
 use crate::error::BuildError;
@@ -81,6 +85,14 @@ impl DescriptorPool {
         ensures { option_copied result ≡ definition_named self.now name.now }
     {
         self.inner.get_by_name(name)
+    }
+
+    /// The file with a name, or none where the pool has no such file.
+    pub fn get_file_by_name(&self, name: &str) -> Option<FileDescriptor>
+        ensures { option_map (λ file. file.index) result ≡ finite.get self.now.file_names name.now }
+    {
+        let file = self.inner.file_names.get(name)?;
+        Some(FileDescriptor::new(file))
     }
 
     /// The file with an index, or none past the end.
