@@ -2,8 +2,11 @@
 
 use super::protoc::SET;
 use descriptor_decoding::{decode, decode_file};
-use descriptor_encoding::{encode, encode_file};
+use descriptor_encoding::encode_file;
 use descriptor_laws::canonical;
+use proto_types::{FileDescriptorProto, FileDescriptorSet};
+use std::alloc::{AllocError, Global};
+use std::process::Abort;
 use std::test::*;
 
 #[test]
@@ -15,17 +18,22 @@ fn bytes_of_protoc_stay(rt: HostRuntime) -> Result<(), Fail> {
     Ok(())
 }
 
+/// Whether a file is written as bytes that are read as the file.
+fn is_read_again(alloc: Global, file: &FileDescriptorProto) -> Result<bool, AllocError> {
+    let bytes = encode_file(alloc, file)?;
+    Ok(decode_file(alloc, bytes.as_slice()).is_ok_and(|again| again == *file))
+}
+
+fn check_files(rt: &impl Abort, alloc: Global, set: &FileDescriptorSet) -> Result<(), AllocError> {
+    for file in set.file.as_slice() {
+        assert!(rt; file.name() == "t.proto" && is_read_again(alloc, file)?);
+    }
+    Ok(())
+}
+
 #[test]
 fn files_are_read_alone(rt: HostRuntime) -> Result<(), Fail> {
     let set = decode(rt.alloc(), &SET).ok().ok_or("the bytes are a set")?;
-    let bytes = encode(rt.alloc(), &set)?;
-    assert_eq!(rt; bytes.as_slice(), &SET[..]);
-    for file in set.file.as_slice() {
-        assert_eq!(rt; file.name(), "t.proto");
-        let bytes = encode_file(rt.alloc(), file)?;
-        let again = decode_file(rt.alloc(), bytes.as_slice());
-        let again = again.ok().ok_or("the bytes are a file")?;
-        assert!(rt; again == *file);
-    }
+    check_files(&rt, rt.alloc(), &set)?;
     Ok(())
 }
