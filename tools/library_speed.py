@@ -200,7 +200,7 @@ def tell(archive: Path) -> None:
             ours, theirs = (instructions(program, which, set_) for which in COUNTED)
             print(
                 f"| {row} | {len(data) / 1000:,.0f} | {ours / 1e6:,.2f} | {theirs / 1e6:,.2f} "
-                f"| {theirs / ours:.1f} times |",
+                f"| {theirs / ours:.2f} times |",
                 flush=True,
             )
 
