@@ -1,0 +1,4 @@
+pub mod Added
+pub mod Held
+pub mod Shown
+pub mod Told

@@ -1,0 +1,280 @@
+//! Pools: files are linked into them and handed out, and names are looked up.
+ghost use Rattle.std.specs.Prelude.{◌≡◌, ◌≢◌, IsUtf8, None, slice_get};
+ghost use Rattle.std.specs.Option.{option_map};
+ghost use Rattle.descriptor_encoding.specs.Encoding.{file_encoding, set_encoding};
+ghost use Rattle.pool_contents.specs.LookUps.{definition_named};
+ghost use Rattle.pool_face.specs.Numbers as numbers;
+ghost use Rattle.pool_face.specs.Reading.{file_read, script_read, set_read};
+ghost use Rattle.pool_types.specs.Contents.{files_of};
+ghost use Rattle.pool_types.specs.Extension.{extension_numbered};
+ghost use Rattle.record_walk.specs.Counts.{counts_in};
+ghost use Rattle.protolink_c.specs.Added.{IsAdded};
+ghost use Rattle.protolink_c.specs.Shown.{answers_of, pool_of, report_of, unreported};
+ghost use Rattle.protolink_c.specs.Told.{handed_out, handed_out_if, located, written};
+
+use crate::boxes::{boxed_copy, closed, opened};
+use crate::handle::Handle;
+use crate::lent::lend;
+use crate::status::{DONE, NO_MEMORY, NOT_FOUND};
+use crate::told::{hand_out, locate, write};
+use pool_face::{Item, PoolCounts};
+use std::alloc::Global;
+use std::mem;
+
+/// 0.1.0
+const VERSION: u32 = 1000;
+
+/// The version of the library: a thousand thousands for the first number, a thousand for the
+/// second, one for the third.
+#[unsafe(no_mangle)]
+pub extern "C" fn protolink_version() -> u32
+    ensures { result ≡ 1000 }
+{
+    VERSION
+}
+
+/// Links the files of an encoded `FileDescriptorSet`, in one batch. After any status but `DONE` the
+/// pool has what it had.
+#[unsafe(no_mangle)]
+pub extern "C" fn protolink_pool_add_set(alloc: Global, pool: &mut Handle, bytes: &[u8]) -> u8
+    ensures { IsAdded (set_read bytes.now)
+        (pool_of pool.old.shown) (answers_of pool.new.shown) result }
+{
+    let Some(mut answers) = opened(alloc, mem::replace(pool, Handle::empty())) else {
+        return NO_MEMORY;
+    };
+    let status = answers.add_set(alloc, bytes);
+    closed(pool, answers, status)
+}
+
+/// The same with one encoded `FileDescriptorProto`.
+#[unsafe(no_mangle)]
+pub extern "C" fn protolink_pool_add_file(alloc: Global, pool: &mut Handle, bytes: &[u8]) -> u8
+    ensures { IsAdded (file_read bytes.now)
+        (pool_of pool.old.shown) (answers_of pool.new.shown) result }
+{
+    let Some(mut answers) = opened(alloc, mem::replace(pool, Handle::empty())) else {
+        return NO_MEMORY;
+    };
+    let status = answers.add_file(alloc, bytes);
+    closed(pool, answers, status)
+}
+
+/// The same with the files that a script declares. Its commands are passed over.
+#[unsafe(no_mangle)]
+pub extern "C" fn protolink_pool_add_script(alloc: Global, pool: &mut Handle, script: &[u8]) -> u8
+    ensures { IsAdded (script_read script.now)
+        (pool_of pool.old.shown) (answers_of pool.new.shown) result }
+{
+    let Some(mut answers) = opened(alloc, mem::replace(pool, Handle::empty())) else {
+        return NO_MEMORY;
+    };
+    let status = answers.add_script(alloc, script);
+    closed(pool, answers, status)
+}
+
+/// Hands out the report of the last call that was to add files, in lines.
+#[unsafe(no_mangle)]
+pub extern "C" fn protolink_pool_report(
+    alloc: Global,
+    pool: &mut Handle,
+    buffer: &mut [u8],
+    length: &mut usize,
+) -> u8
+    ensures same { pool.new.shown ≡ pool.old.shown }
+    ensures told { handed_out (report_of pool.old.shown).lines buffer.old
+        ≡ (buffer.new, (length.new, result)) }
+{
+    let lent = lend(alloc, pool);
+    let status = hand_out(
+        lent.answers().report.lines.as_str().as_bytes(),
+        buffer,
+        length,
+    );
+    *pool = lent.back();
+    status
+}
+
+/// The same as an object of JSON, on one line.
+#[unsafe(no_mangle)]
+pub extern "C" fn protolink_pool_report_json(
+    alloc: Global,
+    pool: &mut Handle,
+    buffer: &mut [u8],
+    length: &mut usize,
+) -> u8
+    ensures same { pool.new.shown ≡ pool.old.shown }
+    ensures told { handed_out (report_of pool.old.shown).json buffer.old
+        ≡ (buffer.new, (length.new, result)) }
+{
+    let lent = lend(alloc, pool);
+    let status = hand_out(
+        lent.answers().report.json.as_str().as_bytes(),
+        buffer,
+        length,
+    );
+    *pool = lent.back();
+    status
+}
+
+/// Hands out all linked files, as the canonical encoding of one set, in the order of linking.
+#[unsafe(no_mangle)]
+pub extern "C" fn protolink_pool_linked(
+    alloc: Global,
+    pool: &mut Handle,
+    buffer: &mut [u8],
+    length: &mut usize,
+) -> u8
+    ensures same { pool.new.shown ≡ pool.old.shown }
+    ensures told { result ≢ 3 →
+        handed_out (set_encoding (record { file = files_of (pool_of pool.old.shown) })) buffer.old
+        ≡ (buffer.new, (length.new, result)) }
+    ensures no_memory { result ≡ 3 → (buffer.new ≡ buffer.old) × (length.new ≡ length.old) }
+{
+    let lent = lend(alloc, pool);
+    let status = match lent.answers().linked(alloc) {
+        Ok(bytes) => hand_out(bytes.as_slice(), buffer, length),
+        Err(_) => NO_MEMORY,
+    };
+    *pool = lent.back();
+    status
+}
+
+/// Hands out the canonical encoding of one linked file, by its index.
+#[unsafe(no_mangle)]
+pub extern "C" fn protolink_pool_linked_file(
+    alloc: Global,
+    pool: &mut Handle,
+    file: u32,
+    buffer: &mut [u8],
+    length: &mut usize,
+) -> u8
+    ensures same { pool.new.shown ≡ pool.old.shown }
+    ensures told { result ≢ 3 →
+        handed_out_if (option_map (λ f. file_encoding f.raw)
+        (slice_get (pool_of pool.old.shown).files file)) buffer.old length.old
+        ≡ (buffer.new, (length.new, result)) }
+    ensures no_memory { result ≡ 3 → (buffer.new ≡ buffer.old) × (length.new ≡ length.old) }
+{
+    let lent = lend(alloc, pool);
+    let status = match lent.answers().linked_file(alloc, file) {
+        Ok(Some(bytes)) => hand_out(bytes.as_slice(), buffer, length),
+        Ok(None) => NOT_FOUND,
+        Err(_) => NO_MEMORY,
+    };
+    *pool = lent.back();
+    status
+}
+
+/// Tells what a full name means, and the file in which it is declared. The name may have one
+/// leading dot.
+#[unsafe(no_mangle)]
+pub extern "C" fn protolink_pool_find(
+    alloc: Global,
+    pool: &mut Handle,
+    name: &[u8],
+    item: &mut Item,
+    file: &mut u32,
+) -> u8
+    ensures same { pool.new.shown ≡ pool.old.shown }
+    ensures text { IsUtf8 name.now →
+        located (option_map numbers.found_item
+        (definition_named (pool_of pool.old.shown) name.now)) item.old file.old
+        ≡ (item.new, (file.new, result)) }
+    ensures no_text { ¬ (IsUtf8 name.now) → located None item.old file.old
+        ≡ (item.new, (file.new, result)) }
+{
+    let lent = lend(alloc, pool);
+    let status = locate(lent.answers().find(name), item, file);
+    *pool = lent.back();
+    status
+}
+
+/// Hands out the path of the name that a full name means, in the record of its file.
+#[unsafe(no_mangle)]
+pub extern "C" fn protolink_pool_find_path(
+    alloc: Global,
+    pool: &mut Handle,
+    name: &[u8],
+    path: &mut [i32],
+    length: &mut usize,
+) -> u8
+    ensures same { pool.new.shown ≡ pool.old.shown }
+    ensures text { IsUtf8 name.now →
+        handed_out_if (option_map (λ d. d.path)
+        (definition_named (pool_of pool.old.shown) name.now)) path.old length.old
+        ≡ (path.new, (length.new, result)) }
+    ensures no_text { ¬ (IsUtf8 name.now) → handed_out_if None path.old length.old
+        ≡ (path.new, (length.new, result)) }
+{
+    let lent = lend(alloc, pool);
+    let status = match lent.answers().find_path(name) {
+        Some(numbers) => hand_out(numbers, path, length),
+        None => NOT_FOUND,
+    };
+    *pool = lent.back();
+    status
+}
+
+/// Tells how many of each kind a pool has.
+#[unsafe(no_mangle)]
+pub extern "C" fn protolink_pool_counts(alloc: Global, pool: &mut Handle, counts: &mut PoolCounts)
+    ensures same { pool.new.shown ≡ pool.old.shown }
+    ensures told { counts.new ≡ numbers.pool_counts (counts_in (pool_of pool.old.shown)) }
+{
+    let lent = lend(alloc, pool);
+    *counts = lent.answers().counts();
+    *pool = lent.back();
+}
+
+/// Tells the index of the extension of a message that has a number.
+#[unsafe(no_mangle)]
+pub extern "C" fn protolink_pool_extension(
+    alloc: Global,
+    pool: &mut Handle,
+    message: u32,
+    number: u32,
+    extension: &mut u32,
+) -> u8
+    ensures same { pool.new.shown ≡ pool.old.shown }
+    ensures told { written (extension_numbered
+        (pool_of pool.old.shown).extensions message number) extension.old
+        ≡ (extension.new, result) }
+{
+    let lent = lend(alloc, pool);
+    let status = write(
+        lent.answers().extension_numbered(message, number),
+        extension,
+    );
+    *pool = lent.back();
+    status
+}
+
+/// Makes `copy` a pool with equal contents and an empty report, which shares nothing with the
+/// first. What it had is freed; where memory was refused, it is empty.
+#[unsafe(no_mangle)]
+pub extern "C" fn protolink_pool_clone(alloc: Global, pool: &mut Handle, copy: &mut Handle) -> u8
+    ensures same { pool.new.shown ≡ pool.old.shown }
+    ensures copied { result ≡ 0 → answers_of copy.new.shown ≡ unreported (pool_of pool.old.shown) }
+    ensures no_memory { result ≢ 0 → (result ≡ 3) × (copy.new.shown ≡ None) }
+{
+    let _freed = mem::replace(copy, Handle::empty()).into_box(alloc);
+    let Some(answers) = mem::replace(pool, Handle::empty()).into_box(alloc) else {
+        return DONE;
+    };
+    let copied = boxed_copy(alloc, &answers);
+    *pool = Handle::of_box(answers);
+    let Some(copied) = copied else {
+        return NO_MEMORY;
+    };
+    *copy = Handle::of_box(copied);
+    DONE
+}
+
+/// Frees what a pool owns. It is an empty pool then.
+#[unsafe(no_mangle)]
+pub extern "C" fn protolink_pool_clear(alloc: Global, pool: &mut Handle)
+    ensures { pool.new.shown ≡ None }
+{
+    let _freed = mem::replace(pool, Handle::empty()).into_box(alloc);
+}
