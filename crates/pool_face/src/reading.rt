@@ -1,6 +1,6 @@
 //! Files from their bytes.
 
-ghost use Rattle.std.specs.Prelude.{◌≡◌, IfOk, string_bytes};
+ghost use Rattle.std.specs.Prelude.{◌≡◌, IfOk};
 ghost use Rattle.pool_face.specs.Reading as spec;
 
 use descriptor_check::bytes_words;
