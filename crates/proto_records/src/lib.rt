@@ -7,10 +7,12 @@
 //! A file that is made by hand, the message at a path of it, and how much it declares:
 //!
 //! ```
-//! let mut file = FileDescriptorProto::empty(alloc);
-//! file.name = Some(Text::from_str(alloc, "a.proto")?);
+//! let name = Text::from_str(alloc, "M")?;
+//! let file_name = Text::from_str(alloc, "a.proto")?;
 //! let mut message = DescriptorProto::empty(alloc);
-//! message.name = Some(Text::from_str(alloc, "M")?);
+//! message.name = Some(name);
+//! let mut file = FileDescriptorProto::empty(alloc);
+//! file.name = Some(file_name);
 //! file.message_type.push(message)?;
 //! let found = find_message_proto(&file, &[4, 0]).map(DescriptorProto::name);
 //! assert!(rt; found.unwrap_or("none") == "M");
