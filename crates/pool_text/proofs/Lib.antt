@@ -1,2 +1,1 @@
 pub mod BytesText
-pub mod Steps

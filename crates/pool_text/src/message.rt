@@ -1,8 +1,7 @@
 //! The messages of a pool.
 
-ghost use Rattle.std.specs.Prelude.{◌≡◌, ◌++◌, [], IfOk, OnOk, slice_get, string_bytes};
+ghost use Rattle.std.specs.Prelude.{◌≡◌, ◌++◌, IfOk, OnOk, string_bytes};
 ghost use Rattle.std.specs.List.{flat_map};
-ghost use Rattle.std.specs.Option.{option_map_or};
 ghost use Rattle.pool_text.specs.Items as spec;
 
 use crate::field::field_line;
@@ -10,8 +9,8 @@ use crate::head::{head_line, write_parent};
 use crate::words::{alone, place_words};
 use descriptor_pool::DescriptorPool;
 use pool_types::{
-    ExtensionDescriptor, ExtensionDescriptorInner, FieldDescriptorInner, MessageDescriptor,
-    MessageDescriptorInner, OneofDescriptorInner,
+    ExtensionDescriptor, ExtensionDescriptorInner, FieldDescriptorInner, MessageDescriptorInner,
+    OneofDescriptorInner,
 };
 use std::alloc::{AllocError, Global};
 use std::fmt::Write;
@@ -25,26 +24,10 @@ pub(super) fn write_messages(
     ensures { OnOk result (string_bytes text.new ≡ string_bytes text.old
         ++ spec.messages_text pool.now) }
 {
-    for index in 0..pool.counts().messages {
-        write_message_at(text, alloc, pool, index)?;
+    for message in pool.messages() {
+        write_message(text, alloc, pool, message)?;
     }
     Ok(())
-}
-
-/// Tells the message with an index, where there is one.
-fn write_message_at(
-    text: &mut String,
-    alloc: Global,
-    pool: &DescriptorPool,
-    index: u32,
-) -> Result<(), AllocError>
-    ensures { OnOk result (string_bytes text.new ≡ string_bytes text.old
-        ++ option_map_or (spec.message_text pool.now) (slice_get pool.now.messages index) []) }
-{
-    match pool.message(MessageDescriptor::new(index)) {
-        Some(message) => write_message(text, alloc, pool, message),
-        None => Ok(()),
-    }
 }
 
 /// Tells a message, its oneofs, its fields, and what extends it.

@@ -3,7 +3,7 @@ use Rattle.std.specs.List.{flat_map}
 use Rattle.pool_text.specs.Items.{enum_text}
 use Rattle.pool_text.proofs.enumeration.write_enums.Given as goal
 
--- the enums before the index are told
-abbrev pub invariant-loop-index : goal.invariant-loop-index
-invariant-loop-index l =
-    string_bytes l.text ≡ string_bytes l.initial.text ++ flat_map (enum_text l.pool) (take l.index l.pool.enums)
+-- the enums so far are told
+abbrev pub invariant-loop-enumeration : goal.invariant-loop-enumeration
+invariant-loop-enumeration l =
+    string_bytes l.text ≡ string_bytes l.initial.text ++ flat_map (enum_text l.pool) (take l.enumeration-index l.pool.enums)

@@ -3,7 +3,7 @@ use Rattle.std.specs.List.{flat_map}
 use Rattle.pool_text.specs.Items.{extension_text}
 use Rattle.pool_text.proofs.extension.write_extensions.Given as goal
 
--- the extensions before the index are told
-abbrev pub invariant-loop-index : goal.invariant-loop-index
-invariant-loop-index l =
-    string_bytes l.text ≡ string_bytes l.initial.text ++ flat_map (extension_text l.pool) (take l.index l.pool.extensions)
+-- the extensions so far are told
+abbrev pub invariant-loop-extension : goal.invariant-loop-extension
+invariant-loop-extension l =
+    string_bytes l.text ≡ string_bytes l.initial.text ++ flat_map (extension_text l.pool) (take l.extension-index l.pool.extensions)

@@ -1,7 +1,6 @@
 use Rattle.std.proofs.Common.{arith}
 use Rattle.std.proofs.lemmas.Grind.{common_steps}
-use Rattle.pool_text.proofs.Steps.{told-next}
 use Rattle.pool_text.proofs.message.write_messages.Goals as goal
 
-pub loop-index-preserved : goal.loop-index-preserved
-loop-index-preserved c = grind (arith, common_steps, told-next)
+pub loop-message-preserved : goal.loop-message-preserved
+loop-message-preserved c = grind (arith, common_steps)

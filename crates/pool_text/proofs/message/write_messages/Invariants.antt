@@ -3,7 +3,7 @@ use Rattle.std.specs.List.{flat_map}
 use Rattle.pool_text.specs.Items.{message_text}
 use Rattle.pool_text.proofs.message.write_messages.Given as goal
 
--- the messages before the index are told
-abbrev pub invariant-loop-index : goal.invariant-loop-index
-invariant-loop-index l =
-    string_bytes l.text ≡ string_bytes l.initial.text ++ flat_map (message_text l.pool) (take l.index l.pool.messages)
+-- the messages so far are told
+abbrev pub invariant-loop-message : goal.invariant-loop-message
+invariant-loop-message l =
+    string_bytes l.text ≡ string_bytes l.initial.text ++ flat_map (message_text l.pool) (take l.message-index l.pool.messages)

@@ -3,7 +3,7 @@ use Rattle.std.specs.List.{flat_map}
 use Rattle.pool_text.specs.Items.{service_text}
 use Rattle.pool_text.proofs.service.write_services.Given as goal
 
--- the services before the index are told
-abbrev pub invariant-loop-index : goal.invariant-loop-index
-invariant-loop-index l =
-    string_bytes l.text ≡ string_bytes l.initial.text ++ flat_map (service_text l.pool) (take l.index l.pool.services)
+-- the services so far are told
+abbrev pub invariant-loop-service : goal.invariant-loop-service
+invariant-loop-service l =
+    string_bytes l.text ≡ string_bytes l.initial.text ++ flat_map (service_text l.pool) (take l.service-index l.pool.services)
