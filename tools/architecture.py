@@ -61,7 +61,7 @@ def cell_faults(crates: list[str], cell: str) -> Iterator[str]:
 
 
 def faults() -> Iterator[str]:
-    listed = re.findall(r"^(\w+):", (TOP / "crates.txt").read_text(), re.MULTILINE)
+    listed = re.findall(r"^(\w+)(?: staticlib)?:", (TOP / "crates.txt").read_text(), re.MULTILINE)
     if [row[0].strip("`") for row in section("Layers")] != listed:
         yield "the layers are not the crates of crates.txt, in that order"
     for step, files in section("To add a rule on fields"):
