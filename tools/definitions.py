@@ -35,7 +35,7 @@ Modules whose names end with `Code`, and `Walking`, `Totals`, `Seen` and `Cursor
 
 def crates() -> Iterator[tuple[str, str]]:
     """Each crate of crates.txt with its comment."""
-    for said, name in re.findall(r"# (.*)\n(\w+):", (TOP / "crates.txt").read_text()):
+    for said, name in re.findall(r"# (.*)\n(\w+)(?: staticlib)?:", (TOP / "crates.txt").read_text()):
         yield name, said
 
 
