@@ -68,44 +68,66 @@ fn pools_of(alloc: Global, script: &str) -> Result<Pools, AllocError> {
     })
 }
 
+/// How the linking of a batch ended, and the rooms that were asked for before and behind it.
+#[derive(Drop)]
+struct Linking {
+    opened: Result<String, AllocError>,
+    closed: Result<String, AllocError>,
+    ended: Ended,
+}
+
+impl Linking {
+    /// What is told of it.
+    fn told(self, is_right: bool) -> Result<Told, AllocError> {
+        Told::new(self.opened, self.closed, self.ended.word(), is_right)
+    }
+}
+
+/// Links the batch of a script between two marks.
+fn link_marked(
+    alloc: Global,
+    pool: &mut DescriptorPool,
+    script: &str,
+) -> Result<Linking, AllocError> {
+    let batch = scripts::files(alloc, script)?;
+    let opened = mark(alloc);
+    let ended = build(pool, batch);
+    let closed = mark(alloc);
+    Ok(Linking {
+        opened,
+        closed,
+        ended,
+    })
+}
+
 /// Links a second batch. The pool should then be the one that took the batch with memory enough,
 /// and after a refusal what it was.
 pub(crate) fn link(alloc: Global, script: &str) -> Result<Told, AllocError> {
-    let mut pools = pools_of(alloc, scripts::FIRST)?;
-    link_once(alloc, &mut pools, script)
+    link_once(alloc, &mut pools_of(alloc, scripts::FIRST)?, script)
 }
 
 /// The same of three pools.
 fn link_once(alloc: Global, pools: &mut Pools, script: &str) -> Result<Told, AllocError> {
     let wanted = build(&mut pools.ample, scripts::files(alloc, script)?);
-    let (opened, closed, ended) = link_marked(alloc, &mut pools.pool, script)?;
-    let is_right = match ended {
+    let linking = link_marked(alloc, &mut pools.pool, script)?;
+    let is_right = match linking.ended {
         Ended::OutOfMemory => pools.pool == pools.before,
-        _ => ended == wanted && pools.pool == pools.ample,
+        ended => ended == wanted && pools.pool == pools.ample,
     };
-    Told::new(opened, closed, ended.word(), is_right)
-}
-
-/// Links a batch between two marks.
-fn link_marked(
-    alloc: Global,
-    pool: &mut DescriptorPool,
-    script: &str,
-) -> Result<(String, String, Ended), AllocError> {
-    let batch = scripts::files(alloc, script)?;
-    let opened = mark(alloc)?;
-    let ended = build(pool, batch);
-    let closed = mark(alloc)?;
-    Ok((opened, closed, ended))
+    linking.told(is_right)
 }
 
 /// Links a batch whose files the pool has. The pool should then be what it was, whatever memory is
 /// refused.
 pub(crate) fn link_known(alloc: Global) -> Result<Told, AllocError> {
-    let mut pools = pools_of(alloc, scripts::FIRST)?;
-    let (opened, closed, ended) = link_marked(alloc, &mut pools.pool, scripts::FIRST)?;
-    let is_right = ended == Ended::Linked && pools.pool == pools.before;
-    Told::new(opened, closed, ended.word(), is_right)
+    link_once_more(alloc, &mut pools_of(alloc, scripts::FIRST)?)
+}
+
+/// The same of three pools.
+fn link_once_more(alloc: Global, pools: &mut Pools) -> Result<Told, AllocError> {
+    let linking = link_marked(alloc, &mut pools.pool, scripts::FIRST)?;
+    let is_right = linking.ended == Ended::Linked && pools.pool == pools.before;
+    linking.told(is_right)
 }
 
 /// The most copies of a batch that are linked into one pool.
@@ -115,26 +137,20 @@ const MOST: usize = 10_000;
 /// refusal before it the pool should be what it was, and in the end the one that took the batch with
 /// memory enough, or what it was if that refused the batch.
 pub(crate) fn link_again_and_again(alloc: Global, script: &str) -> Result<Told, AllocError> {
-    let mut pools = pools_of(alloc, scripts::EXTENDED)?;
-    let wanted = build(&mut pools.ample, scripts::files(alloc, script)?);
-    link_copies(alloc, &mut pools, script, wanted)
+    link_copies(alloc, &mut pools_of(alloc, scripts::EXTENDED)?, script)
 }
 
-/// The same of three pools, of which one has taken the batch.
-fn link_copies(
-    alloc: Global,
-    pools: &mut Pools,
-    script: &str,
-    wanted: Ended,
-) -> Result<Told, AllocError> {
+/// The same of three pools.
+fn link_copies(alloc: Global, pools: &mut Pools, script: &str) -> Result<Told, AllocError> {
+    let wanted = build(&mut pools.ample, scripts::files(alloc, script)?);
     let mut is_right = (wanted == Ended::Linked) == (pools.ample != pools.before);
     for _ in 0..MOST {
-        let (opened, closed, ended) = link_marked(alloc, &mut pools.pool, script)?;
-        if ended != Ended::OutOfMemory {
-            is_right = is_right && ended == wanted && pools.pool == pools.ample;
-            return Told::new(opened, closed, ended.word(), is_right);
+        let linking = link_marked(alloc, &mut pools.pool, script)?;
+        if linking.ended != Ended::OutOfMemory {
+            is_right = is_right && linking.ended == wanted && pools.pool == pools.ample;
+            return linking.told(is_right);
         }
         is_right = is_right && pools.pool == pools.before;
     }
-    Told::new(mark(alloc)?, mark(alloc)?, "out of memory each time", false)
+    Told::new(mark(alloc), mark(alloc), "out of memory each time", false)
 }

@@ -1,6 +1,6 @@
 //! Trials of copies: of a pool, of a file's record, and of an item of each kind.
 use crate::sets::{link, read};
-use crate::told::{Told, mark};
+use crate::told::{Told, answer, mark};
 use descriptor_pool::DescriptorPool;
 use plain_data::Duplicate;
 use pool_types::{
@@ -61,9 +61,9 @@ fn copied_pool(
     pool: &DescriptorPool,
     before: &DescriptorPool,
 ) -> Result<Told, AllocError> {
-    let opened = mark(alloc)?;
+    let opened = mark(alloc);
     let copy = pool.clone();
-    let closed = mark(alloc)?;
+    let closed = mark(alloc);
     let is_same = copy.as_ref().ok().is_none_or(|copy| *copy == *pool);
     let is_right = is_same && *pool == *before;
     Told::new(opened, closed, answer(copy.is_ok()), is_right)
@@ -78,15 +78,10 @@ fn copied<T: Duplicate + PartialEq>(
     let (Some(value), Some(before)) = (value, before) else {
         return Err(AllocError);
     };
-    let opened = mark(alloc)?;
+    let opened = mark(alloc);
     let copy = value.duplicate(alloc);
-    let closed = mark(alloc)?;
+    let closed = mark(alloc);
     let is_same = copy.as_ref().ok().is_none_or(|copy| *copy == *value);
     let is_right = is_same && *value == *before;
     Told::new(opened, closed, answer(copy.is_ok()), is_right)
-}
-
-/// A word for how a copy ended.
-fn answer(is_copied: bool) -> &'static str {
-    if is_copied { "copied" } else { "out of memory" }
 }

@@ -1,5 +1,5 @@
 //! Trials of the calls on names, over both tables.
-use crate::told::{Told, mark};
+use crate::told::{Told, answer, mark};
 use name_resolution::{ResolveNameFilter, ResolveNameResult, resolve_in_parts, resolve_name};
 use name_tables::{HashedNames, NameTable, PartNames};
 use plain_data::Path;
@@ -88,17 +88,12 @@ pub(crate) fn resolve_as_tree(alloc: Global) -> Result<Told, AllocError> {
 
 /// Copies a table, which is equal to another.
 fn copy<N: NameTable>(alloc: Global, names: &N, before: &N) -> Result<Told, AllocError> {
-    let opened = mark(alloc)?;
+    let opened = mark(alloc);
     let copy = names.clone();
-    let closed = mark(alloc)?;
+    let closed = mark(alloc);
     let is_same = copy.as_ref().ok().is_none_or(|copy| copy.same(names));
     let is_right = is_same && names.same(before);
-    let answer = if copy.is_ok() {
-        "copied"
-    } else {
-        "out of memory"
-    };
-    Told::new(opened, closed, answer, is_right)
+    Told::new(opened, closed, answer(copy.is_ok()), is_right)
 }
 
 /// Adds a name to a table, which is equal to two others. The table should then be one to which it
@@ -111,9 +106,9 @@ fn insert<N: NameTable>(
 ) -> Result<Told, AllocError> {
     add(&mut ample, ADDED, definition(alloc)?)?;
     let added = definition(alloc)?;
-    let opened = mark(alloc)?;
+    let opened = mark(alloc);
     let ending = add(&mut names, ADDED, added);
-    let closed = mark(alloc)?;
+    let closed = mark(alloc);
     let wanted = if ending.is_ok() { &ample } else { before };
     let is_right = names.same(wanted) && !ample.same(before);
     Told::new(opened, closed, answer(ending.is_ok()), is_right)
@@ -121,9 +116,9 @@ fn insert<N: NameTable>(
 
 /// Looks up a name inside a scope.
 fn joined<N: NameTable>(alloc: Global, names: &N, before: &N) -> Result<Told, AllocError> {
-    let opened = mark(alloc)?;
+    let opened = mark(alloc);
     let ending = names.get_joined(alloc, "p", "M.text");
-    let closed = mark(alloc)?;
+    let closed = mark(alloc);
     let is_found = ending
         .as_ref()
         .ok()
@@ -136,9 +131,9 @@ fn joined<N: NameTable>(alloc: Global, names: &N, before: &N) -> Result<Told, Al
 fn resolve<N: NameTable>(alloc: Global, names: &N, before: &N) -> Result<Told, AllocError> {
     let visible = first_file(alloc)?;
     let filter = ResolveNameFilter::FieldType;
-    let opened = mark(alloc)?;
+    let opened = mark(alloc);
     let ending = resolve_name(alloc, &visible, names, "p.M.Inner", "Kind", filter);
-    let closed = mark(alloc)?;
+    let closed = mark(alloc);
     let is_right = is_kind(&ending) && names.same(before);
     Told::new(opened, closed, answer(ending.is_ok()), is_right)
 }
@@ -147,9 +142,9 @@ fn resolve<N: NameTable>(alloc: Global, names: &N, before: &N) -> Result<Told, A
 fn resolve_down(alloc: Global, names: &PartNames, before: &PartNames) -> Result<Told, AllocError> {
     let visible = first_file(alloc)?;
     let filter = ResolveNameFilter::FieldType;
-    let opened = mark(alloc)?;
+    let opened = mark(alloc);
     let ending = resolve_in_parts(alloc, &visible, names, "p.M.Inner", "Kind", filter);
-    let closed = mark(alloc)?;
+    let closed = mark(alloc);
     let is_right = is_kind(&ending) && names.same(before);
     Told::new(opened, closed, answer(ending.is_ok()), is_right)
 }
@@ -168,9 +163,4 @@ fn is_kind(ending: &Result<ResolveNameResult, AllocError>) -> bool {
         Ok(_) => false,
         Err(AllocError) => true,
     }
-}
-
-/// A word for how a call ended.
-fn answer(is_done: bool) -> &'static str {
-    if is_done { "done" } else { "out of memory" }
 }

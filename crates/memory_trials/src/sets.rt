@@ -1,5 +1,5 @@
 //! Trials of the calls on descriptor sets, and the records and pools that sets give.
-use crate::told::{Told, mark};
+use crate::told::{Told, answer, mark};
 use descriptor_decoding::{DecodeError, decode};
 use descriptor_encoding::encode;
 use descriptor_pool::DescriptorPool;
@@ -26,9 +26,9 @@ pub(crate) fn link(alloc: Global, bytes: &[u8]) -> Result<DescriptorPool, AllocE
 /// Reads a set.
 pub(crate) fn decoded(alloc: Global, bytes: &[u8]) -> Result<Told, AllocError> {
     let wanted = read(alloc, bytes)?;
-    let opened = mark(alloc)?;
+    let opened = mark(alloc);
     let ending = decode(alloc, bytes);
-    let closed = mark(alloc)?;
+    let closed = mark(alloc);
     let is_right = match &ending {
         Ok(set) => *set == wanted,
         Err(fault) => matches!(fault, DecodeError::OutOfMemory),
@@ -39,17 +39,12 @@ pub(crate) fn decoded(alloc: Global, bytes: &[u8]) -> Result<Told, AllocError> {
 /// Writes a set, whose bytes are those that `protoc` wrote.
 pub(crate) fn encoded(alloc: Global, bytes: &[u8]) -> Result<Told, AllocError> {
     let set = read(alloc, bytes)?;
-    let opened = mark(alloc)?;
+    let opened = mark(alloc);
     let ending = encode(alloc, &set);
-    let closed = mark(alloc)?;
+    let closed = mark(alloc);
     let is_right = ending
         .as_ref()
         .ok()
         .is_none_or(|written| written.as_slice() == bytes);
     Told::new(opened, closed, answer(ending.is_ok()), is_right)
-}
-
-/// A word for how a call ended.
-fn answer(is_done: bool) -> &'static str {
-    if is_done { "done" } else { "out of memory" }
 }

@@ -14,15 +14,18 @@ pub(crate) struct Told {
 
 impl Told {
     /// What a trial tells in the two rooms that it asked for before and behind its call.
+    ///
+    /// # Errors
+    /// `AllocError` where a room was refused, so that no trial ends before its call is compared.
     pub(crate) fn new(
-        before: String,
-        behind: String,
+        before: Result<String, AllocError>,
+        behind: Result<String, AllocError>,
         answer: &str,
         is_right: bool,
     ) -> Result<Told, AllocError> {
         let mut told = Told {
-            answer: before,
-            state: behind,
+            answer: before?,
+            state: behind?,
         };
         told.answer.push_str(answer)?;
         told.state
@@ -41,4 +44,9 @@ impl fmt::Display for Told {
 /// call of a trial begins, and where it has ended.
 pub(crate) fn mark(alloc: Global) -> Result<String, AllocError> {
     String::with_capacity(alloc, MARK)
+}
+
+/// A word for how a call ended.
+pub(crate) fn answer(is_done: bool) -> &'static str {
+    if is_done { "done" } else { "out of memory" }
 }

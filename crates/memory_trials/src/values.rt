@@ -1,5 +1,5 @@
 //! Trials of the calls on default values.
-use crate::told::{Told, mark};
+use crate::told::{Told, answer, mark};
 use default_values::{EscapeFault, ValueFault, parse_simple_value, unescape_c_escape_string};
 use plain_data::Items;
 use pool_types::{DefaultValue, KindIndex};
@@ -14,9 +14,9 @@ const PLAIN: &[u8] = b"a\x01\x7f\n\"\\ and so much more that the bytes grow more
 /// Reads a default value.
 pub(crate) fn value(alloc: Global) -> Result<Told, AllocError> {
     let wanted = DefaultValue::Bytes(Items::from_slice(alloc, PLAIN)?);
-    let opened = mark(alloc)?;
+    let opened = mark(alloc);
     let ending = parse_simple_value(alloc, KindIndex::Bytes, ESCAPED);
-    let closed = mark(alloc)?;
+    let closed = mark(alloc);
     let is_right = match &ending {
         Ok(value) => *value == wanted,
         Err(fault) => *fault == ValueFault::OutOfMemory,
@@ -26,17 +26,12 @@ pub(crate) fn value(alloc: Global) -> Result<Told, AllocError> {
 
 /// Reads a text with escapes.
 pub(crate) fn escapes(alloc: Global) -> Result<Told, AllocError> {
-    let opened = mark(alloc)?;
+    let opened = mark(alloc);
     let ending = unescape_c_escape_string(alloc, ESCAPED);
-    let closed = mark(alloc)?;
+    let closed = mark(alloc);
     let is_right = match &ending {
         Ok(bytes) => bytes.as_slice() == PLAIN,
         Err(fault) => *fault == EscapeFault::OutOfMemory,
     };
     Told::new(opened, closed, answer(ending.is_ok()), is_right)
-}
-
-/// A word for how a call ended.
-fn answer(is_done: bool) -> &'static str {
-    if is_done { "done" } else { "out of memory" }
 }

@@ -2,14 +2,10 @@
 
 use super::files_of;
 use descriptor_pool::{BuildError, DescriptorPool};
-use pool_types::{ExtensionDescriptor, MessageDescriptor};
+use pool_types::MessageDescriptor;
 use std::alloc::{AllocError, Global};
 use std::process::Abort;
 use std::test::Fail;
-
-/// A package `p.q`, with a message `M` that has fields `f` and `g`.
-pub(super) const FIRST: &str = "file a.proto\npackage p.q\nmessage M\n\
-    field f 1 optional int32 ~ ~\nfield g 2 optional message .p.q.M ~\nend\nend\n";
 
 /// Gives a pool a batch, and says whether it takes that.
 fn take(alloc: Global, pool: &mut DescriptorPool, script: &str) -> Result<bool, AllocError> {
@@ -20,33 +16,11 @@ fn take(alloc: Global, pool: &mut DescriptorPool, script: &str) -> Result<bool, 
     }
 }
 
-/// A pool that was given batches in turn.
-pub(super) fn pool_of(alloc: Global, scripts: &[&str]) -> Result<DescriptorPool, AllocError> {
+/// A pool that was given a batch.
+pub(super) fn pool_of(alloc: Global, script: &str) -> Result<DescriptorPool, AllocError> {
     let mut pool = DescriptorPool::new(alloc);
-    for script in scripts {
-        take(alloc, &mut pool, script)?;
-    }
+    take(alloc, &mut pool, script)?;
     Ok(pool)
-}
-
-/// A file with an extension.
-const EXTENDING: &str = "file x.proto\nmessage X\nextensions 100 200\nend\n\
-    extend x 100 optional int32 ~ X\nend\n";
-
-/// Gives a pool one more file, of which its clone has nothing.
-fn check_clone(
-    rt: &impl Abort,
-    alloc: Global,
-    pool: &mut DescriptorPool,
-    copy: &DescriptorPool,
-) -> Result<(), AllocError> {
-    let first = ExtensionDescriptor::new(0);
-    assert!(rt; *pool == *copy);
-    assert!(rt; take(alloc, pool, EXTENDING)?);
-    assert!(rt; pool.counts().files == 2 && pool.extension(first).is_some());
-    assert!(rt; copy.counts().files == 1 && copy.extension(first).is_none());
-    assert!(rt; *pool != *copy);
-    Ok(())
 }
 
 /// Three messages, of which the first may be extended.
@@ -57,20 +31,25 @@ const BARE: &str = "file a.proto\nmessage M\nextensions 100 200\nend\nmessage A\
 const EXTENDED: &str = "file b.proto\nimport a.proto\nextend e 100 optional int32 ~ M\n\
     extend g 101 optional message Nope M\nend\n";
 
-/// Gives a pool a batch that it refuses: it is what its clone is.
-fn check_refused(
+/// Whether a pool lists extensions of its first message.
+fn is_extended(pool: &DescriptorPool) -> bool {
+    pool.message(MessageDescriptor::new(0))
+        .is_some_and(|message| !message.extensions.as_slice().is_empty())
+}
+
+/// Gives a pool a batch that it refuses, and is then what its clone is; and one that it takes, of
+/// which its clone has nothing.
+fn check_clone(
     rt: &impl Abort,
     alloc: Global,
     pool: &mut DescriptorPool,
     copy: &DescriptorPool,
 ) -> Result<(), AllocError> {
     assert!(rt; !take(alloc, pool, EXTENDED)?);
-    assert!(rt; *pool == *copy);
-    assert!(rt; pool.get_by_name("e").is_none());
-    let Some(message) = pool.message(MessageDescriptor::new(0)) else {
-        panic!(rt; "no message");
-    };
-    assert!(rt; message.extensions.as_slice().is_empty());
+    assert!(rt; *pool == *copy && !is_extended(pool));
+    assert!(rt; take(alloc, pool, "file c.proto\nend\n")?);
+    assert!(rt; pool.counts().files == 2 && copy.counts().files == 1);
+    assert!(rt; *pool != *copy);
     Ok(())
 }
 
@@ -80,17 +59,11 @@ fn check_with_clone(
     pool: &mut DescriptorPool,
 ) -> Result<(), AllocError> {
     let copy = pool.clone()?;
-    check_refused(rt, alloc, pool, &copy)?;
     check_clone(rt, alloc, pool, &copy)
-}
-
-fn check_grown(rt: &impl Abort, alloc: Global) -> Result<(), AllocError> {
-    let mut pool = pool_of(alloc, &[BARE])?;
-    check_with_clone(rt, alloc, &mut pool)
 }
 
 #[test]
 fn a_clone_stays_where_its_pool_refuses_or_grows(rt: HostRuntime) -> Result<(), Fail> {
-    check_grown(&rt, rt.alloc())?;
+    check_with_clone(&rt, rt.alloc(), &mut pool_of(rt.alloc(), BARE)?)?;
     Ok(())
 }

@@ -22,6 +22,6 @@ fn check_found(rt: &impl Abort, pool: &DescriptorPool) {
 
 #[test]
 fn an_extension_is_found_by_its_message_and_its_number(rt: HostRuntime) -> Result<(), Fail> {
-    check_found(&rt, &pool_of(rt.alloc(), &[EXTENDED])?);
+    check_found(&rt, &pool_of(rt.alloc(), EXTENDED)?);
     Ok(())
 }

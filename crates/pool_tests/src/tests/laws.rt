@@ -1,7 +1,7 @@
 //! The laws of names, of what files see, of default values, and of a pool: calls that do nothing.
 
-use super::batches::{FIRST, pool_of};
 use default_values::{escaped_is_one, refused_is_one, unescaped_is_escaped};
+use descriptor_pool::DescriptorPool;
 use name_resolution::{parents_count, sees_is_tested};
 use name_tables::{earlier_names_stay, later_name_goes, names_are_first};
 use std::test::Fail;
@@ -16,6 +16,6 @@ fn laws_are_called(rt: HostRuntime) -> Result<(), Fail> {
     unescaped_is_escaped();
     escaped_is_one();
     refused_is_one();
-    pool_of(rt.alloc(), &[FIRST])?.made();
+    DescriptorPool::new(rt.alloc()).made();
     Ok(())
 }

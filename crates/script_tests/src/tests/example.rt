@@ -6,10 +6,12 @@ use std::test::Fail;
 #[test]
 fn the_example_is_run(rt: HostRuntime) -> Result<(), Fail> {
     let alloc = rt.alloc();
+    let name = Text::from_str(alloc, "M")?;
+    let file_name = Text::from_str(alloc, "a.proto")?;
     let mut message = DescriptorProto::empty(alloc);
-    message.name = Some(Text::from_str(alloc, "M")?);
+    message.name = Some(name);
     let mut file = FileDescriptorProto::empty(alloc);
-    file.name = Some(Text::from_str(alloc, "a.proto")?);
+    file.name = Some(file_name);
     file.message_type.push(message)?;
     let mut batch = Vec::new(alloc);
     batch.push(file)?;
