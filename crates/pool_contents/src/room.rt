@@ -3,14 +3,15 @@
 
 use proto_types::{DescriptorProto, EnumDescriptorProto, FileDescriptorProto};
 
-/// About how many names files declare: what stands in messages that are nested twice or deeper is
-/// not counted.
+/// About how many names files declare, and an eighth more, so that packages of several parts and a
+/// small batch behind this one find room too. What stands in messages that are nested twice or
+/// deeper is not counted.
 pub(crate) fn names_of_files(files: &[FileDescriptorProto]) -> usize {
     let mut names = 0usize;
     for file in files {
         names = names.saturating_add(names_of_file(file));
     }
-    names
+    names.saturating_add(names / 8)
 }
 
 fn names_of_file(file: &FileDescriptorProto) -> usize {
