@@ -4,21 +4,23 @@
 ghost use Rattle.std.specs.Prelude.{◌≡◌};
 ghost use Rattle.std.specs.Process.{exit_status};
 ghost use Rattle.descriptor_check.specs.Statuses.{status_number};
+ghost use Rattle.descriptor_check.specs.declared.answer.Status.TheVariants.{Device};
 ghost use Rattle.check_descriptors.specs.Endings.{EndsAs};
 
 use descriptor_check::{
-    Answer, HELP, Input, Job, Request, Status, VERSION, check, complain, complain_of_arguments,
-    read_arguments, tell,
+    Answer, HELP, Input, Job, LinkedSet, Request, Status, VERSION, check, complain,
+    complain_of_arguments, read_arguments, tell,
 };
 use plain_data::{Items, Text};
 use std::alloc::{AllocError, Global};
-use std::io::{ErrorKind, Read};
+use std::fs::File;
+use std::io::{ErrorKind, Read, Write};
 use std::process::ExitCode;
 use std::{env, fs, io};
 
 fn main(rt: HostRuntime) -> ExitCode {
     exit_code(match answer(&rt) {
-        Ok(answer) => write_answer(&rt, &answer),
+        Ok(answer) => write_all(&rt, &answer),
         Err(AllocError) => Status::OutOfMemory,
     })
 }
@@ -28,6 +30,56 @@ fn exit_code(status: Status) -> ExitCode
     ensures { exit_status result ≡ status_number status }
 {
     ExitCode::from(status.number())
+}
+
+/// Writes an answer, and the set that it has. The run ends as it says, or as what could not be
+/// written; then no set is there.
+fn write_all(rt: &HostRuntime, answer: &Answer) -> Status
+    ensures { EndsAs answer.now result }
+{
+    match &answer.linked {
+        Some(set) => write_with_set(rt, answer, set),
+        None => write_answer(rt, answer),
+    }
+}
+
+/// Writes a set beside its file, the answer, and then the set into its place.
+fn write_with_set(rt: &HostRuntime, answer: &Answer, set: &LinkedSet) -> Status
+    ensures { EndsAs answer.now result }
+{
+    let name = set.name.as_str();
+    let Ok(part) = format!(in rt.alloc(); "{name}.part") else {
+        return Status::Device;
+    };
+    let part = part.as_str();
+    if let Err(error) = write_part(rt, part, set.bytes.as_slice()) {
+        return give_up(rt, part, &error);
+    }
+    let status = write_answer(rt, answer);
+    if status == Status::Device {
+        let _ = fs::remove_file(rt, part);
+        return Status::Device;
+    }
+    match fs::rename(rt, part, name) {
+        Ok(()) => status,
+        Err(error) => give_up(rt, part, &error),
+    }
+}
+
+/// Writes a file, and sees that it is kept.
+fn write_part(rt: &HostRuntime, part: &str, bytes: &[u8]) -> io::Result<()> {
+    let mut file = File::create(rt, part)?;
+    file.write_all(bytes)?;
+    file.sync_all()
+}
+
+/// Takes a file away that could not be written or put into its place, and tells why.
+fn give_up(rt: &HostRuntime, part: &str, error: &io::Error) -> Status
+    ensures { result ≡ Device }
+{
+    let _ = fs::remove_file(rt, part);
+    let _ = eprintln!(rt; "check_descriptors: {part}: {error}");
+    Status::Device
 }
 
 /// Writes an answer. The run ends as it says, or as what could not be written.
@@ -75,7 +127,7 @@ fn check_files(rt: &HostRuntime, job: &Job) -> Result<Answer, AllocError> {
             Err(error) => return unread(alloc, name, &error),
         }
     }
-    check(alloc, job.wanted, inputs.as_slice())
+    check(alloc, &job.wanted, inputs.as_slice())
 }
 
 /// The bytes of a file, or of the standard input for `-`.

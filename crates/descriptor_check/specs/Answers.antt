@@ -1,18 +1,26 @@
--- What the check of some inputs answers: a status, what is written to the standard output, and what
--- to the standard error.
-use Rattle.std.specs.Prelude.{ℕ, Bool, List, [], ◌∷◌, ◌++◌, codes, Result, Ok, Err, if◌then◌else◌}
+-- What the check of some inputs answers: a status, what is written to the standard output and to the
+-- standard error, and the set of the linked files.
+use Rattle.std.specs.Prelude.{ℕ, List, [], ◌∷◌, ◌++◌, Result, Ok, Err, if◌then◌else◌}
+use Rattle.std.specs.Option.{option_map}
+use Rattle.std.specs.declared.option.Option.{Option}
+use Rattle.std.specs.declared.option.Option.TheVariants.{None}
 use Rattle.pool_faults.specs.declared.fault.DescriptorErrorKind.{DescriptorErrorKind}
+use Rattle.pool_types.specs.Contents.{Contents}
 use Rattle.proto_types.specs.declared.file.FileDescriptorProto.{FileDescriptorProto}
-use Rattle.record_walk.specs.declared.counts.Counts.{Counts}
+use Rattle.record_walk.specs.Counts.{counts_in}
 use Rattle.record_walk.specs.declared.counts.CountKind.{CountKind}
-use Rattle.fault_texts.specs.Lines.{line}
+use Rattle.stored_pools.specs.Stored.{stored}
 use Rattle.descriptor_check.specs.Accepted.{accepted_text}
 use Rattle.descriptor_check.specs.Batches.{batch_of}
+use Rattle.descriptor_check.specs.Complaints.{complaint, no_answer}
+use Rattle.descriptor_check.specs.Described.{described, unknown_names}
+use Rattle.descriptor_check.specs.Listed.{listed}
 use Rattle.descriptor_check.specs.Objects.{accepted_json, refused_json, too_many_json, unread_json}
 use Rattle.descriptor_check.specs.Refused.{refused_text, too_many_text}
 use Rattle.descriptor_check.specs.Unread.{unread_words}
 use Rattle.descriptor_check.specs.Verdicts.{verdict_of}
 use Rattle.descriptor_check.specs.declared.answer.Answer.{Answer}
+use Rattle.descriptor_check.specs.declared.answer.LinkedSet.{LinkedSet}
 use Rattle.descriptor_check.specs.declared.answer.Status.{Status}
 use Rattle.descriptor_check.specs.declared.answer.Status.TheVariants as status
 use Rattle.descriptor_check.specs.declared.answer.Wanted.{Wanted}
@@ -21,14 +29,46 @@ use Rattle.descriptor_check.specs.declared.inputs.Input.{Input}
 use Rattle.descriptor_check.specs.declared.verdicts.Verdict.{Verdict}
 use Rattle.descriptor_check.specs.declared.verdicts.Verdict.TheVariants.{Accepted, Refused, TooMany}
 
+-- a verdict, told by a text, and the set of the linked files
+abbrev pub told_with : Status → List ℕ → Option LinkedSet → Answer
+told_with st text set = record { status = st; report = text; complaint = []; linked = set }
+
 -- a verdict, told by a text
 abbrev pub told : Status → List ℕ → Answer
-told st text = record { status = st; report = text; complaint = [] }
+told st text = told_with st text None
+
+-- all declarations of a pool, where they are wanted
+abbrev pub list_wanted : Wanted → Contents → List ℕ
+list_wanted w p = if w.lists then listed p else []
+
+-- what is told of an accepted batch for people: its declarations, what names mean, and how much
+-- there is
+abbrev pub accepted_lines : Wanted → Contents → List ℕ
+accepted_lines w p =
+    list_wanted w p ++ (described p w.names ++ accepted_text (counts_in p))
+
+-- what is told of an accepted batch
+abbrev pub accepted_report : Wanted → Contents → List ℕ
+accepted_report w p =
+    if w.is_json then accepted_json (counts_in p) else accepted_lines w p
+
+-- the set of the linked files, for the file with a name
+abbrev pub set_for : List ℕ → Contents → LinkedSet
+set_for name p = record { name = name; bytes = stored p }
+
+-- the same, where it is wanted
+abbrev pub linked_set : Wanted → Contents → Option LinkedSet
+linked_set w p = option_map (λ name. set_for name p) w.linked
+
+-- what is answered of an accepted batch, by the complaints of names that mean nothing in its pool:
+-- where there are such, there is no verdict
+abbrev pub accepted_unless : Wanted → Contents → List ℕ → Answer
+accepted_unless w p [] = told_with status.Accepted (accepted_report w p) (linked_set w p)
+accepted_unless w p (c ∷ cs) = no_answer [] (c ∷ cs)
 
 -- what is answered of an accepted batch
-abbrev pub accepted_answer : Wanted → Counts → Answer
-accepted_answer w counts =
-    told status.Accepted (if w.is_json then accepted_json counts else accepted_text counts)
+abbrev pub accepted_answer : Wanted → Contents → Answer
+accepted_answer w p = accepted_unless w p (unknown_names p w.names)
 
 -- of a refused one, whose faults these are
 abbrev pub refused_answer : Wanted → List FileDescriptorProto → List DescriptorErrorKind → Answer
@@ -40,35 +80,14 @@ abbrev pub too_many_answer : Wanted → CountKind → Answer
 too_many_answer w kind =
     told status.Refused (if w.is_json then too_many_json kind else too_many_text kind)
 
--- a line of the program's for the standard error
-abbrev pub complaint : List ℕ → List ℕ
-complaint words = line (codes "check_descriptors: " ++ words)
-
--- no verdict, and why
-abbrev pub no_verdict : List ℕ → Answer
-no_verdict words =
-    record { status = status.NoVerdict; report = []; complaint = complaint words }
-
--- the same of wrong arguments, with those that there are
-abbrev pub wrong_arguments : List ℕ → Answer
-wrong_arguments words = record {
-  status = status.NoVerdict;
-  report = [];
-  complaint = complaint words
-      ++ codes "usage: check_descriptors [--json] [--max-faults N] FILE...\n";
-}
-
 -- where an input is no set: a line, and an object where one is wanted
 abbrev pub unread_answer : Wanted → NotASet → Answer
-unread_answer w n = record {
-  status = status.NoVerdict;
-  report = if w.is_json then unread_json (unread_words n) else [];
-  complaint = complaint (unread_words n);
-}
+unread_answer w n =
+    no_answer (if w.is_json then unread_json (unread_words n) else []) (complaint (unread_words n))
 
 -- the answer for a verdict on a batch
 abbrev pub verdict_answer : Wanted → List FileDescriptorProto → Verdict → Answer
-verdict_answer w files (Accepted counts) = accepted_answer w counts
+verdict_answer w files (Accepted p) = accepted_answer w p
 verdict_answer w files (Refused faults) = refused_answer w files faults
 verdict_answer w files (TooMany kind) = too_many_answer w kind
 

@@ -2,6 +2,7 @@
 use Rattle.std.specs.Prelude.{◌≡◌, ℕ, Bool, false, List, [], ◌∷◌, ◌++◌, Result, Ok, Err, fold, if◌then◌else◌}
 use Rattle.std.specs.Option.{option_map_or}
 use Rattle.std.specs.Result.{result_unwrap_or}
+use Rattle.std.specs.declared.option.Option.{Option}
 use Rattle.wire_format.specs.declared.fault.WireFault.{WireFault}
 use Rattle.proto_types.specs.Readers.{text_of}
 use Rattle.proto_types.specs.declared.file.FileDescriptorProto.{FileDescriptorProto}
@@ -20,13 +21,22 @@ use Rattle.descriptor_check.specs.declared.batches.BatchError.TheVariants as err
 abbrev pub file_eq : FileDescriptorProto → FileDescriptorProto → Bool
 file_eq = file.ghosts.eq
 
+-- whether a file is there, and equal to another
+abbrev pub is_equal : Option FileDescriptorProto → FileDescriptorProto → Bool
+is_equal first f = option_map_or (λ g. file_eq g f) first false
+
 -- whether the first of some files that has a file's name is equal to it
 abbrev pub is_repeated : List FileDescriptorProto → FileDescriptorProto → Bool
-is_repeated files f = option_map_or (λ g. file_eq g f) (file_named files (text_of f.name)) false
+is_repeated files f = is_equal (file_named files (text_of f.name)) f
+
+-- files, and one more behind them, unless it is left out
+abbrev pub joined_unless : Bool → List FileDescriptorProto → FileDescriptorProto
+    → List FileDescriptorProto
+joined_unless left_out files f = if left_out then files else files ++ f ∷ []
 
 -- files, and one more behind them, unless it is repeated
 abbrev pub joined : List FileDescriptorProto → FileDescriptorProto → List FileDescriptorProto
-joined files f = if is_repeated files f then files else files ++ f ∷ []
+joined files f = joined_unless (is_repeated files f) files f
 
 -- the files of a set that has some
 abbrev pub some_files : List ℕ → List FileDescriptorProto → Result (List FileDescriptorProto) NotASet

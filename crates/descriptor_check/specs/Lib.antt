@@ -1,3 +1,4 @@
+pub mod First
 pub mod Batches
 pub mod Verdicts
 pub mod Accepted
@@ -5,6 +6,9 @@ pub mod Grouped
 pub mod Refused
 pub mod Unread
 pub mod Objects
+pub mod Complaints
+pub mod Listed
+pub mod Described
 pub mod Answers
 pub mod Arguments
 pub mod Statuses

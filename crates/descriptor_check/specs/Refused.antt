@@ -11,9 +11,9 @@ use Rattle.pool_faults.specs.declared.fault.DescriptorErrorKind.{DescriptorError
 use Rattle.pool_faults.specs.declared.label.Label.{Label}
 use Rattle.proto_types.specs.declared.file.FileDescriptorProto.{FileDescriptorProto}
 use Rattle.record_walk.specs.declared.counts.CountKind.{CountKind}
-use Rattle.record_walk.specs.declared.counts.CountKind.TheVariants as too_many
 use Rattle.fault_texts.specs.JsonFaults.{json_fault}
 use Rattle.fault_texts.specs.PlainFaults.{fault_lines}
+use Rattle.script_answers.specs.Answers.{count_word}
 use Rattle.descriptor_check.specs.Grouped.{grouped, grouped_count}
 
 -- a set of names, in their order, with the file of a label, if there is one
@@ -54,15 +54,6 @@ refused_text files most faults = flat_map (fault_lines files) (take most faults)
 abbrev pub json_faults : List FileDescriptorProto → List DescriptorErrorKind → List ℕ
 json_faults files [] = []
 json_faults files (f ∷ fs) = json_fault files f ++ flat_map (λ g. 44 ∷ json_fault files g) fs
-
--- the word for what there is too much of
-abbrev pub count_word : CountKind → List ℕ
-count_word too_many.ListTooLong = codes "lists"
-count_word too_many.Files = codes "files"
-count_word too_many.Messages = codes "messages"
-count_word too_many.Enums = codes "enums"
-count_word too_many.Services = codes "services"
-count_word too_many.Extensions = codes "extensions"
 
 -- the line that tells of what there is too much
 abbrev pub too_many_text : CountKind → List ℕ

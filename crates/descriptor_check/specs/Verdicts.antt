@@ -1,17 +1,20 @@
 -- The verdict on a batch, linked into a pool without files.
 use Rattle.std.specs.Prelude.{List, [], ◌∷◌, Result, Ok, Err}
+use Rattle.std.specs.declared.option.Option.{Option}
+use Rattle.std.specs.declared.option.Option.TheVariants.{None, Some}
 use Rattle.pool_faults.specs.declared.fault.DescriptorErrorKind.{DescriptorErrorKind}
 use Rattle.pool_types.specs.Contents.{no_contents}
-use Rattle.record_walk.specs.Counts.{counts_in}
 use Rattle.record_walk.specs.declared.counts.Counts.{Counts}
 use Rattle.record_walk.specs.declared.counts.CountKind.{CountKind}
 use Rattle.descriptor_pool.specs.Pool.{Batch, counts_after, faults, link}
+use Rattle.descriptor_pool.specs.declared.error.BuildError.{BuildError}
+use Rattle.descriptor_pool.specs.declared.error.BuildError.TheVariants as build
 use Rattle.descriptor_check.specs.declared.verdicts.Verdict.{Verdict}
 use Rattle.descriptor_check.specs.declared.verdicts.Verdict.TheVariants.{Accepted, Refused, TooMany}
 
--- the verdict on a batch that fits, by its faults: where it has none, how much the pool has with it
+-- the verdict on a batch that fits, by its faults: where it has none, the pool of its files
 abbrev pub by_faults : Batch → List DescriptorErrorKind → Verdict
-by_faults batch [] = Accepted (counts_in (link no_contents batch))
+by_faults batch [] = Accepted (link no_contents batch)
 by_faults batch (f ∷ fs) = Refused (f ∷ fs)
 
 -- the verdict on a batch, by its counts
@@ -22,3 +25,9 @@ by_counts batch (Err kind) = TooMany kind
 -- the verdict on a batch: of too much of a kind, or of its faults, or else that it is accepted
 unfoldable pub verdict_of : Batch → Verdict
 verdict_of batch = by_counts batch (counts_after no_contents batch)
+
+-- the verdict that an error of linking tells; none where memory was refused
+abbrev pub verdict_told : BuildError → Option Verdict
+verdict_told (build.TooMany kind) = Some (TooMany kind)
+verdict_told (build.Descriptor error) = Some (Refused error.errors)
+verdict_told build.OutOfMemory = None

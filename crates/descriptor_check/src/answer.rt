@@ -3,15 +3,21 @@
 ghost use Rattle.std.specs.Prelude.{◌≡◌};
 ghost use Rattle.descriptor_check.specs.Statuses as spec;
 
-use plain_data::Text;
+use plain_data::{Items, Text};
 
-/// How the verdict is told.
-#[derive(Clone, Copy, PartialEq, Debug)]
+/// How the verdict is told, and what is told of an accepted batch besides.
+#[derive(Drop)]
 pub struct Wanted {
-    /// As an object of JSON, and not as lines for people.
+    /// As an object of JSON, which has the verdict alone, and not as lines for people.
     pub is_json: bool,
     /// The most faults that are told.
     pub most: usize,
+    /// Each declaration is told.
+    pub lists: bool,
+    /// The names of which is told what they mean, in order.
+    pub names: Items<Text>,
+    /// The name of the file to which the linked files go as a set, if they are wanted.
+    pub linked: Option<Text>,
 }
 
 /// How a run ends.
@@ -49,4 +55,14 @@ pub struct Answer {
     pub report: Text,
     /// What is written to the standard error.
     pub complaint: Text,
+    /// The linked files of an accepted batch, where they are wanted.
+    pub linked: Option<LinkedSet>,
+}
+
+/// The linked files of a batch, as a descriptor set for a file.
+#[derive(Drop)]
+pub struct LinkedSet {
+    /// The name of the file.
+    pub name: Text,
+    pub bytes: Items<u8>,
 }

@@ -1,11 +1,14 @@
 //! The batch of some inputs.
 
-ghost use Rattle.std.specs.Prelude.{◌≡◌, OnOk, IfOk, fold};
+ghost use Rattle.std.specs.Prelude.{◌≡◌, None, [], ◌∷◌, ◌++◌, OnOk, IfOk, fold, length, slice_get};
+ghost use Rattle.std.specs.FinMap as map;
+ghost use Rattle.proto_types.specs.Readers.{text_of};
+ghost use Rattle.descriptor_check.specs.First.{AreFirst};
 ghost use Rattle.descriptor_check.specs.Batches as spec;
 
 use crate::inputs::Input;
 use descriptor_decoding::{DecodeError, decode};
-use fault_texts::file_named;
+use name_tables::FileNames;
 use plain_data::{Items, Text};
 use proto_types::FileDescriptorProto;
 use std::alloc::{AllocError, Global};
@@ -58,9 +61,10 @@ pub fn read_batch(alloc: Global, inputs: &[Input]) -> Result<Items<FileDescripto
     ensures { spec.Reads result (spec.batch_of inputs.now) }
 {
     let mut files = Vec::new(alloc);
+    let mut first = FileNames::new(alloc);
     for input in inputs {
         let new = input_files(alloc, input)?;
-        join_all(&mut files, new.into_vec())?;
+        join_all(&mut files, &mut first, new.into_vec())?;
     }
     Ok(Items::from_vec(files))
 }
@@ -101,33 +105,78 @@ fn not_a_set(alloc: Global, input: &Input, flaw: Flaw) -> Result<BatchError, All
 /// Puts files behind others, each unless it is repeated.
 fn join_all(
     files: &mut Vec<FileDescriptorProto>,
+    first: &mut FileNames,
     new: Vec<FileDescriptorProto>,
 ) -> Result<(), AllocError>
-    ensures { OnOk result (files.new.items ≡ fold spec.joined files.old.items new.items) }
+    requires { AreFirst first.old files.old.items }
+    ensures files { OnOk result (files.new.items ≡ fold spec.joined files.old.items new.items) }
+    ensures first { OnOk result (AreFirst first.new files.new.items) }
 {
     for file in new {
-        join(files, file)?;
+        join(files, first, file)?;
     }
     Ok(())
 }
 
 /// Puts a file behind others, unless it is repeated.
-fn join(files: &mut Vec<FileDescriptorProto>, file: FileDescriptorProto) -> Result<(), AllocError>
-    ensures { OnOk result (files.new.items ≡ spec.joined files.old.items file) }
+fn join(
+    files: &mut Vec<FileDescriptorProto>,
+    first: &mut FileNames,
+    file: FileDescriptorProto,
+) -> Result<(), AllocError>
+    requires { AreFirst first.old files.old.items }
+    ensures files { OnOk result (files.new.items ≡ spec.joined files.old.items file) }
+    ensures first { OnOk result (AreFirst first.new files.new.items) }
 {
-    if is_repeated(files.as_slice(), &file) {
+    match first.get(file.name()) {
+        Some(at) => join_named(files, at, file),
+        None => join_new(files, first, file),
+    }
+}
+
+/// Puts a file behind others, unless the one with a position is equal to it.
+fn join_named(
+    files: &mut Vec<FileDescriptorProto>,
+    at: u32,
+    file: FileDescriptorProto,
+) -> Result<(), AllocError>
+    ensures { OnOk result (files.new.items ≡ spec.joined_unless
+        (spec.is_equal (slice_get files.old.items at) file) files.old.items file) }
+{
+    if is_equal(files.as_slice(), at, &file) {
         return Ok(());
     }
     files.push(file)?;
     Ok(())
 }
 
-/// Whether the first of some files that has a file's name is equal to it.
-fn is_repeated(files: &[FileDescriptorProto], file: &FileDescriptorProto) -> bool
-    ensures { result ≡ spec.is_repeated files.now file.now }
+/// Whether the file with a position is there, and equal to another.
+fn is_equal(files: &[FileDescriptorProto], at: u32, file: &FileDescriptorProto) -> bool
+    ensures { result ≡ spec.is_equal (slice_get files.now at) file.now }
 {
-    match file_named(files, file.name()) {
+    match files.get(at as usize) {
         Some(first) => first == file,
         None => false,
+    }
+}
+
+/// Puts a file behind others, of which none has its name.
+fn join_new(
+    files: &mut Vec<FileDescriptorProto>,
+    first: &mut FileNames,
+    file: FileDescriptorProto,
+) -> Result<(), AllocError>
+    requires { map.get first.old (text_of file.name) ≡ None }
+    ensures files { OnOk result (files.new.items ≡ files.old.items ++ file ∷ []) }
+    ensures first { OnOk result (first.new
+        ≡ map.insert first.old (text_of file.name) (length files.old.items)) }
+{
+    match u32::try_from(files.len()) {
+        Ok(at) => {
+            first.insert(file.name(), at)?;
+            files.push(file)?;
+            Ok(())
+        }
+        Err(_) => Err(AllocError),
     }
 }

@@ -1,32 +1,38 @@
 //! The check: from inputs to what is told of them.
 
-ghost use Rattle.std.specs.Prelude.{◌≡◌, IfOk, string_bytes};
+ghost use Rattle.std.specs.Prelude.{◌≡◌, ◌++◌, IfOk, OnOk, string_bytes};
 ghost use Rattle.descriptor_check.specs.Answers as spec;
 ghost use Rattle.descriptor_check.specs.Batches.{files_in};
 ghost use Rattle.descriptor_check.specs.declared.answer.Status.TheVariants.{Accepted};
 
 use crate::accepted::accepted_text;
-use crate::answer::{Answer, Status, Wanted};
+use crate::answer::{Answer, LinkedSet, Status, Wanted};
 use crate::batches::{BatchError, NotASet, read_batch};
+use crate::complaints::{no_answer, write_complaint};
+use crate::described::{unknown_names, write_names};
 use crate::inputs::Input;
+use crate::listed::write_list;
 use crate::objects::{accepted_json, refused_json, too_many_json, unread_json};
 use crate::refused::{refused_text, too_many_text};
 use crate::unread::unread_words;
 use crate::verdicts::{Verdict, verdict_on};
-use fault_texts::write_line;
+use descriptor_pool::DescriptorPool;
 use plain_data::{Items, Text};
 use pool_faults::DescriptorErrorKind;
 use proto_types::FileDescriptorProto;
-use record_walk::{CountKind, Counts};
+use record_walk::CountKind;
 use std::alloc::{AllocError, Global};
+use stored_pools::store;
 
-/// The verdict on the files of some inputs, linked as one batch, as text and as a status.
+/// The verdict on the files of some inputs, linked as one batch, as text and as a status, and what
+/// is wanted of an accepted batch besides. Where a name is to be told that means nothing in it, there
+/// is no verdict.
 ///
 /// # Errors
 /// `AllocError` where memory was refused.
 #[tactic(auto, using(crate::proofs::FilesIn::files_in_is))]
-pub fn check(alloc: Global, wanted: Wanted, inputs: &[Input]) -> Result<Answer, AllocError>
-    ensures { IfOk result (λ answer. answer ≡ spec.answer wanted inputs.now) }
+pub fn check(alloc: Global, wanted: &Wanted, inputs: &[Input]) -> Result<Answer, AllocError>
+    ensures { IfOk result (λ answer. answer ≡ spec.answer wanted.now inputs.now) }
 {
     match read_batch(alloc, inputs) {
         Ok(batch) => {
@@ -41,15 +47,15 @@ pub fn check(alloc: Global, wanted: Wanted, inputs: &[Input]) -> Result<Answer, 
 /// What is told of a verdict on the files of some inputs, which are decoded again for a refusal.
 fn tell_verdict(
     alloc: Global,
-    wanted: Wanted,
+    wanted: &Wanted,
     inputs: &[Input],
     verdict: &Verdict,
 ) -> Result<Answer, AllocError>
     ensures { IfOk result (λ answer. answer
-        ≡ spec.verdict_answer wanted (files_in inputs.now) verdict.now) }
+        ≡ spec.verdict_answer wanted.now (files_in inputs.now) verdict.now) }
 {
     match verdict {
-        Verdict::Accepted(counts) => tell_accepted(alloc, wanted, *counts),
+        Verdict::Accepted(pool) => tell_accepted(alloc, wanted, pool),
         Verdict::Refused(faults) => {
             let files = files_of(alloc, inputs)?;
             tell_refused(alloc, wanted, files.as_slice(), faults.as_slice())
@@ -77,28 +83,104 @@ fn told(alloc: Global, status: Status, report: String) -> Answer
         status,
         report: Text::from_string(report),
         complaint: Text::new(alloc),
+        linked: None,
     }
 }
 
-fn tell_accepted(alloc: Global, wanted: Wanted, counts: Counts) -> Result<Answer, AllocError>
-    ensures { IfOk result (λ answer. answer ≡ spec.accepted_answer wanted counts) }
+fn tell_accepted(
+    alloc: Global,
+    wanted: &Wanted,
+    pool: &DescriptorPool,
+) -> Result<Answer, AllocError>
+    ensures { IfOk result (λ answer. answer ≡ spec.accepted_answer wanted.now pool.now) }
 {
-    let report = if wanted.is_json {
-        accepted_json(alloc, counts)?
+    let complaint = unknown_names(alloc, pool, wanted.names.as_slice())?;
+    if !complaint.is_empty() {
+        return Ok(no_answer(String::new(alloc), complaint));
+    }
+    tell_pool(alloc, wanted, pool)
+}
+
+/// What is told of an accepted batch in which each name that is wanted means something.
+fn tell_pool(alloc: Global, wanted: &Wanted, pool: &DescriptorPool) -> Result<Answer, AllocError>
+    ensures { IfOk result (λ answer. answer ≡ spec.told_with Accepted
+        (spec.accepted_report wanted.now pool.now) (spec.linked_set wanted.now pool.now)) }
+{
+    let report = accepted_report(alloc, wanted, pool)?;
+    let report = Text::from_string(report);
+    let linked = linked_set(alloc, wanted, pool)?;
+    Ok(Answer {
+        status: Status::Accepted,
+        report,
+        complaint: Text::new(alloc),
+        linked,
+    })
+}
+
+/// What is told of an accepted batch.
+fn accepted_report(
+    alloc: Global,
+    wanted: &Wanted,
+    pool: &DescriptorPool,
+) -> Result<String, AllocError>
+    ensures { IfOk result (λ s. string_bytes s ≡ spec.accepted_report wanted.now pool.now) }
+{
+    if wanted.is_json {
+        accepted_json(alloc, pool.counts())
     } else {
-        accepted_text(alloc, counts)?
-    };
-    Ok(told(alloc, Status::Accepted, report))
+        accepted_lines(alloc, wanted, pool)
+    }
+}
+
+/// What is told of an accepted batch for people.
+fn accepted_lines(
+    alloc: Global,
+    wanted: &Wanted,
+    pool: &DescriptorPool,
+) -> Result<String, AllocError>
+    ensures { IfOk result (λ s. string_bytes s ≡ spec.accepted_lines wanted.now pool.now) }
+{
+    let mut text = String::new(alloc);
+    if wanted.lists {
+        write_list(alloc, &mut text, pool)?;
+    }
+    write_names(alloc, &mut text, pool, wanted.names.as_slice())?;
+    let counts = accepted_text(alloc, pool.counts())?;
+    text.push_str(counts.as_str())?;
+    Ok(text)
+}
+
+/// The set of the linked files of a pool, where it is wanted.
+fn linked_set(
+    alloc: Global,
+    wanted: &Wanted,
+    pool: &DescriptorPool,
+) -> Result<Option<LinkedSet>, AllocError>
+    ensures { IfOk result (λ set. set ≡ spec.linked_set wanted.now pool.now) }
+{
+    match &wanted.linked {
+        Some(name) => Ok(Some(set_for(alloc, name, pool)?)),
+        None => Ok(None),
+    }
+}
+
+/// The set of the linked files of a pool, for the file with a name.
+fn set_for(alloc: Global, name: &Text, pool: &DescriptorPool) -> Result<LinkedSet, AllocError>
+    ensures { IfOk result (λ set. set ≡ spec.set_for name.now pool.now) }
+{
+    let name = name.clone(alloc)?;
+    let bytes = Items::from_vec(store(alloc, pool)?);
+    Ok(LinkedSet { name, bytes })
 }
 
 fn tell_refused(
     alloc: Global,
-    wanted: Wanted,
+    wanted: &Wanted,
     files: &[FileDescriptorProto],
     faults: &[DescriptorErrorKind],
 ) -> Result<Answer, AllocError>
     ensures { IfOk result (λ answer. answer
-        ≡ spec.refused_answer wanted files.now faults.now) }
+        ≡ spec.refused_answer wanted.now files.now faults.now) }
 {
     let report = if wanted.is_json {
         refused_json(alloc, files, wanted.most, faults)?
@@ -108,8 +190,8 @@ fn tell_refused(
     Ok(told(alloc, Status::Refused, report))
 }
 
-fn tell_too_many(alloc: Global, wanted: Wanted, kind: CountKind) -> Result<Answer, AllocError>
-    ensures { IfOk result (λ answer. answer ≡ spec.too_many_answer wanted kind) }
+fn tell_too_many(alloc: Global, wanted: &Wanted, kind: CountKind) -> Result<Answer, AllocError>
+    ensures { IfOk result (λ answer. answer ≡ spec.too_many_answer wanted.now kind) }
 {
     let report = if wanted.is_json {
         too_many_json(alloc, kind)?
@@ -119,8 +201,8 @@ fn tell_too_many(alloc: Global, wanted: Wanted, kind: CountKind) -> Result<Answe
     Ok(told(alloc, Status::Refused, report))
 }
 
-fn tell_unread(alloc: Global, wanted: Wanted, input: &NotASet) -> Result<Answer, AllocError>
-    ensures { IfOk result (λ answer. answer ≡ spec.unread_answer wanted input.now) }
+fn tell_unread(alloc: Global, wanted: &Wanted, input: &NotASet) -> Result<Answer, AllocError>
+    ensures { IfOk result (λ answer. answer ≡ spec.unread_answer wanted.now input.now) }
 {
     let words = unread_words(alloc, input)?;
     let report = if wanted.is_json {
@@ -128,11 +210,9 @@ fn tell_unread(alloc: Global, wanted: Wanted, input: &NotASet) -> Result<Answer,
     } else {
         String::new(alloc)
     };
-    Ok(Answer {
-        status: Status::NoVerdict,
-        report: Text::from_string(report),
-        complaint: complaint(alloc, words.as_str())?,
-    })
+    let mut complaint = String::new(alloc);
+    write_complaint(alloc, &mut complaint, words.as_str())?;
+    Ok(no_answer(report, complaint))
 }
 
 /// The answer that tells a text, whatever the inputs.
@@ -143,47 +223,4 @@ pub fn tell(alloc: Global, words: &str) -> Result<Answer, AllocError>
     ensures { IfOk result (λ answer. answer ≡ spec.told Accepted words.now) }
 {
     Ok(told(alloc, Status::Accepted, String::from_str(alloc, words)?))
-}
-
-/// The answer where there is no verdict, and why.
-///
-/// # Errors
-/// `AllocError` where memory was refused.
-pub fn complain(alloc: Global, words: &str) -> Result<Answer, AllocError>
-    ensures { IfOk result (λ answer. answer ≡ spec.no_verdict words.now) }
-{
-    Ok(Answer {
-        status: Status::NoVerdict,
-        report: Text::new(alloc),
-        complaint: complaint(alloc, words)?,
-    })
-}
-
-/// The answer to wrong arguments: why they are, and those that there are.
-///
-/// # Errors
-/// `AllocError` where memory was refused.
-pub fn complain_of_arguments(alloc: Global, words: &str) -> Result<Answer, AllocError>
-    ensures { IfOk result (λ answer. answer ≡ spec.wrong_arguments words.now) }
-{
-    let line = complaint(alloc, words)?;
-    let line = line.as_str();
-    let complaint = format!(in alloc;
-        "{line}usage: check_descriptors [--json] [--max-faults N] FILE...\n"
-    )?;
-    Ok(Answer {
-        status: Status::NoVerdict,
-        report: Text::new(alloc),
-        complaint: Text::from_string(complaint),
-    })
-}
-
-/// A line of the program's for the standard error.
-fn complaint(alloc: Global, words: &str) -> Result<Text, AllocError>
-    ensures { IfOk result (λ text. text ≡ spec.complaint words.now) }
-{
-    let mut text = String::new(alloc);
-    let words = format!(in alloc; "check_descriptors: {words}")?;
-    write_line(&mut text, words.as_str())?;
-    Ok(Text::from_string(text))
 }

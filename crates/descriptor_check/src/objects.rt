@@ -4,11 +4,12 @@ ghost use Rattle.std.specs.Prelude.{◌≡◌, IfOk, string_bytes};
 ghost use Rattle.descriptor_check.specs.Objects as spec;
 
 use crate::accepted::json_counts;
-use crate::refused::{count_word, first_faults, json_faults};
+use crate::refused::{first_faults, json_faults};
 use json_strings::json_string;
 use pool_faults::DescriptorErrorKind;
 use proto_types::FileDescriptorProto;
 use record_walk::{CountKind, Counts};
+use script_answers::count_word;
 use std::alloc::{AllocError, Global};
 
 /// An object: its first members, its faults, and its last members.

@@ -11,6 +11,7 @@ use fault_texts::{json_fault, write_fault_lines};
 use pool_faults::DescriptorErrorKind;
 use proto_types::FileDescriptorProto;
 use record_walk::CountKind;
+use script_answers::count_word;
 use std::alloc::{AllocError, Global};
 use std::collections::BTreeSet;
 
@@ -168,20 +169,6 @@ pub(crate) fn json_faults(
             write_further(alloc, &mut text, files, rest)?;
             Ok(text)
         }
-    }
-}
-
-/// The word for what there is too much of.
-pub(crate) fn count_word(kind: CountKind) -> &'static str
-    ensures { result.now ≡ spec.count_word kind }
-{
-    match kind {
-        CountKind::ListTooLong => "lists",
-        CountKind::Files => "files",
-        CountKind::Messages => "messages",
-        CountKind::Enums => "enums",
-        CountKind::Services => "services",
-        CountKind::Extensions => "extensions",
     }
 }
 

@@ -27,6 +27,14 @@ plain_char c = if is_hidden c then unit_escape c else encode_utf8 c
 unfoldable pub line : List ℕ → List ℕ
 line text = flat_map plain_char (chars text) ++ 10 ∷ []
 
+-- what is printed for a character of several lines
+abbrev pub char_of_lines : ℕ → List ℕ
+char_of_lines c = if c == 10 then 10 ∷ [] else plain_char c
+
+-- lines, each with its end
+unfoldable pub lines : List ℕ → List ℕ
+lines text = flat_map char_of_lines (chars text)
+
 -- whether a text's last byte is a line feed, and no other is one
 abbrev pub ends_once : List ℕ → Bool
 ends_once [] = false

@@ -14,7 +14,7 @@ mod remedies;
 pub use elements::{element_of, file_named};
 pub use json_faults::json_fault;
 pub use kinds::{fault_code, related_label};
-pub use lines::write_line;
+pub use lines::{write_line, write_lines};
 pub use notes::note;
 pub use plain_faults::write_fault_lines;
 pub use remedies::remedy;

@@ -20,6 +20,31 @@ pub fn write_line(text: &mut String, line: &str) -> Result<(), AllocError>
     text.push('\n')
 }
 
+/// Writes lines. What a terminal would obey or hide in them is written as an escape, but for line
+/// feeds.
+///
+/// # Errors
+/// `AllocError` where memory was refused.
+pub fn write_lines(text: &mut String, lines: &str) -> Result<(), AllocError>
+    ensures { OnOk result (string_bytes text.new ≡ string_bytes text.old ++ spec.lines lines.now) }
+{
+    for c in lines.chars() {
+        write_char_of_lines(text, c)?;
+    }
+    Ok(())
+}
+
+/// Writes a character of lines: as a line's end, as it is, or as an escape.
+fn write_char_of_lines(text: &mut String, c: char) -> Result<(), AllocError>
+    ensures { OnOk result (string_bytes text.new ≡ string_bytes text.old ++ spec.char_of_lines c) }
+{
+    if c == '\n' {
+        text.push('\n')
+    } else {
+        write_plain_char(text, c)
+    }
+}
+
 /// Whether a terminal would obey a character, or hide it.
 fn is_hidden(c: char) -> bool
     ensures { result ≡ spec.is_hidden c }

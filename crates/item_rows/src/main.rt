@@ -13,5 +13,5 @@ use row_files::run_rows;
 use std::process::ExitCode;
 
 fn main(rt: HostRuntime) -> ExitCode {
-    run_rows::<Row>(&rt)
+    run_rows::<Row>(&rt, "script")
 }

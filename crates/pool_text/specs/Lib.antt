@@ -1,4 +1,5 @@
 pub mod Words
 pub mod Values
 pub mod Items
+pub mod Named
 pub mod Faults

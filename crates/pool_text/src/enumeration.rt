@@ -1,13 +1,14 @@
 //! The enums of a pool.
 
-ghost use Rattle.std.specs.Prelude.{◌≡◌, ◌++◌, OnOk, string_bytes};
+ghost use Rattle.std.specs.Prelude.{◌≡◌, ◌++◌, [], OnOk, slice_get, string_bytes};
 ghost use Rattle.std.specs.List.{flat_map};
+ghost use Rattle.std.specs.Option.{option_map_or};
 ghost use Rattle.pool_text.specs.Items as spec;
 
 use crate::head::{head_line, write_parent};
 use crate::words::{alone, place_words};
 use descriptor_pool::DescriptorPool;
-use pool_types::{EnumDescriptorInner, EnumValueDescriptorInner};
+use pool_types::{EnumDescriptor, EnumDescriptorInner, EnumValueDescriptorInner};
 use std::alloc::{AllocError, Global};
 use std::fmt::Write;
 
@@ -24,6 +25,22 @@ pub(super) fn write_enums(
         write_enum(text, alloc, pool, enumeration)?;
     }
     Ok(())
+}
+
+/// Tells the enum with an index, where there is one.
+pub(super) fn write_enum_at(
+    text: &mut String,
+    alloc: Global,
+    pool: &DescriptorPool,
+    index: u32,
+) -> Result<(), AllocError>
+    ensures { OnOk result (string_bytes text.new ≡ string_bytes text.old
+        ++ option_map_or (spec.enum_text pool.now) (slice_get pool.now.enums index) []) }
+{
+    match pool.enum_(EnumDescriptor::new(index)) {
+        Some(enumeration) => write_enum(text, alloc, pool, enumeration),
+        None => Ok(()),
+    }
 }
 
 /// Tells an enum and its values.

@@ -1,13 +1,14 @@
 //! The extensions of a pool.
 
-ghost use Rattle.std.specs.Prelude.{◌≡◌, ◌++◌, IfOk, OnOk, string_bytes};
+ghost use Rattle.std.specs.Prelude.{◌≡◌, ◌++◌, [], IfOk, OnOk, slice_get, string_bytes};
+ghost use Rattle.std.specs.Option.{option_map_or};
 ghost use Rattle.pool_text.specs.Items as spec;
 
 use crate::head::{head_line, write_parent};
 use crate::values::default_words;
 use crate::words::{alone, flag_words, message_name, type_words, written_words};
 use descriptor_pool::DescriptorPool;
-use pool_types::ExtensionDescriptorInner;
+use pool_types::{ExtensionDescriptor, ExtensionDescriptorInner};
 use std::alloc::{AllocError, Global};
 
 /// Tells all extensions of a pool.
@@ -23,6 +24,22 @@ pub(super) fn write_extensions(
         write_extension(text, alloc, pool, extension)?;
     }
     Ok(())
+}
+
+/// Tells the extension with an index, where there is one.
+pub(super) fn write_extension_at(
+    text: &mut String,
+    alloc: Global,
+    pool: &DescriptorPool,
+    index: u32,
+) -> Result<(), AllocError>
+    ensures { OnOk result (string_bytes text.new ≡ string_bytes text.old
+        ++ option_map_or (spec.extension_text pool.now) (slice_get pool.now.extensions index) []) }
+{
+    match pool.extension(ExtensionDescriptor::new(index)) {
+        Some(extension) => write_extension(text, alloc, pool, extension),
+        None => Ok(()),
+    }
 }
 
 /// Tells an extension: where it is declared, what it extends, and what it is as a field.

@@ -23,7 +23,7 @@ pub(super) fn write_files(text: &mut String, pool: &DescriptorPool) -> Result<()
 }
 
 /// Tells a file, what it imports and what it sees.
-fn write_file(
+pub(super) fn write_file(
     text: &mut String,
     pool: &DescriptorPool,
     file: &FileDescriptorInner,

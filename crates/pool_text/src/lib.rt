@@ -9,6 +9,8 @@ mod field;
 mod file;
 mod head;
 mod message;
+mod named;
+mod ranges;
 mod service;
 mod values;
 mod words;
@@ -18,6 +20,7 @@ ghost use Rattle.pool_text.specs.Items.{pool_text};
 
 use descriptor_pool::DescriptorPool;
 pub use faults::faults_text;
+pub use named::describe_name;
 use std::alloc::{AllocError, Global};
 
 /// All that a pool has, as a text: its files, messages, enums, services and extensions, each kind

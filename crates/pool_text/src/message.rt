@@ -31,7 +31,7 @@ pub(super) fn write_messages(
 }
 
 /// Tells a message, its oneofs, its fields, and what extends it.
-fn write_message(
+pub(super) fn write_message(
     text: &mut String,
     alloc: Global,
     pool: &DescriptorPool,

@@ -1,13 +1,14 @@
 //! The services of a pool.
 
-ghost use Rattle.std.specs.Prelude.{◌≡◌, ◌++◌, OnOk, string_bytes};
+ghost use Rattle.std.specs.Prelude.{◌≡◌, ◌++◌, [], OnOk, slice_get, string_bytes};
 ghost use Rattle.std.specs.List.{flat_map};
+ghost use Rattle.std.specs.Option.{option_map_or};
 ghost use Rattle.pool_text.specs.Items as spec;
 
 use crate::head::head_line;
 use crate::words::{alone, message_name, place_words};
 use descriptor_pool::DescriptorPool;
-use pool_types::{MethodDescriptorInner, ServiceDescriptorInner};
+use pool_types::{MethodDescriptorInner, ServiceDescriptor, ServiceDescriptorInner};
 use std::alloc::{AllocError, Global};
 use std::fmt::Write;
 
@@ -24,6 +25,22 @@ pub(super) fn write_services(
         write_service(text, alloc, pool, service)?;
     }
     Ok(())
+}
+
+/// Tells the service with an index, where there is one.
+pub(super) fn write_service_at(
+    text: &mut String,
+    alloc: Global,
+    pool: &DescriptorPool,
+    index: u32,
+) -> Result<(), AllocError>
+    ensures { OnOk result (string_bytes text.new ≡ string_bytes text.old
+        ++ option_map_or (spec.service_text pool.now) (slice_get pool.now.services index) []) }
+{
+    match pool.service(ServiceDescriptor::new(index)) {
+        Some(service) => write_service(text, alloc, pool, service),
+        None => Ok(()),
+    }
 }
 
 /// Tells a service and its methods.

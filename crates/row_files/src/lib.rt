@@ -1,5 +1,5 @@
-//! Rows of tests as files: finds them, runs each, and tells what differs. A row is some files of a
-//! folder in the folder that this runs in: NAME.script, and what is wanted of it.
+//! Rows of tests as files: finds them, runs each, and tells what differs. A row is some files of one
+//! name, as NAME.script and NAME.status, of a folder in the folder that this runs in.
 #![tactic(auto)]
 
 mod difference;
@@ -7,5 +7,5 @@ mod files;
 mod run;
 
 pub use difference::tell_difference;
-pub use files::read;
+pub use files::{read, read_if_there, status_wanted};
 pub use run::{Trial, run_rows};

@@ -14,10 +14,10 @@ pub trait Trial: Sized + Drop {
     fn tell_difference(&self, rt: &HostRuntime) -> io::Result<()>;
 }
 
-/// Runs all rows, and tells a line of each. The exit status is 0 where all are as wanted, 1 where
+/// Runs all rows, each of which has a part, as `script`, and tells a line of each. The exit status is 0 where all are as wanted, 1 where
 /// one differs, and 2 where there is no row or a file can't be read.
-pub fn run_rows<T: Trial>(rt: &HostRuntime) -> ExitCode {
-    match count_differing::<T>(rt) {
+pub fn run_rows<T: Trial>(rt: &HostRuntime, part: &str) -> ExitCode {
+    match count_differing::<T>(rt, part) {
         Ok(0) => ExitCode::from(0),
         Ok(_) => ExitCode::from(1),
         Err(error) => {
@@ -28,10 +28,10 @@ pub fn run_rows<T: Trial>(rt: &HostRuntime) -> ExitCode {
 }
 
 /// Runs all rows, and says how many differ from what is wanted.
-fn count_differing<T: Trial>(rt: &HostRuntime) -> io::Result<u64> {
+fn count_differing<T: Trial>(rt: &HostRuntime, part: &str) -> io::Result<u64> {
     let mut rows = 0u64;
     let mut differing = 0u64;
-    let names = row_names(rt)?;
+    let names = row_names(rt, part)?;
     for name in names.as_slice() {
         if !run_row::<T>(rt, name.as_str())? {
             differing = differing.saturating_add(1);

@@ -18,8 +18,8 @@ use record_walk::{CountKind, Counts, Declaration, DeclarationKind, walk};
 use std::alloc::{AllocError, Global};
 use std::fmt;
 
-/// A name printed alone.
-fn alone(name: &str) -> &str
+/// A name printed alone: two quotes where it is empty.
+pub fn alone(name: &str) -> &str
     ensures { result.now ≡ spec.alone name.now }
 {
     if name.is_empty() { "''" } else { name }
@@ -50,8 +50,8 @@ impl fmt::Display for KindWords {
     }
 }
 
-/// The word for what there is too much of.
-fn count_word(kind: CountKind) -> &'static str
+/// The word for what there is too much of, in the plural.
+pub fn count_word(kind: CountKind) -> &'static str
     ensures { result.now ≡ spec.count_word kind }
 {
     match kind {
@@ -160,7 +160,7 @@ pub fn write_none(report: &mut String) -> Result<(), AllocError>
 }
 
 /// The word for a kind of declaration.
-fn declared_word(kind: DeclarationKind) -> &'static str
+pub fn declared_word(kind: DeclarationKind) -> &'static str
     ensures { result.now ≡ spec.declared_word kind }
 {
     match kind {

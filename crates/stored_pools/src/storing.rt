@@ -52,8 +52,12 @@ pub fn load(alloc: Global, bytes: &[u8]) -> Result<DescriptorPool, LoadError>
     }
 }
 
-/// The pool of the files of a set.
-fn link(alloc: Global, set: FileDescriptorSet) -> Result<DescriptorPool, BuildError>
+/// The pool of the files of a set, linked at once.
+///
+/// # Errors
+/// `TooMany` and `Descriptor` where the files are too many, or break rules, with all faults of the
+/// first failing pass; `OutOfMemory` where memory was refused.
+pub fn link(alloc: Global, set: FileDescriptorSet) -> Result<DescriptorPool, BuildError>
     ensures { AreLinked set.file result }
 {
     let mut pool = DescriptorPool::new(alloc);

@@ -1,0 +1,28 @@
+-- What is told where there is no verdict.
+use Rattle.std.specs.Prelude.{ℕ, List, [], ◌++◌, codes}
+use Rattle.std.specs.declared.option.Option.TheVariants.{None}
+use Rattle.fault_texts.specs.Lines.{line}
+use Rattle.descriptor_check.specs.declared.answer.Answer.{Answer}
+use Rattle.descriptor_check.specs.declared.answer.Status.TheVariants as status
+
+-- a line of the program's for the standard error
+abbrev pub complaint : List ℕ → List ℕ
+complaint words = line (codes "check_descriptors: " ++ words)
+
+-- no verdict, with what is written to the two outputs
+abbrev pub no_answer : List ℕ → List ℕ → Answer
+no_answer report complaint =
+    record { status = status.NoVerdict; report = report; complaint = complaint; linked = None }
+
+-- no verdict, and why
+abbrev pub no_verdict : List ℕ → Answer
+no_verdict words = no_answer [] (complaint words)
+
+-- the arguments that there are
+abbrev pub usage : List ℕ
+usage = codes "usage: check_descriptors [--json] [--max-faults N] [--linked OUT] FILE...\n"
+    ++ codes "       check_descriptors [--list] [--describe NAME]... [--linked OUT] FILE...\n"
+
+-- no verdict since arguments are wrong, and why, with those that there are
+abbrev pub wrong_arguments : List ℕ → Answer
+wrong_arguments words = no_answer [] (complaint words ++ usage)
