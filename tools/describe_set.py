@@ -31,7 +31,7 @@ from collections.abc import Iterator
 from pathlib import Path
 from typing import TYPE_CHECKING
 
-from descriptor_script import (
+from descriptors_to_script import (
     COUNTED_KINDS,
     Element,
     ScriptWriter,
@@ -41,7 +41,6 @@ from descriptor_script import (
     script_bytes,
     write_output,
 )
-from descriptors_to_script import refuse_default
 
 if TYPE_CHECKING:
     from google.protobuf.descriptor import Descriptor, FieldDescriptor, FileDescriptor
@@ -239,7 +238,7 @@ def parent(message: Descriptor) -> Iterator[str]:
 
 def script_lines(files: list[FileDescriptorProto]) -> Iterator[str]:
     """The script of a row."""
-    writer = ScriptWriter(refuse_default)
+    writer = ScriptWriter()
     for file in files:
         yield from writer.file(file, ())
     yield "link"

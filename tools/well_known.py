@@ -39,7 +39,7 @@ from functools import lru_cache
 from pathlib import Path
 from typing import TYPE_CHECKING
 
-from descriptor_script import (
+from descriptors_to_script import (
     COUNTED_KINDS,
     Element,
     ScriptWriter,
@@ -50,7 +50,6 @@ from descriptor_script import (
     source_locations,
     write_output,
 )
-from descriptors_to_script import refuse_default
 
 if TYPE_CHECKING:
     from google.protobuf.descriptor_pb2 import FileDescriptorProto
@@ -187,7 +186,7 @@ class Report:
 
 def script_lines(files: list[FileDescriptorProto]) -> Iterator[str]:
     """The script."""
-    writer = ScriptWriter(refuse_default)
+    writer = ScriptWriter()
     for file in files:
         yield from writer.file(file, source_locations(file))
     yield from COMMANDS
