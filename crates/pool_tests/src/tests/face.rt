@@ -1,7 +1,7 @@
 //! Each name of the face `pool_parts`: where one is lost, this is not compiled.
 
 use pool_parts::{
-    CandidateParents, Cardinality, DefaultValue, Definition, DefinitionKind, DescriptorError,
+    AllFaults, CandidateParents, Cardinality, DefaultValue, Definition, DefinitionKind, DescriptorError,
     DescriptorErrorKind, EnumDescriptor, EnumDescriptorInner, EnumValueDescriptor,
     EnumValueDescriptorInner, EscapeFault, ExtensionDescriptor, ExtensionDescriptorInner,
     FieldDescriptor, FieldDescriptorInner, FieldLabel, FieldType, FileDescriptor,
