@@ -5,11 +5,9 @@
 mod shop;
 
 use descriptor_linker::{
-    BuildError, DefinitionKind, DescriptorPool, FileDescriptorProto, KindIndex, MessageDescriptor,
-    MessageDescriptorInner,
+    AllFaults, BuildError, DescriptorPool, EnumDescriptor, EnumValueDescriptor, FileDescriptor,
+    FileDescriptorProto, KindIndex, MessageDescriptor, MessageDescriptorInner,
 };
-use pool_parts::EnumDescriptor;
-use proto_records::Labelled;
 use std::alloc::{AllocError, Global};
 use std::io;
 
@@ -19,9 +17,7 @@ fn main(rt: HostRuntime) -> io::Result<()> {
     let mut pool = DescriptorPool::new(alloc);
     link(alloc, &mut report, &mut pool, shop::file(alloc, "Statuss")?)?;
     link(alloc, &mut report, &mut pool, shop::file(alloc, "Status")?)?;
-    if let Some(message) = message_named(&pool, "shop.Order") {
-        write_message(&mut report, &pool, message)?;
-    }
+    write_file(&mut report, &pool, "shop.proto")?;
     print!(rt; "{report}")
 }
 
@@ -38,22 +34,38 @@ fn link(
         Ok(()) => writeln!(report, "linked"),
         Err(BuildError::TooMany(kind)) => writeln!(report, "too many: {kind:?}"),
         Err(BuildError::Descriptor(error)) => {
-            for fault in error.errors() {
-                let line = Labelled(fault);
-                writeln!(report, "{line}")?;
-            }
-            Ok(())
+            let faults = AllFaults(&error);
+            writeln!(report, "{faults}")
         }
         Err(BuildError::OutOfMemory) => Err(AllocError),
     }
 }
 
-/// The message of a full name, if it is one.
-fn message_named<'a>(pool: &'a DescriptorPool, name: &str) -> Option<&'a MessageDescriptorInner> {
-    match pool.get_by_name(name)?.kind {
-        DefinitionKind::Message(index) => pool.message(MessageDescriptor::new(index)),
-        _ => None,
+/// Tells the file of a name, and what stands in it.
+fn write_file(report: &mut String, pool: &DescriptorPool, name: &str) -> Result<(), AllocError> {
+    match pool.get_file_by_name(name) {
+        Some(file) => {
+            writeln!(report, "file {name}")?;
+            write_messages(report, pool, file)?;
+            write_enums(report, pool, file)
+        }
+        None => writeln!(report, "no file {name}"),
     }
+}
+
+/// Tells the messages of a file that stand in no other.
+fn write_messages(
+    report: &mut String,
+    pool: &DescriptorPool,
+    file: FileDescriptor,
+) -> Result<(), AllocError> {
+    for message in pool.file_messages(file) {
+        if let Some(message) = pool.message(message) {
+            write_message(report, pool, message)?;
+            write_numbered(report, message, 3)?;
+        }
+    }
+    Ok(())
 }
 
 /// Tells a message and its fields, each with its number and its kind.
@@ -64,7 +76,7 @@ fn write_message(
 ) -> Result<(), AllocError> {
     let name = message.id.full_name();
     writeln!(report, "message {name}")?;
-    for field in message.fields.as_slice() {
+    for field in &message.fields {
         let (name, number) = (field.id.name(), field.number);
         let (cardinality, kind) = (field.cardinality, field.kind);
         match type_name(pool, kind) {
@@ -73,6 +85,21 @@ fn write_message(
         }
     }
     Ok(())
+}
+
+/// Tells which field of a message has a number, as who reads its bytes has to know.
+fn write_numbered(
+    report: &mut String,
+    message: &MessageDescriptorInner,
+    number: u32,
+) -> Result<(), AllocError> {
+    match message.get_field(number) {
+        Some(field) => {
+            let name = field.id.name();
+            writeln!(report, "  number {number}: {name}")
+        }
+        None => writeln!(report, "  number {number}: none"),
+    }
 }
 
 /// The full name of the message or the enum that a kind is.
@@ -84,4 +111,40 @@ fn type_name(pool: &DescriptorPool, kind: KindIndex) -> Option<&str> {
         KindIndex::Enum(index) => Some(pool.enum_(EnumDescriptor::new(index))?.id.full_name()),
         _ => None,
     }
+}
+
+/// Tells the enums of a file that stand in no message.
+fn write_enums(
+    report: &mut String,
+    pool: &DescriptorPool,
+    file: FileDescriptor,
+) -> Result<(), AllocError> {
+    for enumeration in pool.file_enums(file) {
+        write_enum(report, pool, enumeration)?;
+    }
+    Ok(())
+}
+
+/// Tells an enum and its first value, which a field has where none is given.
+fn write_enum(
+    report: &mut String,
+    pool: &DescriptorPool,
+    enumeration: EnumDescriptor,
+) -> Result<(), AllocError> {
+    let first = EnumValueDescriptor::new(enumeration, 0);
+    match full_names(pool, enumeration, first) {
+        Some((name, first)) => writeln!(report, "enum {name}: {first}"),
+        None => Ok(()),
+    }
+}
+
+/// The full names of an enum and of one of its values.
+fn full_names(
+    pool: &DescriptorPool,
+    enumeration: EnumDescriptor,
+    value: EnumValueDescriptor,
+) -> Option<(&str, &str)> {
+    let enumeration = pool.enum_(enumeration)?;
+    let value = pool.value(value)?;
+    Some((enumeration.id.full_name(), value.id.full_name()))
 }

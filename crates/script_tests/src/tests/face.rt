@@ -1,25 +1,106 @@
 //! Each name of the face `descriptor_linker`: where one is lost, this is not compiled.
 
-use descriptor_linker::laws::{
-    dot_says_nothing, earlier_stays, prefixes, relink, reorder, seen_names_stand, split,
-};
-use descriptor_linker::{
-    Block, BuildError, Cardinality, CountKind, Counts, DefaultValue, Definition, DefinitionKind,
-    DescriptorError, DescriptorErrorKind, DescriptorPool, DescriptorProto, Ending, EnumDescriptor,
-    EnumDescriptorInner, EnumDescriptorProto, EnumOptions, EnumReservedRange, EnumValueDescriptor,
-    EnumValueDescriptorInner, EnumValueDescriptorProto, ExtensionDescriptor,
-    ExtensionDescriptorInner, ExtensionRange, Faults, FieldDescriptor, FieldDescriptorInner,
-    FieldDescriptorProto, FieldLabel, FieldOptions, FieldType, FileDescriptor, FileDescriptorInner,
-    FileDescriptorProto, FileNames, Identity, Items, Keyword, Kind, KindIndex, Label, Labelled,
-    Labels, Location, MemoryInput, MemoryOutput, MessageDescriptor, MessageDescriptorInner,
-    MethodDescriptor, MethodDescriptorInner, MethodDescriptorProto, NameTable, NameVisitor,
-    NewItems, NumberMap, OneofDescriptor, OneofDescriptorInner, OneofDescriptorProto, Open,
-    Options, PartNames, Path, PoolNames, ReaderInput, RecordBuilder, Report, ReportOutput,
-    ReservedRange, ResolveVisitor, Scope, Script, ScriptError, ScriptFault, ScriptInput,
-    ScriptReader, ServiceDescriptor, ServiceDescriptorInner, ServiceDescriptorProto,
-    SourceCodeInfo, Statement, Syntax, Text, TextMap, Unread, Visitor, WriterOutput, files_of,
-    read_script, report_of, run,
-};
+use descriptor_linker::AllFaults;
+use descriptor_linker::Block;
+use descriptor_linker::BuildError;
+use descriptor_linker::Cardinality;
+use descriptor_linker::CountKind;
+use descriptor_linker::Counts;
+use descriptor_linker::Declared;
+use descriptor_linker::DefaultValue;
+use descriptor_linker::Definition;
+use descriptor_linker::DefinitionKind;
+use descriptor_linker::DescriptorError;
+use descriptor_linker::DescriptorErrorKind;
+use descriptor_linker::DescriptorPool;
+use descriptor_linker::DescriptorProto;
+use descriptor_linker::Ending;
+use descriptor_linker::EnumDescriptor;
+use descriptor_linker::EnumDescriptorInner;
+use descriptor_linker::EnumDescriptorProto;
+use descriptor_linker::EnumOptions;
+use descriptor_linker::EnumReservedRange;
+use descriptor_linker::EnumValueDescriptor;
+use descriptor_linker::EnumValueDescriptorInner;
+use descriptor_linker::EnumValueDescriptorProto;
+use descriptor_linker::ExtensionDescriptor;
+use descriptor_linker::ExtensionDescriptorInner;
+use descriptor_linker::ExtensionRange;
+use descriptor_linker::Faults;
+use descriptor_linker::FieldDescriptor;
+use descriptor_linker::FieldDescriptorInner;
+use descriptor_linker::FieldDescriptorProto;
+use descriptor_linker::FieldLabel;
+use descriptor_linker::FieldOptions;
+use descriptor_linker::FieldType;
+use descriptor_linker::FileDescriptor;
+use descriptor_linker::FileDescriptorInner;
+use descriptor_linker::FileDescriptorProto;
+use descriptor_linker::FileNames;
+use descriptor_linker::Identity;
+use descriptor_linker::Items;
+use descriptor_linker::Keyword;
+use descriptor_linker::Kind;
+use descriptor_linker::KindIndex;
+use descriptor_linker::Label;
+use descriptor_linker::Labelled;
+use descriptor_linker::Labels;
+use descriptor_linker::Location;
+use descriptor_linker::Members;
+use descriptor_linker::MemoryInput;
+use descriptor_linker::MemoryOutput;
+use descriptor_linker::MessageDescriptor;
+use descriptor_linker::MessageDescriptorInner;
+use descriptor_linker::MethodDescriptor;
+use descriptor_linker::MethodDescriptorInner;
+use descriptor_linker::MethodDescriptorProto;
+use descriptor_linker::NameTable;
+use descriptor_linker::NameVisitor;
+use descriptor_linker::NewItems;
+use descriptor_linker::NumberMap;
+use descriptor_linker::OneofDescriptor;
+use descriptor_linker::OneofDescriptorInner;
+use descriptor_linker::OneofDescriptorProto;
+use descriptor_linker::Open;
+use descriptor_linker::Options;
+use descriptor_linker::Parent;
+use descriptor_linker::PartNames;
+use descriptor_linker::Path;
+use descriptor_linker::PoolNames;
+use descriptor_linker::ReaderInput;
+use descriptor_linker::RecordBuilder;
+use descriptor_linker::Report;
+use descriptor_linker::ReportOutput;
+use descriptor_linker::ReservedRange;
+use descriptor_linker::ResolveVisitor;
+use descriptor_linker::Scope;
+use descriptor_linker::Script;
+use descriptor_linker::ScriptError;
+use descriptor_linker::ScriptFault;
+use descriptor_linker::ScriptInput;
+use descriptor_linker::ScriptReader;
+use descriptor_linker::ServiceDescriptor;
+use descriptor_linker::ServiceDescriptorInner;
+use descriptor_linker::ServiceDescriptorProto;
+use descriptor_linker::SourceCodeInfo;
+use descriptor_linker::Statement;
+use descriptor_linker::Syntax;
+use descriptor_linker::Text;
+use descriptor_linker::TextMap;
+use descriptor_linker::Unread;
+use descriptor_linker::Visitor;
+use descriptor_linker::WriterOutput;
+use descriptor_linker::files_of;
+use descriptor_linker::laws::dot_says_nothing;
+use descriptor_linker::laws::earlier_stays;
+use descriptor_linker::laws::prefixes;
+use descriptor_linker::laws::relink;
+use descriptor_linker::laws::reorder;
+use descriptor_linker::laws::seen_names_stand;
+use descriptor_linker::laws::split;
+use descriptor_linker::read_script;
+use descriptor_linker::report_of;
+use descriptor_linker::run;
 use std::test::Fail;
 
 #[test]
