@@ -1,8 +1,8 @@
 //! Each name of the face `pool_parts`: where one is lost, this is not compiled.
 
 use pool_parts::{
-    AllFaults, CandidateParents, Cardinality, DefaultValue, Definition, DefinitionKind, DescriptorError,
-    DescriptorErrorKind, EnumDescriptor, EnumDescriptorInner, EnumValueDescriptor,
+    AllFaults, CandidateParents, Cardinality, DefaultValue, Definition, DefinitionKind,
+    DescriptorError, DescriptorErrorKind, EnumDescriptor, EnumDescriptorInner, EnumValueDescriptor,
     EnumValueDescriptorInner, EscapeFault, ExtensionDescriptor, ExtensionDescriptorInner,
     FieldDescriptor, FieldDescriptorInner, FieldLabel, FieldType, FileDescriptor,
     FileDescriptorInner, FileDescriptorProto, FileNames, HashedNames, Identity, Items, Kind,
