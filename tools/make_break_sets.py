@@ -39,7 +39,12 @@ MONEY = "shop/money.proto"
 ITEM = "shop/item.proto"
 ORDER = "shop/order.proto"
 SHELF = "depot/shelf.proto"
+CRATE = "depot/crate.proto"
 LABEL = "depot/label.proto"
+MARKS = "depot/marks.proto"
+PARCEL = "depot/parcel.proto"
+ROUTES = "depot/routes.proto"
+STAMPS = "depot/stamps.proto"
 DESCRIPTOR = "google/protobuf/descriptor.proto"
 
 MEND_NAME = "mend the name, or give and import the file that declares it"
@@ -108,6 +113,7 @@ ROOTS = {
     "item": [MONEY, ITEM],
     "order": [MONEY, ITEM, ORDER],
     "shelf": [MONEY, ITEM, SHELF],
+    "crate": [CRATE],
 }
 COUNTS = {
     "money": "1 file, 1 message, 1 enum, 0 services, 0 extensions",
@@ -344,20 +350,29 @@ ROWS.append(
 )
 
 
-def without_marks(records: Records) -> None:
+def without_import(file: str) -> Callable[[Records], None]:
     """Takes away the import of an option, which is unread. Of descriptor.proto the source goes."""
-    records[LABEL].ClearField("dependency")
-    records[DESCRIPTOR].ClearField("source_code_info")
+
+    def change(records: Records) -> None:
+        records[file].ClearField("dependency")
+        records[DESCRIPTOR].ClearField("source_code_info")
+
+    return change
 
 
-ROWS.append(
-    Row(
-        "import-gone-of-an-option",
-        [DESCRIPTOR, "depot/marks.proto", LABEL],
-        without_marks,
-        accepted="3 files, 28 messages, 6 enums, 0 services, 1 extension",
+for name, declaring, file, counts in (
+    ("import-gone-of-an-option", MARKS, LABEL, "0 services, 1 extension"),
+    ("import-gone-of-an-option-of-a-message", STAMPS, PARCEL, "0 services, 2 extensions"),
+    ("import-gone-of-an-option-of-a-method", STAMPS, ROUTES, "1 service, 2 extensions"),
+):
+    ROWS.append(
+        Row(
+            name,
+            [DESCRIPTOR, declaring, file],
+            without_import(file),
+            accepted=f"3 files, 28 messages, 6 enums, {counts}",
+        )
     )
-)
 refused(
     "public-index-past-the-imports",
     "order",
@@ -534,6 +549,7 @@ accepted("number-behind-an-extension-range", "shelf", set_part(SHELF, "message_t
 for name, position, text, kind, element in (
     ("default-that-no-enum-has", 1, "LARG", "depot.Size", "size"),
     ("default-of-another-enum", 1, "HEAVY", "depot.Size", "size"),
+    ("default-of-an-enum-by-its-number", 1, "1", "depot.Size", "size"),
     ("default-that-is-no-number", 3, "seven", "int32", "depth"),
     ("default-of-a-number-with-a-base", 3, "0x10", "int32", "depth"),
     ("default-of-a-number-behind-a-space", 3, " 7", "int32", "depth"),
@@ -552,6 +568,17 @@ for name, position, text, kind, element in (
             Place(SHELF, [4, 0, 2, position, 7], f"depot.Shelf.{element}"),
         ),
     )
+refused(
+    "default-of-an-extension-that-no-enum-has",
+    "shelf",
+    set_part(SHELF, "extension 1", default_value="STATE_LOST"),
+    Fault(
+        "InvalidFieldDefault",
+        "invalid default value 'STATE_LOST' for type 'shop.Item.State'",
+        VALUE,
+        Place(SHELF, [7, 1, 7], "depot.state"),
+    ),
+)
 
 # Names that are there already.
 
@@ -583,6 +610,15 @@ refused(
     set_part(ITEM, "message_type 0 field 2", name="name"),
     camel_case("name", "name", TAGS_PLACE, NAME_PLACE),
     name_twice("shop.Item.name", TAGS_PLACE, NAME_PLACE),
+)
+STATE_PLACE = Place(ITEM, [4, 0, 3, 0, 2, 2, 1], "shop.Item.Part.label")
+LABEL_PLACE = Place(ITEM, [4, 0, 3, 0, 2, 0, 1], "shop.Item.Part.label")
+refused(
+    "field-twice-in-a-nested-message",
+    "item",
+    set_part(ITEM, "message_type 0 nested_type 0 field 2", name="label"),
+    camel_case("label", "label", STATE_PLACE, LABEL_PLACE),
+    name_twice("shop.Item.Part.label", STATE_PLACE, LABEL_PLACE),
 )
 refused(
     "field-twice-in-proto2",
@@ -637,6 +673,16 @@ refused(
         "label",
         Place(SHELF, [4, 0, 2, 3, 1], "depot.Shelf.depth"),
         Place(SHELF, [4, 0, 2, 2, 1], "depot.Shelf.label"),
+    ),
+)
+refused(
+    "json-name-of-two-spellings-in-proto2",
+    "shelf",
+    set_part(SHELF, "message_type 0 field 3", name="isFull", json_name="isFull"),
+    json_twice(
+        "isFull",
+        Place(SHELF, [4, 0, 2, 4, 1], "depot.Shelf.is_full"),
+        Place(SHELF, [4, 0, 2, 3, 1], "depot.Shelf.isFull"),
     ),
 )
 refused(
@@ -712,6 +758,16 @@ refused(
         "depot.SMALL",
         Place(SHELF, [5, 1, 2, 0, 1], "depot.SMALL"),
         Place(SHELF, [5, 0, 2, 0, 1], "depot.SMALL"),
+    ),
+)
+refused(
+    "value-of-two-enums-of-a-message",
+    "crate",
+    set_part(CRATE, "message_type 0 enum_type 1 value 1", name="OAK"),
+    name_twice(
+        "depot.Crate.OAK",
+        Place(CRATE, [4, 0, 4, 1, 2, 1, 1], "depot.Crate.OAK"),
+        Place(CRATE, [4, 0, 4, 0, 2, 1, 1], "depot.Crate.OAK"),
     ),
 )
 refused(
@@ -871,6 +927,21 @@ refused(
         Place(ORDER, [4, 0, 2, 2, 1], "shop.Order.card"),
     ),
 )
+for name, written, position in (
+    ("type-that-is-a-field-beside-it", "card", 2),
+    ("type-that-is-its-own-field", "items", 1),
+):
+    refused(
+        name,
+        "order",
+        set_part(ORDER, ITEMS, type_name=written),
+        of_another_kind(
+            f"shop.Order.{written}",
+            "a message or enum type",
+            Place(ORDER, [4, 0, 2, 1, 6], "shop.Order.items"),
+            Place(ORDER, [4, 0, 2, position, 1], f"shop.Order.{written}"),
+        ),
+    )
 refused(
     "type-that-is-a-package",
     "item",
@@ -1020,6 +1091,7 @@ refused(
     Fault("InvalidOneofIndex", "invalid oneof index", NO_SUCH_INDEX),
 )
 accepted("field-of-a-reserved-name", "item", set_part(ITEM, "message_type 0 field 2", name="colour"))
+accepted("value-of-a-reserved-name", "shelf", set_part(SHELF, "enum_type 0", reserved_name=["LARGE"]))
 accepted(
     "name-reserved-twice",
     "item",
