@@ -33,7 +33,7 @@ fn exit_code(status: Status) -> ExitCode
 }
 
 /// Writes an answer, and the set that it has. The run ends as it says, or as what could not be
-/// written; then no set is there.
+/// written; then a file at the place of the set is what it was.
 fn write_all(rt: &HostRuntime, answer: &Answer) -> Status
     ensures { EndsAs answer.now result }
 {

@@ -21,8 +21,8 @@ Links descriptor sets as one batch, and tells whether they break a rule.
     protoc --include_imports --include_source_info -o set.pb shop/order.proto
     check_descriptors set.pb
 
-FILE             a descriptor set, as protoc writes it; - is the standard input. A file of a
-                 schema that stands in several sets counts once where all its records are equal
+FILE             a descriptor set, as protoc writes it; - is the standard input. A file that is
+                 equal to the first of its name in the sets counts once
 --json           tell the verdict as one object of JSON
 --max-faults N   tell at most N faults (100)
 --list           of an accepted batch, tell each declaration: its kind and its full name
