@@ -1,6 +1,9 @@
 use std::io;
 
 /// Tells the first line in which what was got differs from what is wanted.
+///
+/// # Errors
+/// Where the standard output could not be written.
 pub fn tell_difference(rt: &HostRuntime, wanted: &[u8], got: &[u8]) -> io::Result<()> {
     let (number, wanted, got) = first_difference(wanted, got);
     println!(rt; "  line {number}")?;

@@ -36,6 +36,9 @@ fn push_rows(
 }
 
 /// Reads a file of a row, and names it where it can't be read.
+///
+/// # Errors
+/// What the system says of the file, or want of memory.
 pub fn read(rt: &HostRuntime, name: &str, part: &str) -> io::Result<Vec<u8>> {
     let path = format!(in rt.alloc(); "{name}.{part}")?;
     match fs::read(rt, path.as_str()) {
@@ -47,7 +50,10 @@ pub fn read(rt: &HostRuntime, name: &str, part: &str) -> io::Result<Vec<u8>> {
     }
 }
 
-/// Reads a file that some rows have.
+/// Reads a file that some rows have: none where it is not there.
+///
+/// # Errors
+/// What the system says of a file that is there, or want of memory.
 pub fn read_if_there(rt: &HostRuntime, name: &str, part: &str) -> io::Result<Option<Vec<u8>>> {
     let path = format!(in rt.alloc(); "{name}.{part}")?;
     match fs::read(rt, path.as_str()) {
@@ -58,6 +64,9 @@ pub fn read_if_there(rt: &HostRuntime, name: &str, part: &str) -> io::Result<Opt
 }
 
 /// The status that the file of it has, or 0 where there is none.
+///
+/// # Errors
+/// As `read_if_there`, and where the file is no number.
 pub fn status_wanted(rt: &HostRuntime, name: &str) -> io::Result<u8> {
     let Some(bytes) = read_if_there(rt, name, "status")? else {
         return Ok(0);

@@ -14,8 +14,9 @@ pub trait Trial: Sized + Drop {
     fn tell_difference(&self, rt: &HostRuntime) -> io::Result<()>;
 }
 
-/// Runs all rows, each of which has a part, as `script`, and tells a line of each. The exit status is 0 where all are as wanted, 1 where
-/// one differs, and 2 where there is no row or a file can't be read.
+/// Runs all rows, each of which has a part, as `script`, and tells a line of each. The exit status
+/// is 0 where all are as wanted, 1 where one differs, and 2 where there is no row or a file can't be
+/// read.
 pub fn run_rows<T: Trial>(rt: &HostRuntime, part: &str) -> ExitCode {
     match count_differing::<T>(rt, part) {
         Ok(0) => ExitCode::from(0),
