@@ -10,15 +10,15 @@
 What is refused raises `Refused`, whose `faults` are data. The pool is then what it was.
 
 The library is `libprotolink.so.0`: in the folder that PROTOLINK_LIB_DIR names, else beside this
-file, else where the system finds it. A pool is used by one thread at a time.
+file, else where the system finds it. Threads may share a pool: calls on it wait for one another.
 """
 
 from __future__ import annotations
 
 import ctypes
-import ctypes.util
 import json
 import os
+import threading
 from collections.abc import Callable, Iterator
 from pathlib import Path
 from typing import NamedTuple, Optional
@@ -212,14 +212,26 @@ def _fault(told: dict) -> Fault:
 
 
 class Pool:
-    """Linked files, and what they declare."""
+    """Linked files, and what they declare. `copy.copy` makes what `clone` makes; a pool can't be
+    pickled."""
 
     def __init__(self) -> None:
         self._pool = _Pool()
+        # A call of the library lets other threads of the interpreter run.
+        self._lock = threading.RLock()
 
     def __del__(self) -> None:
         if _lib is not None:
             _lib.protolink_pool_clear(self._pool)
+
+    def __copy__(self) -> Pool:
+        return self.clone()
+
+    def __deepcopy__(self, memo: dict) -> Pool:
+        return self.clone()
+
+    def __reduce__(self) -> tuple:
+        raise TypeError("a Pool can't be pickled, but the bytes of its linked() can")
 
     def add_set(self, data: bytes) -> None:
         """Links the files of a FileDescriptorSet in one batch. Those whose names the pool has are
@@ -235,13 +247,15 @@ class Pool:
         self._add(_lib.protolink_pool_add_script, script)
 
     def _add(self, call: Callable[..., int], data: bytes) -> None:
-        data = bytes(data)
-        status = call(self._pool, data, len(data))
-        if status == DONE:
-            return
-        if status == NO_MEMORY:
-            raise MemoryError
-        told = json.loads(self.report_json())
+        if not isinstance(data, bytes):
+            data = memoryview(data).tobytes()
+        with self._lock:
+            status = call(self._pool, data, len(data))
+            if status == DONE:
+                return
+            if status == NO_MEMORY:
+                raise MemoryError
+            told = json.loads(self.report_json())
         if status == REFUSED:
             raise Refused([_fault(fault) for fault in told["faults"]])
         if status == TOO_MANY:
@@ -296,7 +310,11 @@ class Pool:
         """The indexes of the files that a file imports."""
         imported = ctypes.c_uint32()
         position = 0
-        while _lib.protolink_file_import(self._pool, file, position, imported) == DONE:
+        while True:
+            with self._lock:
+                status = _lib.protolink_file_import(self._pool, file, position, imported)
+            if status != DONE:
+                return
             yield imported.value
             position += 1
 
@@ -307,12 +325,14 @@ class Pool:
     def find(self, full_name: str) -> Optional[Definition]:
         """What a full name means, which may have one leading dot, or None."""
         name, item, file = full_name.encode(), _Item(), ctypes.c_uint32()
-        if _lib.protolink_pool_find(self._pool, name, len(name), item, file) != DONE:
-            return None
-        path = self._path(name)
+        with self._lock:
+            if _lib.protolink_pool_find(self._pool, name, len(name), item, file) != DONE:
+                return None
+            path = self._path(name)
         return Definition(KINDS[item.kind], item.index, item.position, file.value, path)
 
     def _path(self, name: bytes) -> tuple[int, ...]:
+        """The path of a name that the pool has. Its caller holds the lock."""
         length = ctypes.c_size_t()
         room = 0
         while True:
@@ -332,13 +352,16 @@ class Pool:
     def counts(self) -> Counts:
         """How much the pool has of each kind."""
         counts = _Counts()
-        _lib.protolink_pool_counts(self._pool, ctypes.byref(counts))
+        with self._lock:
+            _lib.protolink_pool_counts(self._pool, ctypes.byref(counts))
         return Counts(*(getattr(counts, name) for name in Counts._fields))
 
     def clone(self) -> Pool:
         """A pool with equal contents, which shares nothing with this one."""
         copy = Pool()
-        if _lib.protolink_pool_clone(self._pool, copy._pool) != DONE:
+        with self._lock:
+            status = _lib.protolink_pool_clone(self._pool, copy._pool)
+        if status != DONE:
             raise MemoryError
         return copy
 
@@ -348,7 +371,8 @@ class Pool:
         room = 0
         while True:
             buffer = (ctypes.c_uint8 * max(room, 1))()
-            status = call(self._pool, *before, buffer, room, ctypes.byref(length))
+            with self._lock:
+                status = call(self._pool, *before, buffer, room, ctypes.byref(length))
             if status == DONE:
                 return bytes(buffer[: length.value])
             if status == NO_MEMORY:

@@ -9,7 +9,9 @@ it is missing. PROTOLINK_SETS may name a folder of descriptor sets, which are ha
 
 from __future__ import annotations
 
+import copy
 import os
+import pickle
 import threading
 import unittest
 from pathlib import Path
@@ -109,11 +111,29 @@ class Pools(unittest.TestCase):
             apart.add_file(file)
         self.assertEqual(apart.counts(), pool.counts())
 
+    def test_only_bytes_are_taken(self) -> None:
+        pool = protolink.Pool()
+        data = shop().linked()
+        for other in (5, "file a.proto", None, [10, 0]):
+            for call in (pool.add_set, pool.add_file, pool.add_script):
+                with self.assertRaises(TypeError):
+                    call(other)
+        self.assertEqual(pool.counts().files, 0)
+        for same in (bytearray(data), memoryview(data), memoryview(data * 2)[: len(data)]):
+            again = protolink.Pool()
+            again.add_set(same)
+            self.assertEqual(again.linked(), data)
+
     def test_a_copy_is_apart(self) -> None:
         pool = shop()
-        copy = pool.clone()
+        copies = (pool.clone(), copy.copy(pool), copy.deepcopy(pool))
         pool.add_script(b"file c.proto\nend\n")
-        self.assertEqual((pool.counts().files, copy.counts().files), (3, 2))
+        self.assertEqual(pool.counts().files, 3)
+        self.assertEqual([copied.counts().files for copied in copies], [2, 2, 2])
+
+    def test_a_pool_is_not_pickled(self) -> None:
+        with self.assertRaisesRegex(TypeError, "a Pool can't be pickled"):
+            pickle.dumps(shop())
 
     def test_a_pool_may_go_to_another_thread(self) -> None:
         pool, found = shop(), []
@@ -121,6 +141,30 @@ class Pools(unittest.TestCase):
         thread.start()
         thread.join()
         self.assertEqual(found[0].kind, "message")
+
+    def test_threads_may_share_a_pool(self) -> None:
+        pool, wrong = protolink.Pool(), []
+
+        def add_and_refuse(thread: int) -> None:
+            for number in range(150):
+                name = f"m{thread}x{number}"
+                pool.add_script(f"file {name}.proto\nmessage {name}\nend\nend\n".encode())
+                try:
+                    pool.add_script(f"file {name}y.proto\nmessage {name}\nend\nend\n".encode())
+                except protolink.Refused as refused:
+                    wrong.extend(fault for fault in refused.faults if fault.element != name)
+                else:
+                    wrong.append(name)
+                if pool.full_name(*pool.find(name)[:2]) != name:
+                    wrong.append(name)
+
+        threads = [threading.Thread(target=add_and_refuse, args=(n,)) for n in range(4)]
+        for thread in threads:
+            thread.start()
+        for thread in threads:
+            thread.join()
+        self.assertEqual(wrong, [])
+        self.assertEqual(pool.counts()[:2], (600, 600))
 
     def test_the_version_is_told(self) -> None:
         self.assertRegex(protolink.version(), r"^\d+\.\d+\.\d+$")
