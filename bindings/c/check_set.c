@@ -3,9 +3,11 @@
  *     cc check_set.c $(pkg-config --cflags --libs protolink) -o check_set
  *     protoc --include_imports -o set.pb shop/order.proto && ./check_set set.pb
  *
- * Exit status: 0 linked, 1 refused, 2 no verdict. */
+ * Exit status: 0 linked, 1 refused, 2 no verdict, 3 memory was refused, 4 the output could not be
+ * written. */
 #include <protolink.h>
 
+#include <errno.h>
 #include <stdio.h>
 #include <stdlib.h>
 
@@ -34,8 +36,15 @@ static uint8_t *read_whole(const char *name, size_t *len)
     return bytes;
 }
 
-/* Prints the report of the last call, which tells why nothing was linked. */
-static void print_report(protolink_pool *pool)
+static int memory_was_refused(void)
+{
+    fputs("memory was refused\n", stderr);
+    return 3;
+}
+
+/* Prints the report of the last call, which tells why nothing was linked, and answers the status,
+ * or that of refused memory. */
+static int print_report(protolink_pool *pool, FILE *to, int status)
 {
     uint8_t none = 0;
     size_t length = 0;
@@ -43,10 +52,11 @@ static void print_report(protolink_pool *pool)
     protolink_pool_report(pool, &none, 0, &length);
     text = malloc(length + 1);
     if (text == NULL)
-        return;
+        return memory_was_refused();
     if (protolink_pool_report(pool, text, length, &length) == PROTOLINK_DONE)
-        fwrite(text, 1, length, stdout);
+        fwrite(text, 1, length, to);
     free(text);
+    return status;
 }
 
 /* Prints the full names of all messages. */
@@ -72,27 +82,40 @@ static int add(protolink_pool *pool, const char *name)
     uint8_t *bytes = read_whole(name, &len);
     protolink_status status;
     if (bytes == NULL) {
+        int is_memory = errno == ENOMEM;
         perror(name);
-        return 2;
+        return is_memory ? 3 : 2;
     }
     status = protolink_pool_add_set(pool, bytes, len);
     free(bytes);
-    if (status == PROTOLINK_DONE)
+    switch (status) {
+    case PROTOLINK_DONE:
         return 0;
-    if (status == PROTOLINK_NO_MEMORY)
-        puts("memory was refused");
-    print_report(pool);
-    return status == PROTOLINK_REFUSED || status == PROTOLINK_TOO_MANY ? 1 : 2;
+    case PROTOLINK_NO_MEMORY:
+        return memory_was_refused();
+    case PROTOLINK_FAULT:
+        return print_report(pool, stderr, 2);
+    default:
+        return print_report(pool, stdout, 1);
+    }
 }
 
 int main(int argc, char **argv)
 {
     protolink_pool pool = PROTOLINK_POOL_EMPTY;
-    int status = argc > 1 ? 0 : 2;
+    int status = 0;
+    if (argc < 2) {
+        fputs("usage: check_set SET..\n", stderr);
+        return 2;
+    }
     for (int n = 1; n < argc && status == 0; n++)
         status = add(&pool, argv[n]);
     if (status == 0)
         print_messages(&pool);
     protolink_pool_clear(&pool);
+    if (fflush(stdout) != 0 || ferror(stdout)) {
+        perror("the standard output");
+        return 4;
+    }
     return status;
 }

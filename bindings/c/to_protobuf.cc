@@ -3,7 +3,9 @@
 //     c++ to_protobuf.cc $(pkg-config --cflags --libs protolink protobuf) -o to_protobuf
 //     protoc --include_imports -o set.pb shop/order.proto && ./to_protobuf set.pb
 //
-// Exit status: 0 both pools have the same messages, 1 one of them refuses, 2 a file cannot be read.
+// Exit status: 0 both pools have the same messages; 1 one of them refuses, or the two differ; 2 no
+// verdict, since a file cannot be read or is no set; 3 memory was refused; 4 the output could not be
+// written.
 #include <protolink.h>
 
 #include <google/protobuf/descriptor.h>
@@ -12,7 +14,7 @@
 #include <cstdint>
 #include <fstream>
 #include <iostream>
-#include <iterator>
+#include <new>
 #include <string>
 #include <vector>
 
@@ -97,16 +99,18 @@ private:
         order->push_back(file);
     }
 
-    // What a call writes to a buffer, or nothing where it does not end with PROTOLINK_DONE.
+    // What a call writes to a buffer, or nothing where the pool does not have it.
     template <typename Call> static std::string written(Call call)
     {
-        uint8_t none = 0;
+        std::string text;
         size_t length = 0;
-        if (call(&none, 0, &length) != PROTOLINK_SHORT)
-            return std::string();
-        std::string text(length, '\0');
-        if (call(reinterpret_cast<uint8_t *>(&text[0]), length, &length) != PROTOLINK_DONE)
-            return std::string();
+        protolink_status status;
+        do {
+            text.resize(length);
+            status = call(reinterpret_cast<uint8_t *>(&text[0]), text.size(), &length);
+        } while (status == PROTOLINK_SHORT);
+        if (status == PROTOLINK_NO_MEMORY)
+            throw std::bad_alloc();
         return text;
     }
 
@@ -136,26 +140,60 @@ bool hand_over(Pool *pool)
     return true;
 }
 
+// Reads a file whole. What cannot be read, a folder too, is told.
+bool read_whole(const char *name, std::string *bytes)
+{
+    std::ifstream input(name, std::ios::binary);
+    char part[1 << 14];
+    do {
+        input.read(part, sizeof part);
+        bytes->append(part, static_cast<size_t>(input.gcount()));
+    } while (input.good());
+    if (input.bad() || !input.eof()) {
+        std::cerr << name << " cannot be read\n";
+        return false;
+    }
+    return true;
+}
+
+// Links a set, and answers the exit status.
+int add(Pool *pool, const char *name)
+{
+    std::string bytes;
+    if (!read_whole(name, &bytes))
+        return 2;
+    const protolink_status status = pool->add_set(bytes);
+    if (status == PROTOLINK_DONE)
+        return 0;
+    if (status == PROTOLINK_NO_MEMORY)
+        throw std::bad_alloc();
+    std::cerr << pool->report();
+    return status == PROTOLINK_FAULT ? 2 : 1;
+}
+
 } // namespace
 
 int main(int argc, char **argv)
-{
+try {
     Pool pool;
+    if (argc < 2) {
+        std::cerr << "usage: to_protobuf SET..\n";
+        return 2;
+    }
     for (int n = 1; n < argc; n++) {
-        std::ifstream input(argv[n], std::ios::binary);
-        const std::string bytes{std::istreambuf_iterator<char>(input), {}};
-        if (!input.good() && !input.eof()) {
-            std::cerr << argv[n] << " cannot be read\n";
-            return 2;
-        }
-        if (pool.add_set(bytes) != PROTOLINK_DONE) {
-            std::cerr << pool.report();
-            return 1;
-        }
+        if (const int status = add(&pool, argv[n]))
+            return status;
     }
     if (!hand_over(&pool))
         return 1;
     std::cout << pool.counts().files << " files, " << pool.counts().messages
-              << " messages, the same in both pools\n";
+              << " messages, the same in both pools" << std::endl;
+    if (!std::cout) {
+        std::cerr << "the standard output could not be written\n";
+        return 4;
+    }
     return 0;
+} catch (const std::bad_alloc &) {
+    std::cerr << "memory was refused\n";
+    return 3;
 }
