@@ -56,6 +56,9 @@ static const char broken[] =
     "file c.proto\nmessage N\nfield f 1 optional message .none ~\nfield g 1 optional int32 ~ ~\n"
     "end\nat 4,0,2,0,6 7,8,9\nend\n";
 
+/* More requests than a call makes. */
+enum { MOST_REQUESTS = 10000 };
+
 static uint8_t set[4096], file[4096];
 static size_t set_len, file_len;
 
@@ -169,9 +172,12 @@ static int is_right(const struct trial *trial, long request)
     protolink_pool pool = PROTOLINK_POOL_EMPTY;
     long before = blocks;
     int status, right;
-    if (add(&pool, first) != PROTOLINK_DONE)
+    refused = 0;
+    if (add(&pool, first) != PROTOLINK_DONE) {
+        protolink_pool_clear(&pool);
         return 0;
-    requests = refused = 0;
+    }
+    requests = 0;
     wanted = request;
     status = trial->call(&pool);
     wanted = 0;
@@ -226,7 +232,8 @@ int main(void)
         do {
             count++;
             wrong += !is_right(&trials[n], count);
-        } while (refused > 0);
+        } while (refused > 0 && count < MOST_REQUESTS);
+        wrong += refused > 0;
         printf("%s: %ld requests, %ld wrong\n", trials[n].name, count - 1, wrong);
         status = wrong > 0 ? 1 : status;
     }
