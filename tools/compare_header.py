@@ -6,8 +6,11 @@
 The exports are those of crates/protolink_c, with the structs that they take. Held to them are
 include/protolink.h, the declarations of the Rust crate (bindings/rust/src/ffi.rs) and those of the
 Python module (bindings/python/protolink.py), which may lack some calls. A struct is compared by its
-members, in order, with their types; a slice is a pointer and a length. The constants of the Rust
-crate are held to those of the header.
+members, in order, with their types; a slice is a pointer and a length.
+
+Constants are compared by name and number: the header's with those by which the Rattle code answers
+(statuses, kinds of items, types, labels, versions of the language, the version of the library), all
+of either; and those of the Rust crate and of the Python module, which may lack some, with both.
 
 Tells each difference in a line, and in a last line how much was compared. Exit status: 0 all is the
 same, 1 something differs.
@@ -24,6 +27,7 @@ from typing import NamedTuple, Optional
 TOP = Path(__file__).resolve().parent.parent
 HEADER = TOP / "include/protolink.h"
 RUST = TOP / "bindings/rust/src/ffi.rs"
+DESCRIPTORS = TOP / "bindings/rust/src/descriptors.rs"
 PYTHON = TOP / "bindings/python/protolink.py"
 EXPORTS = (TOP / "crates/protolink_c/src", TOP / "crates/pool_face/src")
 
@@ -38,11 +42,15 @@ class Call(NamedTuple):
     result: str
 
 
+Constants = list[tuple[str, int]]
+"""Names and numbers. A name that is told in two places stands twice."""
+
+
 class Declared(NamedTuple):
     """What one file declares."""
 
     calls: dict[str, Call]
-    constants: dict[str, int]
+    constants: Constants
 
 
 def pointer(inner: str, is_const: bool) -> str:
@@ -61,6 +69,28 @@ def matching(pattern: str, text: str) -> list[tuple[str, ...]]:
 def parts(text: str) -> list[str]:
     """What stands between commas and is not empty."""
     return [part.strip() for part in text.split(",") if part.strip()]
+
+
+# Constants
+
+SAME_NAME = {"OUT_OF_MEMORY": "NO_MEMORY"}
+"""Names in Rattle, and in the header."""
+
+PREFIXES = {"Kind": "TYPE_", "KindIndex": "TYPE_"}
+"""What the header sets before the names of an enum."""
+
+
+def constant(name: str, number: str, enum: str = "") -> tuple[str, int]:
+    """A constant as the header names it, of its own name or of a value of an enum."""
+    words = re.sub(r"(?<=[a-z])(?=[A-Z])", "_", name).upper()
+    whole = f"PROTOLINK_{PREFIXES.get(enum, '')}{SAME_NAME.get(words, words)}"
+    return whole, 2**32 - 1 if number.endswith("::MAX") else int(number)
+
+
+def plain_constants(text: str) -> Constants:
+    """The constants of a text in Rust or in Rattle."""
+    found = matching(r"const (\w+): u(?:8|32) = (\d+|u32::MAX);", text)
+    return [constant(name, number) for name, number in found]
 
 
 # C
@@ -94,9 +124,9 @@ def header() -> Declared:
     for result, name, inner in matching(r"^(\w+) (protolink_\w+)\(([^)]*)\);", text):
         listed = [] if inner.strip() == "void" else parts(inner)
         calls[name] = Call(tuple(declaration(part)[1] for part in listed), types[result])
-    constants = {name: int(number) for name, number in matching(r"(PROTOLINK_\w+) = (\d+)", text)}
-    constants["PROTOLINK_NONE"] = 2**32 - 1
-    return Declared(calls, constants)
+    constants = matching(r"PROTOLINK_(\w+)(?: =|(?<=VERSION)) (\d+)", text)
+    constants += matching(r"PROTOLINK_(\w+) UINT32(_MAX)", text)
+    return Declared(calls, [constant(name, said.replace("_", "::")) for name, said in constants])
 
 
 # Rust
@@ -122,9 +152,13 @@ def rust() -> Declared:
     for name, inner, result in matching(r"pub fn (protolink_\w+)\((.*?)\)(?: -> (\w+))?;", text):
         parameters = tuple(declaration(part)[1] for part in parts(inner))
         calls[name] = Call(parameters, types[result] if result else "void")
-    constants = matching(r"pub const (\w+): u(?:8|32) = (\w+|u32::MAX);", text)
-    numbers = {name: 2**32 - 1 if said == "u32::MAX" else int(said) for name, said in constants}
-    return Declared(calls, {f"PROTOLINK_{name}": number for name, number in numbers.items()})
+    constants = plain_constants(text)
+    front = DESCRIPTORS.read_text()
+    arms = matching(r"(\d+) => (Kind|Cardinality|Syntax)::(\w+)", front)
+    constants += [constant(name, number, enum) for number, enum, name in arms]
+    named = matching(r"const (\w+): u32 = (\d+);", front)
+    constants += [constant(name, number, "Kind") for name, number in named]
+    return Declared(calls, constants)
 
 
 # Rattle
@@ -161,7 +195,13 @@ def exports() -> Declared:
         said = [part.split(": ", 1)[1] for part in parts(inner)]
         parameters = tuple(type_ for words in said for type_ in passed(words))
         calls[name] = Call(parameters, types[result] if result else "void")
-    return Declared(calls, {})
+    constants = plain_constants(text)
+    arms = matching(r"\b([A-Z]\w+)::(\w+)(?:\(\w+\))? => \(?(\d+)\b", text)
+    constants += [constant(name, number, enum) for enum, name, number in arms]
+    (kinds,) = matching(r"let kinds = \[(.*?)\];", text)
+    named = re.findall(r"DefinitionKind::(\w+)", kinds[0])
+    constants += [constant(name, str(number)) for number, name in enumerate(named)]
+    return Declared(calls, constants)
 
 
 # Python
@@ -192,12 +232,15 @@ def python() -> Declared:
             return struct([(name, type_of(member)) for name, member in said._fields_])
         return pointer(type_of(said._type_), False)
 
+    (statuses,) = re.findall(r"^([A-Z_]+(?:, [A-Z_]+)+) = range", front, re.MULTILINE)
+    statuses = statuses.split(", ")
     return Declared(
         {
             name: Call(tuple(map(type_of, parameters)), type_of(result))
             for name, (result, parameters) in names["_CALLS"].items()
         },
-        {},
+        [constant(name, str(names[name])) for name in statuses]
+        + [constant(name, str(number)) for number, name in enumerate(names["KINDS"])],
     )
 
 
@@ -219,22 +262,36 @@ def differences(where: str, declared: Declared, wanted: Declared, is_whole: bool
     return found
 
 
-def constant_differences(declared: Declared, wanted: Declared) -> list[str]:
-    """What constants of the Rust crate are not those of the header."""
+def constant_differences(where: str, constants: Constants, wanted: Constants) -> list[str]:
+    """What constants are not those of the header."""
+    known = dict(wanted)
     return [
-        f"{RUST.name}: {name} is {number}, and {wanted.constants.get(name)} in the header"
-        for name, number in declared.constants.items()
-        if wanted.constants.get(name) != number
+        f"{where}: {name} is {number}, and {known.get(name, 'missing')} in the header"
+        for name, number in constants
+        if known.get(name) != number
     ]
+
+
+def lost_constants(constants: Constants, wanted: Constants) -> list[str]:
+    """What constants of the header the Rattle code lacks."""
+    lost = dict(wanted).keys() - dict(constants).keys()
+    return [f"{HEADER.name}: {name} is no number of the library" for name in sorted(lost)]
 
 
 def all_differences() -> list[str]:
     """What is declared otherwise than it is exported, in any of the three."""
-    exported, in_c, in_rust = exports(), header(), rust()
+    exported, in_c, in_rust, in_python = exports(), header(), rust(), python()
     found = differences(HEADER.name, in_c, exported, True)
     found += differences(RUST.name, in_rust, exported, True)
-    found += differences(PYTHON.name, python(), exported, False)
-    return found + constant_differences(in_rust, in_c)
+    found += differences(PYTHON.name, in_python, exported, False)
+    found += lost_constants(exported.constants, in_c.constants)
+    for where, declared in (
+        ("the library", exported),
+        (RUST.parent.name, in_rust),
+        (PYTHON.name, in_python),
+    ):
+        found += constant_differences(where, declared.constants, in_c.constants)
+    return found
 
 
 def main() -> int:
@@ -242,7 +299,8 @@ def main() -> int:
     found = all_differences()
     for line in found:
         print(line)
-    print(f"{len(exports().calls)} calls, {len(rust().constants)} constants, {len(found)} differ")
+    told = header()
+    print(f"{len(told.calls)} calls, {len(told.constants)} constants, {len(found)} differ")
     return 1 if found else 0
 
 
