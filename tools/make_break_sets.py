@@ -215,7 +215,7 @@ refused(
     Fault(
         "NameShadowed",
         "'shop.Itme' resolves to 'shop.Itme', which is not defined",
-        NEARER_SCOPE,
+        MEND_NAME,
         Place(ORDER, [4, 0, 2, 1, 6], "shop.Order.items"),
     ),
 )

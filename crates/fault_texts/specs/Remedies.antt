@@ -11,6 +11,16 @@ rename_remedy first second = if bytes_eq first.file second.file
     then codes "rename one; values of an enum stand beside it, so begin their names with its own"
     else codes "rename one; where all names of a file clash, it is given under two names"
 
+-- what to do about a name that nothing has
+abbrev pub not_found : List ℕ
+not_found = codes "mend the name, or give and import the file that declares it"
+
+-- what to do about a name that resolves to a full name which isn't defined: to itself, or to one in
+-- a nearer scope
+abbrev pub shadowed_remedy : List ℕ → List ℕ → List ℕ
+shadowed_remedy name shadowed_name = if bytes_eq name shadowed_name then not_found
+    else codes "a nearer scope has its first part: mend it, or write a leading dot and the full name"
+
 -- what to do about a fault
 abbrev pub remedy : DescriptorErrorKind → List ℕ
 remedy (fault.MissingRequiredField _) =
@@ -42,10 +52,8 @@ remedy (fault.ExtensionNumberOutOfRange _ _ _) =
     codes "take a number of one of the extension ranges of the message"
 remedy (fault.DuplicateExtensionNumber _ _ _ _) =
     codes "take another number"
-remedy (fault.NameNotFound _ _) =
-    codes "mend the name, or give and import the file that declares it"
-remedy (fault.NameShadowed _ _ _) =
-    codes "a nearer scope has its first part: mend it, or write a leading dot and the full name"
+remedy (fault.NameNotFound _ _) = not_found
+remedy (fault.NameShadowed name shadowed_name _) = shadowed_remedy name shadowed_name
 remedy (fault.InvalidType _ _ _ _) =
     codes "mend it; where a nearer name hides it, write a leading dot and the full name"
 remedy (fault.InvalidFieldDefault _ _ _) =

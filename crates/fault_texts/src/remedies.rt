@@ -5,6 +5,9 @@ ghost use Rattle.fault_texts.specs.Remedies as spec;
 
 use pool_faults::{DescriptorErrorKind, Label};
 
+/// What to do about a name that nothing has.
+const NOT_FOUND: &str = "mend the name, or give and import the file that declares it";
+
 /// What to do about a fault, for people.
 pub fn remedy(fault: &DescriptorErrorKind) -> &'static str
     ensures { result.now ≡ spec.remedy fault.now }
@@ -49,12 +52,12 @@ pub fn remedy(fault: &DescriptorErrorKind) -> &'static str
             "take a number of one of the extension ranges of the message"
         }
         DescriptorErrorKind::DuplicateExtensionNumber { .. } => { "take another number" }
-        DescriptorErrorKind::NameNotFound { .. } => {
-            "mend the name, or give and import the file that declares it"
-        }
-        DescriptorErrorKind::NameShadowed { .. } => {
-            "a nearer scope has its first part: mend it, or write a leading dot and the full name"
-        }
+        DescriptorErrorKind::NameNotFound { .. } => NOT_FOUND,
+        DescriptorErrorKind::NameShadowed {
+            name,
+            shadowed_name,
+            ..
+        } => { shadowed_remedy(name.as_str(), shadowed_name.as_str()) }
         DescriptorErrorKind::InvalidType { .. } => {
             "mend it; where a nearer name hides it, write a leading dot and the full name"
         }
@@ -80,5 +83,17 @@ fn rename_remedy(first: &Label, second: &Label) -> &'static str
         "rename one; values of an enum stand beside it, so begin their names with its own"
     } else {
         "rename one; where all names of a file clash, it is given under two names"
+    }
+}
+
+/// What to do about a name that resolves to a full name which isn't defined: to itself, or to one
+/// in a nearer scope.
+fn shadowed_remedy(name: &str, shadowed_name: &str) -> &'static str
+    ensures { result.now ≡ spec.shadowed_remedy name.now shadowed_name.now }
+{
+    if name == shadowed_name {
+        NOT_FOUND
+    } else {
+        "a nearer scope has its first part: mend it, or write a leading dot and the full name"
     }
 }
