@@ -974,7 +974,8 @@ refused(
     Fault(
         "NameShadowed",
         "'money.Money' resolves to 'shop.Item.money.Money', which is not defined",
-        NEARER_SCOPE,
+        "'shop.Item' has a nearer 'money': write '.shop.money.Money' to mean what "
+        "'shop/money.proto' declares",
         Place(ITEM, [4, 0, 2, 1, 6], "shop.Item.price"),
     ),
 )
@@ -988,7 +989,40 @@ refused(
     Fault(
         "NameShadowed",
         "'shop.money.Money' resolves to 'shop.Item.shop.money.Money', which is not defined",
-        "write '.shop.money.Money' to mean what 'shop/money.proto' declares",
+        "'shop.Item' has a nearer 'shop': write '.shop.money.Money' to mean what "
+        "'shop/money.proto' declares",
+        Place(ITEM, [4, 0, 2, 1, 6], "shop.Item.price"),
+    ),
+)
+refused(
+    "hidden-type-of-a-file-that-is-not-imported",
+    "item",
+    both(
+        both(
+            set_part(ITEM, "message_type 0 nested_type 0", name="money"),
+            set_part(ITEM, PRICE, type_name="money.Money"),
+        ),
+        set_part(ITEM, "", dependency=[]),
+    ),
+    Fault(
+        "NameShadowed",
+        "'money.Money' resolves to 'shop.Item.money.Money', which is not defined",
+        "'shop.Item' has a nearer 'money': write '.shop.money.Money' to mean what "
+        "'shop/money.proto' declares, which 'shop/item.proto' does not import",
+        Place(ITEM, [4, 0, 2, 1, 6], "shop.Item.price"),
+    ),
+)
+refused(
+    "hidden-type-that-no-file-declares",
+    "item",
+    both(
+        set_part(ITEM, "message_type 0 nested_type 0", name="money"),
+        set_part(ITEM, PRICE, type_name="money.Mony"),
+    ),
+    Fault(
+        "NameShadowed",
+        "'money.Mony' resolves to 'shop.Item.money.Mony', which is not defined",
+        NEARER_SCOPE,
         Place(ITEM, [4, 0, 2, 1, 6], "shop.Item.price"),
     ),
 )

@@ -10,7 +10,7 @@ use proto_types::{DescriptorProto, EnumDescriptorProto, FileDescriptorProto};
 const LEVELS: u32 = 100;
 
 /// What a name has behind a scope and a dot, if it begins with them.
-fn behind<'a>(scope: &[u8], name: &'a [u8]) -> Option<&'a [u8]>
+pub(crate) fn behind<'a>(scope: &[u8], name: &'a [u8]) -> Option<&'a [u8]>
     ensures { option_copied result ≡ spec.behind scope.now name.now }
 {
     match name.strip_prefix(scope)? {

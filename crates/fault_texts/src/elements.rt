@@ -22,7 +22,7 @@ fn entry<T>(items: &Items<T>, position: i32) -> Option<&T>
 }
 
 /// The full name of a name in a scope.
-fn full_name(alloc: Global, scope: &str, name: &str) -> Result<Text, AllocError>
+pub(crate) fn full_name(alloc: Global, scope: &str, name: &str) -> Result<Text, AllocError>
     ensures { IfOk result (λ full. full ≡ names.join scope.now name.now) }
 {
     Ok(Text::from_string(join(alloc, scope, name)?))

@@ -2,11 +2,13 @@
 
 ghost use Rattle.std.specs.Prelude.{◌≡◌, IfOk, string_bytes};
 ghost use Rattle.std.specs.Option.{option_copied};
+ghost use Rattle.proto_types.specs.Names as names;
 ghost use Rattle.fault_texts.specs.Notes as spec;
 
-use crate::declared::declaring_file;
-use crate::elements::file_named;
+use crate::declared::{behind, declaring_file};
+use crate::elements::{file_named, full_name};
 use crate::remedies::remedy;
+use name_resolution::CandidateParents;
 use plain_data::Text;
 use pool_faults::DescriptorErrorKind;
 use proto_types::FileDescriptorProto;
@@ -69,20 +71,128 @@ fn import_words(
     }
 }
 
-/// What is told of a name that means something nearer than the file that declares it.
+/// Whether a full name is a scope, a dot and a name.
+fn is_in(full_name: &str, name: &str, scope: &str) -> bool
+    ensures { result ≡ spec.is_in full_name.now name.now scope.now }
+{
+    match behind(scope.as_bytes(), full_name.as_bytes()) {
+        Some(rest) => rest == name.as_bytes(),
+        None => false,
+    }
+}
+
+/// The scope around a full name that stands before a name and its dot, if there is one.
+fn scope_of<'a>(full_name: &'a str, name: &str) -> Option<&'a str>
+    ensures { option_copied result ≡ spec.scope_of full_name.now name.now }
+{
+    CandidateParents::new(full_name).find(|scope| is_in(full_name, name, scope))
+}
+
+/// The first name that a file declares, of those that a name could mean from a scope out.
+fn meant(
+    alloc: Global,
+    files: &[FileDescriptorProto],
+    scope: &str,
+    name: &str,
+) -> Result<Option<Text>, AllocError>
+    ensures { IfOk result (λ meant. meant ≡ spec.meant files.now scope.now name.now) }
+{
+    for parent in CandidateParents::new(scope) {
+        let meant = full_name(alloc, parent, name)?;
+        if declaring_file(files, meant.as_str()).is_some() {
+            return Ok(Some(meant));
+        }
+    }
+    Ok(None)
+}
+
+/// That a file is not imported, unless it is near.
+fn far_words(
+    alloc: Global,
+    files: &[FileDescriptorProto],
+    from: &str,
+    file: &str,
+) -> Result<Text, AllocError>
+    ensures { IfOk result (λ words. words ≡ spec.far_words files.now from.now file.now) }
+{
+    if !is_near(files, from, file) {
+        let words = format!(in alloc; ", which '{from}' does not import")?;
+        return Ok(Text::from_string(words));
+    }
+    Text::from_str(alloc, "")
+}
+
+/// How to write a name so that it means what the first file that has it declares.
 fn dotted_words(
     alloc: Global,
     files: &[FileDescriptorProto],
+    from: &str,
     name: &str,
 ) -> Result<Option<Text>, AllocError>
-    ensures { IfOk result (λ words. words ≡ spec.dotted_note files.now name.now) }
+    ensures { IfOk result (λ words. words ≡ spec.dotted_note files.now from.now name.now) }
 {
     match declaring_file(files, name) {
         Some(file) => {
             let file = file.name();
-            let words = format!(in alloc; "write '.{name}' to mean what '{file}' declares")?;
+            let far = far_words(alloc, files, from, file)?;
+            let far = far.as_str();
+            let words = format!(in alloc; "write '.{name}' to mean what '{file}' declares{far}")?;
             Ok(Some(Text::from_string(words)))
         }
+        None => Ok(None),
+    }
+}
+
+/// The text before the first dot of a name, or the whole name.
+fn first_part(name: &str) -> &str
+    ensures { result.now ≡ names.first_part name.now }
+{
+    match name.split_once('.') {
+        Some((first, _)) => first,
+        None => name,
+    }
+}
+
+/// Which scope hides what a name means, and how to write it.
+fn nearer_words(alloc: Global, scope: &str, name: &str, dotted: &str) -> Result<Text, AllocError>
+    ensures { IfOk result (λ words. words ≡ spec.nearer_words scope.now name.now dotted.now) }
+{
+    let first = first_part(name);
+    let words = format!(in alloc; "'{scope}' has a nearer '{first}': {dotted}")?;
+    Ok(Text::from_string(words))
+}
+
+/// A reference that resolves to a full name which isn't defined: the file in which it stands, the
+/// name as it is written, and the full name.
+#[derive(Clone, Copy)]
+struct Shadowed<'a> {
+    from: &'a str,
+    name: &'a str,
+    full_name: &'a str,
+}
+
+/// What is told of a name that means something nearer, by the full name that it resolves to.
+fn shadowed_words(
+    alloc: Global,
+    files: &[FileDescriptorProto],
+    shadowed: Shadowed,
+) -> Result<Option<Text>, AllocError>
+    ensures { IfOk result (λ words. words ≡ spec.shadowed_note files.now shadowed.entry.from.now
+        shadowed.entry.name.now shadowed.entry.full_name.now) }
+{
+    let Shadowed {
+        from,
+        name,
+        full_name,
+    } = shadowed;
+    let Some(scope) = scope_of(full_name, name) else {
+        return Ok(None);
+    };
+    let Some(meant) = meant(alloc, files, scope, name)? else {
+        return Ok(None);
+    };
+    match dotted_words(alloc, files, from, meant.as_str())? {
+        Some(dotted) => Ok(Some(nearer_words(alloc, scope, name, dotted.as_str())?)),
         None => Ok(None),
     }
 }
@@ -99,8 +209,17 @@ fn looked_up(
         DescriptorErrorKind::NameNotFound { name, found } => {
             import_words(alloc, files, found.file(), name.as_str())
         }
-        DescriptorErrorKind::NameShadowed { name, .. } => {
-            dotted_words(alloc, files, name.as_str())
+        DescriptorErrorKind::NameShadowed {
+            name,
+            shadowed_name,
+            found,
+        } => {
+            let shadowed = Shadowed {
+                from: found.file(),
+                name: name.as_str(),
+                full_name: shadowed_name.as_str(),
+            };
+            shadowed_words(alloc, files, shadowed)
         }
         _ => Ok(None),
     }
