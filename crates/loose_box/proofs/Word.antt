@@ -1,8 +1,8 @@
--- A loose box by its machine value, a struct of the pointer and the allocator. Assumes `Logic`.
+-- A pointer of a box by its machine value, a struct of the address and the allocator. Assumes `Logic`.
 --     lone_value     what a type with laws owns is at one machine value, of that type
---     Loose, word, word_typed     the type as a row;  its machine value;  which is of the type
---     pair_apart     the answer `(pointer, allocator)`, as the allocator
---     loose_apart, loose_made     a loose box, as the memory of the box and the allocator, and back
+--     Pointer, word, word_typed     the type as a row;  its machine value;  which is of the type
+--     pair_opened     the answer `(address, allocator)`, as the allocator
+--     opened, closed     a pointer of a box, as the memory of the box and the allocator, and back
 use Rattle.std.proofs.Common.{◌≡◌, List, [], ◌∷◌, ◌++◌, refl, sym, ◌∙◌, subst}
 use lib.Dec.{T}
 use seplogic.Ra.Ura.{Ura}
@@ -21,7 +21,7 @@ use denote.Struct.Struct.{as_fields, within}
 use denote.Struct.Tuple.{Tuple}
 use Rattle.std.specs.declared.alloc.Allocator.{Ghosts}
 use Rattle.std_alloc.specs.Box.Ownership.{box_owns}
-use Rattle.loose_box.specs.contracts.Loose as loose
+use Rattle.loose_box.specs.contracts.BoxPointer as pointer
 
 abbrev pub Typed_as : Ty → Val → Type 0
 Typed_as τ v = T (has_ty τ v) × WT v
@@ -41,37 +41,37 @@ abbrev pub word : Ptr → Val → Val
 word p h = vstruct (vcons (ptr_val p) (vcons h vnil))
 
 module _ (R Z : RattleType) (LZ : Laws Z) (g : Ghosts Z.Denot) where
-  abbrev pub Loose : RattleType
-  Loose = loose.the_row R Z g
+  abbrev pub Pointer : RattleType
+  Pointer = pointer.the_row R Z g
 
   abbrev pub Pair : RattleType
   Pair = Tuple (RawPtr ∷ Z ∷ [])
 
-  pub word_typed : {M : Type 1} {𝓤 : Ura M} (𝓛 : Logic 𝓤) (p : Ptr) (h : Val) → Typed_as (layout Z) h → Typed_as (layout Loose) (word p h)
+  pub word_typed : {M : Type 1} {𝓤 : Ura M} (𝓛 : Logic 𝓤) (p : Ptr) (h : Val) → Typed_as (layout Z) h → Typed_as (layout Pointer) (word p h)
   word_typed 𝓛 p h ok = as_fields (ty_ptr ∷ (Z.mir ++ [])) (ptr_val p ∷ h ∷ []) (pointer_typed 𝓛 p, subst (λ (τs : List Ty). Typed (τs ++ []) (h ∷ [])) (sym LZ.one) (ok, tt))
 
   module _ {M : Type 1} {𝓤 : Ura M} {𝓛 : Logic 𝓤} {K : Type 0} {Γ : List (Item 𝓤)} {G : Goal 𝓤 𝓛.H} where
-    pub pair_apart : K → (r : Ptr × Z.Denot) (u : Val) → ((h : Val) → u ∷ [] ≡ word r.0 h ∷ [] → Typed_as (layout Z) h → Seq K 𝓛 (‵ (Z.own_val r.1 (h ∷ [])) ∷ Γ) G)
+    pub pair_opened : K → (r : Ptr × Z.Denot) (u : Val) → ((h : Val) → u ∷ [] ≡ word r.0 h ∷ [] → Typed_as (layout Z) h → Seq K 𝓛 (‵ (Z.own_val r.1 (h ∷ [])) ∷ Γ) G)
         → Seq K 𝓛 (‵ (Pair.own_val r (u ∷ [])) ∷ Γ) G
-    pair_apart t r u next =
+    pair_opened t r u next =
         fpick t (λ parts. fsplit t $ feq_l t (λ is. fsplit t $ feq_l t (λ at. fsplit t $
         peeks t Z (Is Z) (shows 𝓛 Z) r.1 parts.1.0 (λ own. let one = lone_value 𝓛 Z LZ r.1 parts.1.0 own in
         rewrite t 0 (λ (us : List Val). ‵ (Z.own_val r.1 us)) one.1.0 refl $ move t (1 ∷ []) $ drop t $
         next one.0 (is ∙ (λ i. vstruct (of_list (at i ++ (one.1.0 i ++ []))) ∷ [])) one.1.1))))
 
-    pub loose_apart : K → (d : Loose.Denot) (vs : List Val)
-        → ((h : Val) → vs ≡ word d.at h ∷ [] → Typed_as (layout Z) h → Seq K 𝓛 (‵ (box_owns (g.dealloc_token d.alloc) R d.at d.value) ∷ ‵ (Z.own_val d.alloc (h ∷ [])) ∷ Γ) G)
-        → Seq K 𝓛 (‵ (Loose.own_val d vs) ∷ Γ) G
-    loose_apart t d vs next =
+    pub opened : K → (d : Pointer.Denot) (vs : List Val)
+        → ((h : Val) → vs ≡ word d.address h ∷ [] → Typed_as (layout Z) h → Seq K 𝓛 (‵ (box_owns (g.dealloc_token d.allocator) R d.address d.content) ∷ ‵ (Z.own_val d.allocator (h ∷ [])) ∷ Γ) G)
+        → Seq K 𝓛 (‵ (Pointer.own_val d vs) ∷ Γ) G
+    opened t d vs next =
         fsplit t $ fpick t (λ parts. fsplit t $ feq_l t (λ is. fsplit t $ feq_l t (λ at. fsplit t $
-        peeks t Z (Is Z) (shows 𝓛 Z) d.alloc parts.1.0 (λ own. let one = lone_value 𝓛 Z LZ d.alloc parts.1.0 own in
-        rewrite t 0 (λ (us : List Val). ‵ (Z.own_val d.alloc us)) one.1.0 refl $ move t (1 ∷ []) $ drop t $ move t (1 ∷ []) $
+        peeks t Z (Is Z) (shows 𝓛 Z) d.allocator parts.1.0 (λ own. let one = lone_value 𝓛 Z LZ d.allocator parts.1.0 own in
+        rewrite t 0 (λ (us : List Val). ‵ (Z.own_val d.allocator us)) one.1.0 refl $ move t (1 ∷ []) $ drop t $ move t (1 ∷ []) $
         next one.0 (is ∙ (λ i. vstruct (of_list (at i ++ (one.1.0 i ++ []))) ∷ [])) one.1.1))))
 
-    pub loose_made : K → (d : Loose.Denot) (h : Val)
-        → Step K 𝓛 (‵ (Loose.own_val d (word d.at h ∷ [])) ∷ Γ) G (‵ (box_owns (g.dealloc_token d.alloc) R d.at d.value) ∷ ‵ (Z.own_val d.alloc (h ∷ [])) ∷ Γ) G
-    loose_made t d h = step (λ after.
+    pub closed : K → (d : Pointer.Denot) (h : Val)
+        → Step K 𝓛 (‵ (Pointer.own_val d (word d.address h ∷ [])) ∷ Γ) G (‵ (box_owns (g.dealloc_token d.allocator) R d.address d.content) ∷ ‵ (Z.own_val d.allocator (h ∷ [])) ∷ Γ) G
+    closed t d h = step (λ after.
         move t (1 ∷ []) $ nothing t $ move t (1 ∷ 0 ∷ []) $ fjoin t $
-        feq_i t (List Val) (ptr_val d.at ∷ []) (ptr_val d.at ∷ []) refl $ fjoin t $
-        feq_i t (List Val) (word d.at h ∷ []) (word d.at h ∷ []) refl $ fjoin t $
-        fpack t (Valss (RawPtr ∷ Z ∷ [])) (within (shape (loose.the_type R Z g)) (d.at, (d.alloc, tt)) (word d.at h ∷ [])) (ptr_val d.at ∷ [], (h ∷ [], tt)) $ fjoin t $ after)
+        feq_i t (List Val) (ptr_val d.address ∷ []) (ptr_val d.address ∷ []) refl $ fjoin t $
+        feq_i t (List Val) (word d.address h ∷ []) (word d.address h ∷ []) refl $ fjoin t $
+        fpack t (Valss (RawPtr ∷ Z ∷ [])) (within (shape (pointer.the_type R Z g)) (d.address, (d.allocator, tt)) (word d.address h ∷ [])) (ptr_val d.address ∷ [], (h ∷ [], tt)) $ fjoin t $ after)

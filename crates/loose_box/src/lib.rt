@@ -7,31 +7,33 @@ ghost use Rattle.std_alloc.specs.Box.Ownership.{box_owns};
 use std::alloc::Allocator;
 use std::marker::Model;
 
-/// A box taken apart, which owns what the box did. It is never dropped: make the box again.
-pub struct Loose<T, A: Allocator> {
-    pub at: *mut T,
-    pub alloc: A,
-    pub ghost value: { T },
+/// The address of a box beside its allocator. It owns the box's memory and the content there, and
+/// letting it go frees neither: [`from_pointer`] gives the box that does.
+pub struct BoxPointer<T, A: Allocator> {
+    pub address: *mut T,
+    pub allocator: A,
+    pub ghost content: { T },
 }
 
-impl<T, A: Allocator> Model for Loose<T, A> {
-    ghost also_owns = { λ l. box_owns (A.dealloc_token l.alloc) T.row l.at l.value };
+/// Takes a box apart. Its value stays where it lies, and is the pointer's content.
+pub fn into_pointer<T: Drop, A: Allocator>(boxed: Box<T, A>) -> BoxPointer<T, A>
+    ensures { result.content ≡ boxed.value }
+{
+    let parts = Box::into_raw_with_allocator(boxed);
+    BoxPointer {
+        address: parts.0,
+        allocator: parts.1,
+    }
 }
 
-impl<T: Drop, A: Allocator> Loose<T, A> {
-    /// The pointer and the allocator of a box, with its value behind the pointer.
-    pub fn of(value: Box<T, A>) -> Loose<T, A>
-        ensures { result.value ≡ value.value }
-    {
-        let (at, alloc) = Box::into_raw_with_allocator(value);
-        Loose { at, alloc }
-    }
+/// Puts the box of a pointer together again, which holds the pointer's content.
+pub fn from_pointer<T: Drop, A: Allocator>(pointer: BoxPointer<T, A>) -> Box<T, A>
+    ensures { result.value ≡ pointer.content }
+{
+    let BoxPointer { allocator, address } = pointer;
+    unsafe { Box::from_raw(allocator, address) }
+}
 
-    /// The box, with the value that it had.
-    pub fn into_box(self) -> Box<T, A>
-        ensures { result.value ≡ self.value }
-    {
-        let Loose { at, alloc } = self;
-        unsafe { Box::from_raw(alloc, at) }
-    }
+impl<T, A: Allocator> Model for BoxPointer<T, A> {
+    ghost also_owns = { λ pointer. box_owns (A.dealloc_token pointer.allocator) T.row pointer.address pointer.content };
 }

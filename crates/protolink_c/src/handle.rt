@@ -5,7 +5,7 @@ ghost use Rattle.pool_face.specs.declared.answers.Answers.{Answers};
 ghost use Rattle.pool_face.specs.contracts.answers.Answers.{the_row};
 ghost use Rattle.protolink_c.specs.Held.{held};
 
-use loose_box::Loose;
+use loose_box::{BoxPointer, from_pointer, into_pointer};
 use pool_face::Answers;
 use std::alloc::Global;
 use std::marker::{Model, Send};
@@ -36,25 +36,30 @@ impl Handle {
         }
     }
 
-    /// The handle of a pool whose box is taken apart.
-    pub fn of(loose: Loose<Answers, Global>) -> Handle
-        ensures { result.shown ≡ Some loose.value }
+    /// The handle of the pool behind a pointer.
+    pub fn of_pointer(pointer: BoxPointer<Answers, Global>) -> Handle
+        ensures { result.shown ≡ Some pointer.content }
     {
-        let Loose { at, alloc: _ } = loose;
-        Handle { at: at as *mut () }
+        let BoxPointer {
+            address,
+            allocator: _,
+        } = pointer;
+        Handle {
+            at: address as *mut (),
+        }
     }
 
-    /// The box of its pool, taken apart, if it owns one.
-    pub fn into_loose(self, alloc: Global) -> Option<Loose<Answers, Global>>
-        ensures { MatchOption result (self.shown ≡ None) (λ l. self.shown ≡ Some l.value) }
+    /// The pointer to its pool, if it owns one.
+    pub fn into_pointer(self, allocator: Global) -> Option<BoxPointer<Answers, Global>>
+        ensures { MatchOption result (self.shown ≡ None) (λ p. self.shown ≡ Some p.content) }
     {
         let Handle { at } = self;
         if at.is_null() {
             return None;
         }
-        Some(Loose {
-            at: at as *mut Answers,
-            alloc,
+        Some(BoxPointer {
+            address: at as *mut Answers,
+            allocator,
         })
     }
 
@@ -62,8 +67,8 @@ impl Handle {
     pub fn into_box(self, alloc: Global) -> Option<Box<Answers>>
         ensures { MatchOption result (self.shown ≡ None) (λ b. self.shown ≡ Some b.value) }
     {
-        match self.into_loose(alloc) {
-            Some(loose) => Some(loose.into_box()),
+        match self.into_pointer(alloc) {
+            Some(pointer) => Some(from_pointer(pointer)),
             None => None,
         }
     }
@@ -72,6 +77,6 @@ impl Handle {
     pub fn of_box(answers: Box<Answers>) -> Handle
         ensures { result.shown ≡ Some answers.value }
     {
-        Handle::of(Loose::of(answers))
+        Handle::of_pointer(into_pointer(answers))
     }
 }

@@ -1,9 +1,9 @@
--- `into_loose` tests the pointer: null owns nothing, and any other a box.
+-- `into_pointer` tests the pointer: null owns nothing, and any other a box.
 use Rattle.std.proofs.Common.{◌≡◌, List, [], ◌∷◌, ◌++◌, refl, sym, subst, lit<}
 use Rattle.std.specs.Prelude.{Option, Some, None}
 use seplogic.Ra.Ura.{Ura}
 use mir.Raw.{raw as bare}
-use mir.Val.{Val, vcons, vnil}
+use mir.Val.{Val, vcons, vnil, has_ty}
 use base.Fraction.{full_share}
 use base.Logic.{SProp, ent, emp, id⊢, never_e, via, snd∗, guard_i}
 use prog.Memory.{Memory}
@@ -41,13 +41,13 @@ use Rattle.std_alloc.specs.Box.Ownership.{box_owns}
 use Rattle.pool_face.specs.declared.answers.Answers.{Answers}
 use Rattle.pool_face.specs.contracts.answers.Answers as answers
 use Rattle.protolink_c.specs.Held.{held}
-use Rattle.loose_box.proofs.Word as loose
+use Rattle.loose_box.proofs.Word as pointer
 use Rattle.protolink_c.proofs.Fields.{word, word_good, pointer_good, Data, told}
 use Rattle.protolink_c.specs.contracts.handle.Handle as handle
-use Rattle.protolink_c.specs.contracts.handle.Handle.into_loose.{ended, clauses}
-use Rattle.protolink_c.specs.contracts.handle.Handle.into_loose.Key.{name as #self}
-use Rattle.protolink_c.proofs.handle.Handle.into_loose.Statement.{statement}
-use Rattle.protolink_c.proofs.handle.Handle.into_loose.Code as code
+use Rattle.protolink_c.specs.contracts.handle.Handle.into_pointer.{ended, clauses}
+use Rattle.protolink_c.specs.contracts.handle.Handle.into_pointer.Key.{name as #self}
+use Rattle.protolink_c.proofs.handle.Handle.into_pointer.Statement.{statement}
+use Rattle.protolink_c.proofs.handle.Handle.into_pointer.Code as code
 
 abbrev R : RattleType
 R = answers.the_row
@@ -58,8 +58,8 @@ Z = heap.the_row
 abbrev LZ : Laws Z
 LZ = heap_laws.the_row_laws
 
-abbrev Lr : RattleType
-Lr = loose.Loose R Z LZ global.ghosts
+abbrev Row : RattleType
+Row = pointer.Pointer R Z LZ global.ghosts
 
 abbrev al : Al
 al = record { row = Z; laws = LZ; g = global.ghosts; d = global.dict; drops = global.dict }
@@ -101,15 +101,15 @@ module _ {M : Type 1} {𝓤 : Ura M} (𝓛 : Logic 𝓤) (at_mem : Memory → SP
         first ! $ branches ! (get ! refl)
         (λ _. sets ! (agg ! (and_then ! (lit ! tt) (no_more !))) refl (tt, (record { fits = lit< tt }, tt)) $
         returns_within ! Post refl (look_at ! 0 refl) $ free_all ! refl $
-        use0 𝓛 (‵ (Out.own_val None (live 0 vnil ∷ []))) (none_of 𝓛 Lr) $
+        use0 𝓛 (‵ (Out.own_val None (live 0 vnil ∷ []))) (none_of 𝓛 Row) $
         use0 𝓛 (raw (fact 𝓤 (shown ≡ None))) (fact_i 𝓤 (shown ≡ None) (emp 𝓤) e) $
         nothing ! $ nothing ! $ fjoin ! $ nothing ! $ fjoin ! $ keep ! (3 ∷ 0 ∷ 2 ∷ 1 ∷ []) $
         by ! (leaves 𝓛 ended stayed c z (live 0 vnil) None (tt, (tt, tt)) (tt, (tt, tt))))
         (λ wrong. absurd wrong))
     at (block_ptr b o) (Some x) e =
-        let p : Ptr = block_ptr b o in let made : Val = loose.word p h in let typed = loose.word_typed R Z LZ global.ghosts 𝓛 p h fits in
-        let v₁ : Val = live 1 (vcons made vnil) in let d : Lr.Denot = record { at = p; alloc = a; value = x } in
-        let good : Good (layout Out) v₁ = (and_tt _ typed.0, (record { fits = lit< tt }, (typed.1, tt))) in
+        let p : Ptr = block_ptr b o in let made : Val = pointer.word p h in let typed = pointer.word_typed R Z LZ global.ghosts 𝓛 p h fits in
+        let v₁ : Val = live 1 (vcons made vnil) in let d : Row.Denot = record { address = p; allocator = a; content = x } in
+        let some_typed : Good (layout Out) v₁ = (and_tt (has_ty (layout Row) made) typed.0, (record { fits = lit< tt }, (typed.1, tt))) in
         let boxed = box_owns (global.ghosts.dealloc_token a) R p x in
         qed 𝓛 (‵ boxed ∷ ‵ (Z.own_val a (h ∷ [])) ∷ raw toks ∷ []) ∵
         use1 𝓛 (given (Testable p) (‵ boxed)) (fact_use 𝓤 (Testable p) (via 𝓤 _ (snd∗ 𝓤 (sem 𝓛 (lies_at R full_share p x)) (sem 𝓛 (global.ghosts.dealloc_token a (bare (lone R.mir)) p))) (dealloc_token-Testable 𝓛 a (bare (lone R.mir)) p)) (guard_i 𝓤 (Testable p) (sem 𝓛 boxed))) $ learn ! (λ t.
@@ -120,15 +120,15 @@ module _ {M : Type 1} {𝓤 : Ura M} (𝓛 : Logic 𝓤) (at_mem : Memory → SP
         (λ _. skips ! $ exec ! C Λ (env (code.function).locals l) code.Mir.t-4 (at_ret (env (code.function).locals l) Post) $
         sets ! (of_opd ! (get ! refl)) refl (tt, tt) $
         sets ! (agg ! (and_then ! (get ! refl) (and_then ! (get ! refl) (no_more !)))) refl typed $
-        sets ! (agg ! (and_then ! (lit ! tt) (and_then ! (get ! refl) (no_more !)))) refl good $
-        loose.loose_made R Z LZ global.ghosts ! d h $ use1 𝓛 (‵ (Out.own_val (Some d) (v₁ ∷ []))) (Some-of 𝓛 Lr d made) $
+        sets ! (agg ! (and_then ! (lit ! tt) (and_then ! (get ! refl) (no_more !)))) refl some_typed $
+        pointer.closed R Z LZ global.ghosts ! d h $ use1 𝓛 (‵ (Out.own_val (Some d) (v₁ ∷ []))) (Some-of 𝓛 Row d made) $
         use0 𝓛 (raw (fact 𝓤 (shown ≡ Some x))) (fact_i 𝓤 (shown ≡ Some x) (emp 𝓤) e) $
         nothing ! $ nothing ! $ fjoin ! $ nothing ! $ fjoin ! $
         returns ! (look_at ! 0 refl) $ free_all ! refl $ keep ! (3 ∷ 0 ∷ 2 ∷ 1 ∷ []) $
         by ! (leaves 𝓛 ended stayed c z v₁ (Some d) (tt, (tt, tt)) (tt, (tt, tt))))))
 
-pub into_loose_spec : {M : Type 1} → statement M
-into_loose_spec 𝓤 𝓛 𝓜 𝓡 wired =
+pub into_pointer_spec : {M : Type 1} → statement M
+into_pointer_spec 𝓤 𝓛 𝓜 𝓡 wired =
     let H = 𝓛.H in let 𝓣 = tables 𝓤 H 𝓜 𝓡 𝓡.env in let cl = clauses 𝓛 𝓜.mem 𝓡.returns in let fn = code.function in
     proved_at 𝓛 ended stayed cl 𝓜 𝓡 (Goes-blank 𝓛 0 (plain (λ _. handle.the_row)) ended.kept.0 (λ κs x f. tt), (Goes-blank 𝓛 0 (plain (λ _. Z)) ended.kept.1.0 (λ κs x f. tt), tt)) #self fn (code.unfolded 𝓤 H 𝓜 𝓡 wired) (λ z are.
     let κs = z.0.0 in let v = z.0.3.0 in let Post : Val → SProp 𝓤 = (walk_of 𝓛 ended stayed cl).post z in let Run : List Val → SProp 𝓤 = λ ws. WpFn 𝓤 H 𝓣.C 𝓣.Λ fn ws Post in
