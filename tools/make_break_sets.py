@@ -377,13 +377,13 @@ refused(
     "public-index-past-the-imports",
     "order",
     set_part(ORDER, "", public_dependency=[1]),
-    Fault("InvalidImportIndex", "invalid import index", NO_SUCH_INDEX),
+    Fault("InvalidImportIndex", "invalid import index", NO_SUCH_INDEX, Place(ORDER, [10, 0], None)),
 )
 refused(
     "weak-index-below-0",
     "order",
     set_part(ORDER, "", weak_dependency=[-1]),
-    Fault("InvalidImportIndex", "invalid import index", NO_SUCH_INDEX),
+    Fault("InvalidImportIndex", "invalid import index", NO_SUCH_INDEX, Place(ORDER, [11, 0], None)),
 )
 accepted("import-of-itself", "money", set_part(MONEY, "", dependency=[MONEY]))
 accepted("import-twice", "item", set_part(ITEM, "", dependency=[MONEY, MONEY]))
@@ -790,6 +790,7 @@ ROWS.append(
                 "DuplicateFileName",
                 "a different file named 'shop/money.proto' has already been added",
                 "the sets have unequal files of that name: give one of them",
+                Place(MONEY, [1], None),
             )
         ],
         extra=lambda records: [descriptor_pb2.FileDescriptorProto(name=MONEY)],
@@ -1118,11 +1119,28 @@ for name, syntax in (("syntax-that-is-unknown", "proto4"), ("syntax-that-is-empt
             Place(MONEY, [12], None),
         ),
     )
+
+
+def no_oneof(place: Place) -> Fault:
+    """An index of a oneof that the message does not have."""
+    return Fault("InvalidOneofIndex", "invalid oneof index", NO_SUCH_INDEX, place)
+
+
 refused(
     "oneof-index-past-the-oneofs",
     "order",
     set_part(ORDER, "message_type 0 field 2", oneof_index=1),
-    Fault("InvalidOneofIndex", "invalid oneof index", NO_SUCH_INDEX),
+    no_oneof(Place(ORDER, [4, 0, 2, 2], "shop.Order.card")),
+)
+refused(
+    "oneof-indexes-of-two-messages",
+    "order",
+    both(
+        set_part(ORDER, "message_type 0 field 2", oneof_index=1),
+        set_part(ORDER, "message_type 1 field 0", oneof_index=0),
+    ),
+    no_oneof(Place(ORDER, [4, 0, 2, 2], "shop.Order.card")),
+    no_oneof(Place(ORDER, [4, 1, 2, 0], "shop.OrderRequest.id")),
 )
 accepted("field-of-a-reserved-name", "item", set_part(ITEM, "message_type 0 field 2", name="colour"))
 accepted("value-of-a-reserved-name", "shelf", set_part(SHELF, "enum_type 0", reserved_name=["LARGE"]))

@@ -4,3 +4,4 @@ pub mod Grouping
 pub mod Shown
 pub mod First
 pub mod Results
+pub mod Told

@@ -1,5 +1,5 @@
 -- The verdict as an object of JSON.
-use Rattle.std.specs.Prelude.{ℕ, ◌-◌, List, [], ◌++◌, codes, length, take}
+use Rattle.std.specs.Prelude.{ℕ, ◌-◌, List, [], ◌++◌, codes, length}
 use Rattle.std.specs.Fmt.{decimal}
 use Rattle.pool_faults.specs.declared.fault.DescriptorErrorKind.{DescriptorErrorKind}
 use Rattle.proto_types.specs.declared.file.FileDescriptorProto.{FileDescriptorProto}
@@ -8,7 +8,7 @@ use Rattle.record_walk.specs.declared.counts.CountKind.{CountKind}
 use Rattle.json_strings.specs.JsonStrings.{json_string}
 use Rattle.descriptor_check.specs.Accepted.{json_counts}
 use Rattle.script_answers.specs.Answers.{count_word}
-use Rattle.descriptor_check.specs.Refused.{json_faults}
+use Rattle.descriptor_check.specs.Refused.{json_faults, told_faults}
 
 -- an object: its first members, its faults, and its last members
 abbrev pub object : List ℕ → List ℕ → List ℕ → List ℕ
@@ -34,7 +34,7 @@ accepted_json counts =
 abbrev pub refused_json : List FileDescriptorProto → ℕ → List DescriptorErrorKind → List ℕ
 refused_json files most faults =
     object (head (codes "refused") (codes "null") (codes "null"))
-    (json_faults files (take most faults)) (tail (length faults - most) (codes "null"))
+    (json_faults files (told_faults files most faults)) (tail (length faults - most) (codes "null"))
 
 -- the object of one that has too much of a kind
 abbrev pub too_many_json : CountKind → List ℕ

@@ -5,6 +5,7 @@ ghost use Rattle.descriptor_check.specs.Objects as spec;
 
 use crate::accepted::json_counts;
 use crate::refused::{first_faults, json_faults};
+use fault_texts::{Places, place_faults};
 use json_strings::json_string;
 use pool_faults::DescriptorErrorKind;
 use proto_types::FileDescriptorProto;
@@ -56,7 +57,9 @@ pub fn refused_json(
 ) -> Result<String, AllocError>
     ensures { IfOk result (λ s. string_bytes s ≡ spec.refused_json files.now most faults.now) }
 {
-    let told = json_faults(alloc, files, first_faults(faults, most))?;
+    let places = Places::of(alloc, files)?;
+    let told = place_faults(alloc, &places, first_faults(faults, most))?;
+    let told = json_faults(alloc, files, told.as_slice())?;
     let head = head(alloc, "refused", "null", "null")?;
     let tail = tail(alloc, faults.len().saturating_sub(most), "null")?;
     object(alloc, head.as_str(), told.as_str(), tail.as_str())

@@ -2,12 +2,11 @@
 
 ghost use Rattle.std.specs.Prelude.{◌≡◌, ◌∷◌, ◌++◌, IfOk, OnOk, string_bytes, take, drop, length, map};
 ghost use Rattle.std.specs.List.{flat_map};
-ghost use Rattle.fault_texts.specs.JsonFaults as json;
-ghost use Rattle.fault_texts.specs.PlainFaults as plain;
+ghost use Rattle.fault_texts.specs.Placed.{placed};
 ghost use Rattle.descriptor_check.specs.Refused as spec;
 
 use crate::grouped::{grouped, grouped_count};
-use fault_texts::{json_fault, write_fault_lines};
+use fault_texts::{PlacedFault, Places, json_fault, place_faults, write_fault_lines};
 use pool_faults::DescriptorErrorKind;
 use proto_types::FileDescriptorProto;
 use record_walk::CountKind;
@@ -20,10 +19,10 @@ fn write_faults(
     alloc: Global,
     text: &mut String,
     files: &[FileDescriptorProto],
-    faults: &[DescriptorErrorKind],
+    faults: &[PlacedFault],
 ) -> Result<(), AllocError>
     ensures { OnOk result (string_bytes text.new ≡ string_bytes text.old
-        ++ flat_map (plain.fault_lines files.now) faults.now) }
+        ++ flat_map (spec.told_lines files.now) (map placed faults.now)) }
 {
     for fault in faults {
         write_fault_lines(alloc, text, files, fault)?;
@@ -129,7 +128,9 @@ pub fn refused_text(
     ensures { IfOk result (λ s. string_bytes s ≡ spec.refused_text files.now most faults.now) }
 {
     let mut text = String::new(alloc);
-    write_faults(alloc, &mut text, files, first_faults(faults, most))?;
+    let places = Places::of(alloc, files)?;
+    let told = place_faults(alloc, &places, first_faults(faults, most))?;
+    write_faults(alloc, &mut text, files, told.as_slice())?;
     let more = more_line(alloc, further_faults(faults, most))?;
     text.push_str(more.as_str())?;
     let count = refused_line(alloc, faults.len())?;
@@ -142,10 +143,10 @@ fn write_further(
     alloc: Global,
     text: &mut String,
     files: &[FileDescriptorProto],
-    faults: &[DescriptorErrorKind],
+    faults: &[PlacedFault],
 ) -> Result<(), AllocError>
     ensures { OnOk result (string_bytes text.new ≡ string_bytes text.old
-        ++ flat_map (λ g. 44 ∷ json.json_fault files.now g) faults.now) }
+        ++ flat_map (λ g. 44 ∷ spec.told_json files.now g) (map placed faults.now)) }
 {
     for fault in faults {
         text.push(',')?;
@@ -158,9 +159,10 @@ fn write_further(
 pub(crate) fn json_faults(
     alloc: Global,
     files: &[FileDescriptorProto],
-    faults: &[DescriptorErrorKind],
+    faults: &[PlacedFault],
 ) -> Result<String, AllocError>
-    ensures { IfOk result (λ s. string_bytes s ≡ spec.json_faults files.now faults.now) }
+    ensures { IfOk result (λ s. string_bytes s
+        ≡ spec.json_faults files.now (map placed faults.now)) }
 {
     match faults {
         [] => Ok(String::new(alloc)),

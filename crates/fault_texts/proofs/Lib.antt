@@ -1,2 +1,4 @@
 pub mod Going
 pub mod OneFeed
+pub mod Looking
+pub mod Placing

@@ -7,7 +7,7 @@ use Rattle.std.specs.declared.option.Option.{Option}
 use Rattle.proto_types.specs.declared.file.FileDescriptorProto.{FileDescriptorProto}
 use Rattle.pool_faults.specs.declared.label.Label.{Label}
 use Rattle.pool_faults.specs.declared.fault.DescriptorErrorKind.{DescriptorErrorKind}
-use Rattle.pool_faults.specs.Fault.{fault_text, shown_label}
+use Rattle.pool_faults.specs.Fault.{fault_text}
 use Rattle.json_strings.specs.JsonStrings.{json_string}
 use Rattle.fault_texts.specs.Elements.{element_of}
 use Rattle.fault_texts.specs.FaultKinds.{fault_code, related_label}
@@ -69,8 +69,9 @@ json_tail files fault =
     codes "\"related\":" ++ (json_related files (related_label fault)
     ++ (codes ",\"note\":" ++ json_string (note files fault)))
 
--- a fault: its code, its text, where it stands, its second place, and what is told beside it
-unfoldable pub json_fault : List FileDescriptorProto → DescriptorErrorKind → List ℕ
-json_fault files fault =
-    codes "{" ++ (json_head fault ++ (codes "," ++ (json_place files (shown_label fault)
+-- a fault that stands at a place, if one is shown: its code, its text, the place, its second place,
+-- and what is told beside it
+unfoldable pub json_fault : List FileDescriptorProto → DescriptorErrorKind → Option Label → List ℕ
+json_fault files fault place =
+    codes "{" ++ (json_head fault ++ (codes "," ++ (json_place files place
     ++ (codes "," ++ (json_tail files fault ++ codes "}")))))

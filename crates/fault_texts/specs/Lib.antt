@@ -6,3 +6,5 @@ pub mod PlainFaults
 pub mod JsonFaults
 pub mod DeclaringFiles
 pub mod Notes
+pub mod Places
+pub mod Placed

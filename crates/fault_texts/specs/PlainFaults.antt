@@ -6,7 +6,7 @@ use Rattle.std.specs.declared.option.Option.{Option}
 use Rattle.proto_types.specs.declared.file.FileDescriptorProto.{FileDescriptorProto}
 use Rattle.pool_faults.specs.declared.label.Label.{Label}
 use Rattle.pool_faults.specs.declared.fault.DescriptorErrorKind.{DescriptorErrorKind}
-use Rattle.pool_faults.specs.Fault.{fault_text, shown_label}
+use Rattle.pool_faults.specs.Fault.{fault_text}
 use Rattle.fault_texts.specs.Elements.{element_of}
 use Rattle.fault_texts.specs.FaultKinds.{related_label, related_words}
 use Rattle.fault_texts.specs.Lines.{line}
@@ -40,8 +40,8 @@ placed_words files place text =
     option_map_or (λ label. place_words files label ++ (codes ": " ++ text)) place text
 
 -- where a fault stands, and its text
-abbrev pub fault_words : List FileDescriptorProto → DescriptorErrorKind → List ℕ
-fault_words files fault = placed_words files (shown_label fault) (fault_text fault)
+abbrev pub fault_words : List FileDescriptorProto → DescriptorErrorKind → Option Label → List ℕ
+fault_words files fault place = placed_words files place (fault_text fault)
 
 -- the element of a second place, in brackets
 abbrev pub bracketed : List FileDescriptorProto → Label → List ℕ
@@ -67,7 +67,7 @@ related_line files fault =
 abbrev pub note_words : List FileDescriptorProto → DescriptorErrorKind → List ℕ
 note_words files fault = codes "  note: " ++ note files fault
 
--- the lines of a fault
-unfoldable pub fault_lines : List FileDescriptorProto → DescriptorErrorKind → List ℕ
-fault_lines files fault = line (fault_words files fault)
+-- the lines of a fault that stands at a place, if one is shown
+unfoldable pub fault_lines : List FileDescriptorProto → DescriptorErrorKind → Option Label → List ℕ
+fault_lines files fault place = line (fault_words files fault place)
     ++ (related_line files fault ++ line (note_words files fault))

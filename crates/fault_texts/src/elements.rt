@@ -15,7 +15,7 @@ use proto_types::{
 use std::alloc::{AllocError, Global};
 
 /// The entry of a list at a position, or none where there is none.
-fn entry<T>(items: &Items<T>, position: i32) -> Option<&T>
+pub(crate) fn entry<T>(items: &Items<T>, position: i32) -> Option<&T>
     ensures { option_copied result ≡ at items.now position }
 {
     items.as_slice().get(usize::try_from(position).ok()?)

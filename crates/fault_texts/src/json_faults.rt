@@ -7,6 +7,7 @@ ghost use Rattle.fault_texts.specs.JsonFaults as spec;
 use crate::elements::element_of;
 use crate::kinds::{fault_code, fault_message, related_label};
 use crate::notes::note;
+use crate::placed::PlacedFault;
 use json_strings::json_string;
 use plain_data::Text;
 use pool_faults::{DescriptorErrorKind, Label};
@@ -159,12 +160,14 @@ fn json_tail(
 pub fn json_fault(
     alloc: Global,
     files: &[FileDescriptorProto],
-    fault: &DescriptorErrorKind,
+    placed: &PlacedFault,
 ) -> Result<String, AllocError>
-    ensures { IfOk result (λ s. string_bytes s ≡ spec.json_fault files.now fault.now) }
+    ensures { IfOk result (λ s. string_bytes s
+        ≡ spec.json_fault files.now placed.now.fault.now (option_copied placed.now.place)) }
 {
+    let fault = placed.fault;
     let head = json_head(alloc, fault)?;
-    let place = json_place(alloc, files, fault.label())?;
+    let place = json_place(alloc, files, placed.place)?;
     let tail = json_tail(alloc, files, fault)?;
     format!(in alloc; "{{{head},{place},{tail}}}")
 }

@@ -8,6 +8,7 @@ use crate::elements::element_of;
 use crate::kinds::{fault_message, related_label, related_words};
 use crate::lines::write_line;
 use crate::notes::note;
+use crate::placed::PlacedFault;
 use pool_faults::{DescriptorErrorKind, Label};
 use proto_types::FileDescriptorProto;
 use std::alloc::{AllocError, Global};
@@ -82,12 +83,13 @@ fn placed_words(
 fn fault_words(
     alloc: Global,
     files: &[FileDescriptorProto],
-    fault: &DescriptorErrorKind,
+    placed: &PlacedFault,
 ) -> Result<String, AllocError>
-    ensures { IfOk result (λ s. string_bytes s ≡ spec.fault_words files.now fault.now) }
+    ensures { IfOk result (λ s. string_bytes s
+        ≡ spec.fault_words files.now placed.now.fault.now (option_copied placed.now.place)) }
 {
-    let text = fault_message(alloc, fault)?;
-    placed_words(alloc, files, fault.label(), text.as_str())
+    let text = fault_message(alloc, placed.fault)?;
+    placed_words(alloc, files, placed.place, text.as_str())
 }
 
 /// The element of a second place, in brackets.
@@ -179,12 +181,13 @@ pub fn write_fault_lines(
     alloc: Global,
     text: &mut String,
     files: &[FileDescriptorProto],
-    fault: &DescriptorErrorKind,
+    placed: &PlacedFault,
 ) -> Result<(), AllocError>
     ensures { OnOk result (string_bytes text.new ≡ string_bytes text.old
-        ++ spec.fault_lines files.now fault.now) }
+        ++ spec.fault_lines files.now placed.now.fault.now (option_copied placed.now.place)) }
 {
-    let words = fault_words(alloc, files, fault)?;
+    let fault = placed.fault;
+    let words = fault_words(alloc, files, placed)?;
     write_line(text, words.as_str())?;
     write_related_line(alloc, text, files, fault)?;
     let note = note_words(alloc, files, fault)?;
