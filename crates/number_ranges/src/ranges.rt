@@ -62,8 +62,12 @@ impl NumberRanges {
         ensures first { result ≡ first_from (holds number) from self.now }
         ensures there { IfSome result (λ found. found < length self.now) }
     {
+        let ranges = self.ranges.as_slice();
+        if from >= ranges.len() {
+            return None;
+        }
         let stretch = Stretch {
-            ranges: self.ranges.as_slice(),
+            ranges,
             starts: self.starts.as_slice(),
             ends: self.ends.as_slice(),
         };
