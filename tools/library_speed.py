@@ -184,15 +184,21 @@ def instructions(program: Path, which: str, set_: Path) -> int:
     return int(found[1])
 
 
+def made(archive: Path, room: Path) -> Path:
+    """The program that is counted, built in a folder."""
+    source, program = room / "speed.cc", room / "speed"
+    source.write_text(PROGRAM)
+    flags = must(["pkg-config", "--cflags", "--libs", "protobuf"]).split()
+    words = ["g++", "-std=c++17", "-O2", f"-I{TOP}/include", str(source), str(archive)]
+    must([*words, *flags, "-o", str(program)])
+    return program
+
+
 def tell(archive: Path) -> None:
     """Prints the table."""
     with tempfile.TemporaryDirectory() as name:
         room = Path(name)
-        source, program, set_ = room / "speed.cc", room / "speed", room / "set.pb"
-        source.write_text(PROGRAM)
-        flags = must(["pkg-config", "--cflags", "--libs", "protobuf"]).split()
-        words = ["g++", "-std=c++17", "-O2", f"-I{TOP}/include", str(source), str(archive)]
-        must([*words, *flags, "-o", str(program)])
+        program, set_ = made(archive, room), room / "set.pb"
         print("| set | kB | `protolink_pool_add_set` | protobuf's pool in C++ | |")
         print("|---|---|---|---|---|")
         for row, data in rows(room):

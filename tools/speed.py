@@ -1,13 +1,17 @@
 #!/usr/bin/env python3
-"""Counts what linking takes on the scripts of docs/SPEED.md, and prints the table of them.
+"""Counts what linking takes on the batches of docs/SPEED.md, and prints the table of them.
 
     python3 speed.py ../crates/protolink/out/protolink
+    python3 speed.py --sets ../crates/set_example/out/set_example
+    python3 speed.py --library ../dist/lib/libprotolink.a
     python3 speed.py --only '4,000 files' ../crates/protolink/out/protolink
     python3 speed.py --script '4,000 files' > files.script
 
-For each script: the instructions of `build_files`, in millions, as valgrind's callgrind counts
-them; and the requests for memory and the peak of the heap in kB, of the whole program, as its dhat
-counts them. Instructions repeat themselves, whatever else a machine does.
+For each script: the instructions of `build_files` and of the whole program, in millions, as
+valgrind's callgrind counts them; and the requests for memory and the peak of the heap in kB, of the
+whole program, as its dhat counts them. Of sets as bytes: the instructions of what reads them and of
+what writes them, in the example of sets; and of the one call of the library for C that links a set.
+Instructions repeat themselves, whatever else a machine does.
 
 Exit status: 0, or 2 where nothing could be counted.
 
@@ -23,11 +27,15 @@ import re
 import subprocess
 import sys
 import tempfile
-from collections.abc import Callable, Iterator
+from collections.abc import Callable
 from pathlib import Path
 
+import library_speed
+
 TWELVE_FILES = Path(__file__).resolve().parent.parent / "crates/well_known/stdin"
-COUNTED = "*DescriptorPool::build_files*"
+SET = TWELVE_FILES.parent.parent / "set_example/data/well_known.pb"
+LINKED = "*DescriptorPool::build_files*"
+SET_CALLS = {"three times `decode`": "*decoding::decode", "twice `encode`": "*encoding::encode"}
 
 
 class ToolError(Exception):
@@ -52,6 +60,11 @@ def twelve_files() -> str:
     return f"{files}\nlink\nrelink\n"
 
 
+def twelve_files_once() -> str:
+    """protobuf's own files, linked."""
+    return twelve_files().removesuffix("relink\n")
+
+
 def many_files(count: int) -> str:
     """Files, each with a package, a message and a field that names the message."""
     files = (
@@ -73,6 +86,77 @@ def reserved_ranges(count: int, is_one_wide: bool) -> str:
         ranges[0] = f"reserved {count + 10} {count + 20 + 3 * count}\n"
     fields = (field(f"f{n}", n + 1) for n in range(count))
     return file("a.proto", message("M", "".join(ranges) + "".join(fields))) + "link\n"
+
+
+def fields_of_one_message(count: int) -> str:
+    """Fields of one message, each of the message's type."""
+    fields = (field(f"f{n}", n + 1, "message", ".p.M") for n in range(count))
+    return file("a.proto", "package p\n" + message("M", "".join(fields))) + "link\n"
+
+
+def importing_files(count: int) -> str:
+    """Files that each import one, and have a message of five fields, one of its type."""
+    base = file("base.proto", "package base\n" + message("B", field("x", 1)))
+    files = (
+        file(
+            f"w{n}.proto",
+            f"package w.p{n % 7}\nimport base.proto\n"
+            + message(
+                f"W{n}",
+                field("b", 1, "message", ".base.B")
+                + "".join(field(f"f{k}", k + 2) for k in range(4)),
+            ),
+        )
+        for n in range(count)
+    )
+    return base + "".join(files) + "link\n"
+
+
+def umbrella(count: int) -> str:
+    """Files, one that imports all of them publicly, and as many that import that one."""
+    own = (
+        file(f"s{n}.proto", f"package s{n}\n" + message("S", field("x", 1))) for n in range(count)
+    )
+    imports = "".join(f"import s{n}.proto\npublic {n}\n" for n in range(count))
+    users = (
+        file(
+            f"u{n}.proto",
+            f"package u{n}\nimport umbrella.proto\n"
+            + message("U", field("s", 1, "message", f".s{n}.S")),
+        )
+        for n in range(count)
+    )
+    return "".join(own) + file("umbrella.proto", imports) + "".join(users) + "link\n"
+
+
+def mixed_file(number: int) -> str:
+    """A file of four messages of nine fields, each with one inside, an enum and a service."""
+    scope = f"org.mixed.v{number % 20}.p{number}"
+    before = f"org.mixed.v{(number - 1) % 20}.p{number - 1}"
+    body = f"package {scope}\nsyntax proto{2 + number % 2}\n"
+    body += "".join(f"import mixed/f{number - d}.proto\n" for d in (1, 2) if number >= d)
+    for m in range(4):
+        kinds = ("int32", "string", "bool", "bytes", "int32", "string")
+        inner = "".join(field(f"field_{k}_value", k + 1, kind) for k, kind in enumerate(kinds))
+        inner += field("self_reference", 7, "message", f".{scope}.Message{m}")
+        if number:
+            inner += field("other_reference", 8, "message", f".{before}.Message{m}")
+        inner += field("kind", 9, "enum", f".{scope}.Kind")
+        nested = field("inner_value", 1) + field("outer", 2, "message", f".{scope}.Message{m}")
+        inner += message("Nested", nested) + "reserved 100 110\n"
+        body += message(f"Message{m}", inner + "extensions 1000 2000\n" * (number % 2 == 0))
+    body += "enum Kind\n" + "".join(f"value KIND_{k} {k}\n" for k in range(6)) + "end\n"
+    methods = (
+        f"method Call{k} .{scope}.Message{k} .{scope}.Message{k + 1}\n" for k in range(3)
+    )
+    body += f"service Service\n{''.join(methods)}end\n"
+    if number % 2 == 0:
+        body += f"extend extra 1000 optional string ~ .{scope}.Message0\n"
+    return file(f"mixed/f{number}.proto", body)
+
+
+def mixed_files(count: int) -> str:
+    return "".join(mixed_file(number) for number in range(count)) + "link\n"
 
 
 def one_more(before: int, type_name: str) -> str:
@@ -138,11 +222,17 @@ def long_package(parts: int) -> str:
 
 
 SCRIPTS: dict[str, Callable[[], str]] = {
+    "protobuf's twelve files, linked": twelve_files_once,
     "protobuf's twelve files, linked and linked again": twelve_files,
+    "400 files of messages, an enum and a service, each with two imports": (
+        lambda: mixed_files(400)
+    ),
+    "2,000 files that each import one": lambda: importing_files(2000),
     "4,000 files, each with a package, a message and a field that names it": (
         lambda: many_files(4000)
     ),
     "4,000 messages of one file, each with a field that names it": lambda: many_messages(4000),
+    "16,000 fields of one message, each of its type": lambda: fields_of_one_message(16000),
     "4,000 fields of one message that reserves 4,000 ranges": lambda: reserved_ranges(4000, False),
     "the same, where one of the ranges covers all others": lambda: reserved_ranges(4000, True),
     "2,865 files, as the second row": lambda: many_files(2865),
@@ -155,6 +245,7 @@ SCRIPTS: dict[str, Callable[[], str]] = {
     "2,000 files of packages of two parts, with types without a leading dot": (
         lambda: relative_names(2000)
     ),
+    "800 files that import one, which imports 800 others publicly": lambda: umbrella(800),
     "64,000 values of one enum": lambda: enum_values(64000),
     "a package of 50,000 parts": lambda: long_package(50000),
 }
@@ -165,11 +256,13 @@ for order in ("rising", "falling", "mixed"):
 SCRIPTS["20,000 extensions of as many messages"] = lambda: extensions(20000, "rising", 20000)
 
 
-def run(words: list[str], script: Path) -> str:
-    """What valgrind says of a run of the program on a script."""
+def run(words: list[str], given: Path) -> str:
+    """What valgrind says of a run of a program on a file, in the folder of the file."""
     try:
-        with script.open("rb") as input_:
-            done = subprocess.run(words, stdin=input_, capture_output=True, check=False)
+        with given.open("rb") as input_:
+            done = subprocess.run(
+                words, stdin=input_, capture_output=True, check=False, cwd=given.parent
+            )
     except OSError as error:
         raise ToolError(f"{words[0]}: {error.strerror}") from error
     first = done.stdout.split(b"\n")[0].decode(errors="replace")
@@ -179,15 +272,17 @@ def run(words: list[str], script: Path) -> str:
     return done.stderr.decode(errors="replace")
 
 
-def instructions(program: str, script: Path, folder: Path) -> int:
-    """The instructions of `build_files`."""
+def instructions(words: list[str], counted: str, given: Path, folder: Path) -> float:
+    """The instructions, in millions, of what is counted in a run of a program."""
     out = folder / "callgrind.out"
-    words = ["valgrind", "--tool=callgrind", f"--callgrind-out-file={out}"]
-    said = run([*words, f"--toggle-collect={COUNTED}", program], script)
+    valgrind = ["valgrind", "--tool=callgrind", f"--callgrind-out-file={out}"]
+    if counted:
+        valgrind.append(f"--toggle-collect={counted}")
+    said = run([*valgrind, *words], given)
     found = re.search(r"Collected : (\d+)", said)
-    if not found:
+    if not found or found[1] == "0":
         raise ToolError("callgrind counted nothing")
-    return int(found[1])
+    return int(found[1]) / 1e6
 
 
 def heap(program: str, script: Path, folder: Path) -> tuple[int, int]:
@@ -203,6 +298,8 @@ def heap(program: str, script: Path, folder: Path) -> tuple[int, int]:
 def main() -> None:
     parser = argparse.ArgumentParser(description=__doc__.split("\n\n")[0])
     parser.add_argument("program", nargs="?", help="the built program protolink")
+    parser.add_argument("--sets", metavar="PROGRAM", help="the built program set_example")
+    parser.add_argument("--library", metavar="ARCHIVE", help="the built library for C")
     parser.add_argument("--only", metavar="WORDS", help="the rows with these words alone")
     parser.add_argument("--script", metavar="WORDS", help="print the script of a row, and end")
     options = parser.parse_args()
@@ -214,26 +311,60 @@ def main() -> None:
         if options.script:
             sys.stdout.write(next(iter(rows.values()))())
             return
-        if not options.program:
+        if not (options.program or options.sets or options.library):
             raise ToolError("which program? see --help")
-        tell(rows, options.program)
-    except ToolError as error:
+        with tempfile.TemporaryDirectory() as name:
+            tell(options, rows, Path(name))
+    except (ToolError, library_speed.ToolError, OSError) as error:
         print(f"speed.py: {error}", file=sys.stderr)
         sys.exit(2)
 
 
-def tell(rows: dict[str, Callable[[], str]], program: str) -> None:
-    """Prints the table."""
-    print("| batch | `build_files`, million instructions | requests for memory | peak in kB |")
-    print("|---|---|---|---|")
-    with tempfile.TemporaryDirectory() as name:
-        folder = Path(name)
-        for row, make in rows.items():
-            script = folder / "script"
-            script.write_text(make())
-            count = instructions(program, script, folder)
-            requests, peak = heap(program, script, folder)
-            print(f"| {row} | {count / 1e6:.2f} | {requests:,} | {peak / 1000:,.0f} |", flush=True)
+def tell(options: argparse.Namespace, rows: dict[str, Callable[[], str]], folder: Path) -> None:
+    """Prints the table: the rows of scripts, of sets, and of the library, of what is given."""
+    print("| batch | counted | million | of the whole | requests for memory | peak in kB |")
+    print("|---|---|---|---|---|---|")
+    if options.program:
+        tell_scripts(str(Path(options.program).resolve()), rows, folder)
+    if options.sets:
+        tell_sets(str(Path(options.sets).resolve()), folder)
+    if options.library:
+        tell_library(Path(options.library).resolve(), folder)
+
+
+def tell_scripts(program: str, rows: dict[str, Callable[[], str]], folder: Path) -> None:
+    script = folder / "script"
+    for row, make in rows.items():
+        script.write_text(make())
+        linked = instructions([program], LINKED, script, folder)
+        whole = instructions([program], "", script, folder)
+        requests, peak = heap(program, script, folder)
+        print(
+            f"| {row} | `build_files` | {linked:.2f} | {whole:.2f} | {requests:,} "
+            f"| {peak / 1000:,.0f} |",
+            flush=True,
+        )
+
+
+def tell_sets(program: str, folder: Path) -> None:
+    """The example of sets reads a set of protobuf's files three times, and writes it twice."""
+    whole = instructions([program], "", SET, folder)
+    requests, peak = heap(program, SET, folder)
+    for words, counted in SET_CALLS.items():
+        count = instructions([program], counted, SET, folder)
+        print(
+            f"| the example of sets: twelve files with their places, 116 kB | {words} "
+            f"| {count:.2f} | {whole:.2f} | {requests:,} | {peak / 1000:,.0f} |",
+            flush=True,
+        )
+
+
+def tell_library(archive: Path, folder: Path) -> None:
+    program, set_ = library_speed.made(archive, folder), folder / "set.pb"
+    for row, data in library_speed.rows(folder):
+        set_.write_bytes(data)
+        count = library_speed.instructions(program, "protolink", set_) / 1e6
+        print(f"| {row}, as a set | `protolink_pool_add_set` | {count:.2f} | | | |", flush=True)
 
 
 if __name__ == "__main__":
