@@ -1,6 +1,6 @@
 pub mod Checks
 pub mod Entries
-pub mod Numbers
+pub mod NumberRows
 pub mod Texts
 pub mod WholeNumbers
 pub mod Positions

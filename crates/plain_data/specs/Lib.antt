@@ -6,4 +6,5 @@ pub mod Lists
 pub mod WholeNumbers
 pub mod TruthValues
 pub mod TextRows
+pub mod NumberRows
 pub mod Paths
