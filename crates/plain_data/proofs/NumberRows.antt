@@ -14,7 +14,7 @@ use Rattle.std.specs.Option.{option_or}
 use Rattle.std.specs.Ordering.{nat_cmp, eq_by_cmp, ordering_index}
 use Rattle.std.proofs.lemmas.Bool.{cases_eq, cases_lt}
 use Rattle.std.proofs.lemmas.Bool.Decides.{nat_tests}
-use Rattle.std.proofs.lemmas.List.{append_assoc, get_or-take, get_or_default, length-append, length-take-le, set_split, take-append-drop, length-set, get_or-set_same, get_or-set_other}
+use Rattle.std.proofs.lemmas.List.{append_assoc, append-nil, get_or-take, get_or_default, length-append, length-take-le, set_split, take-append-drop, length-set, get_or-set_same, get_or-set_other}
 use Rattle.std.proofs.lemmas.List.Edits.{length-insert, get_or-insert_below, get_or-insert_at, get_or-insert_above, length-remove, get_or-remove_below, get_or-remove_above}
 use Rattle.std.proofs.lemmas.List.Elements.{All-head, All-tail, All-nil, All-cons, All-append, All-take, All-drop}
 use Rattle.std.proofs.lemmas.Map.Keys.{IsDistinct-cons, IsDistinct-from_sorted}
@@ -437,3 +437,31 @@ module _ (es : List (ℕ × ℕ)) (os : BTreeMap ℕ ℕ) (m : ByNumber ℕ) (ar
 
   pub told-by-others : r ≡ false → IsTrue r ↔ HasAll os.entries m → IsTrue r ↔ IsWithin (joined es os) m
   told-by-others untrue others = (λ yes. absurd (cc), λ within. others.1 (others-within es os m are ordered within))
+
+-- no two entries whose keys rise have one key
+distinct-rise : (es : List (ℕ × ℕ)) → Rise es → IsDistinct (eq_by_cmp nat_cmp) (keys_of es)
+unfolding IsDistinct
+distinct-rise [] rise = tt
+distinct-rise (e ∷ es) rise =
+    IsDistinct-cons (eq_by_cmp nat_cmp) e.0 (keys_of es)
+    (none-apart e.0 es (absent-key es e.0 (λ k below same. let less = rise 0 (suc k) (omega arith) (omega arith) in omega arith)))
+    (distinct-rise es (λ i j up below. rise (suc i) (suc j) (omega arith) (omega arith)))
+
+-- a map of the library that is collected from such entries
+pub joined-settled : (es items : List (ℕ × ℕ)) (os made : BTreeMap ℕ ℕ) → Rise es → length os.entries ≡ 0 → items ≡ [] → tree.IsFromIterResult nat_cmp es made → joined items made ≡ joined es os
+joined-settled es items os made rise empty none from = same_numbers _ _ (λ q.
+    ap (λ l. map.get (map.from_entries {R = nat_cmp} (l ++ made.entries)) q) none
+    ∙ get-from_entries nat_cmp_total made.entries q
+    ∙ find-lookup nat_cmp (eq_by_cmp nat_cmp) (λ x y. refl) made.entries q
+    ∙ from.0 q
+    ∙ update_all_none (eq_by_cmp_equiv nat_cmp_total) (eq_by_cmp nat_cmp) (λ x y. refl) es q (distinct-rise es rise)
+    ∙ sym (find-lookup nat_cmp (eq_by_cmp nat_cmp) (λ x y. refl) es q)
+    ∙ sym (get-from_entries nat_cmp_total es q)
+    ∙ ap (λ l. map.get (map.from_entries {R = nat_cmp} l) q) (sym (append-nil es) ∙ ap (λ l. es ++ l) (sym (nothing os.entries empty))))
+  where
+    nothing : (l : List (ℕ × ℕ)) → length l ≡ 0 → l ≡ []
+    nothing [] empty = refl
+    nothing (x ∷ l) empty = absurd (omega arith)
+
+pub apart-settled : (items : List (ℕ × ℕ)) (made : BTreeMap ℕ ℕ) → items ≡ [] → AreApart items made
+apart-settled items made none = subst (λ es. AreApart es made) (sym none) (record { rising = λ i j up below. absurd (omega arith); apart = λ i below. absurd (omega arith) })
