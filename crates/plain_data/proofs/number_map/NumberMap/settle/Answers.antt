@@ -9,5 +9,5 @@ returns-in-Ok c =
     let m = c.self.inside in
     let none : length m.others.entries ≡ 0 = search rules in
     let made : IsFromIterResult nat_cmp m.entries.items c.in-Ok.others = search rules in
-    joined-settled m.entries.items c.clear.new.self.items m.others c.in-Ok.others c.self.invariant.rising none c.clear.ensures.items made
+    joined-settled m.entries.items c.new.result.items m.others c.in-Ok.others c.self.invariant.rising none c.new.ensures.items made
     ∙ c.self.view_is
