@@ -27,21 +27,30 @@ module _ (bs : List Branch) (ds : List (Option Definition)) (are : AreBranches b
   means-inside : (k : ℕ) (d : Definition) → value_at ds k ≡ Some d → k < length bs
   means-inside k d means = omega (arith, value-inside ds k d means, are.inside)
 
-  -- it has a name, for it is not the root
-  path-some : (k : ℕ) (d : Definition) → value_at ds k ≡ Some d → path bs k ≢ []
-  path-some zero d means none = none-some d (sym are.root ∙ means)
-  path-some (suc k) d means none =
-      let here = path-descendant bs are.tree (suc k) (means-inside (suc k) d means) in
-      absurd (omega (arith, subst (λ ps. IsDescendant bs 0 ps (suc k)) none here))
+  -- and not the root
+  means-below : (k : ℕ) (d : Definition) → value_at ds k ≡ Some d → 0 < k
+  means-below zero d means = absurd (none-some d (sym are.root ∙ means))
+  means-below (suc k) d means = omega arith
 
-  -- the parts of its name are those that lead down to it
+  -- the parts of the name of any branch but the root are those that lead down to it
+  parts-path : (k : ℕ) → 0 < k → k < length bs → parts (name_at bs k) ≡ path bs k
+  parts-path k below inside =
+      let here = path-descendant bs are.tree k inside in
+      let some : path bs k ≢ [] = λ none. omega (arith, below, subst (λ ps. IsDescendant bs 0 ps k) none here) in
+      parts-name_of (path bs k) some (path-whole bs are.tree k)
+
+  -- so they lead down to it
+  pub own-descendant : (k : ℕ) → 0 < k → k < length bs → IsDescendant bs 0 (parts (name_at bs k)) k
+  own-descendant k below inside = subst (λ ps. IsDescendant bs 0 ps k) (sym (parts-path k below inside)) (path-descendant bs are.tree k inside)
+
+  -- these are the parts of the name of a branch that means something
   parts-name : (k : ℕ) (d : Definition) → value_at ds k ≡ Some d → parts (name_at bs k) ≡ path bs k
-  parts-name k d means = parts-name_of (path bs k) (path-some k d means) (path-whole bs are.tree k)
+  parts-name k d means = parts-path k (means-below k d means) (means-inside k d means)
 
-  -- so do those of each text that is its name
+  -- those of each text that is its name lead down to it
   named-descendant : (name : List ℕ) (k : ℕ) (d : Definition) → value_at ds k ≡ Some d → name ≡ name_at bs k → IsDescendant bs 0 (parts name) k
   named-descendant name k d means is =
-      subst (λ ps. IsDescendant bs 0 ps k) (sym (ap parts is ∙ parts-name k d means)) (path-descendant bs are.tree k (means-inside k d means))
+      subst (λ text. IsDescendant bs 0 (parts text) k) (sym is) (own-descendant k (means-below k d means) (means-inside k d means))
 
   -- no two branches that mean something have the same name
   naming-branches : IsNaming (name_at bs) ds

@@ -1,5 +1,6 @@
 -- One more name, which is new or is there already.
-use Rattle.std.proofs.Common.{◌≡◌, ℕ, List, Option, Some, None, is_some, true, false, rules, ap, refl}
+use Rattle.std.proofs.Common.{◌≡◌, ℕ, List, Option, Some, None, Result, IfOk, is_some, true, false, rules, ap, refl, ◌∙◌}
+use Rattle.std.proofs.lemmas.Result.{IfOk-weaker}
 use Rattle.std.specs.FinMap as map
 use Rattle.std.specs.Option.{option_map_or}
 use Rattle.pool_types.specs.Contents.{ByText}
@@ -22,3 +23,9 @@ module _ (names : ByText Definition) (name : List ℕ) (d : Definition) where
 
   pub inserted-present : (e : Definition) → map.get names name ≡ Some e → inserted names name d ≡ (names, Some d)
   inserted-present e = ap (λ found. option_map_or (λ _. (names, Some d)) found (map.insert names name d, None))
+
+-- the same of equal names
+pub inserted-alike : {E : Type 0} (result : Result (Option Definition) E) (new old also : ByText Definition) (name text : List ℕ) (d : Definition) → old ≡ also → name ≡ text
+    → IfOk result (λ back. (new, back) ≡ inserted old name d) → IfOk result (λ back. (new, back) ≡ inserted also text d)
+inserted-alike result new old also name text d names texts =
+    IfOk-weaker result (λ back. (new, back) ≡ inserted old name d) (λ back. (new, back) ≡ inserted also text d) (λ back is. is ∙ (λ i. inserted (names i) (texts i) d))

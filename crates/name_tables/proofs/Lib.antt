@@ -6,6 +6,7 @@ pub mod Entries
 pub mod NamedFiles
 pub mod Inserted
 pub mod Names
-pub mod Near
+pub mod LastParts
 pub mod NumberedNames
+pub mod OpenScopes
 pub mod Scoped

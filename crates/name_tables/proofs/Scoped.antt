@@ -15,7 +15,7 @@ use Rattle.name_tree.proofs.Paths.{descendant-append, descendant-one, descendant
 use Rattle.name_tables.proofs.BranchNames.{get-descendant, get-absent}
 
 -- the parts of a name inside a scope
-joined-parts : (text name : List ℕ) → parts (join text name) ≡ scope_parts text ++ parts name
+pub joined-parts : (text name : List ℕ) → parts (join text name) ≡ scope_parts text ++ parts name
 joined-parts [] name = refl
 joined-parts (c ∷ cs) name = parts-dot (c ∷ cs) name
 

@@ -2,7 +2,6 @@ pub mod Branches
 pub mod Entered
 pub mod Entries
 pub mod FileNames
-pub mod Latest
 pub mod NameTables
 pub mod NumberedNames
 pub mod Scopes

@@ -1,9 +1,9 @@
 -- A scope of a table of names.
-use Rattle.std.specs.Prelude.{◌≡◌, ◌⊎◌, ℕ, List, [], ◌∷◌, ◌++◌}
+use Rattle.std.specs.Prelude.{◌≡◌, ◌⊎◌, ◌<◌, ℕ, List, [], ◌∷◌, ◌++◌, All, length, map}
 use Rattle.std.specs.declared.option.Option.{Option}
 use Rattle.std.specs.declared.option.Option.TheVariants.{None, Some}
-use Rattle.name_tree.specs.Tree.{Branch, IsDescendant}
-use Rattle.name_tree.specs.Parts.{parts}
+use Rattle.name_tree.specs.Tree.{Branch, IsDescendant, path}
+use Rattle.name_tree.specs.Parts.{name_of, parts}
 
 -- the parts that stand before a name in a scope: none in the empty one
 abbrev pub scope_parts : List ℕ → List (List ℕ)
@@ -20,3 +20,15 @@ abbrev pub IsAround : List ℕ → List ℕ → Type 0
 IsAround text outer =
     ((last : List ℕ) × (text ≡ outer ++ 46 ∷ last) × (parts last ≡ last ∷ []))
     ⊎ ((outer ≡ []) × (parts text ≡ text ∷ []))
+
+-- the texts of scopes, by their branches
+abbrev pub scope_texts : List Branch → List ℕ → List (List ℕ)
+scope_texts branches scopes = map (λ k. name_of (path branches k)) scopes
+
+-- branch k is that of the scope whose text is its name: the root, where that is empty
+abbrev pub IsScope : List Branch → ℕ → Type 0
+IsScope branches k = (k < length branches) × IsBranchOf branches (name_of (path branches k)) (Some k)
+
+-- so is each
+abbrev pub AreScopes : List Branch → List ℕ → Type 0
+AreScopes branches scopes = All (IsScope branches) scopes

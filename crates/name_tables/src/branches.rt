@@ -1,6 +1,15 @@
+ghost use Rattle.std.specs.Prelude.{◌≡◌, ◌<◌, ◌∷◌, [], length, IsTrue, IfOk, OnErr};
+ghost use Rattle.std.specs.FinMap as map;
+ghost use Rattle.std.specs.Option.{option_copied};
+ghost use Rattle.name_tree.specs.Parts.{name_of, parts};
+ghost use Rattle.name_tree.specs.Tree.{IsDescendant, IsTree, KeepsBranches, path};
+ghost use Rattle.name_tables.specs.Branches.{AreBranches, names_of};
+ghost use Rattle.name_tables.specs.NameTables.{inserted};
+
 use crate::entered::Entered;
-use name_tree::NameTree;
+use name_tree::{NameTree, Parts};
 use pool_types::Definition;
+use std::alloc::AllocError;
 
 /// The branches of a tree of names, and what their names mean.
 #[derive(Drop)]
@@ -8,4 +17,109 @@ pub(crate) struct Branches {
     pub tree: NameTree,
     /// What the name of each branch means: that of the root means nothing.
     pub definitions: Entered<Definition>,
+}
+
+impl Branches {
+    /// What a name means, or none where it has no branch.
+    pub(crate) fn get(&self, name: &str) -> Option<&Definition>
+        requires { AreBranches self.now.tree self.now.definitions }
+        ensures { option_copied result
+            ≡ map.get (names_of self.now.tree self.now.definitions) name.now }
+    {
+        let at = self.tree.look_up(name)?;
+        self.definitions.get(at as usize)
+    }
+
+    /// Gives the name of a branch, which is not the root, a meaning, unless it has one: the
+    /// definition comes back then.
+    ///
+    /// # Errors
+    /// `AllocError` where memory was refused. All names mean what they did then.
+    pub(crate) fn define(
+        &mut self,
+        branch: u32,
+        definition: Definition,
+    ) -> Result<Option<Definition>, AllocError>
+        requires are { AreBranches self.old.tree self.old.definitions }
+        requires below { 0 < branch }
+        requires inside { branch < length self.old.tree }
+        ensures are { AreBranches self.new.tree self.new.definitions }
+        ensures tree { self.new.tree ≡ self.old.tree }
+        ensures ok { IfOk result (λ back.
+            (names_of self.new.tree self.new.definitions, back)
+            ≡ inserted (names_of self.old.tree self.old.definitions)
+            (name_of (path self.old.tree branch)) definition) }
+        ensures err { OnErr result (names_of self.new.tree self.new.definitions
+            ≡ names_of self.old.tree self.old.definitions) }
+    {
+        if self.definitions.get(branch as usize).is_some() {
+            return Ok(Some(definition));
+        }
+        self.definitions.insert(branch, definition)?;
+        Ok(None)
+    }
+}
+
+/// The branch to which the parts of a name lead down from another. Those that are missing are
+/// inserted.
+///
+/// # Errors
+/// `AllocError` where memory was refused.
+pub(crate) fn insert_below(tree: &mut NameTree, from: u32, name: &str) -> Result<u32, AllocError>
+    requires tree { IsTree tree.old }
+    requires from { from < length tree.old }
+    ensures tree { IsTree tree.new }
+    ensures keeps { KeepsBranches tree.old tree.new }
+    ensures descendant { IfOk result (λ k. IsDescendant tree.new from (parts name.now) k) }
+{
+    if is_part(name) {
+        return insert_part(tree, from, name);
+    }
+    insert_parts(tree, from, name)
+}
+
+/// Whether a name has no dot.
+fn is_part(name: &str) -> bool
+    ensures { IsTrue result → parts name.now ≡ name.now ∷ [] }
+{
+    for byte in name.as_bytes() {
+        if *byte == b'.' {
+            return false;
+        }
+    }
+    true
+}
+
+/// The child of a branch with a part, which is inserted where there is none.
+///
+/// # Errors
+/// `AllocError` where memory was refused.
+fn insert_part(tree: &mut NameTree, from: u32, part: &str) -> Result<u32, AllocError>
+    requires tree { IsTree tree.old }
+    requires from { from < length tree.old }
+    requires part { parts part.now ≡ part.now ∷ [] }
+    ensures tree { IsTree tree.new }
+    ensures keeps { KeepsBranches tree.old tree.new }
+    ensures descendant { IfOk result (λ k. IsDescendant tree.new from (parts part.now) k) }
+{
+    let at = tree.insert(from, part)?;
+    Ok(at)
+}
+
+/// The same part by part.
+///
+/// # Errors
+/// `AllocError` where memory was refused.
+fn insert_parts(tree: &mut NameTree, from: u32, name: &str) -> Result<u32, AllocError>
+    requires tree { IsTree tree.old }
+    requires from { from < length tree.old }
+    ensures tree { IsTree tree.new }
+    ensures keeps { KeepsBranches tree.old tree.new }
+    ensures descendant { IfOk result (λ k. IsDescendant tree.new from (parts name.now) k) }
+{
+    let mut at = from;
+    for part in Parts::new(name) {
+        at = tree.insert(at, part)?;
+    }
+    Ok(at)
 }

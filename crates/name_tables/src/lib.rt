@@ -6,11 +6,11 @@ mod branches;
 mod entered;
 mod file_names;
 mod hashed_names;
-mod latest;
 mod laws;
 mod name_table;
 mod part_names;
 mod scope;
+mod scoped_names;
 mod within;
 
 pub use file_names::FileNames;
@@ -20,6 +20,7 @@ pub use name_table::NameTable;
 pub use name_tree::Parts;
 pub use part_names::PartNames;
 pub use scope::Scope;
+pub use scoped_names::ScopedNames;
 
 /// The table of names that a pool has.
 pub type PoolNames = PartNames;

@@ -1,18 +1,14 @@
-ghost use Rattle.std.specs.Prelude.{◌≡◌, ℕ, IfOk, IfSome, None};
+ghost use Rattle.std.specs.Prelude.{◌≡◌};
 ghost use Rattle.std.specs.FinMap as map;
 ghost use Rattle.std.specs.Option.{option_copied};
 ghost use Rattle.proto_types.specs.Names.{join};
-ghost use Rattle.name_tree.specs.Parts.{parts};
-ghost use Rattle.name_tree.specs.Tree.{IsDescendant, IsTree, KeepsBranches};
-ghost use Rattle.name_tables.specs.Latest.{IsLatest};
 
-use crate::branches::Branches;
+use crate::branches::{Branches, insert_below};
 use crate::entered::Entered;
-use crate::latest::{Latest, near, write_name};
 use crate::name_table::NameTable;
 use crate::scope::Scope;
 use crate::within::is_within;
-use name_tree::{NameTree, Parts};
+use name_tree::NameTree;
 use pool_types::Definition;
 use std::alloc::{AllocError, Global};
 use std::marker::Model;
@@ -21,10 +17,8 @@ use std::marker::Model;
 /// see it as the finite map.
 #[derive(Drop)]
 pub struct PartNames {
-    alloc: Global,
-    branches: Branches,
-    /// None where names were taken away since.
-    latest: Option<Latest>,
+    pub(crate) alloc: Global,
+    pub(crate) branches: Branches,
 }
 
 impl Model for PartNames {
@@ -39,12 +33,10 @@ impl Model for PartNames {
     ghost coded = { map.code (coded_list coded_ℕ) definition.the_row.coded };
 
     ghost use Rattle.name_tables.specs.Branches.{AreBranches, names_of};
-    ghost use Rattle.name_tables.specs.Latest.{IsLatest};
 
     ghost view = { λ names. names_of names.branches.tree names.branches.definitions };
 
-    ghost invariant = { λ names. AreBranches names.branches.tree names.branches.definitions
-        × IsLatest names.branches.tree names.latest };
+    ghost invariant = { λ names. AreBranches names.branches.tree names.branches.definitions };
 }
 
 impl PartNames {
@@ -58,7 +50,6 @@ impl PartNames {
                 tree: NameTree::new(alloc),
                 definitions: Entered::new(alloc),
             },
-            latest: None,
         }
     }
 
@@ -94,8 +85,7 @@ impl NameTable for PartNames {
     ghost names = { λ names. names };
 
     fn get(&self, name: &str) -> Option<&Definition> {
-        let at = branch_of(&self.branches.tree, self.latest.as_ref(), name)?;
-        self.branches.definitions.get(at as usize)
+        self.branches.get(name)
     }
 
     fn get_joined(
@@ -112,19 +102,12 @@ impl NameTable for PartNames {
         name: &str,
         definition: Definition,
     ) -> Result<Option<Definition>, AllocError> {
-        let latest = self.latest.take();
-        let branch = insert_name(&mut self.branches.tree, latest.as_ref(), name)?;
-        let name = write_name(self.alloc, latest, name)?;
-        self.latest = Some(Latest { name, branch });
-        if self.branches.definitions.get(branch as usize).is_some() {
-            return Ok(Some(definition));
-        }
-        self.branches.definitions.insert(branch, definition)?;
-        Ok(None)
+        self.branches.tree.insert_root()?;
+        let branch = insert_below(&mut self.branches.tree, 0, name)?;
+        self.branches.define(branch, definition)
     }
 
     fn remove_from(&mut self, file: u32) {
-        self.latest = None;
         self.branches.definitions.remove_from(file);
         self.branches.tree.truncate(self.branches.definitions.len());
     }
@@ -135,61 +118,10 @@ impl NameTable for PartNames {
         Ok(PartNames {
             alloc: self.alloc,
             branches: Branches { tree, definitions },
-            latest: None,
         })
     }
 
     fn same(&self, other: &PartNames) -> bool {
         is_within(&self.branches, &other.branches) && is_within(&other.branches, &self.branches)
     }
-}
-
-/// The branch of a name, or none where none has it.
-fn branch_of(tree: &NameTree, latest: Option<&Latest>, name: &str) -> Option<u32>
-    requires tree { IsTree tree.now }
-    requires latest { IsLatest tree.now (option_copied latest) }
-    ensures found { IfSome result (λ k. IsDescendant tree.now 0 (parts name.now) k) }
-    ensures none { result ≡ None → (k : ℕ) → IsDescendant tree.now 0 (parts name.now) k → ⊥ }
-{
-    match near(tree, latest, name) {
-        Some((scope, last)) => tree.find(scope, last.as_bytes()),
-        None => tree.look_up(name),
-    }
-}
-
-/// The branch of a name. It is inserted where there is none: as a child of that of its scope, where
-/// that is near, else part by part.
-///
-/// # Errors
-/// `AllocError` where memory was refused.
-fn insert_name(tree: &mut NameTree, latest: Option<&Latest>, name: &str) -> Result<u32, AllocError>
-    requires tree { IsTree tree.old }
-    requires latest { IsLatest tree.old (option_copied latest) }
-    ensures tree { IsTree tree.new }
-    ensures keeps { KeepsBranches tree.old tree.new }
-    ensures descendant { IfOk result (λ k. IsDescendant tree.new 0 (parts name.now) k) }
-{
-    let Some((scope, last)) = near(tree, latest, name) else {
-        return insert_parts(tree, name);
-    };
-    let at = tree.insert(scope, last)?;
-    Ok(at)
-}
-
-/// The branch of a name. It is inserted part by part where there is none.
-///
-/// # Errors
-/// `AllocError` where memory was refused.
-fn insert_parts(tree: &mut NameTree, name: &str) -> Result<u32, AllocError>
-    requires { IsTree tree.old }
-    ensures tree { IsTree tree.new }
-    ensures keeps { KeepsBranches tree.old tree.new }
-    ensures descendant { IfOk result (λ k. IsDescendant tree.new 0 (parts name.now) k) }
-{
-    tree.insert_root()?;
-    let mut at = 0;
-    for part in Parts::new(name) {
-        at = tree.insert(at, part)?;
-    }
-    Ok(at)
 }

@@ -1,24 +1,21 @@
-use Rattle.std.proofs.Common.{◌≡◌, ◌<◌, ◌++◌, ◌∷◌, [], length, ap, refl, sym, subst, ◌∙◌}
+use Rattle.std.proofs.Common.{◌≡◌, ◌++◌, ◌∷◌, [], ap, refl, sym, ◌∙◌}
 use Rattle.std.proofs.lemmas.List.{append_assoc}
 use Rattle.name_tree.specs.Parts.{parts}
-use Rattle.name_tree.specs.Tree.{IsTree, KeepsBranches}
 use Rattle.name_tree.proofs.NameParts.{part-between}
-use Rattle.name_tree.proofs.TreeChanges.{descendant-inserted, inserted-inside, keeps-inserted, keeps-more, keeps-with_root, length-with_root, tree-inserted, tree-with_root}
-use Rattle.name_tables.proofs.part_names.insert_parts.Goals as goal
+use Rattle.name_tree.proofs.TreeChanges.{descendant-inserted, inserted-inside, keeps-all, keeps-inserted, keeps-more, tree-inserted}
+use Rattle.name_tables.proofs.branches.insert_parts.Goals as goal
 
 pub loop-part-init : goal.loop-part-init
-loop-part-init c =
-    let was = c.args.tree.now in
-    let is = c.in_ok-insert_root.ensures.ok in (
-      tt,
-      tt,
-      subst IsTree (sym is) (tree-with_root was c.requires),
-      subst (KeepsBranches was) (sym is) (keeps-with_root was),
-      subst (λ bs. 0 < length bs) (sym is) (length-with_root was),
-      [],
-      c.into_iter-part-iterator.ensures.into_iter_gives ∙ c.new-part-items.ensures,
-      refl,
-    )
+loop-part-init c = (
+  tt,
+  tt,
+  c.requires.tree,
+  keeps-all c.args.tree.now,
+  c.requires.from,
+  [],
+  c.into_iter-part-iterator.ensures.into_iter_gives ∙ c.new-part-items.ensures,
+  refl,
+)
 
 pub loop-part-preserved : goal.loop-part-preserved
 loop-part-preserved c =
@@ -40,5 +37,5 @@ loop-part-preserved c =
       inserted-inside was now at part to inserts,
       so_far ++ part ∷ [],
       append_assoc so_far (part ∷ []) c.next.new.self ∙ all,
-      descendant-inserted was now at part to inserts so_far 0 c.loop-part.invariant.7,
+      descendant-inserted was now at part to inserts so_far c.args.from c.loop-part.invariant.7,
     )

@@ -1,7 +1,7 @@
 use Rattle.std.proofs.Common.{◌≡◌, ◌<◌, ◌++◌, ℕ, List, length}
 use Rattle.name_tree.specs.Parts.{parts}
 use Rattle.name_tree.specs.Tree.{IsDescendant, IsTree, KeepsBranches}
-use Rattle.name_tables.proofs.part_names.insert_parts.Given as goal
+use Rattle.name_tables.proofs.branches.insert_parts.Given as goal
 
 -- the branches are a tree that keeps those that there were, and the parts so far lead down to a branch
 abbrev pub invariant-loop-part : goal.invariant-loop-part
@@ -11,4 +11,4 @@ invariant-loop-part l =
     × IsTree l.tree
     × KeepsBranches l.fn.tree l.tree
     × (l.at < length l.tree)
-    × (so_far : List (List ℕ)) × (so_far ++ l.part-iterator ≡ parts l.name) × IsDescendant l.tree 0 so_far l.at
+    × (so_far : List (List ℕ)) × (so_far ++ l.part-iterator ≡ parts l.name) × IsDescendant l.tree l.from so_far l.at

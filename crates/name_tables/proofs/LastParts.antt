@@ -1,25 +1,15 @@
--- Names that are a part behind a scope, which has a branch.
-use Rattle.std.proofs.Common.{◌≡◌, ◌≢◌, ◌≤◌, ◌<◌, ◌+◌, ◌-◌, ◌⊎◌, ℕ, zero, suc, List, [], ◌∷◌, ◌++◌, Some, length, get_or, take, drop, ap, sym, subst, refl, inl, inr, ◌∙◌, arith}
+-- The last parts of names, and what stands before them.
+use Rattle.std.proofs.Common.{◌≡◌, ◌≢◌, ◌+◌, ◌-◌, ◌⊎◌, ℕ, zero, suc, List, [], ◌∷◌, ◌++◌, Some, length, get_or, take, ap, sym, subst, refl, inl, inr, ◌∙◌, arith}
 use Rattle.std.proofs.Math.Seq.{get_or-append_seam, take-append_seam}
-use Rattle.std.proofs.lemmas.List.{length-append, length-take-le, take-append-drop, take-append-le}
+use Rattle.std.proofs.lemmas.List.{length-append}
 use Rattle.std.specs.Str.{IsCharBoundary, IsUtf8}
 use Rattle.std.proofs.lemmas.Str.{IsCharBoundary-before_ascii, IsCharBoundary-start}
 use Rattle.name_tree.specs.Tree.{Branch, HasParent, HasPart, IsTree, IsDescendant, path}
-use Rattle.name_tables.specs.Latest.{IsNear}
 use Rattle.name_tables.specs.Scopes.{IsAround, IsBranchOf}
 use Rattle.name_tree.specs.Parts.{parts, name_of}
 use Rattle.name_tables.proofs.Counterparts.{parent-before, read-path}
-use Rattle.name_tree.proofs.NameParts.{IsPart, name_of-last, name_of-parts, part-between, parts-dot, parts-name_of, parts-some}
+use Rattle.name_tree.proofs.NameParts.{IsPart, name_of-last, name_of-parts, part-between, parts-name_of, parts-some}
 use Rattle.name_tree.proofs.Paths.{descendant-path, descendant-some, path-descendant, path-whole}
-
-module _ (bs : List Branch) (name last : List ℕ) (at : ℕ) (near : IsNear bs name at last) where
-  -- the scope is one of the branches
-  pub near-inside : at < length bs
-  near-inside = (descendant-some bs (parts near.0) 0 at (parts-some near.0) near.3).1
-
-  -- the parts of the name are those of its scope, and the one behind it
-  pub near-parts : parts name ≡ parts near.0 ++ last ∷ []
-  near-parts = ap parts near.1 ∙ parts-dot near.0 last ∙ ap (λ ps. parts near.0 ++ ps) near.2
 
 module _ (bs : List Branch) (tree : IsTree bs) (at parent : ℕ) (part : List ℕ) (above : HasParent bs at parent)
     (named : HasPart bs at part) (below : parent ≢ 0) where
@@ -37,19 +27,6 @@ module _ (bs : List Branch) (tree : IsTree bs) (at parent : ℕ) (part : List �
         sym (name_of-parts text) ∙ ap name_of are ∙ name_of-last front part some,
         subst (λ ps. IsDescendant bs 0 ps parent) (sym (parts-name_of front some (path-whole bs tree parent))) there,
       )
-
-  -- the same of the first n bytes of a name
-  pub outer-front : (name : List ℕ) (n : ℕ) → n ≤ length name → IsDescendant bs 0 (parts (take n name)) at
-      → (length part + 1 ≤ n) × IsDescendant bs 0 (parts (take (n - (length part + 1)) name)) parent
-  outer-front name n inside down =
-      let cut = outer-name (take n name) down in
-      let outer = cut.0 in
-      let long : n ≡ length outer + suc (length part) = sym (length-take-le n name inside) ∙ ap length cut.1 ∙ length-append outer (46 ∷ part) in
-      let left : n - (length part + 1) ≡ length outer = omega (arith, long) in
-      let is : take (length outer) name ≡ outer =
-      ap (take (length outer)) (sym (take-append-drop n name)) ∙ take-append-le (length outer) (take n name) (drop n name) (omega (arith, long, length-take-le n name inside))
-      ∙ ap (take (length outer)) cut.1 ∙ take-append_seam outer (46 ∷ part) in
-      (omega (arith, long), subst (λ text. IsDescendant bs 0 (parts text) parent) (sym (ap (λ m. take m name) left ∙ is)) cut.2)
 
 -- a text is one part, or has it behind a dot
 abbrev pub EndsWithPart : List ℕ → List ℕ → Type 0
