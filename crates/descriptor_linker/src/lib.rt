@@ -35,7 +35,7 @@ pub use link_script::{
     files_of, read_script,
 };
 pub use name_pass::NameVisitor;
-pub use name_tables::{FileNames, NameTable, PartNames, PoolNames, Scope};
+pub use name_tables::{FileNames, NameTable, PartNames, PoolNames, Scope, ScopedNames};
 pub use plain_data::{Items, NumberMap, Path, Text, TextMap};
 pub use pool_faults::{AllFaults, DescriptorError, DescriptorErrorKind, Label, Labelled, Labels};
 pub use pool_members::{Declared, Members, Parent};

@@ -45,7 +45,7 @@ third-of (n ∷ ns) = second-of ns
 
 -- the names and faults that are left once a visitor is gone that was shown all and held them, and began under the same borrows
 module _ (new : NameVisitor) {m n k : ℕ} (same : borrows_of new ≡ m ∷ n ∷ k ∷ [])
-    (x : ByText Definition) (x-is : m ≡ new.names.ghost_name → x ≡ new.names.now)
+    (x : ByText Definition × List (List ℕ)) (x-is : m ≡ new.names.ghost_name → x ≡ new.names.now)
     (y : ByText ℕ) (y-is : n ≡ new.file_names.ghost_name → y ≡ new.file_names.now) where
   names-left : x ≡ new.names.now
   names-left = x-is (sym (ap first-of same))
@@ -57,11 +57,11 @@ module _ (new : NameVisitor) {m n k : ℕ} (same : borrows_of new ≡ m ∷ n �
       → (records : List FileDescriptorProto) (state : NameState) (ds : List Shown) (A : List Shown → Progress) (R S : List Shown → Type 0)
       → A (ds ++ []) ≡ name_progress (fold (name_step records) state (ds ++ []))
       → OnOk r (HasSeen A R (λ es. name_progress (fold (name_step (records_of new)) (state_of new) es)) S ds)
-      → OnOk r (state_at x y z.found.items ≡ fold (name_step records) state ds)
+      → OnOk r (state_at x.0 y z.found.items ≡ fold (name_step records) state ds)
   names-end z z-is (Ok u) records state ds A R S began seen =
       let faults-left = ap (λ (v : PassFaults). v.found.items) (z-is (sym (ap third-of same))) in
       let is = seen.after_is [] ∙ began ∙ (λ i. name_progress (fold (name_step records) state (append-nil ds i))) in
-      λ i. state_at ((names-left ∙ ap (λ (p : Progress). p.contents.names) is) i) ((file-names-left ∙ ap (λ (p : Progress). p.contents.file_names) is) i)
+      λ i. state_at (((λ i. (names-left i).0) ∙ ap (λ (p : Progress). p.contents.names) is) i) ((file-names-left ∙ ap (λ (p : Progress). p.contents.file_names) is) i)
       ((faults-left ∙ ap (λ (p : Progress). p.faults) is) i)
   names-end z z-is (Err e) records state ds A R S began seen = tt
 
@@ -71,9 +71,9 @@ module _ (new : NameVisitor) {m n k : ℕ} (same : borrows_of new ≡ m ∷ n �
     here-still : first_new new ≡ first
     here-still = ap (λ (c : Contents). length c.files) kept ∙ here
 
-    pub names-stay : without_files_from first x ≡ without_files_from first names
+    pub names-stay : without_files_from first x.0 ≡ without_files_from first names
     names-stay =
-        ap (without_files_from first) names-left ∙ (λ i. without_files_from (sym here-still i) new.names.now)
+        (λ i. without_files_from first (names-left i).0) ∙ (λ i. without_files_from (sym here-still i) new.names.now.0)
         ∙ ap (λ (c : Contents). c.names) kept ∙ (λ i. without_files_from (here i) names)
 
     pub file-names-stay : file_names_before first y ≡ file_names_before first file_names

@@ -25,7 +25,7 @@ ghost use Rattle.descriptor_pool.specs.Pool.{Made};
 
 use crate::error::BuildError;
 use name_pass::NameVisitor;
-use name_tables::{FileNames, PoolNames};
+use name_tables::{FileNames, PoolNames, ScopedNames};
 use pool_contents::{DescriptorPoolInner, GrowingPool};
 use pool_faults::{DescriptorError, DescriptorErrorKind};
 use proto_types::FileDescriptorProto;
@@ -107,13 +107,16 @@ fn enter_names(alloc: Global, pool: &mut GrowingPool) -> Result<(), BuildError>
     ensures kept { rolled_back pool.new ≡ rolled_back pool.old }
 {
     let mut faults = Faults::new(alloc, &pool.inner.files);
-    show_names(
-        alloc,
+    let table = mem::replace(&mut pool.inner.names, PoolNames::new(alloc));
+    let mut names = ScopedNames::new(table);
+    let shown = show_names(
         pool.base,
-        &mut pool.inner.names,
+        &mut names,
         &mut pool.inner.file_names,
         &mut faults,
-    )?;
+    );
+    pool.inner.names = names.into_names();
+    shown?;
     let Faults { found, .. } = faults;
     refuse(found)
 }
@@ -121,23 +124,23 @@ fn enter_names(alloc: Global, pool: &mut GrowingPool) -> Result<(), BuildError>
 /// Shows the new files of a pool, which are those that labels name from the base's count on, to the
 /// first pass.
 fn show_names(
-    alloc: Global,
     base: Counts,
-    names: &mut PoolNames,
+    names: &mut ScopedNames,
     file_names: &mut FileNames,
     faults: &mut Faults,
 ) -> Result<(), AllocError>
     requires here { base.files ≤ length faults.old.labels }
     requires counts { IsOk (counts_with base (records_from base.files faults.old.labels)) }
-    ensures ok { OnOk result (state_at names.new file_names.new faults.new.found.items
+    ensures ok { OnOk result (state_at names.new.0 file_names.new faults.new.found.items
         ≡ fold (name_step (map (λ f. f.raw) faults.old.labels))
-        (state_at names.old file_names.old faults.old.found.items)
+        (state_at names.old.0 file_names.old faults.old.found.items)
         (declarations base (records_from base.files faults.old.labels))) }
-    ensures names { without_files_from base.files names.new
-        ≡ without_files_from base.files names.old }
+    ensures names { without_files_from base.files names.new.0
+        ≡ without_files_from base.files names.old.0 }
     ensures file_names { file_names_before base.files file_names.new
         ≡ file_names_before base.files file_names.old }
 {
+    let alloc = faults.alloc;
     let files = faults.labels.files();
     let mut visitor = NameVisitor {
         alloc,

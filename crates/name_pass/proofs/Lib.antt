@@ -8,3 +8,6 @@ pub mod Packages
 pub mod Entering
 pub mod Showing
 pub mod Kept
+pub mod Opened
+pub mod Joining
+pub mod Following

@@ -4,5 +4,6 @@ pub mod KeyDigests
 pub mod Enumeration
 pub mod Names
 pub mod FirstPass
+pub mod Scopes
 pub mod Steps
 pub mod State

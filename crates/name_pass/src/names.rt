@@ -1,12 +1,13 @@
-ghost use Rattle.std.specs.Prelude.{◌≡◌, ◌≤◌, ◌∷◌, ◌++◌, [], OnOk, map};
+ghost use Rattle.std.specs.Prelude.{◌≡◌, ◌≤◌, ◌/◌, ◌-◌, ◌∷◌, ◌++◌, [], IfOk, OnOk, length, map};
 ghost use Rattle.std.specs.Option.{option_copied};
 ghost use Rattle.proto_types.specs.declared.tag.message.TheConstants.{NAME};
+ghost use Rattle.proto_types.specs.Names.{fronts};
 ghost use Rattle.record_walk.specs.Faults.{Tells, named_files};
 ghost use Rattle.name_pass.specs.Names.{packages, package_entry};
 ghost use Rattle.name_pass.specs.FirstPass.{holder_faults};
 
 use crate::{check_camel_case_names, check_enum_values, check_syntax};
-use name_tables::{FileNames, NameTable, PoolNames};
+use name_tables::{FileNames, ScopedNames};
 use plain_data::{Path, Text};
 use pool_faults::DescriptorErrorKind;
 use pool_types::{Definition, DefinitionKind};
@@ -22,71 +23,141 @@ use std::alloc::{AllocError, Global};
 /// enum shows by itself.
 ///
 /// What it shows once a list has been shown to it is the fold of one step over the list. What a
-/// roll-back would give stays, after a refusal too.
+/// roll-back would give stays, after a refusal too. A name comes into a scope that those before it
+/// opened, so it is to be shown a file before what that declares, in the order of the walk.
 #[derive(Drop)]
 pub struct NameVisitor<'a, 'f> {
     pub alloc: Global,
     /// The index of the first file of the batch.
     pub first: u32,
-    pub names: &'a mut PoolNames,
+    pub names: &'a mut ScopedNames,
     pub file_names: &'a mut FileNames,
     pub faults: &'a mut Faults<'f>,
 }
 
+/// A name as it comes in: the level of the open scope in which it stands, from 0, the name there, and
+/// the full name.
+#[derive(Clone, Copy)]
+struct NameInScope<'a> {
+    level: usize,
+    name: &'a str,
+    full_name: &'a str,
+}
+
+impl<'a> NameInScope<'a> {
+    /// The name of what stands at a path, in the scope of what is around it.
+    fn inside(path: &[i32], name: &'a str, full_name: &'a str) -> NameInScope<'a>
+        ensures level { result.level ≡ length path.now / 2 - 1 }
+        ensures name { result.name.now ≡ name.now }
+        ensures full_name { result.full_name.now ≡ full_name.now }
+    {
+        NameInScope {
+            level: (path.len() / 2).saturating_sub(1),
+            name,
+            full_name,
+        }
+    }
+
+    /// The name of an enum's value at a path, in the scope around the enum.
+    fn beside(path: &[i32], name: &'a str, full_name: &'a str) -> NameInScope<'a>
+        ensures level { result.level ≡ length path.now / 2 - 2 }
+        ensures name { result.name.now ≡ name.now }
+        ensures full_name { result.full_name.now ≡ full_name.now }
+    {
+        NameInScope {
+            level: (path.len() / 2).saturating_sub(2),
+            name,
+            full_name,
+        }
+    }
+}
+
 impl NameVisitor<'_, '_> {
     ghost use Rattle.name_pass.specs.Steps.{entered, file_named};
-    ghost use Rattle.name_pass.specs.State.{first_new, records_of, state_of, Stays};
+    ghost use Rattle.name_pass.specs.State.{first_new, opened, records_of, scopes_of, StandsIn, state_of, Stays};
 
     /// Enters a name, which means something in a new file; where it clashes with a holder, that is
     /// a fault.
-    fn enter(
-        &mut self,
-        name: &str,
-        file: u32,
-        path: Path,
-        kind: DefinitionKind,
-    ) -> Result<(), AllocError>
-        requires { first_new self.old ≤ file }
+    fn enter(&mut self, name: NameInScope, definition: Definition) -> Result<(), AllocError>
+        requires later { first_new self.old ≤ definition.file }
+        requires stands { StandsIn (scopes_of self.old) name }
         ensures ok { OnOk result (state_of self.new ≡ entered (records_of self.old)
-            (state_of self.old)
-            ((name.now, record { file = file; path = path; kind = kind }) ∷ [])) }
+            (state_of self.old) ((name.entry.full_name.now, definition) ∷ [])) }
+        ensures scopes { OnOk result (scopes_of self.new ≡ opened (scopes_of self.old) name.entry) }
         ensures stays { Stays self.old self.new }
     {
-        let definition = Definition { file, path, kind };
-        let Some(definition) = self.names.insert(name, definition)? else {
+        let Some(definition) = self.names.enter(name.level, name.name, definition)? else {
             return Ok(());
         };
-        let holder = self.names.get(name);
-        check_clash(self.faults, name, holder, &definition)
+        let holder = self.names.find(name.level, name.name);
+        check_clash(self.faults, name.full_name, holder, &definition)
     }
 
-    /// Enters a package and those around it, from the outermost in.
+    /// Enters a package and those around it, from the outermost in, and leaves its scope alone open.
     fn enter_packages(&mut self, file: u32, name: &str) -> Result<(), AllocError>
         requires { first_new self.old ≤ file }
         ensures ok { OnOk result (state_of self.new ≡ entered (records_of self.old)
             (state_of self.old) (map (package_entry file) (packages name.now))) }
+        ensures scopes { OnOk result (scopes_of self.new ≡ name.now ∷ []) }
         ensures stays { Stays self.old self.new }
     {
-        let bytes = name.as_bytes();
-        for (end, byte) in bytes.iter().enumerate() {
-            if *byte == b'.' {
-                self.enter_package(file, &name[..end])?;
-            }
-        }
+        self.names.open_outermost()?;
         if name.is_empty() {
             return Ok(());
         }
-        self.enter_package(file, name)
+        let package = self.enter_around(file, name)?;
+        self.enter_package(file, package)?;
+        self.names.keep_innermost();
+        Ok(())
     }
 
-    fn enter_package(&mut self, file: u32, name: &str) -> Result<(), AllocError>
-        requires { first_new self.old ≤ file }
+    /// Enters the packages around one, from the outermost in, and answers how its own name comes in
+    /// then.
+    fn enter_around<'a>(&mut self, file: u32, name: &'a str) -> Result<NameInScope<'a>, AllocError>
+        requires later { first_new self.old ≤ file }
+        requires outermost { scopes_of self.old ≡ [] ∷ [] }
         ensures ok { OnOk result (state_of self.new ≡ entered (records_of self.old)
-            (state_of self.old) (package_entry file name.now ∷ [])) }
+            (state_of self.old) (map (package_entry file) (fronts name.now))) }
+        ensures name { IfOk result (λ n. n.full_name.now ≡ name.now) }
+        ensures stands { IfOk result (StandsIn (scopes_of self.new)) }
+        ensures stays { Stays self.old self.new }
+    {
+        let bytes = name.as_bytes();
+        let mut level = 0;
+        let mut start = 0;
+        for (end, byte) in bytes.iter().enumerate() {
+            if *byte == b'.' {
+                let package = NameInScope {
+                    level,
+                    name: &name[start..end],
+                    full_name: &name[..end],
+                };
+                self.enter_package(file, package)?;
+                // An empty front opens the outermost scope again.
+                if end > 0 {
+                    level += 1;
+                    start = end + 1;
+                }
+            }
+        }
+        Ok(NameInScope {
+            level,
+            name: &name[start..],
+            full_name: name,
+        })
+    }
+
+    fn enter_package(&mut self, file: u32, name: NameInScope) -> Result<(), AllocError>
+        requires later { first_new self.old ≤ file }
+        requires stands { StandsIn (scopes_of self.old) name }
+        ensures ok { OnOk result (state_of self.new ≡ entered (records_of self.old)
+            (state_of self.old) (package_entry file name.entry.full_name.now ∷ [])) }
+        ensures scopes { OnOk result (scopes_of self.new ≡ opened (scopes_of self.old) name.entry) }
         ensures stays { Stays self.old self.new }
     {
         let path = Path::from_slice(self.alloc, &[tag::file::PACKAGE])?;
-        self.enter(name, file, path, DefinitionKind::Package)
+        let kind = DefinitionKind::Package;
+        self.enter(name, Definition { file, path, kind })
     }
 
     /// Enters the name of a new file; where a file has it, that is a fault.
@@ -107,37 +178,40 @@ impl NameVisitor<'_, '_> {
     /// Enters a declaration's full name, at the name of its record.
     fn enter_own(
         &mut self,
-        full_name: &str,
+        name: NameInScope,
         file: u32,
         path: &[i32],
         kind: DefinitionKind,
     ) -> Result<(), AllocError>
-        requires { first_new self.old ≤ file }
+        requires later { first_new self.old ≤ file }
+        requires stands { StandsIn (scopes_of self.old) name }
         ensures ok { OnOk result (state_of self.new
             ≡ entered (records_of self.old) (state_of self.old)
-            ((full_name.now, record { file = file; path = path.now ++ NAME ∷ []; kind = kind })
+            ((name.entry.full_name.now, record { file = file; path = path.now ++ NAME ∷ []; kind = kind })
             ∷ [])) }
+        ensures scopes { OnOk result (scopes_of self.new ≡ opened (scopes_of self.old) name.entry) }
         ensures stays { Stays self.old self.new }
     {
-        let name_path = Path::part(self.alloc, path, tag::message::NAME)?;
-        self.enter(full_name, file, name_path, kind)
+        let path = Path::part(self.alloc, path, tag::message::NAME)?;
+        let definition = Definition { file, path, kind };
+        self.enter(name, definition)
     }
 }
 
 impl Visitor for NameVisitor<'_, '_> {
     ghost use Rattle.std.specs.List.{fold};
-    ghost use Rattle.name_pass.specs.Steps.{CanBeEntered, front-entered, name_progress, name_step};
-    ghost use Rattle.name_pass.specs.State.{borrows_of, first_new, kept_of, records_of, state_of};
+    ghost use Rattle.name_pass.specs.Steps.{name_progress, name_step};
+    ghost use Rattle.name_pass.specs.State.{borrows_of, front-ready, IsReady, kept_of, records_of, state_of};
 
     ghost after = { λ v ds. name_progress (fold (name_step (records_of v)) (state_of v) ds) };
 
-    ghost ready = { λ v ds. CanBeEntered (first_new v) ds };
+    ghost ready = { IsReady };
 
     ghost kept = { kept_of };
 
     ghost borrows = { borrows_of };
 
-    ghost front_ready = { λ v ds es. front-entered (first_new v) ds es };
+    ghost front_ready = { front-ready };
 
     fn visit_file(
         &mut self,
@@ -159,7 +233,8 @@ impl Visitor for NameVisitor<'_, '_> {
         index: u32,
         message: &DescriptorProto,
     ) -> Result<(), AllocError> {
-        self.enter_own(full_name, file, path, DefinitionKind::Message(index))?;
+        let name = NameInScope::inside(path, message.name(), full_name);
+        self.enter_own(name, file, path, DefinitionKind::Message(index))?;
         check_camel_case_names(self.faults, file, path, message)
     }
 
@@ -170,9 +245,10 @@ impl Visitor for NameVisitor<'_, '_> {
         file: u32,
         parent: u32,
         _index: u32,
-        _field: &FieldDescriptorProto,
+        field: &FieldDescriptorProto,
     ) -> Result<(), AllocError> {
-        self.enter_own(full_name, file, path, DefinitionKind::Field(parent))
+        let name = NameInScope::inside(path, field.name(), full_name);
+        self.enter_own(name, file, path, DefinitionKind::Field(parent))
     }
 
     fn visit_oneof(
@@ -182,9 +258,10 @@ impl Visitor for NameVisitor<'_, '_> {
         file: u32,
         parent: u32,
         _index: u32,
-        _oneof: &OneofDescriptorProto,
+        oneof: &OneofDescriptorProto,
     ) -> Result<(), AllocError> {
-        self.enter_own(full_name, file, path, DefinitionKind::Oneof(parent))
+        let name = NameInScope::inside(path, oneof.name(), full_name);
+        self.enter_own(name, file, path, DefinitionKind::Oneof(parent))
     }
 
     fn visit_service(
@@ -193,9 +270,10 @@ impl Visitor for NameVisitor<'_, '_> {
         full_name: &str,
         file: u32,
         index: u32,
-        _service: &ServiceDescriptorProto,
+        service: &ServiceDescriptorProto,
     ) -> Result<(), AllocError> {
-        self.enter_own(full_name, file, path, DefinitionKind::Service(index))
+        let name = NameInScope::inside(path, service.name(), full_name);
+        self.enter_own(name, file, path, DefinitionKind::Service(index))
     }
 
     fn visit_method(
@@ -205,9 +283,10 @@ impl Visitor for NameVisitor<'_, '_> {
         file: u32,
         parent: u32,
         _index: u32,
-        _method: &MethodDescriptorProto,
+        method: &MethodDescriptorProto,
     ) -> Result<(), AllocError> {
-        self.enter_own(full_name, file, path, DefinitionKind::Method(parent))
+        let name = NameInScope::inside(path, method.name(), full_name);
+        self.enter_own(name, file, path, DefinitionKind::Method(parent))
     }
 
     fn visit_enum(
@@ -219,7 +298,8 @@ impl Visitor for NameVisitor<'_, '_> {
         index: u32,
         enumeration: &EnumDescriptorProto,
     ) -> Result<(), AllocError> {
-        self.enter_own(full_name, file, path, DefinitionKind::Enum(index))?;
+        let name = NameInScope::inside(path, enumeration.name(), full_name);
+        self.enter_own(name, file, path, DefinitionKind::Enum(index))?;
         check_enum_values(self.faults, file, path, enumeration)
     }
 
@@ -230,9 +310,10 @@ impl Visitor for NameVisitor<'_, '_> {
         file: u32,
         parent: u32,
         _index: u32,
-        _value: &EnumValueDescriptorProto,
+        value: &EnumValueDescriptorProto,
     ) -> Result<(), AllocError> {
-        self.enter_own(full_name, file, path, DefinitionKind::EnumValue(parent))
+        let name = NameInScope::beside(path, value.name(), full_name);
+        self.enter_own(name, file, path, DefinitionKind::EnumValue(parent))
     }
 
     fn visit_extension(
@@ -242,9 +323,10 @@ impl Visitor for NameVisitor<'_, '_> {
         file: u32,
         _parent: Option<u32>,
         index: u32,
-        _extension: &FieldDescriptorProto,
+        extension: &FieldDescriptorProto,
     ) -> Result<(), AllocError> {
-        self.enter_own(full_name, file, path, DefinitionKind::Extension(index))
+        let name = NameInScope::inside(path, extension.name(), full_name);
+        self.enter_own(name, file, path, DefinitionKind::Extension(index))
     }
 }
 

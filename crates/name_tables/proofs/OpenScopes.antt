@@ -84,11 +84,11 @@ module _ (bs : List Branch) (tree : IsTree bs) (scope branch : ℕ) (name : List
 
 module _ (old : List Branch) (scopes : List ℕ) (are : AreScopes old scopes) (level scope : ℕ) (inside : level < length scopes) (at : scope ≡ get_or scopes level scope) where
   -- the scope with a level is one
-  scope-at : IsScope old scope
+  pub scope-at : IsScope old scope
   scope-at = subst (IsScope old) (sym at) (All-get_or (IsScope old) scopes level scope inside are)
 
   -- its text
-  text-at : get_or (scope_texts old scopes) level [] ≡ name_of (path old scope)
+  pub text-at : get_or (scope_texts old scopes) level [] ≡ name_of (path old scope)
   text-at = get_or-map (λ k. name_of (path old k)) scopes level scope [] inside ∙ ap (λ k. name_of (path old k)) (sym at)
 
   module _ (new : List Branch) (keeps : KeepsBranches old new) (tree : IsTree new) where

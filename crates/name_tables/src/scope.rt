@@ -107,7 +107,7 @@ impl<'a, 't> Scope<'a, 't> {
 }
 
 /// The branch to which a name leads from another: from the root, that of the whole name.
-fn go_down(tree: &NameTree, from: u32, name: &str) -> Option<u32>
+pub(crate) fn go_down(tree: &NameTree, from: u32, name: &str) -> Option<u32>
     requires { IsTree tree.now }
     ensures found { IfSome result (λ k. IsDescendant tree.now from (parts name.now) k) }
     ensures none { result ≡ None → (k : ℕ) → IsDescendant tree.now from (parts name.now) k → ⊥ }

@@ -6,6 +6,7 @@ ghost use Rattle.name_tables.specs.NameTables.{inserted};
 
 use crate::branches::{Branches, insert_below};
 use crate::part_names::PartNames;
+use crate::scope::go_down;
 use pool_types::Definition;
 use std::alloc::{AllocError, Global};
 use std::marker::Model;
@@ -66,11 +67,15 @@ impl ScopedNames {
         }
     }
 
-    /// What a full name means, or none where the table lacks it.
-    pub fn get(&self, name: &str) -> Option<&Definition>
-        ensures { option_copied result ≡ map.get self.now.0 name.now }
+    /// What a name means inside the open scope with a level, from 0, or none where the table lacks
+    /// it.
+    pub fn find(&self, level: usize, name: &str) -> Option<&Definition>
+        requires { level < length self.now.1 }
+        ensures { option_copied result
+            ≡ map.get self.now.0 (join (get_or self.now.1 level []) name.now) }
     {
-        self.branches.get(name)
+        let branch = go_down(&self.branches.tree, self.scopes[level], name)?;
+        self.branches.definitions.get(branch as usize)
     }
 
     /// Closes all scopes, and opens the empty one, in which packages stand.

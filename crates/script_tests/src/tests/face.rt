@@ -74,6 +74,7 @@ use descriptor_linker::ReportOutput;
 use descriptor_linker::ReservedRange;
 use descriptor_linker::ResolveVisitor;
 use descriptor_linker::Scope;
+use descriptor_linker::ScopedNames;
 use descriptor_linker::Script;
 use descriptor_linker::ScriptError;
 use descriptor_linker::ScriptFault;
