@@ -3,6 +3,8 @@ pub mod VisibilityChecks
 pub mod Linked
 pub mod Members
 pub mod Reached
+pub mod LastSeen
+pub mod Publics
 pub mod Seeing
 pub mod ResolutionChecks
 pub mod Dots

@@ -1,6 +1,6 @@
 -- Linked files, and the table of their names.
-use Rattle.std.proofs.Common.{◌≡◌, ◌↔◌, ◌<◌, ◌≤◌, ℕ, true, List, [], ◌∷◌, ◌++◌, Option, None, Some, ap, sym, ◌∙◌, subst, length, map, get_or}
-use Rattle.std.specs.BTreeSet.{contains, btree_set_len}
+use Rattle.std.proofs.Common.{◌≡◌, ◌↔◌, ◌<◌, ◌≤◌, ℕ, true, List, Option, None, Some, ap, sym, ◌∙◌, subst, length, map, get_or}
+use Rattle.std.specs.BTreeSet.{BTreeSet, contains, IsFromIterResult}
 use Rattle.std.specs.FinMap as finite
 use Rattle.std.specs.Ordering.{nat_cmp}
 use Rattle.std.specs.Option.{IfSome, option_map, unwrap_or}
@@ -11,11 +11,9 @@ use Rattle.pool_types.specs.Contents.{ByText}
 use Rattle.pool_types.specs.declared.contents.file.FileDescriptorInner.{FileDescriptorInner}
 use Rattle.proto_types.specs.File.{no_file, file_at}
 use Rattle.proto_types.specs.declared.file.FileDescriptorProto.{FileDescriptorProto}
-use Rattle.name_resolution.specs.declared.visibility.Seen.{Seen}
-use Rattle.name_resolution.specs.Seen.{SeesEach}
-use Rattle.name_resolution.specs.Visibility.{public_imports_of, Sees, seen_from}
+use Rattle.name_resolution.specs.Visibility.{Sees, seen_from}
 use Rattle.name_resolution.proofs.Chains.{Sees-within}
-use Rattle.name_resolution.proofs.Reached.{Reached, Reached-next, Reached-waits, Reached-few, Reached-sees, Reached-keys}
+use Rattle.name_resolution.proofs.Reached.{Reached, Reached-here, Reached-few, Reached-sees, Reached-keys}
 
 -- the records
 abbrev pub raws : List FileDescriptorInner → List FileDescriptorProto
@@ -42,26 +40,19 @@ module _ (files : List FileDescriptorInner) (names : ByText ℕ) (a : ℕ) (here
   there : a < length (raws files)
   there = subst (λ n. a < n) (sym long) here
 
-  -- a file that waits is there
-  pub waits-below : (s : Seen) (x : ℕ) (ws : List ℕ) → Reached (raws files) (finite.get names) a s → s.waiting.items ≡ ws ++ x ∷ [] → x < length files
-  waits-below s x ws reached taken =
-      subst (λ n. x < n) long (Sees-within (raws files) (finite.get names) (names-within files names places) a x there (Reached-waits (raws files) (finite.get names) a s x ws reached taken))
-
   -- no more have been seen than are there
-  pub few-seen : (s : Seen) → Reached (raws files) (finite.get names) a s → btree_set_len s.files ≤ length files
-  few-seen s reached = subst (λ n. btree_set_len s.files ≤ n) long (Reached-few (raws files) (finite.get names) a (names-within files names places) there s reached)
+  pub few-seen : (seen : List ℕ) (next : ℕ) → Reached (raws files) (finite.get names) a seen next → length seen ≤ length files
+  few-seen seen next reached = subst (λ n. length seen ≤ n) long (Reached-few (raws files) (finite.get names) a (names-within files names places) there seen next reached)
 
-  -- the public imports of a file that waited have been seen
-  pub turned : (s t u : Seen) (x : ℕ) (d : FileDescriptorInner) → Reached (raws files) (finite.get names) a s → t.files ≡ s.files → s.waiting.items ≡ t.waiting.items ++ x ∷ []
-      → SeesEach (public_imports_of (finite.get names) (get_or files x d).raw) t u → Reached (raws files) (finite.get names) a u
-  turned s t u x d reached same taken step =
-      Reached-next (raws files) (finite.get names) a s t u x reached same taken
-      (subst (λ (f : FileDescriptorProto). SeesEach (public_imports_of (finite.get names) f) t u) (sym (file_at-raws files x d (waits-below s x t.waiting.items reached taken))) step)
+  -- what has been seen is there
+  pub here-below : (seen : List ℕ) (next x : ℕ) → Reached (raws files) (finite.get names) a seen next → next < length seen → x ≡ get_or seen next x → x < length files
+  here-below seen next x reached below at =
+      subst (λ n. x < n) long (Sees-within (raws files) (finite.get names) (names-within files names places) a x there (Reached-here (raws files) (finite.get names) a seen next x reached below at))
 
-  -- none waits
-  module _ (s : Seen) (reached : Reached (raws files) (finite.get names) a s) (none : s.waiting.items ≡ []) where
-    pub all-seen : (b : ℕ) → (contains nat_cmp s.files b ≡ true) ↔ Sees (raws files) (finite.get names) a b
-    all-seen = Reached-sees (raws files) (finite.get names) a (names-within files names places) there s reached none
+  -- a set is made of all that has been seen
+  module _ (seen : List ℕ) (next : ℕ) (reached : Reached (raws files) (finite.get names) a seen next) (all : length seen ≤ next) (set : BTreeSet ℕ) (made : IsFromIterResult nat_cmp seen set) where
+    pub all-seen : (b : ℕ) → (contains nat_cmp set b ≡ true) ↔ Sees (raws files) (finite.get names) a b
+    all-seen = Reached-sees (raws files) (finite.get names) a (names-within files names places) there seen next reached all set made
 
-    pub seen-keys : s.files.keys ≡ seen_from (raws files) (finite.get names) a
-    seen-keys = Reached-keys (raws files) (finite.get names) a (names-within files names places) there s reached none
+    pub seen-keys : set.keys ≡ seen_from (raws files) (finite.get names) a
+    seen-keys = Reached-keys (raws files) (finite.get names) a (names-within files names places) there seen next reached all set made

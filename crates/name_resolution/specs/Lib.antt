@@ -1,4 +1,6 @@
+pub mod LastSeen
 pub mod Seen
+pub mod Sight
 pub mod Visibility
 pub mod Filter
 pub mod Parents

@@ -4,8 +4,10 @@
 mod filter;
 mod imports;
 mod in_parts;
+mod last_seen;
 mod parents;
 mod resolution;
+mod seen;
 mod visibility;
 mod visibility_laws;
 mod wants;
@@ -15,5 +17,5 @@ pub use imports::imported_files;
 pub use in_parts::{find_in_parts, resolve_in_parts};
 pub use parents::{CandidateParents, parents_count};
 pub use resolution::{ResolveNameResult, resolve_name};
-pub use visibility::visible_from;
+pub use visibility::{Sight, visible_from};
 pub use visibility_laws::sees_is_tested;

@@ -5,7 +5,7 @@ ghost use Rattle.pool_contents.specs.Unlinked.{unlinked};
 
 use crate::DescriptorPoolInner;
 use crate::room::names_of_files;
-use name_resolution::{imported_files, visible_from};
+use name_resolution::{Sight, imported_files};
 use name_tables::NameTable;
 use plain_data::{Items, NumberMap};
 use pool_types::{
@@ -32,7 +32,10 @@ pub struct GrowingPool {
 
 impl GrowingPool {
     ghost use Rattle.record_walk.specs.Counts.{counts_in};
+    ghost use Rattle.std.specs.FinMap as finite;
     ghost use Rattle.pool_types.specs.declared.contents.message.MessageDescriptorInner.{MessageDescriptorInner};
+    ghost use Rattle.pool_types.specs.Contents.{files_of};
+    ghost use Rattle.name_resolution.specs.Sight.{AskedBefore};
     ghost use Rattle.pool_contents.specs.Inner.{contents_in, NamesLieIn};
     ghost use Rattle.name_tables.specs.NameTables.{FileNamesBefore};
     ghost use Rattle.pool_contents.specs.Growing.{file_seeing, files_seeing, first_extension, first_new, rolled_back};
@@ -86,25 +89,32 @@ impl GrowingPool {
             ≡ record (contents_in self.old.inner) { files = files_seeing self.old }) }
         ensures kept { rolled_back self.new ≡ rolled_back self.old }
     {
-        for file in self.base.files..self.inner.files.len() as u32 {
-            self.see_file(alloc, file)?;
+        let end = self.inner.files.len() as u32;
+        let mut sight = Sight::new(alloc, self.base.files, (end - self.base.files) as usize)?;
+        for file in self.base.files..end {
+            self.see_file(alloc, &mut sight, file)?;
         }
         Ok(())
     }
 
-    fn see_file(&mut self, alloc: Global, file: u32) -> Result<(), AllocError>
+    fn see_file(&mut self, alloc: Global, sight: &mut Sight, file: u32) -> Result<(), AllocError>
         requires here { file < length self.old.inner.files.items }
         requires came { first_new self.old ≤ file }
         requires places { FileNamesBefore (length self.old.inner.files.items)
             self.old.inner.file_names }
+        requires asked { AskedBefore (files_of (contents_in self.old.inner))
+            (finite.get self.old.inner.file_names) file sight.old }
         ensures ok { OnOk result (contents_in self.new.inner
             ≡ record (contents_in self.old.inner) { files = file_seeing self.old file }) }
         ensures kept { rolled_back self.new ≡ rolled_back self.old }
+        ensures asked { OnOk result (AskedBefore (files_of (contents_in self.old.inner))
+            (finite.get self.old.inner.file_names) (file + 1) sight.new) }
     {
         let inner = &self.inner;
         let imports = inner.files[file as usize].raw.dependency.as_slice();
         let dependencies = imported_files(alloc, &inner.file_names, imports)?;
-        let seen = visible_from(alloc, &inner.files, &inner.file_names, file)?;
+        let found = dependencies.as_slice();
+        let seen = sight.visible_from(&inner.files, &inner.file_names, file, found)?;
         let item = &mut self.inner.files[file as usize];
         item.dependencies = dependencies;
         item.transitive_dependencies = seen;
