@@ -65,7 +65,7 @@ module _ (names : ByText Definition) (name : List ℕ) where
 
 module _ (names : ByText Definition) (seen : ℕ → Bool) (filter : ResolveNameFilter) where
   -- what a definition that isn't wanted means is not found
-  judged-unwanted : (x : List ℕ) (def : Definition) → (seen def.file && is_match filter def.kind) ≡ false → is_found (judged seen filter x def) ≡ false
+  pub judged-unwanted : (x : List ℕ) (def : Definition) → (seen def.file && is_match filter def.kind) ≡ false → is_found (judged seen filter x def) ≡ false
   judged-unwanted x def other =
       elim (seen def.file) as (λ s. (s && is_match filter def.kind) ≡ false
       → is_found (if not s then not_imported x def.file else (if not (is_match filter def.kind) then invalid_type x def filter else found x def)) ≡ false) [

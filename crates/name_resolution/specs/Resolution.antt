@@ -59,6 +59,11 @@ or_shadowed written full other = other
 abbrev pub has_dot : List ℕ → Bool
 has_dot name = list_any is_dot name
 
+-- whether a name has a leading dot
+abbrev pub has_leading_dot : List ℕ → Bool
+has_leading_dot [] = false
+has_leading_dot (c ∷ cs) = is_dot c
+
 -- what a full name with a definition means: it is not seen where its file isn't; else it is of the
 -- wrong kind where the kind isn't wanted; else it is found
 abbrev pub judged : (ℕ → Bool) → ResolveNameFilter → List ℕ → Definition → Resolution
@@ -105,6 +110,11 @@ module _ (names : ByText Definition) (is_seen : ℕ → Bool) (filter : ResolveN
   abbrev pub resolution : List ℕ → List ℕ → Resolution
   resolution scope [] = relative scope []
   resolution scope (c ∷ cs) = if is_dot c then look cs else relative scope (c ∷ cs)
+
+-- the definition that was found
+abbrev pub definition_found : Resolution → Option Definition
+definition_found (found _ def) = Some def
+definition_found _ = None
 
 -- the kind of what was found
 abbrev pub kind_found : Resolution → Option DefinitionKind

@@ -1,15 +1,15 @@
-ghost use Rattle.std.specs.Prelude.{◌≡◌, ◌∷◌, [], ℕ, List, Bool, false, IfOk, IfSome, IsOk, None, Some};
+ghost use Rattle.std.specs.Prelude.{◌≡◌, ◌∷◌, [], ℕ, List, Bool, false, IfOk, IfSome, IsOk, None, Some, if◌then◌else◌};
 ghost use Rattle.std.specs.BTreeSet.{contains_by};
 ghost use Rattle.std.specs.FinMap as finite;
 ghost use Rattle.std.specs.List.{find};
-ghost use Rattle.std.specs.Option.{option_map_or};
+ghost use Rattle.std.specs.Option.{option_copied, option_map_or};
 ghost use Rattle.std.specs.Ordering.{nat_cmp};
 ghost use Rattle.proto_types.specs.Names.{join};
 ghost use Rattle.pool_types.specs.Definition.{is_parent};
 ghost use Rattle.name_tree.specs.Parts.{parts};
 ghost use Rattle.name_resolution.specs.declared.filter.ResolveNameFilter.{ResolveNameFilter};
 ghost use Rattle.name_resolution.specs.Parents.{outer};
-ghost use Rattle.name_resolution.specs.Resolution.{found, resolution, resolution_in, not_found, look, simple, dotted, holds_first};
+ghost use Rattle.name_resolution.specs.Resolution.{definition_found, dotted, has_leading_dot, holds_first, look, not_found, resolution, resolution_in, simple};
 
 use crate::filter::ResolveNameFilter;
 use crate::resolution::{ResolveNameResult, first_part};
@@ -57,9 +57,9 @@ pub fn find_in_parts<'a>(
     name: &str,
     filter: ResolveNameFilter,
 ) -> Option<&'a Definition>
-    ensures { (scope : List ℕ) → IfSome result (λ def. (full : List ℕ)
-        × (resolution names.now (λ n. contains_by (nat_cmp n) visible.now) filter
-        scope name.now ≡ found full def.now)) }
+    ensures { (scope : List ℕ) → option_copied result
+        ≡ (if has_leading_dot name.now then definition_found (resolution names.now
+        (λ n. contains_by (nat_cmp n) visible.now) filter scope name.now) else None) }
 {
     let full_name = name.strip_prefix('.')?;
     let def = names.scope("").find(full_name)?;

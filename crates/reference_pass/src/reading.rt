@@ -1,8 +1,8 @@
-ghost use Rattle.std.specs.Prelude.{◌≡◌, ◌++◌, ◌∷◌, [], ℕ, List, IfOk, IfSome, OnOk, slice_get};
+ghost use Rattle.std.specs.Prelude.{◌≡◌, ◌++◌, ◌∷◌, [], None, IfOk, OnOk, slice_get, if◌then◌else◌};
 ghost use Rattle.std.specs.Option.{option_copied};
 ghost use Rattle.plain_data.specs.Lists.{listed};
 ghost use Rattle.name_resolution.specs.References.{reference_fault};
-ghost use Rattle.name_resolution.specs.Resolution.{found, resolution_in};
+ghost use Rattle.name_resolution.specs.Resolution.{definition_found, has_leading_dot, resolution_in};
 ghost use Rattle.reference_pass.specs.Setting.{resolve};
 ghost use Rattle.record_walk.specs.Faults.{Tells, named_files};
 
@@ -46,16 +46,16 @@ impl<'f> Reading<'f> {
     }
 
     /// The definition that a name means that a declaration writes, where it is found and the name
-    /// has a leading dot.
+    /// has a leading dot. Any other name has none here, and a file that isn't there finds none.
     pub(crate) fn find(
         &self,
         place: Place,
         filter: ResolveNameFilter,
         written: &str,
     ) -> Option<&'f Definition>
-        ensures { IfSome result (λ def. (full : List ℕ)
-            × (resolve (setting_of self.now) place.entry.file place.entry.full_name.now
-            filter written.now ≡ found full def.now)) }
+        ensures { option_copied result ≡ (if has_leading_dot written.now
+            then definition_found (resolve (setting_of self.now) place.entry.file
+            place.entry.full_name.now filter written.now) else None) }
     {
         let visible = self.visible(place.file)?;
         find_in_parts(visible, self.names, written, filter)

@@ -1,4 +1,4 @@
-use Rattle.std.proofs.Common.{◌≡◌, ◌++◌, ◌∷◌, ℕ, ℤ, false, not, List, [], Option, None, Some, is_some, refl, ap, sym, ◌∙◌}
+use Rattle.std.proofs.Common.{◌≡◌, ◌++◌, ◌∷◌, ℕ, ℤ, Bool, true, false, not, if◌then◌else◌, List, [], Option, None, Some, is_some, refl, ap, sym, ◌∙◌}
 use Rattle.std.specs.Option.{option_and_then, option_map_or}
 use Rattle.proto_types.specs.declared.tag.field.TheConstants.{TYPE_NAME}
 use Rattle.plain_data.specs.Lists.{listed}
@@ -7,7 +7,7 @@ use Rattle.record_walk.specs.Shown.{Shown}
 use Rattle.name_resolution.specs.declared.filter.ResolveNameFilter.TheVariants.{FieldType}
 use Rattle.pool_types.specs.Kinds.{named_kind}
 use Rattle.name_resolution.specs.References.{reference_fault}
-use Rattle.name_resolution.specs.Resolution.{found, kind_found, resolution_in}
+use Rattle.name_resolution.specs.Resolution.{Resolution, found, invalid_type, not_imported, shadowed, not_found, definition_found, has_leading_dot, kind_found, resolution_in}
 use Rattle.pool_types.specs.declared.contents.definition.Definition.{Definition}
 use Rattle.pool_types.specs.declared.kinds.KindIndex.{KindIndex}
 use Rattle.proto_types.specs.Readers.{type_of}
@@ -24,6 +24,15 @@ use Rattle.reference_pass.proofs.types.named_type.Goals as goal
 given-none : (given : Option (List ℕ)) → is_some given ≡ false → given ≡ None
 given-none None is = refl
 given-none (Some x) is = absurd (cc)
+
+-- what a name means that has a definition
+found-from : (dot : Bool) (r : Resolution) (def : Definition) → Some def ≡ (if dot then definition_found r else None) → (full : List ℕ) × (r ≡ found full def)
+found-from false r def is = absurd (cc)
+found-from true (found name other) def is = let same : def ≡ other = cc in (name, ap (found name) (sym same))
+found-from true (invalid_type name other filter) def is = absurd (cc)
+found-from true (not_imported name file) def is = absurd (cc)
+found-from true (shadowed name full) def is = absurd (cc)
+found-from true not_found def is = absurd (cc)
 
 -- a name that is found breaks nothing, and without a default nothing else does
 module _ (s : Setting) (d : Shown) (f : FieldDescriptorProto) (full : List ℕ) (def : Definition) (means : resolve_type s d f ≡ found full def) (none : f.default_value ≡ None) where
@@ -52,8 +61,9 @@ returns-clause-kind c =
     let f = c.args.field.now in
     let d : Shown = shown_at c.args.place (of_field f) in
     let def = c.in-Some.def.now in
-    let means : resolve_type s d f ≡ found c.in-Some.ensures.0 def = ap (resolve s d.file d.full_name FieldType) (sym c.type_name-written.ensures) ∙ c.in-Some.ensures.1 in
-    c.named_kind.ensures ∙ (λ j. named_kind (c.field_type.ensures j) def.kind) ∙ found-kind s d f c.in-Some.ensures.0 def means (given-none f.default_value (c.is_none.ensures ∙ ap not c.if-is_none.true))
+    let (full, is) = found-from (has_leading_dot c.type_name-written.result.now) (resolve s d.file d.full_name FieldType c.type_name-written.result.now) def c.in-Some.ensures in
+    let means : resolve_type s d f ≡ found full def = ap (resolve s d.file d.full_name FieldType) (sym c.type_name-written.ensures) ∙ is in
+    c.named_kind.ensures ∙ (λ j. named_kind (c.field_type.ensures j) def.kind) ∙ found-kind s d f full def means (given-none f.default_value (c.is_none.ensures ∙ ap not c.if-is_none.true))
 
 pub returns-clause-default : goal.returns-clause-default
 returns-clause-default c =
@@ -61,8 +71,9 @@ returns-clause-default c =
     let f = c.args.field.now in
     let d : Shown = shown_at c.args.place (of_field f) in
     let def = c.in-Some.def.now in
-    let means : resolve_type s d f ≡ found c.in-Some.ensures.0 def = ap (resolve s d.file d.full_name FieldType) (sym c.type_name-written.ensures) ∙ c.in-Some.ensures.1 in
-    found-default s d f c.in-Some.ensures.0 def means (given-none f.default_value (c.is_none.ensures ∙ ap not c.if-is_none.true))
+    let (full, is) = found-from (has_leading_dot c.type_name-written.result.now) (resolve s d.file d.full_name FieldType c.type_name-written.result.now) def c.in-Some.ensures in
+    let means : resolve_type s d f ≡ found full def = ap (resolve s d.file d.full_name FieldType) (sym c.type_name-written.ensures) ∙ is in
+    found-default s d f full def means (given-none f.default_value (c.is_none.ensures ∙ ap not c.if-is_none.true))
     (option_and_then (named_kind (type_of f.type_)) (kind_found (resolve_type s d f))) (enum_found s (resolve_type s d f))
 
 pub returns-clause-faults : goal.returns-clause-faults
@@ -71,8 +82,9 @@ returns-clause-faults c =
     let f = c.args.field.now in
     let d : Shown = shown_at c.args.place (of_field f) in
     let def = c.in-Some.def.now in
-    let means : resolve_type s d f ≡ found c.in-Some.ensures.0 def = ap (resolve s d.file d.full_name FieldType) (sym c.type_name-written.ensures) ∙ c.in-Some.ensures.1 in
-    reads-as (found-faults s d f c.in-Some.ensures.0 def means (given-none f.default_value (c.is_none.ensures ∙ ap not c.if-is_none.true)) _ _ _ _) (reads-none c.args.reading.now)
+    let (full, is) = found-from (has_leading_dot c.type_name-written.result.now) (resolve s d.file d.full_name FieldType c.type_name-written.result.now) def c.in-Some.ensures in
+    let means : resolve_type s d f ≡ found full def = ap (resolve s d.file d.full_name FieldType) (sym c.type_name-written.ensures) ∙ is in
+    reads-as (found-faults s d f full def means (given-none f.default_value (c.is_none.ensures ∙ ap not c.if-is_none.true)) _ _ _ _) (reads-none c.args.reading.now)
 
 -- the default is read with the meaning that gave the kind
 pub returns-2-clause-default : goal.returns-2-clause-default
