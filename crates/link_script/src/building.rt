@@ -81,7 +81,7 @@ impl Open {
             Open::File(file) => state_in_file(alloc, file, statement),
             Open::Message(message) => state_in_message(alloc, message, extends, statement),
             Open::Enum(opened) => state_in_enum(alloc, opened, statement),
-            Open::Service(service) => state_in_service(service, statement),
+            Open::Service(service) => state_in_service(alloc, service, statement),
         }
     }
 
@@ -156,8 +156,8 @@ fn state_in_file(
         Statement::Import(name) => file.dependency.push(name)?,
         Statement::Public(position) => file.public_dependency.push(position)?,
         Statement::Weak(position) => file.weak_dependency.push(position)?,
-        Statement::At(location) => add_location(alloc, file, location)?,
-        Statement::Extend(field) => file.extension.push(field)?,
+        Statement::At(location) => add_location(alloc, file, location.into_record(alloc))?,
+        Statement::Extend(extension) => file.extension.push(extension.into_record(alloc))?,
         more => amend(alloc, &mut file.extension, more)?,
     }
     Ok(())
@@ -186,8 +186,8 @@ fn state_in_message(
         ≡ roll-DescriptorProto (in_message extends statement (out-DescriptorProto message.old))) }
 {
     match statement {
-        Statement::Field(field) => message.field.push(field)?,
-        Statement::Extend(field) => message.extension.push(field)?,
+        Statement::Field(field) => message.field.push(field.into_record(alloc))?,
+        Statement::Extend(extension) => message.extension.push(extension.into_record(alloc))?,
         Statement::Oneof(name) => {
             let options = None;
             message
@@ -267,7 +267,7 @@ fn state_in_enum(
     ensures { OnOk result (opened.new ≡ in_enum statement opened.old) }
 {
     match statement {
-        Statement::Value(value) => opened.value.push(value),
+        Statement::Value(value) => opened.value.push(value.into_record(alloc)),
         Statement::Reserved(start, end) => {
             opened.reserved_range.push(EnumReservedRange { start, end })
         }
@@ -281,13 +281,14 @@ fn state_in_enum(
 }
 
 fn state_in_service(
+    alloc: Global,
     service: &mut ServiceDescriptorProto,
     statement: Statement,
 ) -> Result<(), AllocError>
     ensures { OnOk result (service.new ≡ in_service statement service.old) }
 {
     match statement {
-        Statement::Method(method) => service.method.push(method),
+        Statement::Method(method) => service.method.push(method.into_record(alloc)),
         _ => Ok(()),
     }
 }

@@ -10,6 +10,7 @@ ghost use Rattle.link_script.specs.Script.Reading.{script};
 
 use crate::building::Open;
 use crate::script::{ScriptError, ScriptReader, Statement};
+use plain_data::Text;
 use proto_types::FileDescriptorProto;
 use std::alloc::{AllocError, Global};
 use std::mem;
@@ -70,10 +71,10 @@ impl RecordBuilder {
         ensures { OnOk result (building_in self.new ≡ built (building_in self.old) statement) }
     {
         match statement {
-            Statement::File(name) => self.open(Open::file(self.alloc, name)),
-            Statement::Message(name) => self.open(Open::message(self.alloc, name)),
-            Statement::Enum(name) => self.open(Open::enumeration(self.alloc, name)),
-            Statement::Service(name) => self.open(Open::service(self.alloc, name)),
+            Statement::File(name) => self.open_file(name),
+            Statement::Message(name) => self.open_message(name),
+            Statement::Enum(name) => self.open_enum(name),
+            Statement::Service(name) => self.open_service(name),
             Statement::End => self.close(),
             Statement::Link
             | Statement::Find(_)
@@ -91,6 +92,30 @@ impl RecordBuilder {
         ensures rest { building_in self.new ≡ record (building_in self.old) { files = [] } }
     {
         mem::replace(&mut self.files, Vec::new(self.alloc))
+    }
+
+    fn open_file(&mut self, name: Option<Text>) -> Result<(), AllocError>
+        ensures { OnOk result (building_in self.new ≡ built (building_in self.old) (say.File name)) }
+    {
+        self.open(Open::file(self.alloc, name))
+    }
+
+    fn open_message(&mut self, name: Option<Text>) -> Result<(), AllocError>
+        ensures { OnOk result (building_in self.new ≡ built (building_in self.old) (say.Message name)) }
+    {
+        self.open(Open::message(self.alloc, name))
+    }
+
+    fn open_enum(&mut self, name: Option<Text>) -> Result<(), AllocError>
+        ensures { OnOk result (building_in self.new ≡ built (building_in self.old) (say.Enum name)) }
+    {
+        self.open(Open::enumeration(self.alloc, name))
+    }
+
+    fn open_service(&mut self, name: Option<Text>) -> Result<(), AllocError>
+        ensures { OnOk result (building_in self.new ≡ built (building_in self.old) (say.Service name)) }
+    {
+        self.open(Open::service(self.alloc, name))
     }
 
     /// Opens a record in the innermost open one.

@@ -6,10 +6,12 @@ mod keyword;
 mod line_error;
 mod reading;
 mod rest;
+mod said;
 mod standing;
 mod statement;
 mod values;
 mod words;
 
 pub use reading::{ScriptReader, read_script};
+pub use said::{SaidExtension, SaidField, SaidLocation, SaidMethod, SaidValue};
 pub use statement::{Block, Keyword, Script, ScriptError, ScriptFault, Statement};

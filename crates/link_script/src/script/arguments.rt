@@ -5,14 +5,12 @@ ghost use Rattle.link_script.specs.Script.Answers.{IsAnswer, words_left};
 
 use super::line_error::LineError;
 use super::rest::rest;
+use super::said::{SaidExtension, SaidField, SaidLocation, SaidMethod, SaidValue};
 use super::statement::{Keyword, ScriptFault, Statement};
 use super::values::{
     given_number, given_text, label_of, name_of, number_of, numbers, text, truth, type_of,
 };
 use super::words::Words;
-use proto_types::{
-    EnumValueDescriptorProto, FieldDescriptorProto, Location, MethodDescriptorProto,
-};
 use std::alloc::Global;
 
 /// The statement of a keyword and the words behind it, in a line.
@@ -118,11 +116,7 @@ fn of_two(
         Keyword::At => {
             let path = numbers(alloc, first)?;
             let span = numbers(alloc, second)?;
-            Ok(Statement::At(Location {
-                path,
-                span,
-                ..Location::empty(alloc)
-            }))
+            Ok(Statement::At(SaidLocation { path, span }))
         }
         Keyword::Reserved => {
             let start = number_of(first)?;
@@ -134,11 +128,8 @@ fn of_two(
         }
         Keyword::Value => {
             let number = number_of(second)?;
-            Ok(Statement::Value(EnumValueDescriptorProto {
-                name: text(alloc, first)?,
-                number,
-                ..EnumValueDescriptorProto::empty(alloc)
-            }))
+            let name = text(alloc, first)?;
+            Ok(Statement::Value(SaidValue { name, number }))
         }
         Keyword::Ext => {
             let number = given_number(second)?;
@@ -161,11 +152,10 @@ fn of_three(alloc: Global, keyword: Keyword, words: MethodWords<'_>) -> Result<S
         words.entry.output.now) result }
 {
     match keyword {
-        Keyword::Method => Ok(Statement::Method(MethodDescriptorProto {
+        Keyword::Method => Ok(Statement::Method(SaidMethod {
             name: text(alloc, words.name)?,
             input_type: text(alloc, words.input)?,
             output_type: text(alloc, words.output)?,
-            ..MethodDescriptorProto::empty(alloc)
         })),
         _ => Err(LineError::Fault(ScriptFault::WrongCount)),
     }
@@ -194,28 +184,28 @@ fn of_six(alloc: Global, keyword: Keyword, words: FieldWords<'_>) -> Result<Stat
             Ok(Statement::Field(field))
         }
         Keyword::Extend => {
-            let mut field = typed(alloc, words)?;
-            field.extendee = text(alloc, words.last)?;
-            Ok(Statement::Extend(field))
+            let field = typed(alloc, words)?;
+            let extendee = text(alloc, words.last)?;
+            Ok(Statement::Extend(SaidExtension { field, extendee }))
         }
         _ => Err(LineError::Fault(ScriptFault::WrongCount)),
     }
 }
 
 /// What a field and an extension have in common; the leftmost fault is told.
-fn typed(alloc: Global, words: FieldWords<'_>) -> Result<FieldDescriptorProto, LineError>
+fn typed(alloc: Global, words: FieldWords<'_>) -> Result<SaidField, LineError>
     ensures { IsAnswer (spec.typed_in words.entry.name.now words.entry.number.now
         words.entry.label.now words.entry.type_.now words.entry.type_name.now) result }
 {
     let number = number_of(words.number)?;
     let label = label_of(words.label)?;
     let type_ = type_of(words.type_)?;
-    Ok(FieldDescriptorProto {
+    Ok(SaidField {
         name: text(alloc, words.name)?,
         number,
         label,
         type_,
         type_name: text(alloc, words.type_name)?,
-        ..FieldDescriptorProto::empty(alloc)
+        oneof_index: None,
     })
 }

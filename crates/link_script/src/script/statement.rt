@@ -1,7 +1,5 @@
+use super::said::{SaidExtension, SaidField, SaidLocation, SaidMethod, SaidValue};
 use plain_data::{Items, Text};
-use proto_types::{
-    EnumValueDescriptorProto, FieldDescriptorProto, Location, MethodDescriptorProto,
-};
 use std::alloc::AllocError;
 use std::fmt;
 
@@ -56,18 +54,18 @@ pub enum Statement {
     Import(Text),
     Public(i32),
     Weak(i32),
-    At(Location),
+    At(SaidLocation),
     Service(Option<Text>),
     Message(Option<Text>),
     Enum(Option<Text>),
-    Extend(FieldDescriptorProto),
-    Field(FieldDescriptorProto),
+    Extend(SaidExtension),
+    Field(SaidField),
     Oneof(Option<Text>),
     Reserved(Option<i32>, Option<i32>),
     Extensions(Option<i32>, Option<i32>),
-    Value(EnumValueDescriptorProto),
+    Value(SaidValue),
     Alias,
-    Method(MethodDescriptorProto),
+    Method(SaidMethod),
     Json(Option<Text>),
     Packed(bool),
     Default(Text),
