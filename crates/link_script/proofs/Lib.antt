@@ -4,3 +4,4 @@ pub mod Words
 pub mod Reading
 pub mod LastStated
 pub mod Innermost
+pub mod Names

@@ -2,6 +2,7 @@
 
 ghost use Rattle.std.specs.Prelude.{◌≡◌, ◌<◌, ◌==◌, map, length, IfOk};
 ghost use Rattle.std.specs.List.{slice_split};
+ghost use Rattle.std.specs.Str.{bytes_eq};
 ghost use Rattle.proto_types.specs.Readers.{text_of};
 ghost use Rattle.link_script.specs.Script.Arguments as spec;
 ghost use Rattle.link_script.specs.Script.Answers.{IsAnswer};
@@ -21,11 +22,19 @@ const TYPES: [&str; 18] = [
     "message", "bytes", "uint32", "enum", "sfixed32", "sfixed64", "sint32", "sint64",
 ];
 
+/// Whether two texts are the same. Most differ in their lengths, which are compared first.
+#[tactic(auto, using(crate::proofs::Names::other_length))]
+fn is_same(word: &str, name: &str) -> bool
+    ensures { result ≡ bytes_eq word.now name.now }
+{
+    word.len() == name.len() && word == name
+}
+
 /// Whether a word stands for a missing value.
 fn is_absent(word: &str) -> bool
     ensures { result ≡ spec.is_absent word.now }
 {
-    word == "~"
+    is_same(word, "~")
 }
 
 /// A text, which may be missing.
@@ -34,7 +43,7 @@ pub(super) fn text(alloc: Global, word: &str) -> Result<Option<Text>, AllocError
 {
     if is_absent(word) {
         Ok(None)
-    } else if word == "''" {
+    } else if is_same(word, "''") {
         Ok(Some(Text::new(alloc)))
     } else {
         Ok(Some(Text::from_str(alloc, word)?))
@@ -58,7 +67,7 @@ fn named(names: &[&str], word: &str) -> Option<i32>
 {
     let mut number = 1;
     for name in names {
-        if word == *name {
+        if is_same(word, name) {
             return Some(number);
         }
         number += 1;
@@ -132,7 +141,7 @@ fn between_commas(alloc: Global, word: &str) -> Result<Items<i32>, LineError>
 pub(super) fn numbers(alloc: Global, word: &str) -> Result<Items<i32>, LineError>
     ensures { IsAnswer (spec.numbers_in word.now) result }
 {
-    if word == "''" {
+    if is_same(word, "''") {
         return Ok(Items::new(alloc));
     }
     between_commas(alloc, word)
