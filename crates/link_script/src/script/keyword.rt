@@ -3,6 +3,7 @@
 ghost use Rattle.std.specs.Prelude.{◌≡◌, map, reverse, OnOk, OnErr};
 ghost use Rattle.link_script.specs.Script.Keyword as spec;
 
+use super::cuts::is_same;
 use super::statement::{Block, Keyword};
 use std::alloc::AllocError;
 
@@ -43,7 +44,7 @@ fn spelled(table: &[(&str, Keyword)], word: &str) -> Option<Keyword>
     ensures { result ≡ spec.spelled (map (λ s. (s.0.now, s.1)) table.now) word.now }
 {
     for (spelling, keyword) in table {
-        if *spelling == word {
+        if is_same(spelling, word) {
             return Some(*keyword);
         }
     }

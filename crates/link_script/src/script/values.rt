@@ -2,12 +2,11 @@
 
 ghost use Rattle.std.specs.Prelude.{◌≡◌, ◌<◌, ◌==◌, map, length, IfOk};
 ghost use Rattle.std.specs.List.{slice_split};
-ghost use Rattle.std.specs.Str.{bytes_eq};
 ghost use Rattle.proto_types.specs.Readers.{text_of};
 ghost use Rattle.link_script.specs.Script.Arguments as spec;
 ghost use Rattle.link_script.specs.Script.Answers.{IsAnswer};
 
-use super::cuts::cut_at;
+use super::cuts::{cut_at, is_same};
 use super::line_error::LineError;
 use super::statement::ScriptFault;
 use plain_data::{Items, Text, parse_bool, parse_int32};
@@ -21,14 +20,6 @@ const TYPES: [&str; 18] = [
     "double", "float", "int64", "uint64", "int32", "fixed64", "fixed32", "bool", "string", "group",
     "message", "bytes", "uint32", "enum", "sfixed32", "sfixed64", "sint32", "sint64",
 ];
-
-/// Whether two texts are the same. Most differ in their lengths, which are compared first.
-#[tactic(auto, using(crate::proofs::Names::other_length))]
-fn is_same(word: &str, name: &str) -> bool
-    ensures { result ≡ bytes_eq word.now name.now }
-{
-    word.len() == name.len() && word == name
-}
 
 /// Whether a word stands for a missing value.
 fn is_absent(word: &str) -> bool
