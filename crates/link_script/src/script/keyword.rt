@@ -7,37 +7,53 @@ use super::cuts::is_same;
 use super::statement::{Block, Keyword};
 use std::alloc::AllocError;
 
-/// Each keyword as it is written.
-const SPELLINGS: [(&str, Keyword); 28] = [
-    ("file", Keyword::File),
-    ("package", Keyword::Package),
-    ("syntax", Keyword::Syntax),
-    ("import", Keyword::Import),
-    ("public", Keyword::Public),
-    ("weak", Keyword::Weak),
-    ("at", Keyword::At),
-    ("service", Keyword::Service),
-    ("message", Keyword::Message),
+// Each keyword as it is written, by its first letter.
+
+const ON_A: [(&str, Keyword); 2] = [("at", Keyword::At), ("alias", Keyword::Alias)];
+
+const ON_D: [(&str, Keyword); 1] = [("default", Keyword::Default)];
+
+const ON_E: [(&str, Keyword); 5] = [
     ("enum", Keyword::Enum),
     ("extend", Keyword::Extend),
-    ("field", Keyword::Field),
-    ("oneof", Keyword::Oneof),
-    ("reserved", Keyword::Reserved),
     ("extensions", Keyword::Extensions),
-    ("value", Keyword::Value),
-    ("alias", Keyword::Alias),
-    ("method", Keyword::Method),
-    ("json", Keyword::Json),
-    ("packed", Keyword::Packed),
-    ("default", Keyword::Default),
     ("end", Keyword::End),
-    ("link", Keyword::Link),
-    ("find", Keyword::Find),
-    ("walk", Keyword::Walk),
-    ("refs", Keyword::Refs),
     ("ext", Keyword::Ext),
+];
+
+const ON_F: [(&str, Keyword); 3] = [
+    ("file", Keyword::File),
+    ("field", Keyword::Field),
+    ("find", Keyword::Find),
+];
+
+const ON_I: [(&str, Keyword); 1] = [("import", Keyword::Import)];
+
+const ON_J: [(&str, Keyword); 1] = [("json", Keyword::Json)];
+
+const ON_L: [(&str, Keyword); 1] = [("link", Keyword::Link)];
+
+const ON_M: [(&str, Keyword); 2] = [("message", Keyword::Message), ("method", Keyword::Method)];
+
+const ON_O: [(&str, Keyword); 1] = [("oneof", Keyword::Oneof)];
+
+const ON_P: [(&str, Keyword); 3] = [
+    ("package", Keyword::Package),
+    ("public", Keyword::Public),
+    ("packed", Keyword::Packed),
+];
+
+const ON_R: [(&str, Keyword); 3] = [
+    ("reserved", Keyword::Reserved),
+    ("refs", Keyword::Refs),
     ("relink", Keyword::Relink),
 ];
+
+const ON_S: [(&str, Keyword); 2] = [("syntax", Keyword::Syntax), ("service", Keyword::Service)];
+
+const ON_V: [(&str, Keyword); 1] = [("value", Keyword::Value)];
+
+const ON_W: [(&str, Keyword); 2] = [("weak", Keyword::Weak), ("walk", Keyword::Walk)];
 
 /// The keyword that a word spells in a table.
 fn spelled(table: &[(&str, Keyword)], word: &str) -> Option<Keyword>
@@ -55,7 +71,23 @@ fn spelled(table: &[(&str, Keyword)], word: &str) -> Option<Keyword>
 pub(super) fn keyword_of(word: &str) -> Option<Keyword>
     ensures { result ≡ spec.keyword_of word.now }
 {
-    spelled(&SPELLINGS, word)
+    match word.as_bytes().first()? {
+        b'a' => spelled(&ON_A, word),
+        b'd' => spelled(&ON_D, word),
+        b'e' => spelled(&ON_E, word),
+        b'f' => spelled(&ON_F, word),
+        b'i' => spelled(&ON_I, word),
+        b'j' => spelled(&ON_J, word),
+        b'l' => spelled(&ON_L, word),
+        b'm' => spelled(&ON_M, word),
+        b'o' => spelled(&ON_O, word),
+        b'p' => spelled(&ON_P, word),
+        b'r' => spelled(&ON_R, word),
+        b's' => spelled(&ON_S, word),
+        b'v' => spelled(&ON_V, word),
+        b'w' => spelled(&ON_W, word),
+        _ => None,
+    }
 }
 
 /// Whether a statement may stand in the open blocks, the innermost of which comes last.
