@@ -5,3 +5,4 @@ pub mod Reading
 pub mod LastStated
 pub mod Innermost
 pub mod Names
+pub mod Blocks

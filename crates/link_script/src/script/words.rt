@@ -3,7 +3,7 @@
 ghost use Rattle.std.specs.Prelude.{◌≡◌, ◌<◌, [], ◌∷◌, length, MatchOption, IfSome};
 ghost use Rattle.link_script.specs.Script.Words as spec;
 
-use super::cuts::{cut_at, first_place};
+use super::cuts::{cut_at, first_far_place};
 use super::rest::behind_spaces;
 
 /// The first line, and what stands behind its line feed. There is none where there is nothing.
@@ -15,7 +15,7 @@ pub(super) fn first_line(bytes: &[u8]) -> Option<(&[u8], &[u8])>
     if bytes.is_empty() {
         return None;
     }
-    match first_place(bytes, b'\n') {
+    match first_far_place(bytes, b'\n') {
         Some(end) => Some((&bytes[..end], &bytes[end + 1..])),
         None => Some((bytes, &[])),
     }
