@@ -31,8 +31,8 @@ mod runs;
 pub use descriptor_pool::{BuildError, DescriptorPool};
 pub use ending::Ending;
 pub use link_script::{
-    Block, Keyword, Open, RecordBuilder, Script, ScriptError, ScriptFault, ScriptReader, Statement,
-    files_of, read_script,
+    Block, Keyword, Open, RecordBuilder, SaidExtension, SaidField, SaidLocation, SaidMethod,
+    SaidValue, Script, ScriptError, ScriptFault, ScriptReader, Statement, files_of, read_script,
 };
 pub use name_pass::NameVisitor;
 pub use name_tables::{FileNames, NameTable, PartNames, PoolNames, Scope, ScopedNames};
