@@ -6,3 +6,4 @@ pub mod LastStated
 pub mod Innermost
 pub mod Names
 pub mod Blocks
+pub mod FirstLines

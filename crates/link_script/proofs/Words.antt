@@ -1,9 +1,8 @@
 -- The first line of a script, and the first word of a line.
-use Rattle.std.proofs.Common.{◌≡◌, ℕ, zero, suc, ◌+◌, ◌-◌, ◌<◌, ◌≤◌, inl, inr, Bool, true, false, not, cond, List, [], ◌∷◌, length, get_or, take, drop, eqb, ltb, Option, Some, None, Bor, MatchOption, refl, ap, sym, ◌∙◌, subst, arith}
+use Rattle.std.proofs.Common.{◌≡◌, ℕ, zero, suc, ◌+◌, ◌<◌, ◌≤◌, inl, inr, Bool, true, false, not, cond, List, [], ◌∷◌, length, get_or, take, drop, eqb, ltb, Option, Some, None, Bor, MatchOption, refl, ap, sym, ◌∙◌, subst, arith}
 use Rattle.std.specs.Option.{unwrap_or}
 use Rattle.std.specs.List.{slice_split, onto_first, position, position_or_len, prefix_len, before_first, after_first, filter}
 use Rattle.std.proofs.lemmas.List.Splits.{slice_split_first, slice_split-cons_yes, length-slice_split}
-use Rattle.std.proofs.lemmas.List.{take_all, length-drop}
 use Rattle.std.proofs.lemmas.List.Quantifiers.{position-Some}
 use Rattle.std.proofs.lemmas.Bool.{false≢true}
 use Rattle.std.proofs.lemmas.Bool.Decides.{leb_tells, eqb_tells}
@@ -16,7 +15,7 @@ one-part p [] h = refl
 one-part p (x ∷ xs) h = (elim (p x) as (λ b. cond (not b) (1 + prefix_len (λ y. not (p y)) xs) 0 ≡ suc (length xs) → cond b ([] ∷ slice_split p xs) (onto_first x (slice_split p xs)) ≡ (x ∷ xs) ∷ [])
     [ true ↦ λ e. absurd (omega arith) | false ↦ λ e. ap (onto_first x) (one-part p xs (omega arith)) ]) h
 
-abbrev is_feed : ℕ → Bool
+abbrev pub is_feed : ℕ → Bool
 is_feed c = eqb c 10
 
 cons-more : (x : List ℕ) (parts : List (List ℕ)) → 0 < length parts → without_empty_last (x ∷ parts) ≡ x ∷ without_empty_last parts
@@ -53,7 +52,7 @@ no-position p xs h = elim (leb_tells (suc (position_or_len p xs)) (length xs)) [
 ]
 
 -- a line that ends at a line feed
-pub line-ended : (bs : List ℕ) (end : ℕ) → position is_feed bs ≡ Some end → lines bs ≡ take end bs ∷ lines (take (length bs - (end + 1)) (drop (end + 1) bs))
+pub line-ended : (bs : List ℕ) (end : ℕ) → position is_feed bs ≡ Some end → lines bs ≡ take end bs ∷ lines (drop (end + 1) bs)
 line-ended bs end h =
     let at = at-position is_feed bs end h in
     let before : position_or_len is_feed bs < length bs = omega (arith, at.0, at.1) in
@@ -61,7 +60,6 @@ line-ended bs end h =
     ap without_empty_last (slice_split_first is_feed bs 0 before)
     ∙ cons-more (before_first is_feed bs) (slice_split is_feed rest) (omega (arith, length-slice_split is_feed rest))
     ∙ ap (λ n. take n bs ∷ lines (drop (n + 1) bs)) at.1
-    ∙ ap (λ t. take end bs ∷ lines t) (sym (take_all (length bs - (end + 1)) (drop (end + 1) bs) (omega (arith, length-drop (end + 1) bs))))
 
 one-line : (bs : List ℕ) → 0 < length bs → without_empty_last (bs ∷ []) ≡ bs ∷ []
 one-line [] h = absurd (omega (arith, h))

@@ -4,6 +4,7 @@ mod arguments;
 mod cuts;
 mod keyword;
 mod line_error;
+mod lines;
 mod reading;
 mod rest;
 mod said;

@@ -1,5 +1,6 @@
 -- What the parts of the reader answer, where memory may be refused at any point.
-use Rattle.std.specs.Prelude.{◌≡◌, ℕ, List, reverse}
+use Rattle.std.specs.Prelude.{◌≡◌, ◌<◌, ℕ, List, ◌∷◌, length, reverse, IsUtf8}
+use Rattle.std.specs.Borrow.{Bor}
 use Rattle.std.specs.declared.option.Option.{Option}
 use Rattle.std.specs.declared.option.Option.TheVariants.{None, Some}
 use Rattle.std.specs.declared.result.Result.{Result}
@@ -10,7 +11,10 @@ use Rattle.link_script.specs.declared.script.line_error.LineError.{LineError}
 use Rattle.link_script.specs.declared.script.line_error.LineError.TheVariants.{Fault, OutOfMemory}
 use Rattle.link_script.specs.declared.script.standing.Standing.{Standing as Code}
 use Rattle.link_script.specs.declared.script.words.Words.{Words}
-use Rattle.link_script.specs.Script.Words.{words}
+use Rattle.link_script.specs.declared.script.lines.Lines.{Lines}
+use Rattle.link_script.specs.declared.script.lines.Lines.TheVariants as left
+use Rattle.link_script.specs.declared.script.lines.FirstLine.{FirstLine}
+use Rattle.link_script.specs.Script.Words.{lines, words}
 use Rattle.link_script.specs.Script.Keyword.{Standing, standing_after}
 use Rattle.link_script.specs.declared.script.statement.Keyword.{Keyword}
 use Rattle.link_script.specs.Script.Arguments.{said_in, and_then}
@@ -36,6 +40,22 @@ standing_in h = record { blocks = reverse h.blocks.items; more = h.more }
 abbrev pub IsFaultOf : Saying → Type 0 → LineError → Type 0
 IsFaultOf read kept (Fault fault) = (read ≡ Err fault) × kept
 IsFaultOf read kept OutOfMemory = kept
+
+-- the bytes of the lines that are left
+abbrev pub bytes_left : Lines → List ℕ
+bytes_left (left.Text text) = text.now
+bytes_left (left.Bytes bytes) = bytes.now
+
+-- the text of a line, or nothing where its bytes are no UTF-8
+abbrev pub IsTextOf : Option (Bor (List ℕ)) → List ℕ → Type 0
+IsTextOf (Some text) line = (text.now ≡ line) × IsUtf8 line
+IsTextOf None line = ¬ IsUtf8 line
+
+-- the first line of bytes, with its text, and what is left behind it
+abbrev pub IsFirstLine : List ℕ → FirstLine → Type 0
+IsFirstLine bytes first = (lines bytes ≡ first.bytes.now ∷ lines (bytes_left first.rest))
+    × (length (bytes_left first.rest) < length bytes)
+    × IsTextOf first.text first.bytes.now
 
 -- the words of a line that are left to be read
 abbrev pub words_left : Words → List (List ℕ)

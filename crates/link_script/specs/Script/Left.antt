@@ -12,16 +12,16 @@ use Rattle.link_script.specs.declared.script.line_error.LineError.{LineError}
 use Rattle.link_script.specs.declared.script.line_error.LineError.TheVariants as line
 use Rattle.link_script.specs.declared.script.reading.ScriptReader.TheInside.{Inside}
 use Rattle.link_script.specs.Script.Words.{lines}
-use Rattle.link_script.specs.Script.Answers.{standing_in}
+use Rattle.link_script.specs.Script.Answers.{bytes_left, standing_in}
 use Rattle.link_script.specs.Script.Reading.{said_from, after_statement, faulty}
 
 -- what is left of a script: what the lines say that are left
 abbrev pub left_of : Inside → Script
-left_of r = said_from r.number (standing_in r.here) (lines r.left.now)
+left_of r = said_from r.number (standing_in r.here) (lines (bytes_left r.left))
 
 -- the number of a line has 64 bits, and so have those of the lines that are left
 abbrev pub IsCounted : Inside → Type 0
-IsCounted r = r.number + length r.left.now < 2 ^ 64
+IsCounted r = r.number + length (bytes_left r.left) < 2 ^ 64
 
 -- a script that says nothing more
 abbrev pub ended : Script

@@ -1,7 +1,7 @@
-//! Texts that are cut at a byte, or compared. Words and numbers are short: a search by single bytes takes fewer
-//! steps there than that of `split_once`, which is made for long texts.
+//! Texts that are cut at a byte, or compared. Words and numbers are short: a search by single bytes
+//! takes fewer steps there than one that is made for long texts. Lines are searched for in blocks.
 
-ghost use Rattle.std.specs.Prelude.{◌≡◌, ◌+◌, ◌<◌, ◌≤◌, ◌==◌, length, take, drop, MatchOption};
+ghost use Rattle.std.specs.Prelude.{◌≡◌, ◌+◌, ◌<◌, ◌≤◌, ◌==◌, length, take, drop, slice_index, MatchOption};
 ghost use Rattle.std.specs.List.{position, position_or_len, before_first, after_first};
 ghost use Rattle.std.specs.Str.{bytes_eq};
 
@@ -55,7 +55,16 @@ pub(super) fn cut_at(text: &str, character: u8) -> Option<(&str, &str)>
         × (position_or_len (λ c. c == character) text.now < length text.now)) }
 {
     let place = first_place(text.as_bytes(), character)?;
-    Some((&text[..place], &text[place + 1..]))
+    Some(parted(text, place))
+}
+
+/// What stands before an ASCII character in a text, and what stands behind it.
+pub(super) fn parted(text: &str, place: usize) -> (&str, &str)
+    requires place { place < length text.now }
+    requires ascii { slice_index text.now place < 128 }
+    ensures { (result.0.now ≡ take place text.now) × (result.1.now ≡ drop (place + 1) text.now) }
+{
+    (&text[..place], &text[place + 1..])
 }
 
 /// Whether two texts are the same. Most differ in their lengths, which are compared first.

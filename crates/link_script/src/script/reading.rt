@@ -3,15 +3,16 @@
 ghost use Rattle.std.specs.Prelude.{◌≡◌, ℕ, List, ◌∷◌, IfOk, IfErr};
 ghost use Rattle.link_script.specs.Script.Words as spec;
 ghost use Rattle.link_script.specs.Script.Reading.{script, line_said};
-ghost use Rattle.link_script.specs.Script.Answers.{IsBegun, IsFaultOf, after_line, standing_in, text_said};
+ghost use Rattle.link_script.specs.Script.Answers.{IsBegun, IsFaultOf, IsTextOf, after_line, standing_in, text_said};
 ghost use Rattle.link_script.specs.Script.Left.{IsNext};
 
 use super::arguments::statement;
 use super::keyword::keyword_of;
 use super::line_error::LineError;
+use super::lines::{FirstLine, Lines};
 use super::standing::Standing;
 use super::statement::{Keyword, Script, ScriptError, ScriptFault, Statement};
-use super::words::{Words, first_line};
+use super::words::Words;
 use plain_data::Items;
 use std::alloc::{AllocError, Global};
 use std::marker::Model;
@@ -22,7 +23,7 @@ use std::marker::Model;
 pub struct ScriptReader<'a> {
     alloc: Global,
     /// The lines that are left.
-    left: &'a [u8],
+    left: Lines<'a>,
     /// The number of the first of them, from 1.
     number: u64,
     /// What stands before it.
@@ -48,7 +49,7 @@ impl<'a> ScriptReader<'a> {
     {
         ScriptReader {
             alloc,
-            left: bytes,
+            left: Lines::new(bytes),
             number: 1,
             here: Standing::new(alloc),
         }
@@ -62,10 +63,10 @@ impl<'a> ScriptReader<'a> {
     pub fn next(&mut self) -> Result<Option<Statement>, ScriptError>
         ensures { IsNext self.old result self.new }
     {
-        while let Some((line, rest)) = first_line(self.left) {
+        while let Some(line) = self.left.first() {
             match read_line(self.alloc, &mut self.here, line) {
                 Ok(read) => {
-                    self.left = rest;
+                    self.left = line.rest;
                     self.number += 1;
                     if read.is_some() {
                         return Ok(read);
@@ -128,16 +129,17 @@ fn read_text(alloc: Global, here: &mut Standing, line: &str) -> Result<Option<St
 fn read_line(
     alloc: Global,
     here: &mut Standing,
-    line: &[u8],
+    line: FirstLine<'_>,
 ) -> Result<Option<Statement>, LineError>
-    ensures ok { IfOk result (λ read. after_line (line_said (standing_in here.old) line.now)
+    requires { IsTextOf line.text line.bytes.now }
+    ensures ok { IfOk result (λ read. after_line (line_said (standing_in here.old) line.entry.bytes.now)
         (standing_in here.old) ≡ Ok (read, standing_in here.new)) }
-    ensures err { IfErr result (IsFaultOf (line_said (standing_in here.old) line.now)
+    ensures err { IfErr result (IsFaultOf (line_said (standing_in here.old) line.entry.bytes.now)
         (standing_in here.new ≡ standing_in here.old)) }
 {
-    match std::str::from_utf8(line) {
-        Ok(text) => read_text(alloc, here, text),
-        Err(_) => Err(LineError::Fault(ScriptFault::BadText)),
+    match line.text {
+        Some(text) => read_text(alloc, here, text),
+        None => Err(LineError::Fault(ScriptFault::BadText)),
     }
 }
 

@@ -1,4 +1,5 @@
 use Rattle.std.proofs.Common.{◌≡◌, length}
+use Rattle.link_script.specs.Script.Answers.{bytes_left}
 use Rattle.link_script.specs.Script.Left.{left_of, IsCounted}
 use Rattle.link_script.proofs.script.reading.ScriptReader.next.Given as goal
 
@@ -10,4 +11,4 @@ invariant-loop-line l = record {
 }
 
 abbrev pub decreases-loop-line : goal.decreases-loop-line
-decreases-loop-line l = length l.self-inside.left.now
+decreases-loop-line l = length (bytes_left l.self-inside.left)
