@@ -67,6 +67,8 @@ impl RecordBuilder {
     ///
     /// # Errors
     /// `AllocError` where memory was refused.
+    // Inlined, so that a statement goes on in its parts and is not copied.
+    #[inline(always)]
     pub fn state(&mut self, statement: Statement) -> Result<(), AllocError>
         ensures { OnOk result (building_in self.new ≡ built (building_in self.old) statement) }
     {

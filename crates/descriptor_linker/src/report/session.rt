@@ -37,6 +37,8 @@ impl Session {
     }
 
     /// Does what a statement says.
+    // Inlined, as `state` is.
+    #[inline(always)]
     pub(super) fn step(&mut self, statement: Statement) -> Result<(), AllocError>
         ensures { OnOk result (session_in self.new ≡ step (session_in self.old) statement) }
     {
