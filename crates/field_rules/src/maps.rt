@@ -45,7 +45,7 @@ impl FieldMaps {
         let given = json_list.len();
         let json_names = json_list.into_map()?;
         Ok(FieldMaps {
-            numbers: NumberMap::new(alloc),
+            numbers: NumberMap::with_capacity(alloc, fields.len())?,
             names,
             earlier: earlier_names(alloc, &json_names, given),
             json_names,

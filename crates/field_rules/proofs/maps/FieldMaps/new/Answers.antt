@@ -8,7 +8,7 @@ pub returns : goal.returns
 returns c =
     let json_names = c.in_ok-json_names.ensures ∙ ap inserted c.in_ok-json_list.ensures in
     record {
-      numbers = c.new.ensures;
+      numbers = c.in_ok-with_capacity.ensures;
       names = c.in_ok-names.ensures ∙ ap inserted c.in_ok-name_list.ensures;
       json_names = json_names;
       earlier = none-read c.earlier_names.result c.len-given.result c.in_ok-json_names.json_names c.args.fields.now c.earlier_names.ensures
