@@ -107,16 +107,12 @@ fn enter_names(alloc: Global, pool: &mut GrowingPool) -> Result<(), BuildError>
     ensures kept { rolled_back pool.new ≡ rolled_back pool.old }
 {
     let mut faults = Faults::new(alloc, &pool.inner.files);
-    let table = mem::replace(&mut pool.inner.names, PoolNames::new(alloc));
-    let mut names = ScopedNames::new(table);
-    let shown = show_names(
+    show_names(
         pool.base,
-        &mut names,
+        &mut pool.inner.names,
         &mut pool.inner.file_names,
         &mut faults,
-    );
-    pool.inner.names = names.into_names();
-    shown?;
+    )?;
     let Faults { found, .. } = faults;
     refuse(found)
 }
@@ -124,6 +120,31 @@ fn enter_names(alloc: Global, pool: &mut GrowingPool) -> Result<(), BuildError>
 /// Shows the new files of a pool, which are those that labels name from the base's count on, to the
 /// first pass.
 fn show_names(
+    base: Counts,
+    names: &mut PoolNames,
+    file_names: &mut FileNames,
+    faults: &mut Faults,
+) -> Result<(), AllocError>
+    requires here { base.files ≤ length faults.old.labels }
+    requires counts { IsOk (counts_with base (records_from base.files faults.old.labels)) }
+    ensures ok { OnOk result (state_at names.new file_names.new faults.new.found.items
+        ≡ fold (name_step (map (λ f. f.raw) faults.old.labels))
+        (state_at names.old file_names.old faults.old.found.items)
+        (declarations base (records_from base.files faults.old.labels))) }
+    ensures names { without_files_from base.files names.new
+        ≡ without_files_from base.files names.old }
+    ensures file_names { file_names_before base.files file_names.new
+        ≡ file_names_before base.files file_names.old }
+{
+    let table = mem::replace(names, PoolNames::new(faults.alloc));
+    let mut scoped = ScopedNames::new(table);
+    let shown = show_scoped(base, &mut scoped, file_names, faults);
+    *names = scoped.into_names();
+    shown
+}
+
+/// The same, where the table of names stands beside its open scopes.
+fn show_scoped(
     base: Counts,
     names: &mut ScopedNames,
     file_names: &mut FileNames,

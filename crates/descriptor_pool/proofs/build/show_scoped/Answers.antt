@@ -10,7 +10,7 @@ use Rattle.pool_contents.specs.Growing.{records_from}
 use Rattle.descriptor_pool.proofs.Bases.{rest-records}
 use Rattle.descriptor_pool.proofs.Files.{declarations-entered}
 use Rattle.descriptor_pool.proofs.Passed.{names-end, names-stay, file-names-stay}
-use Rattle.descriptor_pool.proofs.build.show_names.Goals as goal
+use Rattle.descriptor_pool.proofs.build.show_scoped.Goals as goal
 
 pub returns-clause-ok : goal.returns-clause-ok
 returns-clause-ok c =
