@@ -29,7 +29,7 @@ HEADER = TOP / "include/protolink.h"
 RUST = TOP / "bindings/rust/src/ffi.rs"
 DESCRIPTORS = TOP / "bindings/rust/src/descriptors.rs"
 PYTHON = TOP / "bindings/python/protolink.py"
-EXPORTS = (TOP / "crates/protolink_c/src", TOP / "crates/pool_face/src")
+EXPORTS = tuple(TOP / "crates" / name / "src" for name in ("protolink_c", "pool_face", "pool_text"))
 
 Members = list[tuple[str, str]]
 """The members of a struct: names and types."""

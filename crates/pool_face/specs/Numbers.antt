@@ -22,6 +22,7 @@ use Rattle.pool_types.specs.declared.kinds.KindIndex.{KindIndex}
 use Rattle.pool_types.specs.declared.kinds.KindIndex.TheVariants as kind
 use Rattle.pool_types.specs.declared.kinds.Syntax.{Syntax}
 use Rattle.pool_types.specs.declared.kinds.Syntax.TheVariants.{Proto2, Proto3}
+use Rattle.pool_text.specs.Words.{type_number}
 use Rattle.pool_face.specs.declared.numbers.EnumItem.{EnumItem}
 use Rattle.pool_face.specs.declared.numbers.ExtensionItem.{ExtensionItem}
 use Rattle.pool_face.specs.declared.numbers.FieldItem.{FieldItem}
@@ -52,27 +53,6 @@ abbrev pub cardinality_number : Cardinality → ℕ
 cardinality_number Optional = 1
 cardinality_number Required = 2
 cardinality_number Repeated = 3
-
--- the number of a type
-abbrev pub kind_number : KindIndex → ℕ
-kind_number kind.Double = 1
-kind_number kind.Float = 2
-kind_number kind.Int64 = 3
-kind_number kind.Uint64 = 4
-kind_number kind.Int32 = 5
-kind_number kind.Fixed64 = 6
-kind_number kind.Fixed32 = 7
-kind_number kind.Bool = 8
-kind_number kind.String = 9
-kind_number (kind.Group _) = 10
-kind_number (kind.Message _) = 11
-kind_number kind.Bytes = 12
-kind_number kind.Uint32 = 13
-kind_number (kind.Enum _) = 14
-kind_number kind.Sfixed32 = 15
-kind_number kind.Sfixed64 = 16
-kind_number kind.Sint32 = 17
-kind_number kind.Sint64 = 18
 
 -- the index of the message or the enum that is a type
 abbrev pub type_index : KindIndex → ℕ
@@ -162,7 +142,7 @@ abbrev pub field_item : FieldDescriptorInner → FieldItem
 field_item f = record {
   number = f.number;
   cardinality = cardinality_number f.cardinality;
-  kind = kind_number f.kind;
+  kind = type_number f.kind;
   type_index = type_index f.kind;
   oneof = or_none f.oneof;
   is_packed = flag f.is_packed;
@@ -178,7 +158,7 @@ extension_item x = record {
   extendee = x.extendee;
   number = x.number;
   cardinality = cardinality_number x.cardinality;
-  kind = kind_number x.kind;
+  kind = type_number x.kind;
   type_index = type_index x.kind;
   is_packed = flag x.is_packed;
   has_default = flag (is_some x.default);

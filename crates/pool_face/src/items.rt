@@ -14,9 +14,9 @@ use crate::numbers::{
 };
 use descriptor_pool::DescriptorPool;
 use pool_types::{
-    EnumDescriptor, EnumValueDescriptorInner, ExtensionDescriptor, FieldDescriptorInner,
-    FileDescriptor, MessageDescriptor, MethodDescriptorInner, OneofDescriptorInner,
-    ServiceDescriptor,
+    EnumDescriptor, EnumValueDescriptor, EnumValueDescriptorInner, ExtensionDescriptor,
+    FieldDescriptor, FieldDescriptorInner, FileDescriptor, MessageDescriptor, MethodDescriptor,
+    MethodDescriptorInner, OneofDescriptor, OneofDescriptorInner, ServiceDescriptor,
 };
 
 /// The field at a position of a message.
@@ -28,8 +28,7 @@ pub(crate) fn field_at(
     ensures item { option_copied result ≡ spec.field_at pool.now message position }
     ensures name { IfSome result (λ f. BeginsAtBoundary f.now.id) }
 {
-    let message = pool.message(MessageDescriptor::new(message))?;
-    message.fields.as_slice().get(position as usize)
+    pool.field(FieldDescriptor::new(MessageDescriptor::new(message), position))
 }
 
 /// The oneof at a position of a message.
@@ -41,8 +40,7 @@ pub(crate) fn oneof_at(
     ensures item { option_copied result ≡ spec.oneof_at pool.now message position }
     ensures name { IfSome result (λ o. BeginsAtBoundary o.now.id) }
 {
-    let message = pool.message(MessageDescriptor::new(message))?;
-    message.oneofs.as_slice().get(position as usize)
+    pool.oneof(OneofDescriptor::new(MessageDescriptor::new(message), position))
 }
 
 /// The value at a position of an enum.
@@ -54,8 +52,7 @@ pub(crate) fn value_at(
     ensures item { option_copied result ≡ spec.value_at pool.now enumeration position }
     ensures name { IfSome result (λ v. BeginsAtBoundary v.now.id) }
 {
-    let enumeration = pool.enum_(EnumDescriptor::new(enumeration))?;
-    enumeration.values.as_slice().get(position as usize)
+    pool.value(EnumValueDescriptor::new(EnumDescriptor::new(enumeration), position))
 }
 
 /// The method at a position of a service.
@@ -67,8 +64,7 @@ pub(crate) fn method_at(
     ensures item { option_copied result ≡ spec.method_at pool.now service position }
     ensures name { IfSome result (λ m. BeginsAtBoundary m.now.id) }
 {
-    let service = pool.service(ServiceDescriptor::new(service))?;
-    service.methods.as_slice().get(position as usize)
+    pool.method(MethodDescriptor::new(ServiceDescriptor::new(service), position))
 }
 
 impl Answers {

@@ -4,6 +4,7 @@
 ghost use Rattle.std.specs.Prelude.{◌≡◌};
 ghost use Rattle.pool_face.specs.Numbers as spec;
 
+use pool_text::type_number;
 use pool_types::{
     Cardinality, Definition, DefinitionKind, EnumDescriptorInner, EnumValueDescriptorInner,
     ExtensionDescriptorInner, FieldDescriptorInner, FileDescriptorInner, KindIndex,
@@ -195,32 +196,6 @@ fn cardinality_number(cardinality: Cardinality) -> u32
     }
 }
 
-/// The number of a type.
-fn kind_number(kind: KindIndex) -> u32
-    ensures { result ≡ spec.kind_number kind }
-{
-    match kind {
-        KindIndex::Double => 1,
-        KindIndex::Float => 2,
-        KindIndex::Int64 => 3,
-        KindIndex::Uint64 => 4,
-        KindIndex::Int32 => 5,
-        KindIndex::Fixed64 => 6,
-        KindIndex::Fixed32 => 7,
-        KindIndex::Bool => 8,
-        KindIndex::String => 9,
-        KindIndex::Group(_) => 10,
-        KindIndex::Message(_) => 11,
-        KindIndex::Bytes => 12,
-        KindIndex::Uint32 => 13,
-        KindIndex::Enum(_) => 14,
-        KindIndex::Sfixed32 => 15,
-        KindIndex::Sfixed64 => 16,
-        KindIndex::Sint32 => 17,
-        KindIndex::Sint64 => 18,
-    }
-}
-
 /// The index of the message or the enum that is a type.
 fn type_index(kind: KindIndex) -> u32
     ensures { result ≡ spec.type_index kind }
@@ -359,7 +334,7 @@ pub(crate) fn field_item(field: &FieldDescriptorInner) -> FieldItem
     FieldItem {
         number: field.number,
         cardinality: cardinality_number(field.cardinality),
-        kind: kind_number(field.kind),
+        kind: u32::from(type_number(field.kind)),
         type_index: type_index(field.kind),
         oneof: or_none(field.oneof),
         is_packed: flag(field.is_packed),
@@ -378,7 +353,7 @@ pub(crate) fn extension_item(extension: &ExtensionDescriptorInner) -> ExtensionI
         extendee: extension.extendee,
         number: extension.number,
         cardinality: cardinality_number(extension.cardinality),
-        kind: kind_number(extension.kind),
+        kind: u32::from(type_number(extension.kind)),
         type_index: type_index(extension.kind),
         is_packed: flag(extension.is_packed),
         has_default: flag(extension.default.is_some()),

@@ -1,12 +1,12 @@
 -- What a name means in a pool, as a text.
 use Rattle.std.specs.Prelude.{ℕ, ℤ, pos, ◌-ℤ◌, List, [], ◌++◌, slice_get, codes, if◌then◌else◌}
-use Rattle.std.specs.List.{flat_map, find}
+use Rattle.std.specs.FinMap as finite
+use Rattle.std.specs.List.{flat_map}
 use Rattle.std.specs.Fmt.{signed_decimal}
 use Rattle.std.specs.Option.{option_and_then, option_map_or}
-use Rattle.std.specs.Str.{bytes_eq}
 use Rattle.std.specs.declared.option.Option.{Option}
 use Rattle.std.specs.declared.option.Option.TheVariants.{None, Some}
-use Rattle.proto_types.specs.Readers.{number_of, text_of}
+use Rattle.proto_types.specs.Readers.{number_of}
 use Rattle.proto_types.specs.declared.message.DescriptorProto.{DescriptorProto, out-DescriptorProto}
 use Rattle.proto_types.specs.declared.message.ExtensionRange.{ExtensionRange}
 use Rattle.proto_types.specs.declared.message.ReservedRange.{ReservedRange}
@@ -16,6 +16,7 @@ use Rattle.pool_types.specs.declared.contents.definition.Definition.{Definition}
 use Rattle.pool_types.specs.declared.contents.definition.DefinitionKind.{DefinitionKind}
 use Rattle.pool_types.specs.declared.contents.definition.DefinitionKind.TheVariants as kind
 use Rattle.pool_types.specs.declared.contents.definition.Identity.{Identity}
+use Rattle.pool_types.specs.declared.contents.file.FileDescriptorInner.{FileDescriptorInner}
 use Rattle.pool_types.specs.declared.contents.message.MessageDescriptorInner.{MessageDescriptorInner}
 use Rattle.pool_contents.specs.LookUps.{definition_named}
 use Rattle.pool_faults.specs.Fault.{path_text}
@@ -93,10 +94,13 @@ abbrev pub definition_text : Contents → List ℕ → Definition → List ℕ
 definition_text p name d =
     if is_package d.kind then package_text p name d else item_text p d.kind
 
+-- the file with a name
+abbrev pub file_named : Contents → List ℕ → Option FileDescriptorInner
+file_named p name = option_and_then (slice_get p.files) (finite.get p.file_names name)
+
 -- the file with a name, where there is one
 abbrev pub named_file_text : Contents → List ℕ → List ℕ
-named_file_text p name = option_map_or (file_text p)
-    (find (λ f. bytes_eq (text_of f.raw.name) name) p.files) []
+named_file_text p name = option_map_or (file_text p) (file_named p name) []
 
 -- what a name means by what it is as a full name, or else as the name of a file
 abbrev pub text_by : Contents → List ℕ → Option Definition → List ℕ

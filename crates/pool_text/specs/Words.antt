@@ -82,26 +82,26 @@ flag_words true false = codes " packed"
 flag_words false true = codes " presence"
 flag_words false false = []
 
--- the number of the type that is written for a kind
-abbrev pub type_number : KindIndex → ℤ
-type_number kind.Double = pos 1
-type_number kind.Float = pos 2
-type_number kind.Int64 = pos 3
-type_number kind.Uint64 = pos 4
-type_number kind.Int32 = pos 5
-type_number kind.Fixed64 = pos 6
-type_number kind.Fixed32 = pos 7
-type_number kind.Bool = pos 8
-type_number kind.String = pos 9
-type_number (kind.Group _) = pos 10
-type_number (kind.Message _) = pos 11
-type_number kind.Bytes = pos 12
-type_number kind.Uint32 = pos 13
-type_number (kind.Enum _) = pos 14
-type_number kind.Sfixed32 = pos 15
-type_number kind.Sfixed64 = pos 16
-type_number kind.Sint32 = pos 17
-type_number kind.Sint64 = pos 18
+-- the number of the type that is written for a kind (descriptor.proto's `Type`)
+abbrev pub type_number : KindIndex → ℕ
+type_number kind.Double = 1
+type_number kind.Float = 2
+type_number kind.Int64 = 3
+type_number kind.Uint64 = 4
+type_number kind.Int32 = 5
+type_number kind.Fixed64 = 6
+type_number kind.Fixed32 = 7
+type_number kind.Bool = 8
+type_number kind.String = 9
+type_number (kind.Group _) = 10
+type_number (kind.Message _) = 11
+type_number kind.Bytes = 12
+type_number kind.Uint32 = 13
+type_number (kind.Enum _) = 14
+type_number kind.Sfixed32 = 15
+type_number kind.Sfixed64 = 16
+type_number kind.Sint32 = 17
+type_number kind.Sint64 = 18
 
 -- the record of a field or an extension
 abbrev pub field_record : FileDescriptorProto → List ℤ → Option FieldDescriptorProto
@@ -117,7 +117,7 @@ written_type p id = option_and_then
 -- a number of a type, where it is not the one that is written for the kind
 abbrev pub number_words : KindIndex → ℤ → List ℕ
 number_words k number =
-    if int_eq number (type_number k) then [] else codes " type " ++ signed_decimal number
+    if int_eq number (pos (type_number k)) then [] else codes " type " ++ signed_decimal number
 
 -- the same of the type that the linked record has
 abbrev pub written_words : Contents → Identity → KindIndex → List ℕ

@@ -1,10 +1,7 @@
 //! What a name means.
 
 ghost use Rattle.std.specs.Prelude.{◌≡◌, ◌++◌, [], IfOk, OnOk, slice_get, string_bytes};
-ghost use Rattle.std.specs.List.{find};
 ghost use Rattle.std.specs.Option.{option_copied, option_map_or};
-ghost use Rattle.std.specs.Str.{bytes_eq};
-ghost use Rattle.proto_types.specs.Readers.{text_of};
 ghost use Rattle.pool_text.specs.Named as spec;
 
 use crate::enumeration::write_enum_at;
@@ -113,10 +110,9 @@ fn write_whole_message(
 
 /// The file with a name.
 fn file_named<'p>(pool: &'p DescriptorPool, name: &str) -> Option<&'p FileDescriptorInner>
-    ensures { option_copied result
-        ≡ find (λ f. bytes_eq (text_of f.raw.name) name.now) pool.now.files }
+    ensures { option_copied result ≡ spec.file_named pool.now name.now }
 {
-    pool.files().iter().find(|file| file.raw.name() == name)
+    pool.file(pool.get_file_by_name(name)?)
 }
 
 /// The file with a name, where there is one.

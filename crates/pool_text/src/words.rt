@@ -154,8 +154,8 @@ fn has_dot_from(text: &str, index: usize) -> bool
     }
 }
 
-/// The number of the type that is written for a kind.
-fn type_number(kind: KindIndex) -> i32
+/// The number of the type that is written for a kind (descriptor.proto's `Type`).
+pub fn type_number(kind: KindIndex) -> u8
     ensures { result ≡ spec.type_number kind }
 {
     match kind {
@@ -192,7 +192,7 @@ fn written_type(pool: &DescriptorPool, id: &Identity) -> Option<i32>
 fn number_words(alloc: Global, kind: KindIndex, number: i32) -> Result<String, AllocError>
     ensures { IfOk result (λ s. string_bytes s ≡ spec.number_words kind number) }
 {
-    if number == type_number(kind) {
+    if number == i32::from(type_number(kind)) {
         Ok(String::new(alloc))
     } else {
         format!(in alloc; " type {number}")
