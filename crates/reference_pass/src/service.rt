@@ -15,7 +15,7 @@ ghost use Rattle.reference_pass.specs.Setting.{resolve};
 ghost use Rattle.reference_pass.specs.Reading.{ReadingTells, setting_of};
 
 use crate::reading::Reading;
-use crate::references::message_index_or_max;
+use crate::references::{index_or_max, message_index_or_max};
 use field_rules::{identity, identity_inside};
 use name_resolution::ResolveNameFilter;
 use plain_data::Items;
@@ -129,6 +129,9 @@ fn message_index(
         (place.entry.path.now ++ tag ∷ []) (resolve (setting_of reading.old)
         place.entry.file place.entry.full_name.now ResolveNameFilter.Message written.now)))) }
 {
+    if let Some(def) = reading.find(place, ResolveNameFilter::Message, written) {
+        return Ok(index_or_max(def));
+    }
     let meaning = reading.resolve_message(place, tag, written)?;
     Ok(message_index_or_max(&meaning))
 }
