@@ -218,24 +218,21 @@ fn read_items(alloc: Global, pool: &GrowingPool) -> Result<NewItems, BuildError>
 {
     let base = pool.base;
     let inner = &pool.inner;
+    let files = &inner.files[base.files as usize..];
+    let items = NewItems::for_files(alloc, files)?;
     let mut visitor = ResolveVisitor {
         pool: PoolExtensions {
             messages: &inner.messages,
             extensions: &inner.extensions,
         },
-        items: NewItems::new(alloc),
+        items,
         reading: Reading {
             faults: Faults::new(alloc, &inner.files),
             names: &inner.names,
             file_names: &inner.file_names,
         },
     };
-    walk(
-        alloc,
-        base,
-        &inner.files[base.files as usize..],
-        &mut visitor,
-    )?;
+    walk(alloc, base, files, &mut visitor)?;
     let ResolveVisitor { reading, items, .. } = visitor;
     let Reading { faults, .. } = reading;
     let Faults { found, .. } = faults;
@@ -250,16 +247,28 @@ fn put_items(pool: &mut GrowingPool, items: NewItems) -> Result<(), AllocError>
     ensures kept { rolled_back pool.new ≡ rolled_back pool.old }
 {
     let NewItems {
-        mut messages,
-        mut enums,
-        mut services,
-        mut extensions,
+        messages,
+        enums,
+        services,
+        extensions,
         ..
     } = items;
-    pool.inner.messages.append(&mut messages)?;
-    pool.inner.enums.append(&mut enums)?;
-    pool.inner.services.append(&mut services)?;
-    pool.inner.extensions.append(&mut extensions)?;
+    put_behind(&mut pool.inner.messages, messages)?;
+    put_behind(&mut pool.inner.enums, enums)?;
+    put_behind(&mut pool.inner.services, services)?;
+    put_behind(&mut pool.inner.extensions, extensions)
+}
+
+/// Puts items behind those of a list, which takes over theirs where it has none.
+fn put_behind<T: Drop>(list: &mut Vec<T>, mut items: Vec<T>) -> Result<(), AllocError>
+    ensures ok { OnOk result (list.new.items ≡ list.old.items ++ items.items) }
+    ensures err { OnErr result (list.new.items ≡ list.old.items) }
+{
+    if list.is_empty() {
+        *list = items;
+        return Ok(());
+    }
+    list.append(&mut items)?;
     Ok(())
 }
 

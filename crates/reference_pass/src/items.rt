@@ -1,6 +1,6 @@
 //! The items that the second pass makes.
 
-ghost use Rattle.std.specs.Prelude.{◌≡◌, ◌++◌, ◌∷◌, [], OnOk, OnErr};
+ghost use Rattle.std.specs.Prelude.{◌≡◌, ◌++◌, ◌∷◌, [], IfOk, OnOk, OnErr};
 ghost use Rattle.std.specs.List.{find};
 ghost use Rattle.std.specs.Option.{option_copied};
 ghost use Rattle.pool_types.specs.Extension.{has_number};
@@ -8,8 +8,10 @@ ghost use Rattle.field_rules.specs.NamesBegin.{EnumNamesBegin};
 ghost use Rattle.reference_pass.specs.NamesBegin.{ExtensionNameBegins, MessageNamesBegin, NamesBegin, ServiceNamesBegin};
 ghost use Rattle.reference_pass.specs.Numbered.{EntersFirst, LeadsToFirst};
 
+use crate::room::room_of_files;
 use pool_types::{
-    EnumDescriptorInner, ExtensionDescriptorInner, MessageDescriptorInner, ServiceDescriptorInner,
+    EnumDescriptorInner, ExtensionDescriptorInner, FileDescriptorInner, MessageDescriptorInner,
+    ServiceDescriptorInner,
 };
 use std::alloc::{AllocError, Global};
 use std::collections::BTreeMap;
@@ -41,6 +43,25 @@ impl NewItems {
             extensions: Vec::new(alloc),
             positions: BTreeMap::new(alloc),
         }
+    }
+
+    /// No items, and room for about as many as files make.
+    ///
+    /// # Errors
+    /// `AllocError` where memory was refused.
+    pub fn for_files(alloc: Global, files: &[FileDescriptorInner]) -> Result<NewItems, AllocError>
+        ensures messages { IfOk result (λ items. items.messages.items ≡ []) }
+        ensures enums { IfOk result (λ items. items.enums.items ≡ []) }
+        ensures services { IfOk result (λ items. items.services.items ≡ []) }
+        ensures extensions { IfOk result (λ items. items.extensions.items ≡ []) }
+    {
+        let room = room_of_files(files);
+        let mut items = NewItems::new(alloc);
+        items.messages.reserve(room.messages)?;
+        items.enums.reserve(room.enums)?;
+        items.services.reserve(room.services)?;
+        items.extensions.reserve(room.extensions)?;
+        Ok(items)
     }
 
     /// The first extension of the message with an index that has a number.

@@ -14,6 +14,7 @@ mod pool_extensions;
 mod reading;
 mod references;
 mod resolve;
+mod room;
 mod service;
 mod types;
 

@@ -29,7 +29,7 @@ setting_at files p = record { files = map (λ f. f.raw) files; names = p.names; 
 pub walk-requires-clause-ready : goal.walk-requires-clause-ready
 walk-requires-clause-ready c =
     let p = c.args.pool.now in
-    let rest = rest-records p.base.files c.deref-4.result.now p.inner.files.items c.deref-4.ensures.value in
+    let rest = rest-records p.base.files c.deref.result.now p.inner.files.items c.deref.ensures.value in
     subst (λ (fs : List FileDescriptorProto). CanBeRead (declarations p.base fs)) (sym rest) (declarations-read p.base (new_records p) c.requires.counts)
 
 -- all items are there
@@ -37,15 +37,15 @@ pub returns-clause-items : goal.returns-clause-items
 returns-clause-items c =
     let p = c.args.pool.now in
     let v = c.walk.new.visitor in
-    let fs = shown p.base c.deref-4.result.now in
-    let rest = rest-records p.base.files c.deref-4.result.now p.inner.files.items c.deref-4.ensures.value in
-    let began = held c.deref-2.result.now c.new.result c.new-2.result in
-    let is = ap (λ files. setting_at files p.inner) (c.new-2.ensures.labels ∙ c.deref-3.ensures.value) in
+    let fs = shown p.base c.deref.result.now in
+    let rest = rest-records p.base.files c.deref.result.now p.inner.files.items c.deref.ensures.value in
+    let began = held c.deref-3.result.now c.in_ok-items.items c.new.result in
+    let is = ap (λ files. setting_at files p.inner) (c.new.ensures.labels ∙ c.deref-4.ensures.value) in
     let old = p.inner.extensions.items in
-    let none : began ≡ no_items old = nothing-held c.deref-2.result.now c.new.result c.new-2.result c.new.ensures.messages c.new.ensures.enums c.new.ensures.services c.new.ensures.extensions c.new-2.ensures.found
-    ∙ ap no_items c.deref-2.ensures.value in
-    let kept = ap (λ (x : Contents). x.extensions) c.walk.ensures.kept ∙ c.deref-2.ensures.value in
-    let has = (references-end (setting_at c.new-2.result.labels p.inner) v old began p.base fs none kept (c.in_ok-walk.ensures.ok.after_is [])).0 in
+    let none : began ≡ no_items old = nothing-held c.deref-3.result.now c.in_ok-items.items c.new.result c.in_ok-items.ensures.messages c.in_ok-items.ensures.enums c.in_ok-items.ensures.services c.in_ok-items.ensures.extensions c.new.ensures.found
+    ∙ ap no_items c.deref-3.ensures.value in
+    let kept = ap (λ (x : Contents). x.extensions) c.walk.ensures.kept ∙ c.deref-3.ensures.value in
+    let has = (references-end (setting_at c.new.result.labels p.inner) v old began p.base fs none kept (c.in_ok-walk.ensures.ok.after_is [])).0 in
     subst (λ (gs : List FileDescriptorProto). HasItems v.items (setting_against p.inner) (declarations p.base gs)) rest
     (subst (λ (s : Setting). HasItems v.items s (declarations p.base fs)) is has)
 
@@ -54,15 +54,15 @@ pub returns-clause-faults : goal.returns-clause-faults
 returns-clause-faults c =
     let p = c.args.pool.now in
     let v = c.walk.new.visitor in
-    let fs = shown p.base c.deref-4.result.now in
-    let rest = rest-records p.base.files c.deref-4.result.now p.inner.files.items c.deref-4.ensures.value in
-    let began = held c.deref-2.result.now c.new.result c.new-2.result in
-    let is = ap (λ files. setting_at files p.inner) (c.new-2.ensures.labels ∙ c.deref-3.ensures.value) in
+    let fs = shown p.base c.deref.result.now in
+    let rest = rest-records p.base.files c.deref.result.now p.inner.files.items c.deref.ensures.value in
+    let began = held c.deref-3.result.now c.in_ok-items.items c.new.result in
+    let is = ap (λ files. setting_at files p.inner) (c.new.ensures.labels ∙ c.deref-4.ensures.value) in
     let old = p.inner.extensions.items in
-    let none : began ≡ no_items old = nothing-held c.deref-2.result.now c.new.result c.new-2.result c.new.ensures.messages c.new.ensures.enums c.new.ensures.services c.new.ensures.extensions c.new-2.ensures.found
-    ∙ ap no_items c.deref-2.ensures.value in
-    let kept = ap (λ (x : Contents). x.extensions) c.walk.ensures.kept ∙ c.deref-2.ensures.value in
-    let told = (references-end (setting_at c.new-2.result.labels p.inner) v old began p.base fs none kept (c.in_ok-walk.ensures.ok.after_is [])).1 in
+    let none : began ≡ no_items old = nothing-held c.deref-3.result.now c.in_ok-items.items c.new.result c.in_ok-items.ensures.messages c.in_ok-items.ensures.enums c.in_ok-items.ensures.services c.in_ok-items.ensures.extensions c.new.ensures.found
+    ∙ ap no_items c.deref-3.ensures.value in
+    let kept = ap (λ (x : Contents). x.extensions) c.walk.ensures.kept ∙ c.deref-3.ensures.value in
+    let told = (references-end (setting_at c.new.result.labels p.inner) v old began p.base fs none kept (c.in_ok-walk.ensures.ok.after_is [])).1 in
     sym (told ∙ (λ i. second_pass (is i) old (declarations p.base (rest i)))) ∙ c.in_ok-refuse.ensures.ok
 
 -- or all of them are told
@@ -70,14 +70,14 @@ pub returns-in_err-refuse-clause-faults : goal.returns-in_err-refuse-clause-faul
 returns-in_err-refuse-clause-faults c =
     let p = c.args.pool.now in
     let v = c.walk.new.visitor in
-    let fs = shown p.base c.deref-4.result.now in
-    let rest = rest-records p.base.files c.deref-4.result.now p.inner.files.items c.deref-4.ensures.value in
-    let began = held c.deref-2.result.now c.new.result c.new-2.result in
-    let is = ap (λ files. setting_at files p.inner) (c.new-2.ensures.labels ∙ c.deref-3.ensures.value) in
+    let fs = shown p.base c.deref.result.now in
+    let rest = rest-records p.base.files c.deref.result.now p.inner.files.items c.deref.ensures.value in
+    let began = held c.deref-3.result.now c.in_ok-items.items c.new.result in
+    let is = ap (λ files. setting_at files p.inner) (c.new.ensures.labels ∙ c.deref-4.ensures.value) in
     let old = p.inner.extensions.items in
-    let none : began ≡ no_items old = nothing-held c.deref-2.result.now c.new.result c.new-2.result c.new.ensures.messages c.new.ensures.enums c.new.ensures.services c.new.ensures.extensions c.new-2.ensures.found
-    ∙ ap no_items c.deref-2.ensures.value in
-    let kept = ap (λ (x : Contents). x.extensions) c.walk.ensures.kept ∙ c.deref-2.ensures.value in
-    let told = (references-end (setting_at c.new-2.result.labels p.inner) v old began p.base fs none kept (c.in_ok-walk.ensures.ok.after_is [])).1 in
+    let none : began ≡ no_items old = nothing-held c.deref-3.result.now c.in_ok-items.items c.new.result c.in_ok-items.ensures.messages c.in_ok-items.ensures.enums c.in_ok-items.ensures.services c.in_ok-items.ensures.extensions c.new.ensures.found
+    ∙ ap no_items c.deref-3.ensures.value in
+    let kept = ap (λ (x : Contents). x.extensions) c.walk.ensures.kept ∙ c.deref-3.ensures.value in
+    let told = (references-end (setting_at c.new.result.labels p.inner) v old began p.base fs none kept (c.in_ok-walk.ensures.ok.after_is [])).1 in
     let all = told ∙ (λ i. second_pass (is i) old (declarations p.base (rest i))) in
     tells-err _ c.in_err-refuse.field-0.0 _ (search rules) (subst (TellsFaults c.in_err-refuse.field-0.0) all c.in_err-refuse.ensures.err)
