@@ -235,7 +235,9 @@ SCRIPTS: dict[str, Callable[[], str]] = {
     "16,000 fields of one message, each of its type": lambda: fields_of_one_message(16000),
     "4,000 fields of one message that reserves 4,000 ranges": lambda: reserved_ranges(4000, False),
     "the same, where one of the ranges covers all others": lambda: reserved_ranges(4000, True),
-    "2,865 files, as the second row": lambda: many_files(2865),
+    "2,865 files, each with a package, a message and a field that names it": (
+        lambda: many_files(2865)
+    ),
     "2,865 files, and one more in a batch of its own": lambda: one_more(2865, ".last.none"),
     "4,000 faults, each with a place among 8,000 locations": lambda: missing_types(4000),
     "5,000 fields seven scopes deep, of a type in the outermost": (
