@@ -16,16 +16,16 @@ use Rattle.proto_types.specs.declared.file.FileDescriptorProto.{FileDescriptorPr
 use Rattle.proto_types.specs.declared.message.DescriptorProto.{out-DescriptorProto}
 use Rattle.record_walk.specs.declared.counts.Counts.{Counts}
 use Rattle.record_walk.specs.declared.walking.cursor.Cursor.{Cursor}
+use Rattle.record_walk.specs.declared.walking.part.Part.{Part}
 use Rattle.record_walk.specs.declared.walking.row.Depth.{Depth}
 use Rattle.record_walk.specs.declared.walking.row.EntryPosition.{EntryPosition}
-use Rattle.record_walk.specs.declared.walking.row.Row.{Row}
 use Rattle.record_walk.specs.Counts.{counted, counting, fits_list, list_limit, lists_fit}
 use Rattle.record_walk.specs.Protos.{Proto, name_of, of_file, of_message, of_field, of_oneof, of_service, of_method, of_enum, of_value, of_extension}
 use Rattle.record_walk.specs.Declarations.{in_file}
 use Rattle.record_walk.specs.Shown.{Shown, Surrounding, shown, shown_as, inside}
 use Rattle.proto_types.specs.Paths.{entry_path}
-use Rattle.record_walk.specs.Walking.{Room, WithinLimits, index_at, located, parent_in, parent_of, proto_of, protos_in, within_file}
-use Rattle.record_walk.specs.Cursor.{AreNested, Begins, Comes, IsSound, Line, Stands, depth_of, file_lines, inner_lines, left, left_of, line, line_in, lines, protos_walk, rest_at, stacked, stacked_all, stacked_by, whole}
+use Rattle.record_walk.specs.Walking.{Room, WithinLimits, index_at, located, parent_of, proto_of, within_file}
+use Rattle.record_walk.specs.Cursor.{AreNested, Begins, Comes, IsSound, Line, Stands, depth_of, file_lines, inner_lines, left, left_of, line, lines, protos_walk, rest_at, stacked, stacked_all, stacked_by, whole}
 use Rattle.record_walk.proofs.Listings.{first-true, room-back, second-true, within-first}
 use Rattle.record_walk.proofs.Turns.{fits-first, short-enums, short-extensions, short-nested}
 use Rattle.record_walk.proofs.Rests.{file-opens, file_rests, left-append, left-next, message_rests, rest, rests_by}
@@ -178,6 +178,14 @@ left-by : (index : ℕ) (path : List ℤ) (name : List ℕ) (c : Counts) (depth 
 left-by index path name c depth parent tag i [] ls = refl
 left-by index path name c depth parent tag i (p ∷ ps) ls = refl
 
+-- a list that is added, with records or without
+pub stacked-filled : (ps : List Proto) (l : Line) (ls : List Line) → 0 < length ps → stacked_by ps l ls ≡ l ∷ ls
+stacked-filled [] l ls filled = absurd (omega (arith, filled))
+stacked-filled (p ∷ ps) l ls filled = refl
+
+pub stacked-none : (ps : List Proto) (l : Line) (ls : List Line) → ps ≡ [] → stacked_by ps l ls ≡ ls
+stacked-none ps l ls none = ap (λ qs. stacked_by qs l ls) none
+
 pub left-stacked : (index : ℕ) (path : List ℤ) (name : List ℕ) (c : Counts) (l : Line) (ls : List Line)
     → left_of c (map (rest_at index path name) (stacked l ls)) ≡ left_of c (rest_at index path name l ∷ map (rest_at index path name) ls)
 left-stacked index path name c l ls = left-by index path name c l.depth l.parent l.tag l.position l.protos ls
@@ -288,44 +296,45 @@ module _ (index : ℕ) (path path' : List ℤ) (name name' : List ℕ) (c : Coun
       nested-inner (depth_of path' name') name' b n p others (cut-end name') cut (omega (arith, name-long, name-more, name-is)) fits wide
 
 -- there is room to count it
-pub first-within : (c : Cursor) (row : Row) (ls : List Line) → IsSound c → lines c.rows ≡ line_in row ∷ ls → WithinLimits (counting c.counts (proto_of row.part))
-first-within c row ls sound popped =
-    let at = rest_at c.site.file c.site.path.items (string_bytes c.site.name) in
-    let here = (at (line_in row)).here in
-    let first = (λ j. left_of c.counts (map at (popped j)))
-    ∙ left-next c.counts here row.at.tag row.at.position (proto_of row.part) (protos_in row.rest) (map at ls) in
+pub first-within : (c : Cursor) (part : Part) (at : EntryPosition) (ps : List Proto) (ls : List Line) → IsSound c → lines c.rows ≡ line at (parent_of part) (proto_of part ∷ ps) ∷ ls
+    → WithinLimits (counting c.counts (proto_of part))
+first-within c part at ps ls sound popped =
+    let rests = map (rest_at c.site.file c.site.path.items (string_bytes c.site.name)) in
+    let here = (rest_at c.site.file c.site.path.items (string_bytes c.site.name) (line at (parent_of part) (proto_of part ∷ ps))).here in
+    let first = (λ j. left_of c.counts (rests (popped j)))
+    ∙ left-next c.counts here at.tag at.position (proto_of part) ps (rests ls) in
     within-first (subst (Room c.counts) first sound.room)
 
 -- so the first of what is left comes
-pub comes : (old new : Cursor) (row : Row) (index : ℕ) (ls : List Line) → IsSound old → lines old.rows ≡ line_in row ∷ ls
-    → new.site.file ≡ old.site.file → new.site.path.items ≡ entry_path (take row.at.depth.path old.site.path.items) row.at.tag row.at.position
-    → string_bytes new.site.name ≡ join (take row.at.depth.scope (string_bytes old.site.name)) (name_of (proto_of row.part))
-    → new.counts ≡ counting old.counts (proto_of row.part) → index ≡ index_at old.counts row.at.position (proto_of row.part)
-    → lines new.rows ≡ stacked_all (inner_lines (depth_of new.site.path.items (string_bytes new.site.name)) row.at.depth.scope index (proto_of row.part))
-    (stacked (behind row.at (parent_in row.rest) (protos_in row.rest)) ls)
-    → Comes old new (located new.site (record { index = index; part = row.part }))
-comes old new row index ls sound popped files paths names counts is rows =
-    let p = proto_of row.part in
+pub comes : (old new : Cursor) (part : Part) (at : EntryPosition) (index : ℕ) (ps : List Proto) (ls : List Line) → IsSound old
+    → lines old.rows ≡ line at (parent_of part) (proto_of part ∷ ps) ∷ ls
+    → new.site.file ≡ old.site.file → new.site.path.items ≡ entry_path (take at.depth.path old.site.path.items) at.tag at.position
+    → string_bytes new.site.name ≡ join (take at.depth.scope (string_bytes old.site.name)) (name_of (proto_of part))
+    → new.counts ≡ counting old.counts (proto_of part) → index ≡ index_at old.counts at.position (proto_of part)
+    → lines new.rows ≡ stacked_all (inner_lines (depth_of new.site.path.items (string_bytes new.site.name)) at.depth.scope index (proto_of part))
+    (stacked (behind at (parent_of part) ps) ls)
+    → Comes old new (located new.site (record { index = index; part = part }))
+comes old new part at index ps ls sound popped files paths names counts is rows =
+    let p = proto_of part in
+    let parent = parent_of part in
     let path = old.site.path.items in
     let path' = new.site.path.items in
     let name = string_bytes old.site.name in
     let name' = string_bytes new.site.name in
     let nested = subst (AreNested (depth_of path name) name) popped sound.nested in
-    let n = index_at old.counts row.at.position p in
-    let next = coming path' name' old.counts row.at (parent_of row.part) p (protos_in row.rest) ls in
-    let rows-are : lines new.rows ≡ next = rows ∙ (λ j. stacked_all (inner_lines (depth_of path' name') row.at.depth.scope (is j) p)
-    (stacked (behind row.at (row.same j) (protos_in row.rest)) ls)) in
-    let left-is : left old ≡ shown_as path' name' new.site.file (parent_of row.part) index p ∷ left new =
+    let next = coming path' name' old.counts at parent p ps ls in
+    let rows-are : lines new.rows ≡ next = rows ∙ (λ j. stacked_all (inner_lines (depth_of path' name') at.depth.scope (is j) p) (stacked (behind at parent ps) ls)) in
+    let left-is : left old ≡ shown_as path' name' new.site.file parent index p ∷ left new =
     (λ j. left_of old.counts (map (rest_at old.site.file path name) (popped j)))
-    ∙ comes-left old.site.file path path' name name' old.counts row.at (parent_of row.part) p (protos_in row.rest) ls nested paths names
-    ∙ (λ j. shown_as path' name' (sym files j) (parent_of row.part) (sym is j) p
+    ∙ comes-left old.site.file path path' name name' old.counts at parent p ps ls nested paths names
+    ∙ (λ j. shown_as path' name' (sym files j) parent (sym is j) p
     ∷ left_of (sym counts j) (map (rest_at (sym files j) path' name') (sym rows-are j))) in
     let room = subst (Room old.counts) left-is sound.room in
-    let d = shown_as path' name' new.site.file (parent_of row.part) index p in
+    let d = shown_as path' name' new.site.file parent index p in
     record {
       sound = record {
         nested = subst (AreNested (depth_of path' name') name') (sym rows-are)
-            (comes-nested old.site.file path path' name name' old.counts row.at (parent_of row.part) p (protos_in row.rest) ls nested paths names (fits-first room));
+            (comes-nested old.site.file path path' name name' old.counts at parent p ps ls nested paths names (fits-first room));
         room = subst (λ k. Room k (left new)) (sym counts) (room-back (d ∷ []) (left new) room);
       };
       left_is = left-is;

@@ -61,14 +61,14 @@ parts-row of part (x ∷ xs) = (part x, parts-row of part xs)
 
 -- the records of a list of parts
 pub parts-in : (rs : Records) → hold_parts rs ≡ true → AreParts (protos_in rs)
-parts-in (records.Fields _ fs) want = parts-row of_field (λ _. refl) fs.now
-parts-in (records.Oneofs _ os) want = parts-row of_oneof (λ _. refl) os.now
-parts-in (records.Methods _ ms) want = parts-row of_method (λ _. refl) ms.now
-parts-in (records.EnumValues _ vs) want = parts-row of_value (λ _. refl) vs.now
-parts-in (records.Messages _ ms) want = absurd (cc)
+parts-in (records.Fields fs _) want = parts-row of_field (λ _. refl) fs.now
+parts-in (records.Oneofs os _) want = parts-row of_oneof (λ _. refl) os.now
+parts-in (records.Methods ms _) want = parts-row of_method (λ _. refl) ms.now
+parts-in (records.EnumValues vs _) want = parts-row of_value (λ _. refl) vs.now
+parts-in (records.Messages ms _) want = absurd (cc)
 parts-in (records.Services ss) want = absurd (cc)
-parts-in (records.Enums _ es) want = absurd (cc)
-parts-in (records.Extensions _ xs) want = absurd (cc)
+parts-in (records.Enums es _) want = absurd (cc)
+parts-in (records.Extensions xs _) want = absurd (cc)
 
 -- lists that were taken off, and the others
 module _ (index : ℕ) (path : List ℤ) (name : List ℕ) (k : Counts) (wanted : Bool) where

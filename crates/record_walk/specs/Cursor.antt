@@ -12,6 +12,7 @@ use Rattle.proto_types.specs.declared.message.DescriptorProto.{DescriptorProto, 
 use Rattle.record_walk.specs.declared.counts.Counts.{Counts}
 use Rattle.record_walk.specs.declared.walking.cursor.Cursor.{Cursor}
 use Rattle.record_walk.specs.declared.walking.located.Located.{Located}
+use Rattle.record_walk.specs.declared.walking.part.Part.{Part}
 use Rattle.record_walk.specs.declared.walking.row.Depth.{Depth}
 use Rattle.record_walk.specs.declared.walking.row.EntryPosition.{EntryPosition}
 use Rattle.record_walk.specs.declared.walking.row.Row.{Row}
@@ -42,7 +43,7 @@ line at parent protos = record {
 
 -- the line of a row that the code keeps
 abbrev pub line_in : Row → Line
-line_in r = line r.at (parent_of r.part) (proto_of r.part ∷ protos_in r.rest)
+line_in r = line r.at (parent_in r.records) (protos_in r.records)
 
 -- the lists that are left, the next one first
 abbrev pub lines : Rows → List Line
@@ -58,11 +59,11 @@ abbrev pub stacked : Line → List Line → List Line
 stacked l ls = stacked_by l.protos l ls
 
 -- the first record of the first list is taken off, and what is left of that list comes next
-abbrev pub Steps : Row → List Line → List Line → Type 0
-Steps row old new =
-    (ls : List Line) × (old ≡ line_in row ∷ ls)
-    × (new ≡ stacked (line (record row.at { position = row.at.position + 1 }) (parent_in row.rest)
-    (protos_in row.rest)) ls)
+abbrev pub Steps : Part → EntryPosition → List Line → List Line → Type 0
+Steps part at old new =
+    (rest : List Proto) × (ls : List Line)
+    × (old ≡ line at (parent_of part) (proto_of part ∷ rest) ∷ ls)
+    × (new ≡ stacked (line (record at { position = at.position + 1 }) (parent_of part) rest) ls)
 
 -- lines with further ones before them, those without records left out
 abbrev pub stacked_all : List Line → List Line → List Line

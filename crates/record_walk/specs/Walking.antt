@@ -19,48 +19,48 @@ use Rattle.proto_types.specs.declared.file.FileDescriptorProto.{FileDescriptorPr
 
 -- the record that a part of a walk borrows
 abbrev pub proto_of : Part → Proto
-proto_of (part.Message _ m) = of_message m.now
-proto_of (part.Field _ f) = of_field f.now
-proto_of (part.Oneof _ o) = of_oneof o.now
+proto_of (part.Message m _) = of_message m.now
+proto_of (part.Field f _) = of_field f.now
+proto_of (part.Oneof o _) = of_oneof o.now
 proto_of (part.Service s) = of_service s.now
-proto_of (part.Method _ m) = of_method m.now
-proto_of (part.Enum _ e) = of_enum e.now
-proto_of (part.EnumValue _ v) = of_value v.now
-proto_of (part.Extension _ x) = of_extension x.now
+proto_of (part.Method m _) = of_method m.now
+proto_of (part.Enum e _) = of_enum e.now
+proto_of (part.EnumValue v _) = of_value v.now
+proto_of (part.Extension x _) = of_extension x.now
 
 -- the index of what a part of a walk stands in, where it stands in a message, an enum or a service
 abbrev pub parent_of : Part → Option ℕ
-parent_of (part.Message parent _) = parent
-parent_of (part.Field parent _) = Some parent
-parent_of (part.Oneof parent _) = Some parent
+parent_of (part.Message _ parent) = parent
+parent_of (part.Field _ parent) = Some parent
+parent_of (part.Oneof _ parent) = Some parent
 parent_of (part.Service _) = None
-parent_of (part.Method parent _) = Some parent
-parent_of (part.Enum parent _) = parent
-parent_of (part.EnumValue parent _) = Some parent
-parent_of (part.Extension parent _) = parent
+parent_of (part.Method _ parent) = Some parent
+parent_of (part.Enum _ parent) = parent
+parent_of (part.EnumValue _ parent) = Some parent
+parent_of (part.Extension _ parent) = parent
 
 -- the records of a list that a walk borrows
 abbrev pub protos_in : Records → List Proto
-protos_in (records.Messages _ ms) = map of_message ms.now
-protos_in (records.Fields _ fs) = map of_field fs.now
-protos_in (records.Oneofs _ os) = map of_oneof os.now
+protos_in (records.Messages ms _) = map of_message ms.now
+protos_in (records.Fields fs _) = map of_field fs.now
+protos_in (records.Oneofs os _) = map of_oneof os.now
 protos_in (records.Services ss) = map of_service ss.now
-protos_in (records.Methods _ ms) = map of_method ms.now
-protos_in (records.Enums _ es) = map of_enum es.now
-protos_in (records.EnumValues _ vs) = map of_value vs.now
-protos_in (records.Extensions _ xs) = map of_extension xs.now
+protos_in (records.Methods ms _) = map of_method ms.now
+protos_in (records.Enums es _) = map of_enum es.now
+protos_in (records.EnumValues vs _) = map of_value vs.now
+protos_in (records.Extensions xs _) = map of_extension xs.now
 
 -- the index of what the records of a list stand in, where they stand in a message, an enum or a
 -- service
 abbrev pub parent_in : Records → Option ℕ
-parent_in (records.Messages parent _) = parent
-parent_in (records.Fields parent _) = Some parent
-parent_in (records.Oneofs parent _) = Some parent
+parent_in (records.Messages _ parent) = parent
+parent_in (records.Fields _ parent) = Some parent
+parent_in (records.Oneofs _ parent) = Some parent
 parent_in (records.Services _) = None
-parent_in (records.Methods parent _) = Some parent
-parent_in (records.Enums parent _) = parent
-parent_in (records.EnumValues parent _) = Some parent
-parent_in (records.Extensions parent _) = parent
+parent_in (records.Methods _ parent) = Some parent
+parent_in (records.Enums _ parent) = parent
+parent_in (records.EnumValues _ parent) = Some parent
+parent_in (records.Extensions _ parent) = parent
 
 -- the index of the next record of a kind: how many of the kind were counted, or the position where
 -- the kind is not counted

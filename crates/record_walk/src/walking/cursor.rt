@@ -6,7 +6,6 @@ ghost use Rattle.record_walk.specs.Protos.{of_file};
 ghost use Rattle.record_walk.specs.Walking.{Room, within_file};
 
 use super::located::Located;
-use super::row::Row;
 use super::rows::Rows;
 use super::site::Site;
 use crate::counts::Counts;
@@ -64,14 +63,12 @@ impl<'a> Cursor<'a> {
         requires { IsSound self.old }
         ensures { IfOk result (λ next. Advances self.old self.new next) }
     {
-        let Some(row) = self.rows.step() else {
+        let Some((part, at)) = self.rows.step() else {
             return Ok(None);
         };
-        let Row { part, at, .. } = row;
-        let index = part.index(self.counts, at.position);
-        self.counts = part.counted(self.counts);
         self.site.cut(at.depth);
         self.site.enter(at, part.name())?;
+        let index = part.count(&mut self.counts, at.position);
         self.rows
             .push_inner(part, index, self.site.depth(), at.depth.scope)?;
         Ok(Some(Located { index, part }))

@@ -16,20 +16,20 @@ macro_rules! show_part {
         let file = *file;
         let index = $declaration.index;
         match $declaration.part {
-            Part::Message(parent, message) => $visitor.visit_message(
+            Part::Message(message, parent) => $visitor.visit_message(
                 path, name, file, parent, index, message,
             ),
-            Part::Field(parent, field) => $visitor.visit_field(
+            Part::Field(field, parent) => $visitor.visit_field(
                 path, name, file, parent, index, field,
             ),
-            Part::Oneof(parent, oneof) => $visitor.visit_oneof(
+            Part::Oneof(oneof, parent) => $visitor.visit_oneof(
                 path, name, file, parent, index, oneof,
             ),
             Part::Service(service) => $visitor.visit_service(path, name, file, index, service),
-            Part::Method(parent, method) => $visitor.visit_method(
+            Part::Method(method, parent) => $visitor.visit_method(
                 path, name, file, parent, index, method,
             ),
-            Part::Enum(parent, enumeration) => $visitor.visit_enum(
+            Part::Enum(enumeration, parent) => $visitor.visit_enum(
                 path,
                 name,
                 file,
@@ -37,10 +37,10 @@ macro_rules! show_part {
                 index,
                 enumeration,
             ),
-            Part::EnumValue(parent, value) => $visitor.visit_enum_value(
+            Part::EnumValue(value, parent) => $visitor.visit_enum_value(
                 path, name, file, parent, index, value,
             ),
-            Part::Extension(parent, extension) => $visitor.visit_extension(
+            Part::Extension(extension, parent) => $visitor.visit_extension(
                 path, name, file, parent, index, extension,
             ),
         }

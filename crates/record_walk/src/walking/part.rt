@@ -1,81 +1,79 @@
 ghost use Rattle.std.specs.Prelude.{◌≡◌, ◌<◌, ◌^◌};
+ghost use Rattle.proto_types.specs.Readers.{text_of};
 ghost use Rattle.record_walk.specs.Counts.{counting};
-ghost use Rattle.record_walk.specs.Parts.{is_part};
 ghost use Rattle.record_walk.specs.Protos.{name_of};
 ghost use Rattle.record_walk.specs.Walking.{WithinLimits, index_at, proto_of};
 
 use crate::counts::Counts;
+use plain_data::Text;
 use proto_types::{
     DescriptorProto, EnumDescriptorProto, EnumValueDescriptorProto, FieldDescriptorProto,
-    MethodDescriptorProto, OneofDescriptorProto, ServiceDescriptorProto,
+    MethodDescriptorProto, OneofDescriptorProto, ServiceDescriptorProto, or_empty,
 };
 
-/// A record that stands in a file, behind the index of the message, enum or service around it.
+/// A record that stands in a file, before the index of the message, enum or service around it.
 #[derive(Clone, Copy)]
 pub(crate) enum Part<'a> {
-    Message(Option<u32>, &'a DescriptorProto),
-    Field(u32, &'a FieldDescriptorProto),
-    Oneof(u32, &'a OneofDescriptorProto),
+    Message(&'a DescriptorProto, Option<u32>),
+    Field(&'a FieldDescriptorProto, u32),
+    Oneof(&'a OneofDescriptorProto, u32),
     Service(&'a ServiceDescriptorProto),
-    Method(u32, &'a MethodDescriptorProto),
-    Enum(Option<u32>, &'a EnumDescriptorProto),
-    EnumValue(u32, &'a EnumValueDescriptorProto),
-    Extension(Option<u32>, &'a FieldDescriptorProto),
+    Method(&'a MethodDescriptorProto, u32),
+    Enum(&'a EnumDescriptorProto, Option<u32>),
+    EnumValue(&'a EnumValueDescriptorProto, u32),
+    Extension(&'a FieldDescriptorProto, Option<u32>),
 }
 
 impl<'a> Part<'a> {
+    /// Its name; where that is missing, the empty text.
     pub(crate) fn name(self) -> &'a str
         ensures { result.now ≡ name_of (proto_of self.entry) }
     {
+        or_empty(self.written_name())
+    }
+
+    /// The name that is written in it, if any.
+    fn written_name(self) -> &'a Option<Text>
+        ensures { text_of result.now ≡ name_of (proto_of self.entry) }
+    {
         match self {
-            Part::Message(_, message) => message.name(),
-            Part::Field(_, field) => field.name(),
-            Part::Oneof(_, oneof) => oneof.name(),
-            Part::Service(service) => service.name(),
-            Part::Method(_, method) => method.name(),
-            Part::Enum(_, enumeration) => enumeration.name(),
-            Part::EnumValue(_, value) => value.name(),
-            Part::Extension(_, extension) => extension.name(),
+            Part::Message(message, _) => &message.name,
+            Part::Field(field, _) => &field.name,
+            Part::Oneof(oneof, _) => &oneof.name,
+            Part::Service(service) => &service.name,
+            Part::Method(method, _) => &method.name,
+            Part::Enum(enumeration, _) => &enumeration.name,
+            Part::EnumValue(value, _) => &value.name,
+            Part::Extension(extension, _) => &extension.name,
         }
     }
 
-    /// Whether it is a part of the record that it stands in: a field, oneof, method or value.
-    pub(crate) fn is_part(self) -> bool
-        ensures { result ≡ is_part (proto_of self.entry) }
-    {
-        matches!(
-            self,
-            Part::Field(..) | Part::Oneof(..) | Part::Method(..) | Part::EnumValue(..)
-        )
-    }
-
-    /// The index of the next of this kind: how many were counted, or the position where none is.
-    pub(crate) fn index(self, counts: Counts, position: usize) -> u32
-        requires { position < 2 ^ 31 }
-        ensures { result ≡ index_at counts position (proto_of self.entry) }
+    /// Counts it, and answers its index: how many of its kind were counted before, or the position
+    /// where that is not counted.
+    pub(crate) fn count(self, counts: &mut Counts, position: usize) -> u32
+        requires short { position < 2 ^ 31 }
+        requires room { WithinLimits (counting counts.old (proto_of self)) }
+        ensures index { result ≡ index_at counts.old position (proto_of self.entry) }
+        ensures counts { counts.new ≡ counting counts.old (proto_of self.entry) }
     {
         match self {
-            Part::Message(..) => counts.messages,
-            Part::Service(_) => counts.services,
-            Part::Enum(..) => counts.enums,
-            Part::Extension(..) => counts.extensions,
+            Part::Message(..) => {
+                counts.messages += 1;
+                counts.messages - 1
+            }
+            Part::Service(_) => {
+                counts.services += 1;
+                counts.services - 1
+            }
+            Part::Enum(..) => {
+                counts.enums += 1;
+                counts.enums - 1
+            }
+            Part::Extension(..) => {
+                counts.extensions += 1;
+                counts.extensions - 1
+            }
             _ => position as u32,
         }
-    }
-
-    /// The counts after one more of this kind.
-    pub(crate) fn counted(self, counts: Counts) -> Counts
-        requires { WithinLimits (counting counts (proto_of self)) }
-        ensures { result ≡ counting counts (proto_of self.entry) }
-    {
-        let mut after = counts;
-        match self {
-            Part::Message(..) => after.messages += 1,
-            Part::Service(_) => after.services += 1,
-            Part::Enum(..) => after.enums += 1,
-            Part::Extension(..) => after.extensions += 1,
-            _ => {}
-        }
-        after
     }
 }

@@ -1,4 +1,4 @@
-ghost use Rattle.std.specs.Prelude.{◌≡◌, [], ◌∷◌, IfSome, MatchOption};
+ghost use Rattle.std.specs.Prelude.{◌≡◌, ◌<◌, false, length, [], ◌∷◌, IsTrue, IfSome, MatchOption};
 ghost use Rattle.record_walk.specs.Parts.{hold_parts};
 ghost use Rattle.record_walk.specs.Walking.{parent_in, parent_of, proto_of, protos_in};
 
@@ -8,17 +8,17 @@ use proto_types::{
     MethodDescriptorProto, OneofDescriptorProto, ServiceDescriptorProto,
 };
 
-/// Records of one kind, behind the index of the message, enum or service around them.
+/// Records of one kind, before the index of the message, enum or service around them.
 #[derive(Clone, Copy)]
 pub(crate) enum Records<'a> {
-    Messages(Option<u32>, &'a [DescriptorProto]),
-    Fields(u32, &'a [FieldDescriptorProto]),
-    Oneofs(u32, &'a [OneofDescriptorProto]),
+    Messages(&'a [DescriptorProto], Option<u32>),
+    Fields(&'a [FieldDescriptorProto], u32),
+    Oneofs(&'a [OneofDescriptorProto], u32),
     Services(&'a [ServiceDescriptorProto]),
-    Methods(u32, &'a [MethodDescriptorProto]),
-    Enums(Option<u32>, &'a [EnumDescriptorProto]),
-    EnumValues(u32, &'a [EnumValueDescriptorProto]),
-    Extensions(Option<u32>, &'a [FieldDescriptorProto]),
+    Methods(&'a [MethodDescriptorProto], u32),
+    Enums(&'a [EnumDescriptorProto], Option<u32>),
+    EnumValues(&'a [EnumValueDescriptorProto], u32),
+    Extensions(&'a [FieldDescriptorProto], Option<u32>),
 }
 
 impl<'a> Records<'a> {
@@ -43,47 +43,66 @@ impl<'a> Records<'a> {
         ensures rest { IfSome result (λ p. parent_in p.1 ≡ parent_in self.entry) }
     {
         match self {
-            Records::Messages(parent, messages) => {
+            Records::Messages(messages, parent) => {
                 let (first, rest) = messages.split_first()?;
                 Some((
-                    Part::Message(parent, first),
-                    Records::Messages(parent, rest),
+                    Part::Message(first, parent),
+                    Records::Messages(rest, parent),
                 ))
             }
-            Records::Fields(parent, fields) => {
+            Records::Fields(fields, parent) => {
                 let (first, rest) = fields.split_first()?;
-                Some((Part::Field(parent, first), Records::Fields(parent, rest)))
+                Some((Part::Field(first, parent), Records::Fields(rest, parent)))
             }
-            Records::Oneofs(parent, oneofs) => {
+            Records::Oneofs(oneofs, parent) => {
                 let (first, rest) = oneofs.split_first()?;
-                Some((Part::Oneof(parent, first), Records::Oneofs(parent, rest)))
+                Some((Part::Oneof(first, parent), Records::Oneofs(rest, parent)))
             }
             Records::Services(services) => {
                 let (first, rest) = services.split_first()?;
                 Some((Part::Service(first), Records::Services(rest)))
             }
-            Records::Methods(parent, methods) => {
+            Records::Methods(methods, parent) => {
                 let (first, rest) = methods.split_first()?;
-                Some((Part::Method(parent, first), Records::Methods(parent, rest)))
+                Some((Part::Method(first, parent), Records::Methods(rest, parent)))
             }
-            Records::Enums(parent, enums) => {
+            Records::Enums(enums, parent) => {
                 let (first, rest) = enums.split_first()?;
-                Some((Part::Enum(parent, first), Records::Enums(parent, rest)))
+                Some((Part::Enum(first, parent), Records::Enums(rest, parent)))
             }
-            Records::EnumValues(parent, values) => {
+            Records::EnumValues(values, parent) => {
                 let (first, rest) = values.split_first()?;
                 Some((
-                    Part::EnumValue(parent, first),
-                    Records::EnumValues(parent, rest),
+                    Part::EnumValue(first, parent),
+                    Records::EnumValues(rest, parent),
                 ))
             }
-            Records::Extensions(parent, extensions) => {
+            Records::Extensions(extensions, parent) => {
                 let (first, rest) = extensions.split_first()?;
                 Some((
-                    Part::Extension(parent, first),
-                    Records::Extensions(parent, rest),
+                    Part::Extension(first, parent),
+                    Records::Extensions(rest, parent),
                 ))
             }
+        }
+    }
+
+    /// Whether there are none.
+    // Inlined, as `Rows::push` is.
+    #[inline(always)]
+    pub(crate) fn is_empty(self) -> bool
+        ensures empty { IsTrue result → protos_in self.entry ≡ [] }
+        ensures filled { result ≡ false → 0 < length (protos_in self.entry) }
+    {
+        match self {
+            Records::Messages(messages, _) => messages.is_empty(),
+            Records::Fields(fields, _) => fields.is_empty(),
+            Records::Oneofs(oneofs, _) => oneofs.is_empty(),
+            Records::Services(services) => services.is_empty(),
+            Records::Methods(methods, _) => methods.is_empty(),
+            Records::Enums(enums, _) => enums.is_empty(),
+            Records::EnumValues(values, _) => values.is_empty(),
+            Records::Extensions(extensions, _) => extensions.is_empty(),
         }
     }
 }

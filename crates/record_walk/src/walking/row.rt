@@ -1,7 +1,6 @@
-ghost use Rattle.std.specs.Prelude.{◌≡◌, ◌<◌, ◌+◌, ◌^◌};
-ghost use Rattle.record_walk.specs.Walking.{parent_in, parent_of};
+ghost use Rattle.std.specs.Prelude.{◌≡◌, ◌<◌, ◌+◌, ◌^◌, length};
+ghost use Rattle.record_walk.specs.Walking.{protos_in};
 
-use super::part::Part;
 use super::records::Records;
 
 /// How long the path and the scope are in which a list stands.
@@ -45,12 +44,11 @@ impl Depth {
     }
 }
 
-/// What is left of a list: its first record, those behind it, and the position of the first.
+/// What is left of a list, and the position of the first record of that.
 #[derive(Clone, Copy)]
 pub(crate) struct Row<'a> {
-    pub(crate) part: Part<'a>,
-    pub(crate) rest: Records<'a>,
+    pub(crate) records: Records<'a>,
     pub(crate) at: EntryPosition,
-    /// Both stand in the same.
-    ghost same: { parent_in rest ≡ parent_of part },
+    /// There is one.
+    ghost filled: { 0 < length (protos_in records) },
 }

@@ -40,19 +40,22 @@ impl<'a> Rows<'a> {
         self.list.pop()
     }
 
-    /// Takes the next record off its list, and answers what was left of that.
-    pub(crate) fn step(&mut self) -> Option<Row<'a>>
-        requires { (row : Row) (ls : List Line) → lines self.old ≡ line_in row ∷ ls
-            → row.at.position < 2 ^ 31 }
+    /// Takes the next record off its list, and answers it and its position.
+    pub(crate) fn step(&mut self) -> Option<(Part<'a>, EntryPosition)>
+        requires { (l : Line) (ls : List Line) → lines self.old ≡ l ∷ ls
+            → l.position < 2 ^ 31 }
         ensures { MatchOption result ((lines self.old ≡ []) × (lines self.new ≡ []))
-            (λ row. Steps row (lines self.old) (lines self.new)) }
+            (λ first. Steps first.0 first.1 (lines self.old) (lines self.new)) }
     {
-        let row = self.list.pop()?;
-        if let Some((part, rest)) = row.rest.split_first() {
-            let at = row.at.next();
-            self.list.push_reserved(Row { part, rest, at });
+        let Row { records, at } = self.list.pop()?;
+        let (part, rest) = records.split_first()?;
+        if !rest.is_empty() {
+            self.list.push_reserved(Row {
+                records: rest,
+                at: at.next(),
+            });
         }
-        Some(row)
+        Some((part, at))
     }
 
     /// Takes off the lists of parts that come next, where that is wanted.
@@ -70,19 +73,21 @@ impl<'a> Rows<'a> {
             × AreParts l.protos }
     {
         match self.list.last() {
-            Some(row) => row.part.is_part() && row.rest.hold_parts(),
+            Some(row) => row.records.hold_parts(),
             None => false,
         }
     }
 
     /// Adds a list, which is the next one, unless it is empty.
+    // Inlined, so that an empty list costs no more than a look at its length.
+    #[inline(always)]
     pub(crate) fn push(&mut self, records: Records<'a>, at: EntryPosition) -> Result<(), AllocError>
         ensures { OnOk result (lines self.new
             ≡ stacked (line at (parent_in records.entry) (protos_in records.entry))
             (lines self.old)) }
     {
-        if let Some((part, rest)) = records.split_first() {
-            self.list.push(Row { part, rest, at })?;
+        if !records.is_empty() {
+            self.list.push(Row { records, at })?;
         }
         Ok(())
     }
@@ -98,15 +103,15 @@ impl<'a> Rows<'a> {
             ≡ stacked_all (message_lines depth index message.now) (lines self.old)) }
     {
         let parent = Some(index);
-        let extensions = Records::Extensions(parent, message.extension.as_slice());
+        let extensions = Records::Extensions(message.extension.as_slice(), parent);
         self.push(extensions, depth.start(tag::message::EXTENSION))?;
-        let enums = Records::Enums(parent, message.enum_type.as_slice());
+        let enums = Records::Enums(message.enum_type.as_slice(), parent);
         self.push(enums, depth.start(tag::message::ENUM_TYPE))?;
-        let nested = Records::Messages(parent, message.nested_type.as_slice());
+        let nested = Records::Messages(message.nested_type.as_slice(), parent);
         self.push(nested, depth.start(tag::message::NESTED_TYPE))?;
-        let fields = Records::Fields(index, message.field.as_slice());
+        let fields = Records::Fields(message.field.as_slice(), index);
         self.push(fields, depth.start(tag::message::FIELD))?;
-        let oneofs = Records::Oneofs(index, message.oneof_decl.as_slice());
+        let oneofs = Records::Oneofs(message.oneof_decl.as_slice(), index);
         self.push(oneofs, depth.start(tag::message::ONEOF_DECL))
     }
 
@@ -124,17 +129,17 @@ impl<'a> Rows<'a> {
             (lines self.old)) }
     {
         match part {
-            Part::Message(_, message) => self.push_message(message, index, inside),
-            Part::Enum(_, enumeration) => {
+            Part::Message(message, _) => self.push_message(message, index, inside),
+            Part::Enum(enumeration, _) => {
                 let beside = Depth {
                     path: inside.path,
                     scope: around,
                 };
-                let values = Records::EnumValues(index, enumeration.value.as_slice());
+                let values = Records::EnumValues(enumeration.value.as_slice(), index);
                 self.push(values, beside.start(tag::enum_::VALUE))
             }
             Part::Service(service) => {
-                let methods = Records::Methods(index, service.method.as_slice());
+                let methods = Records::Methods(service.method.as_slice(), index);
                 self.push(methods, inside.start(tag::service::METHOD))
             }
             _ => Ok(()),
@@ -150,13 +155,13 @@ impl<'a> Rows<'a> {
         ensures { OnOk result
             (lines self.new ≡ stacked_all (file_lines depth file.now) (lines self.old)) }
     {
-        let extensions = Records::Extensions(None, file.extension.as_slice());
+        let extensions = Records::Extensions(file.extension.as_slice(), None);
         self.push(extensions, depth.start(tag::file::EXTENSION))?;
         let services = Records::Services(file.service.as_slice());
         self.push(services, depth.start(tag::file::SERVICE))?;
-        let enums = Records::Enums(None, file.enum_type.as_slice());
+        let enums = Records::Enums(file.enum_type.as_slice(), None);
         self.push(enums, depth.start(tag::file::ENUM_TYPE))?;
-        let messages = Records::Messages(None, file.message_type.as_slice());
+        let messages = Records::Messages(file.message_type.as_slice(), None);
         self.push(messages, depth.start(tag::file::MESSAGE_TYPE))
     }
 }

@@ -67,8 +67,9 @@ impl Site {
         ensures name { OnOk result (string_bytes self.new.name
             ≡ join (string_bytes self.old.name) name.now) }
     {
-        self.path.push(at.tag)?;
-        self.path.push(at.position as i32)?;
+        self.path.reserve(2)?;
+        self.path.push_reserved(at.tag);
+        self.path.push_reserved(at.position as i32);
         if !self.name.is_empty() {
             self.name.push('.')?;
         }

@@ -5,9 +5,9 @@ use Rattle.record_walk.proofs.Passing.{last-line, parts-in}
 use Rattle.record_walk.proofs.walking.rows.Rows.begins_with_parts.Goals as goal
 
 -- the last row is the next list
-pub returns-then-is_part : goal.returns-then-is_part
-returns-then-is_part c = λ want.
+pub returns-in-Some : goal.returns-in-Some
+returns-in-Some c = λ want.
     let row = c.in-Some.row.now in
     let last = subst (λ xs. slice_get xs (length xs - 1) ≡ Some row) c.deref.ensures.value (sym c.in-Some.ensures.value) in
     let next = last-line c.args.self.now.list.items row last in
-    (line_in row, next.0, next.1, (sym c.is_part.ensures ∙ c.if-is_part.true, parts-in row.rest (sym c.hold_parts.ensures ∙ want)))
+    (line_in row, next.0, next.1, parts-in row.records (sym c.hold_parts.ensures ∙ want))
