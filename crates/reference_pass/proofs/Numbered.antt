@@ -1,11 +1,11 @@
 -- The new extensions by their messages and numbers, with one more.
-use Rattle.std.proofs.Common.{◌≡◌, ◌+◌, ◌==◌, ◌&&◌, ℕ, Bool, not, Bor, true, false, cond, Option, Some, None, List, [], ◌∷◌, ◌++◌, length, refl, ap, sym, ◌∙◌, true≢false, arith}
+use Rattle.std.proofs.Common.{◌≡◌, ◌+◌, ◌==◌, ◌&&◌, ℕ, Bool, not, true, false, cond, Option, Some, None, List, [], ◌∷◌, ◌++◌, length, refl, ap, sym, ◌∙◌, true≢false, arith}
 use Rattle.std.proofs.lemmas.Bool.Decides.{nat_tests}
 use Rattle.std.specs.BTreeMap.{BTreeMap, Updates, get, is_at}
 use Rattle.std.specs.Map.{lookup}
 use Rattle.std.specs.Cmp.{unsigned_tied}
 use Rattle.std.specs.List.{position_from}
-use Rattle.std.specs.Option.{is_none, is_some, option_copied, option_or}
+use Rattle.std.specs.Option.{is_none, is_some, option_or}
 use Rattle.std.specs.Ordering.{eq_by_cmp, is_eq, nat_cmp, ordering_then}
 use Rattle.std.specs.declared.cmp.Ordering.{Ordering}
 use Rattle.std.specs.declared.cmp.Ordering.TheVariants.{Less, Equal, Greater}
@@ -32,14 +32,14 @@ same-pair x y same =
     let second : x.1 ≡ y.1 = grind (arith, nat_tests, same) in
     λ i. (first i, second i)
 
--- nothing was found where the answer of a look-up says so, and something where it doesn't
-pub found-none : {X : Type 0} (r : Option (Bor X)) (got : Option X) (b : Bool) → b ≡ true → is_some r ≡ not b → option_copied r ≡ got → got ≡ None
-found-none None got b holds is copied = sym copied
-found-none (Some x) got b holds is copied = absurd (true≢false (is ∙ ap not holds))
+-- there is nothing where a test says so, and something where it doesn't
+pub told-none : {X : Type 0} (r : Option X) (b : Bool) → b ≡ true → is_some r ≡ not b → r ≡ None
+told-none None b holds is = refl
+told-none (Some x) b holds is = absurd (true≢false (is ∙ ap not holds))
 
-pub found-some : {X : Type 0} (r : Option (Bor X)) (got : Option X) (b : Bool) → b ≡ false → is_some r ≡ not b → option_copied r ≡ got → is_none got ≡ false
-found-some None got b fails is copied = absurd (true≢false (sym (is ∙ ap not fails)))
-found-some (Some x) got b fails is copied = ap is_none (sym copied)
+pub told-some : {X : Type 0} (r : Option X) (b : Bool) → b ≡ false → is_some r ≡ not b → is_none r ≡ false
+told-some None b fails is = absurd (true≢false (sym (is ∙ ap not fails)))
+told-some (Some x) b fails is = refl
 
 -- a pair that had none has the position then
 pub entered : (old new : BTreeMap (ℕ × ℕ) ℕ) (key : ℕ × ℕ) (position : ℕ) → get pair_cmp old key ≡ None → Updates pair_cmp old new key (Some position) → EntersFirst old new key position

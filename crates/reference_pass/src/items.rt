@@ -6,7 +6,8 @@ ghost use Rattle.std.specs.Option.{option_copied};
 ghost use Rattle.pool_types.specs.Extension.{has_number};
 ghost use Rattle.field_rules.specs.NamesBegin.{EnumNamesBegin};
 ghost use Rattle.reference_pass.specs.NamesBegin.{ExtensionNameBegins, MessageNamesBegin, NamesBegin, ServiceNamesBegin};
-ghost use Rattle.reference_pass.specs.Numbered.{EntersFirst, LeadsToFirst};
+ghost use Rattle.std.specs.BTreeMap.{get};
+ghost use Rattle.reference_pass.specs.Numbered.{EntersFirst, LeadsToFirst, pair_cmp};
 
 use crate::room::room_of_files;
 use pool_types::{
@@ -69,8 +70,8 @@ impl NewItems {
         ensures { option_copied result
             ≡ find (has_number message number) self.now.extensions.items }
     {
-        let position = self.positions.get(&(message, number))?;
-        self.extensions.get(*position)
+        let position = position_of(&self.positions, (message, number))?;
+        self.extensions.get(position)
     }
 
     /// Appends the item of a message.
@@ -158,6 +159,17 @@ fn push_numbered(
     entered
 }
 
+/// The position of a message and a number. Pairs mostly rise: one behind all others has none.
+fn position_of(positions: &BTreeMap<(u32, u32), usize>, key: (u32, u32)) -> Option<usize>
+    ensures { result ≡ get pair_cmp positions.now key }
+{
+    let (last, _) = positions.last_key_value()?;
+    if *last < key {
+        return None;
+    }
+    positions.get(&key).copied()
+}
+
 /// Enters a position for a message and a number, unless they have one.
 fn enter(
     positions: &mut BTreeMap<(u32, u32), usize>,
@@ -167,7 +179,7 @@ fn enter(
     ensures ok { OnOk result (EntersFirst positions.old positions.new key position) }
     ensures err { OnErr result (positions.new.entries ≡ positions.old.entries) }
 {
-    if positions.get(&key).is_none() {
+    if position_of(positions, key).is_none() {
         positions.insert(key, position)?;
     }
     Ok(())

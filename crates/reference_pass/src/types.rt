@@ -78,6 +78,9 @@ fn written_type(
         let label = faults.part_label(place, tag::field::TYPE_NAME)?;
         faults.push(DescriptorErrorKind::MissingRequiredField { label })?;
     }
+    if field.default_value.is_none() {
+        return Ok((kind, None));
+    }
     let default = kind_default(faults, place, kind, no_enum(), &field.default_value)?;
     Ok((kind, default))
 }

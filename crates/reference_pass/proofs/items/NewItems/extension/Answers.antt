@@ -10,14 +10,14 @@ use Rattle.reference_pass.proofs.items.NewItems.extension.Goals as goal
 pub returns : goal.returns
 returns c =
     let xs = c.args.self.now.extensions.items in
-    let position = c.in_ok-position.position.now in
-    got-at c.deref.result.now position c.get-2.result c.get-2.ensures.lookup ∙ ap (λ ys. slice_get ys position) c.deref.ensures.value
-    ∙ ap (option_and_then (slice_get xs)) (c.in_ok-position.ensures.value ∙ c.args.self.now.numbered c.args.message c.args.number)
+    let position = c.in_ok-position.position in
+    got-at c.deref.result.now position c.get.result c.get.ensures.lookup ∙ ap (λ ys. slice_get ys position) c.deref.ensures.value
+    ∙ ap (option_and_then (slice_get xs)) (c.in_ok-position.ensures ∙ c.args.self.now.numbered c.args.message c.args.number)
     ∙ sym (find-position (has_number c.args.message c.args.number) xs)
 
 pub returns-in_err-position : goal.returns-in_err-position
 returns-in_err-position c =
     let xs = c.args.self.now.extensions.items in
     ap option_copied c.from_residual.ensures
-    ∙ ap (option_and_then (slice_get xs)) (c.in_err-position.ensures.value ∙ c.args.self.now.numbered c.args.message c.args.number)
+    ∙ ap (option_and_then (slice_get xs)) (c.in_err-position.ensures ∙ c.args.self.now.numbered c.args.message c.args.number)
     ∙ sym (find-position (has_number c.args.message c.args.number) xs)
