@@ -1,5 +1,5 @@
 -- One more name comes to the first pass.
-use Rattle.std.proofs.Common.{◌≡◌, ℕ, List, [], ◌∷◌, ◌++◌, Option, Some, None, Result, OnOk, refl, sym, ap, append-nil}
+use Rattle.std.proofs.Common.{◌≡◌, ℕ, true, false, List, [], ◌∷◌, ◌++◌, Option, Some, None, Result, Ok, Err, OnOk, OnErr, sym, append-nil}
 use Rattle.std.specs.FinMap as finite
 use Rattle.pool_types.specs.Contents.{ByText}
 use Rattle.proto_types.specs.declared.file.FileDescriptorProto.{FileDescriptorProto}
@@ -7,31 +7,18 @@ use Rattle.pool_types.specs.declared.contents.definition.Definition.{Definition}
 use Rattle.name_tables.specs.Entries.{Entry}
 use Rattle.name_tables.proofs.Entries.{with-absent, with-present}
 use Rattle.std.specs.Option.{option_map_or}
-use Rattle.std.proofs.lemmas.Option.{none-some, same_Some}
-use Rattle.name_tables.specs.NameTables.{inserted}
+use Rattle.std.proofs.lemmas.Bool.{true≢false}
+use Rattle.pool_types.specs.Definition.{is_package}
 use Rattle.std.proofs.lemmas.Result.{on_ok_weaker}
 use Rattle.pool_faults.specs.declared.fault.DescriptorErrorKind.TheVariants.{DuplicateFileName}
 use Rattle.pool_faults.specs.declared.fault.DescriptorErrorKind.{DescriptorErrorKind}
 use Rattle.name_pass.specs.FirstPass.{holder_faults}
 use Rattle.name_pass.specs.Steps.{NameState, entered, file_named}
 
-module _ (names : ByText Definition) (name : List ℕ) (d : Definition) (new : ByText Definition) where
-  -- nothing came back: the name was a new one
-  pub came-in : ◌≡◌ {A = ByText Definition × Option Definition} (new, None) (inserted names name d) → (finite.get names name ≡ None) × (new ≡ finite.insert names name d)
-  came-in = elim (finite.get names name) as (λ found. ◌≡◌ {A = ByText Definition × Option Definition} (new, None) (option_map_or (λ _. (names, Some d)) found (finite.insert names name d, None))
-      → (found ≡ None) × (new ≡ finite.insert names name d)) [
-        | None ↦ λ is. (refl, ap (λ p. p.0) is)
-        | Some holder ↦ λ is. absurd (none-some d (ap (λ p. p.1) is))
-      ]
-
-  -- the definition came back: the name had a holder
-  pub was-there : (back : Definition) → ◌≡◌ {A = ByText Definition × Option Definition} (new, Some back) (inserted names name d)
-      → (holder : Definition) × (finite.get names name ≡ Some holder) × (new ≡ names) × (back ≡ d)
-  was-there back = elim (finite.get names name) as (λ found. ◌≡◌ {A = ByText Definition × Option Definition} (new, Some back) (option_map_or (λ _. (names, Some d)) found (finite.insert names name d, None))
-      → (holder : Definition) × (found ≡ Some holder) × (new ≡ names) × (back ≡ d)) [
-        | None ↦ λ is. absurd (none-some back (sym (ap (λ p. p.1) is)))
-        | Some holder ↦ λ is. (holder, refl, ap (λ p. p.0) is, same_Some back d (ap (λ p. p.1) is))
-      ]
+-- either way
+pub either : {U E P Q R : Type 0} (result : Result U E) → OnOk result P → OnErr result Q → (P → R) → (Q → R) → R
+either (Ok u) p q met missed = met p
+either (Err e) p q met missed = missed q
 
 module _ (files : List FileDescriptorProto) (state : NameState) (e : Entry) where
   -- which no name before it is
@@ -42,6 +29,12 @@ module _ (files : List FileDescriptorProto) (state : NameState) (e : Entry) wher
   pub held-name : (holder : Definition) (faults : List DescriptorErrorKind) → finite.get state.names e.0 ≡ Some holder
       → faults ≡ state.faults ++ holder_faults files (Some holder) e → record state { faults = faults } ≡ entered files state (e ∷ [])
   held-name holder faults present told = simp (told, with-present state.names e.0 e.1 holder present, present, append-nil)
+
+  -- which is a package that is entered again
+  pub again-package : (held : Option Definition) → finite.get state.names e.0 ≡ held → option_map_or (λ holder. is_package holder.kind) held false ≡ true → is_package e.1.kind ≡ true
+      → state ≡ entered files state (e ∷ [])
+  again-package None present other kind = absurd (true≢false (sym other))
+  again-package (Some holder) present held kind = held-name holder state.faults present (simp (held, kind, append-nil))
 
 module _ (state : NameState) (name : List ℕ) (index : ℕ) where
   -- the name of one more file, which no file has

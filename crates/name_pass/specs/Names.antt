@@ -1,11 +1,13 @@
 -- The names that declarations enter: a file its package, the packages around it and its own name,
 -- and any other its full name.
-use Rattle.std.specs.Prelude.{ℕ, List, [], ◌∷◌, ◌++◌, map, unwrap_or}
+use Rattle.std.specs.Prelude.{ℕ, ℤ, List, [], ◌∷◌, ◌++◌, map, unwrap_or, if◌then◌else◌}
 use Rattle.std.specs.List.{flat_map}
 use Rattle.proto_types.specs.declared.tag.file.TheConstants as file
 use Rattle.proto_types.specs.declared.tag.message.TheConstants as message
 use Rattle.pool_types.specs.declared.contents.definition.DefinitionKind.{DefinitionKind}
 use Rattle.pool_types.specs.declared.contents.definition.DefinitionKind.TheVariants as definition
+use Rattle.pool_types.specs.declared.contents.definition.Definition.{Definition}
+use Rattle.pool_types.specs.Definition.{is_package}
 use Rattle.name_tables.specs.Entries.{Entry}
 use Rattle.proto_types.specs.Names.{fronts}
 use Rattle.proto_types.specs.Readers.{text_of}
@@ -26,6 +28,15 @@ definition_kind d = elim d.proto [
   | of_value _ ↦ definition.EnumValue (unwrap_or d.parent 0)
   | of_extension _ ↦ definition.Extension d.index
 ]
+
+-- the number of the field of a record that names what it declares: of a file that of its package
+abbrev pub naming_field : DefinitionKind → ℤ
+naming_field kind = if is_package kind then file.PACKAGE else message.NAME
+
+-- what the name means that a record at a path declares
+abbrev pub definition_at : ℕ → List ℤ → DefinitionKind → Definition
+definition_at n path kind =
+    record { file = n; path = path ++ naming_field kind ∷ []; kind = kind }
 
 -- the entry of a package's name, at the package of its file
 abbrev pub package_entry : ℕ → List ℕ → Entry

@@ -1,9 +1,9 @@
-ghost use Rattle.std.specs.Prelude.{◌≡◌, ◌≤◌, ◌/◌, ◌-◌, ◌∷◌, ◌++◌, [], IfOk, OnOk, length, map};
-ghost use Rattle.std.specs.Option.{option_copied};
-ghost use Rattle.proto_types.specs.declared.tag.message.TheConstants.{NAME};
+ghost use Rattle.std.specs.Prelude.{◌≡◌, ◌≤◌, ◌/◌, ◌-◌, ◌∷◌, [], false, IfOk, OnOk, Some, length, map};
+ghost use Rattle.std.specs.Option.{option_copied, option_map_or};
 ghost use Rattle.proto_types.specs.Names.{fronts};
 ghost use Rattle.record_walk.specs.Faults.{Tells, named_files};
-ghost use Rattle.name_pass.specs.Names.{packages, package_entry};
+ghost use Rattle.pool_types.specs.Definition.{is_package};
+ghost use Rattle.name_pass.specs.Names.{definition_at, naming_field, packages, package_entry};
 ghost use Rattle.name_pass.specs.FirstPass.{holder_faults};
 
 use crate::{check_camel_case_names, check_enum_values, check_syntax};
@@ -76,20 +76,32 @@ impl NameVisitor<'_, '_> {
     ghost use Rattle.name_pass.specs.Steps.{entered, file_named};
     ghost use Rattle.name_pass.specs.State.{first_new, opened, records_of, scopes_of, StandsIn, state_of, Stays};
 
-    /// Enters a name, which means something in a new file; where it clashes with a holder, that is
+    /// Enters the name of what stands at a path in a new file; where it clashes with a holder, that is
     /// a fault.
-    fn enter(&mut self, name: NameInScope, definition: Definition) -> Result<(), AllocError>
-        requires later { first_new self.old ≤ definition.file }
+    fn enter(
+        &mut self,
+        name: NameInScope,
+        file: u32,
+        path: &[i32],
+        kind: DefinitionKind,
+    ) -> Result<(), AllocError>
+        requires later { first_new self.old ≤ file }
         requires stands { StandsIn (scopes_of self.old) name }
-        ensures ok { OnOk result (state_of self.new ≡ entered (records_of self.old)
-            (state_of self.old) ((name.entry.full_name.now, definition) ∷ [])) }
+        ensures ok { OnOk result (state_of self.new
+            ≡ entered (records_of self.old) (state_of self.old)
+            ((name.entry.full_name.now, definition_at file path.now kind) ∷ [])) }
         ensures scopes { OnOk result (scopes_of self.new ≡ opened (scopes_of self.old) name.entry) }
         ensures stays { Stays self.old self.new }
     {
-        let Some(definition) = self.names.enter(name.level, name.name, definition)? else {
+        self.names.open(name.level, name.name)?;
+        if kind.is_package() && means_package(self.names.holder()) {
             return Ok(());
+        }
+        let path = Path::part(self.alloc, path, naming_field(kind))?;
+        let definition = Definition { file, path, kind };
+        let Some(holder) = self.names.holder() else {
+            return self.names.define(definition);
         };
-        let holder = self.names.find(name.level, name.name);
         check_clash(self.faults, name.full_name, holder, &definition)
     }
 
@@ -155,9 +167,7 @@ impl NameVisitor<'_, '_> {
         ensures scopes { OnOk result (scopes_of self.new ≡ opened (scopes_of self.old) name.entry) }
         ensures stays { Stays self.old self.new }
     {
-        let path = Path::from_slice(self.alloc, &[tag::file::PACKAGE])?;
-        let kind = DefinitionKind::Package;
-        self.enter(name, Definition { file, path, kind })
+        self.enter(name, file, &[], DefinitionKind::Package)
     }
 
     /// Enters the name of a new file; where a file has it, that is a fault.
@@ -173,28 +183,6 @@ impl NameVisitor<'_, '_> {
         let name = Text::from_str(self.alloc, name)?;
         self.faults
             .push(DescriptorErrorKind::DuplicateFileName { name })
-    }
-
-    /// Enters a declaration's full name, at the name of its record.
-    fn enter_own(
-        &mut self,
-        name: NameInScope,
-        file: u32,
-        path: &[i32],
-        kind: DefinitionKind,
-    ) -> Result<(), AllocError>
-        requires later { first_new self.old ≤ file }
-        requires stands { StandsIn (scopes_of self.old) name }
-        ensures ok { OnOk result (state_of self.new
-            ≡ entered (records_of self.old) (state_of self.old)
-            ((name.entry.full_name.now, record { file = file; path = path.now ++ NAME ∷ []; kind = kind })
-            ∷ [])) }
-        ensures scopes { OnOk result (scopes_of self.new ≡ opened (scopes_of self.old) name.entry) }
-        ensures stays { Stays self.old self.new }
-    {
-        let path = Path::part(self.alloc, path, tag::message::NAME)?;
-        let definition = Definition { file, path, kind };
-        self.enter(name, definition)
     }
 }
 
@@ -234,7 +222,7 @@ impl Visitor for NameVisitor<'_, '_> {
         message: &DescriptorProto,
     ) -> Result<(), AllocError> {
         let name = NameInScope::inside(path, message.name(), full_name);
-        self.enter_own(name, file, path, DefinitionKind::Message(index))?;
+        self.enter(name, file, path, DefinitionKind::Message(index))?;
         check_camel_case_names(self.faults, file, path, message)
     }
 
@@ -248,7 +236,7 @@ impl Visitor for NameVisitor<'_, '_> {
         field: &FieldDescriptorProto,
     ) -> Result<(), AllocError> {
         let name = NameInScope::inside(path, field.name(), full_name);
-        self.enter_own(name, file, path, DefinitionKind::Field(parent))
+        self.enter(name, file, path, DefinitionKind::Field(parent))
     }
 
     fn visit_oneof(
@@ -261,7 +249,7 @@ impl Visitor for NameVisitor<'_, '_> {
         oneof: &OneofDescriptorProto,
     ) -> Result<(), AllocError> {
         let name = NameInScope::inside(path, oneof.name(), full_name);
-        self.enter_own(name, file, path, DefinitionKind::Oneof(parent))
+        self.enter(name, file, path, DefinitionKind::Oneof(parent))
     }
 
     fn visit_service(
@@ -273,7 +261,7 @@ impl Visitor for NameVisitor<'_, '_> {
         service: &ServiceDescriptorProto,
     ) -> Result<(), AllocError> {
         let name = NameInScope::inside(path, service.name(), full_name);
-        self.enter_own(name, file, path, DefinitionKind::Service(index))
+        self.enter(name, file, path, DefinitionKind::Service(index))
     }
 
     fn visit_method(
@@ -286,7 +274,7 @@ impl Visitor for NameVisitor<'_, '_> {
         method: &MethodDescriptorProto,
     ) -> Result<(), AllocError> {
         let name = NameInScope::inside(path, method.name(), full_name);
-        self.enter_own(name, file, path, DefinitionKind::Method(parent))
+        self.enter(name, file, path, DefinitionKind::Method(parent))
     }
 
     fn visit_enum(
@@ -299,7 +287,7 @@ impl Visitor for NameVisitor<'_, '_> {
         enumeration: &EnumDescriptorProto,
     ) -> Result<(), AllocError> {
         let name = NameInScope::inside(path, enumeration.name(), full_name);
-        self.enter_own(name, file, path, DefinitionKind::Enum(index))?;
+        self.enter(name, file, path, DefinitionKind::Enum(index))?;
         check_enum_values(self.faults, file, path, enumeration)
     }
 
@@ -313,7 +301,7 @@ impl Visitor for NameVisitor<'_, '_> {
         value: &EnumValueDescriptorProto,
     ) -> Result<(), AllocError> {
         let name = NameInScope::beside(path, value.name(), full_name);
-        self.enter_own(name, file, path, DefinitionKind::EnumValue(parent))
+        self.enter(name, file, path, DefinitionKind::EnumValue(parent))
     }
 
     fn visit_extension(
@@ -326,7 +314,28 @@ impl Visitor for NameVisitor<'_, '_> {
         extension: &FieldDescriptorProto,
     ) -> Result<(), AllocError> {
         let name = NameInScope::inside(path, extension.name(), full_name);
-        self.enter_own(name, file, path, DefinitionKind::Extension(index))
+        self.enter(name, file, path, DefinitionKind::Extension(index))
+    }
+}
+
+/// Whether what a name means is a package.
+fn means_package(holder: Option<&Definition>) -> bool
+    ensures { result ≡ option_map_or (λ held. is_package held.kind) (option_copied holder.entry) false }
+{
+    match holder {
+        Some(holder) => holder.kind.is_package(),
+        None => false,
+    }
+}
+
+/// The number of the field of a record that names what it declares.
+fn naming_field(kind: DefinitionKind) -> i32
+    ensures { result ≡ naming_field kind }
+{
+    if kind.is_package() {
+        tag::file::PACKAGE
+    } else {
+        tag::message::NAME
     }
 }
 
@@ -335,17 +344,13 @@ impl Visitor for NameVisitor<'_, '_> {
 fn check_clash(
     faults: &mut Faults,
     name: &str,
-    holder: Option<&Definition>,
+    holder: &Definition,
     new: &Definition,
 ) -> Result<(), AllocError>
     ensures told { OnOk result (Tells faults.old faults.new
-        (holder_faults (named_files faults.old) (option_copied holder.entry)
-        (name.now, new.now))) }
+        (holder_faults (named_files faults.old) (Some holder.now) (name.now, new.now))) }
     ensures labels { faults.new.labels ≡ faults.old.labels }
 {
-    let Some(holder) = holder else {
-        return Ok(());
-    };
     if holder.kind.is_package() && new.kind.is_package() {
         return Ok(());
     }

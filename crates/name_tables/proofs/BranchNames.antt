@@ -68,6 +68,10 @@ module _ (bs : List Branch) (ds : List (Option Definition)) (are : AreBranches b
   get-absent name nowhere = get-none (name_at bs) ds name (λ k d means is. nowhere k (named-descendant name k d means is))
 
 module _ (bs : List Branch) (ds : List (Option Definition)) (are : AreBranches bs ds) where
+  -- the name of a branch means what the branch does
+  pub branch-means : (k : ℕ) → 0 < k → k < length bs → map.get (names_of bs ds) (name_at bs k) ≡ value_at ds k
+  branch-means k below inside = get-descendant bs ds are (name_at bs k) k (own-descendant bs ds are k below inside)
+
   -- a branch may mean something else, but for the root
   pub branches-entered : (new : List (Option Definition)) (at : ℕ) (d : Definition) → Enters ds new at d → 0 < at → length new ≤ length bs → AreBranches bs new
   branches-entered new at d enters above inside = record {

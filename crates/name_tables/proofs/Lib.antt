@@ -5,6 +5,7 @@ pub mod Values
 pub mod Entries
 pub mod NamedFiles
 pub mod Inserted
+pub mod Innermost
 pub mod Names
 pub mod LastParts
 pub mod NumberedNames

@@ -1,4 +1,4 @@
-ghost use Rattle.std.specs.Prelude.{◌≡◌, ◌<◌, ◌∷◌, [], length, IsTrue, IfOk, OnErr};
+ghost use Rattle.std.specs.Prelude.{◌≡◌, ◌<◌, ◌∷◌, [], length, IsTrue, IfOk, OnOk, OnErr, None};
 ghost use Rattle.std.specs.FinMap as map;
 ghost use Rattle.std.specs.Option.{option_copied};
 ghost use Rattle.name_tree.specs.Parts.{name_of, parts};
@@ -55,8 +55,33 @@ impl Branches {
         if self.definitions.get(branch as usize).is_some() {
             return Ok(Some(definition));
         }
-        self.definitions.insert(branch, definition)?;
+        self.define_new(branch, definition)?;
         Ok(None)
+    }
+
+    /// Gives the name of a branch, which is not the root and means nothing, a meaning.
+    ///
+    /// # Errors
+    /// `AllocError` where memory was refused. All names mean what they did then.
+    pub(crate) fn define_new(
+        &mut self,
+        branch: u32,
+        definition: Definition,
+    ) -> Result<(), AllocError>
+        requires are { AreBranches self.old.tree self.old.definitions }
+        requires below { 0 < branch }
+        requires inside { branch < length self.old.tree }
+        requires none { map.get (names_of self.old.tree self.old.definitions)
+            (name_of (path self.old.tree branch)) ≡ None }
+        ensures are { AreBranches self.new.tree self.new.definitions }
+        ensures tree { self.new.tree ≡ self.old.tree }
+        ensures ok { OnOk result (names_of self.new.tree self.new.definitions
+            ≡ map.insert (names_of self.old.tree self.old.definitions)
+            (name_of (path self.old.tree branch)) definition) }
+        ensures err { OnErr result (names_of self.new.tree self.new.definitions
+            ≡ names_of self.old.tree self.old.definitions) }
+    {
+        self.definitions.insert(branch, definition)
     }
 }
 
@@ -82,19 +107,14 @@ pub(crate) fn insert_below(tree: &mut NameTree, from: u32, name: &str) -> Result
 fn is_part(name: &str) -> bool
     ensures { IsTrue result → parts name.now ≡ name.now ∷ [] }
 {
-    for byte in name.as_bytes() {
-        if *byte == b'.' {
-            return false;
-        }
-    }
-    true
+    !name.as_bytes().contains(&b'.')
 }
 
 /// The child of a branch with a part, which is inserted where there is none.
 ///
 /// # Errors
 /// `AllocError` where memory was refused.
-fn insert_part(tree: &mut NameTree, from: u32, part: &str) -> Result<u32, AllocError>
+pub(crate) fn insert_part(tree: &mut NameTree, from: u32, part: &str) -> Result<u32, AllocError>
     requires tree { IsTree tree.old }
     requires from { from < length tree.old }
     requires part { parts part.now ≡ part.now ∷ [] }

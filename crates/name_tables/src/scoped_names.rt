@@ -1,12 +1,14 @@
-ghost use Rattle.std.specs.Prelude.{◌≡◌, ◌<◌, ◌-◌, ◌++◌, ◌∷◌, [], suc, length, take, drop, get_or, IfOk, OnOk, OnErr};
+ghost use Rattle.std.specs.Prelude.{◌≡◌, ◌<◌, ◌-◌, ◌++◌, ◌∷◌, [], suc, length, take, drop, get_or, IfOk, OnOk, OnErr, None};
 ghost use Rattle.std.specs.FinMap as map;
 ghost use Rattle.std.specs.Option.{option_copied};
 ghost use Rattle.proto_types.specs.Names.{join};
-ghost use Rattle.name_tables.specs.NameTables.{inserted};
+ghost use Rattle.name_tree.specs.Parts.{name_of, parts};
+ghost use Rattle.name_tree.specs.Tree.{IsDescendant, IsTree, KeepsBranches, path};
+ghost use Rattle.name_tables.specs.Scopes.{IsScope};
 
-use crate::branches::{Branches, insert_below};
+use crate::branches::{Branches, insert_below, insert_part};
 use crate::part_names::PartNames;
-use crate::scope::go_down;
+use name_tree::NameTree;
 use pool_types::Definition;
 use std::alloc::{AllocError, Global};
 use std::marker::Model;
@@ -67,17 +69,6 @@ impl ScopedNames {
         }
     }
 
-    /// What a name means inside the open scope with a level, from 0, or none where the table lacks
-    /// it.
-    pub fn find(&self, level: usize, name: &str) -> Option<&Definition>
-        requires { level < length self.now.1 }
-        ensures { option_copied result
-            ≡ map.get self.now.0 (join (get_or self.now.1 level []) name.now) }
-    {
-        let branch = go_down(&self.branches.tree, self.scopes[level], name)?;
-        self.branches.definitions.get(branch as usize)
-    }
-
     /// Closes all scopes, and opens the empty one, in which packages stand.
     ///
     /// # Errors
@@ -103,30 +94,53 @@ impl ScopedNames {
         }
     }
 
-    /// Adds a name inside the open scope with a level, from 0, unless the table has the full name:
-    /// that means what it did then, and the definition comes back. The scopes inside that one are
-    /// closed, and that of the full name is opened.
+    /// Closes the scopes inside the open one with a level, from 0, and opens that of the full name of
+    /// a name there.
     ///
     /// # Errors
-    /// `AllocError` where memory was refused. All names mean what they did then.
-    pub fn enter(
-        &mut self,
-        level: usize,
-        name: &str,
-        definition: Definition,
-    ) -> Result<Option<Definition>, AllocError>
+    /// `AllocError` where memory was refused.
+    pub fn open(&mut self, level: usize, name: &str) -> Result<(), AllocError>
         requires { level < length self.old.1 }
-        ensures ok { IfOk result (λ back. (self.new.0, back)
-            ≡ inserted self.old.0 (join (get_or self.old.1 level []) name.now) definition) }
+        ensures names { self.new.0 ≡ self.old.0 }
         ensures scopes { OnOk result (self.new.1
             ≡ take (suc level) self.old.1 ++ join (get_or self.old.1 level []) name.now ∷ []) }
-        ensures err { OnErr result (self.new.0 ≡ self.old.0) }
     {
         let scope = self.scopes[level];
         self.scopes.truncate(level + 1);
         let branch = insert_below(&mut self.branches.tree, scope, name)?;
         self.scopes.push(opened(scope, name, branch))?;
-        self.branches.define(branch, definition)
+        Ok(())
+    }
+
+    /// What the text of the innermost open scope means as a name, or none where the table lacks it.
+    pub fn holder(&self) -> Option<&Definition>
+        requires { 0 < length self.now.1 }
+        ensures { option_copied result
+            ≡ map.get self.now.0 (get_or self.now.1 (length self.now.1 - 1) []) }
+    {
+        let innermost = self.scopes[self.scopes.len() - 1];
+        if innermost == 0 {
+            // The branch of the empty scope is not that of the empty name.
+            return self.branches.get("");
+        }
+        self.branches.definitions.get(innermost as usize)
+    }
+
+    /// Adds the text of the innermost open scope as a name, which the table lacks.
+    ///
+    /// # Errors
+    /// `AllocError` where memory was refused. All names mean what they did then.
+    pub fn define(&mut self, definition: Definition) -> Result<(), AllocError>
+        requires some { 0 < length self.old.1 }
+        requires none { map.get self.old.0 (get_or self.old.1 (length self.old.1 - 1) []) ≡ None }
+        ensures ok { OnOk result (self.new.0
+            ≡ map.insert self.old.0 (get_or self.old.1 (length self.old.1 - 1) []) definition) }
+        ensures scopes { self.new.1 ≡ self.old.1 }
+        ensures err { OnErr result (self.new.0 ≡ self.old.0) }
+    {
+        let innermost = self.scopes[self.scopes.len() - 1];
+        let branch = name_branch(&mut self.branches.tree, innermost)?;
+        self.branches.define_new(branch, definition)
     }
 }
 
@@ -141,4 +155,23 @@ fn opened(scope: u32, name: &str, branch: u32) -> u32
     } else {
         branch
     }
+}
+
+/// The branch of the name that is the text of a scope. Only that of the empty name is not the branch
+/// of the scope: it is inserted where there is none.
+///
+/// # Errors
+/// `AllocError` where memory was refused.
+fn name_branch(tree: &mut NameTree, scope: u32) -> Result<u32, AllocError>
+    requires tree { IsTree tree.old }
+    requires scope { IsScope tree.old scope }
+    ensures tree { IsTree tree.new }
+    ensures keeps { KeepsBranches tree.old tree.new }
+    ensures descendant { IfOk result (λ k.
+        IsDescendant tree.new 0 (parts (name_of (path tree.old scope))) k) }
+{
+    if scope == 0 {
+        return insert_part(tree, 0, "");
+    }
+    Ok(scope)
 }

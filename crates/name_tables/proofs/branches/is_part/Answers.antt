@@ -1,20 +1,16 @@
-use Rattle.std.proofs.Common.{◌≡◌, ◌<◌, ℕ, suc, false, eqb, List, [], ◌∷◌, length, get_or, ap, arith}
+use Rattle.std.proofs.Common.{◌≡◌, eqb, Bool, true, false, not, IsTrue, sym, subst, arith}
+use Rattle.std.specs.Bool.{MatchBool}
 use Rattle.std.specs.List.{All}
-use Rattle.std.proofs.lemmas.Bool.Decides.{nat_tests}
-use Rattle.std.proofs.lemmas.List.Elements.{All-cons, All-nil}
+use Rattle.std.proofs.lemmas.Bool.{true≢false}
 use Rattle.std.proofs.lemmas.List.Splits.{slice_split_none}
 use Rattle.name_tables.proofs.branches.is_part.Goals as goal
 
-no_dot : (c : ℕ) → (c ≡ 46 → ⊥) → eqb c 46 ≡ false
-no_dot c other = grind (arith, nat_tests)
-
--- no byte of a text is a dot
-undotted : (text : List ℕ) → ((k : ℕ) → k < length text → get_or text k 0 ≡ 46 → ⊥) → All (λ c. eqb c 46 ≡ false) text
-undotted [] none = All-nil (λ c. eqb c 46 ≡ false)
-undotted (c ∷ cs) none =
-    All-cons (λ c. eqb c 46 ≡ false) c cs (no_dot c (none 0 (omega arith))) (undotted cs (λ k below. none (suc k) (omega arith)))
+-- what an answer of false says
+otherwise : (P : Type 0) {Q : Type 0} (answer : Bool) → IsTrue (not answer) → MatchBool answer P Q → Q
+otherwise P true none cases = absurd (true≢false (sym none))
+otherwise P false none cases = cases
 
 pub returns : goal.returns
-returns c = λ yes.
-    slice_split_none (λ c. eqb c 46) c.args.name.now
-    (undotted c.args.name.now (λ k below. c.loop-byte.invariant k (omega (arith, ap length c.as_bytes-byte-items.ensures.value))))
+returns c = λ none.
+    slice_split_none (λ b. eqb b 46) c.args.name.now
+    (subst (All (λ b. eqb b 46 ≡ false)) c.as_bytes.ensures.value (λ k d below. otherwise _ c.contains.result none c.contains.ensures.cases k d (omega arith) below))

@@ -1,7 +1,6 @@
 use Rattle.std.proofs.Common.{◌≡◌, ◌<◌, ◌+◌, ◌++◌, ◌∷◌, [], ℕ, List, Option, Result, Ok, Err, OnOk, ap, length, get_or, suc, take, sym, subst, ◌∙◌, arith}
 use Rattle.std.proofs.lemmas.List.{length-map, map-append, take-map}
 use Rattle.std.proofs.lemmas.List.Elements.{All-append, All-cons, All-nil, All-take}
-use Rattle.std.proofs.lemmas.Result.{err_from_is_err_and, on_err_weaker}
 use Rattle.proto_types.specs.Names.{join}
 use Rattle.name_tree.specs.Parts.{name_of, parts}
 use Rattle.name_tree.specs.Tree.{Branch, IsDescendant, IsTree, KeepsBranches, path}
@@ -10,9 +9,8 @@ use Rattle.pool_types.specs.declared.contents.definition.Definition.{Definition}
 use Rattle.name_tables.specs.Branches.{AreBranches, names_of}
 use Rattle.name_tables.specs.Scopes.{AreScopes, IsScope, scope_texts}
 use Rattle.name_tables.proofs.BranchNames.{branches-kept, names-kept}
-use Rattle.name_tables.proofs.Inserted.{inserted-alike}
 use Rattle.name_tables.proofs.OpenScopes.{entered-inside, entered-name, entered-scope, entered-text, scopes-kept, texts-kept}
-use Rattle.name_tables.proofs.scoped_names.ScopedNames.enter.Goals as goal
+use Rattle.name_tables.proofs.scoped_names.ScopedNames.open.Goals as goal
 
 -- what holds whatever the result is
 always : {X E : Type 0} {P : Type 0} (result : Result X E) → P → OnOk result P
@@ -71,12 +69,10 @@ invariant_of-self c =
     outer was.branches.tree c.insert_below.new.tree was.branches.definitions was.scopes.items c.self.invariant c.args.self.now c.self.view_is c.in_err-branch.ensures.keeps c.in_err-branch.ensures.tree
     c.args.level c.truncate.new.self.items c.truncate.ensures.items
 
-pub returns-in_err-branch-clause-err : goal.returns-in_err-branch-clause-err
-returns-in_err-branch-clause-err c =
+pub returns-in_err-branch-clause-names : goal.returns-in_err-branch-clause-names
+returns-in_err-branch-clause-names c =
     let was = c.self.inside in
-    let error = err_from_is_err_and c.from_residual.result c.from_residual.ensures.1 in
-    rw error.1
-    (still was.branches.tree c.insert_below.new.tree was.branches.definitions was.scopes.items c.self.invariant c.args.self.now c.self.view_is c.in_err-branch.ensures.keeps c.in_err-branch.ensures.tree)
+    still was.branches.tree c.insert_below.new.tree was.branches.definitions was.scopes.items c.self.invariant c.args.self.now c.self.view_is c.in_err-branch.ensures.keeps c.in_err-branch.ensures.tree
 
 pub invariant_of-self-in_err-push : goal.invariant_of-self-in_err-push
 invariant_of-self-in_err-push c =
@@ -86,58 +82,29 @@ invariant_of-self-in_err-push c =
     c.args.level c.truncate.new.self.items c.truncate.ensures.items in
     (left.0, subst (AreScopes new) (sym {A = List ℕ} c.in_err-push.ensures.items) left.1)
 
-pub returns-in_err-push-clause-err : goal.returns-in_err-push-clause-err
-returns-in_err-push-clause-err c =
+pub returns-in_err-push-clause-names : goal.returns-in_err-push-clause-names
+returns-in_err-push-clause-names c =
     let was = c.self.inside in
-    let error = err_from_is_err_and c.from_residual-in_err-push.result c.from_residual-in_err-push.ensures.1 in
-    rw error.1
-    (still was.branches.tree c.insert_below.new.tree was.branches.definitions was.scopes.items c.self.invariant c.args.self.now c.self.view_is c.in_ok-branch.ensures.keeps c.in_ok-branch.ensures.tree)
-
-pub define-requires-clause-below : goal.define-requires-clause-below
-define-requires-clause-below c =
-    let was = c.self.inside in
-    (stands was.branches.tree c.insert_below.new.tree was.branches.definitions was.scopes.items c.self.invariant c.args.self.now c.self.view_is c.in_ok-branch.ensures.keeps c.in_ok-branch.ensures.tree
-    c.args.level c.truncate.new.self.items c.truncate.ensures.items c.requires c.index-scope.result.now c.index-scope.ensures c.args.name.now c.in_ok-branch.branch c.in_ok-branch.ensures.descendant).0
-
-pub define-requires-clause-inside : goal.define-requires-clause-inside
-define-requires-clause-inside c =
-    let was = c.self.inside in
-    (stands was.branches.tree c.insert_below.new.tree was.branches.definitions was.scopes.items c.self.invariant c.args.self.now c.self.view_is c.in_ok-branch.ensures.keeps c.in_ok-branch.ensures.tree
-    c.args.level c.truncate.new.self.items c.truncate.ensures.items c.requires c.index-scope.result.now c.index-scope.ensures c.args.name.now c.in_ok-branch.branch c.in_ok-branch.ensures.descendant).1
+    still was.branches.tree c.insert_below.new.tree was.branches.definitions was.scopes.items c.self.invariant c.args.self.now c.self.view_is c.in_ok-branch.ensures.keeps c.in_ok-branch.ensures.tree
 
 pub invariant_of-self-2 : goal.invariant_of-self-2
 invariant_of-self-2 c =
     let was = c.self.inside in (
-      c.define.ensures.are,
-      subst (λ bs. AreScopes bs c.push.new.self.items) (sym c.define.ensures.tree)
-          (all-open was.branches.tree c.insert_below.new.tree was.branches.definitions was.scopes.items c.self.invariant c.args.self.now c.self.view_is c.in_ok-branch.ensures.keeps c.in_ok-branch.ensures.tree
+      (outer was.branches.tree c.insert_below.new.tree was.branches.definitions was.scopes.items c.self.invariant c.args.self.now c.self.view_is c.in_ok-branch.ensures.keeps c.in_ok-branch.ensures.tree
+          c.args.level c.truncate.new.self.items c.truncate.ensures.items).0,
+      all-open was.branches.tree c.insert_below.new.tree was.branches.definitions was.scopes.items c.self.invariant c.args.self.now c.self.view_is c.in_ok-branch.ensures.keeps c.in_ok-branch.ensures.tree
           c.args.level c.truncate.new.self.items c.truncate.ensures.items c.requires c.index-scope.result.now c.index-scope.ensures c.args.name.now c.in_ok-branch.branch c.in_ok-branch.ensures.descendant
-          c.opened.result c.opened.ensures.root c.opened.ensures.other c.push.new.self.items c.in_ok-push.ensures.items),
+          c.opened.result c.opened.ensures.root c.opened.ensures.other c.push.new.self.items c.in_ok-push.ensures.items,
     )
 
-pub returns-clause-ok : goal.returns-clause-ok
-returns-clause-ok c =
+pub returns-clause-names : goal.returns-clause-names
+returns-clause-names c =
     let was = c.self.inside in
-    let new = c.insert_below.new.tree in
-    inserted-alike c.define.result (names_of c.define.new.self.tree c.define.new.self.definitions) (names_of new was.branches.definitions) c.args.self.now.0
-    (name_of (path new c.in_ok-branch.branch)) (join (get_or c.args.self.now.1 c.args.level []) c.args.name.now) c.args.definition
-    (still was.branches.tree new was.branches.definitions was.scopes.items c.self.invariant c.args.self.now c.self.view_is c.in_ok-branch.ensures.keeps c.in_ok-branch.ensures.tree)
-    (called was.branches.tree new was.branches.definitions was.scopes.items c.self.invariant c.args.self.now c.self.view_is c.in_ok-branch.ensures.keeps c.in_ok-branch.ensures.tree
-    c.args.level c.truncate.new.self.items c.truncate.ensures.items c.requires c.index-scope.result.now c.index-scope.ensures c.args.name.now c.in_ok-branch.branch c.in_ok-branch.ensures.descendant)
-    c.define.ensures.ok
+    still was.branches.tree c.insert_below.new.tree was.branches.definitions was.scopes.items c.self.invariant c.args.self.now c.self.view_is c.in_ok-branch.ensures.keeps c.in_ok-branch.ensures.tree
 
 pub returns-clause-scopes : goal.returns-clause-scopes
 returns-clause-scopes c =
     let was = c.self.inside in
-    always c.define.result
-    (ap (λ bs. scope_texts bs c.push.new.self.items) c.define.ensures.tree
-    ∙ all-texts was.branches.tree c.insert_below.new.tree was.branches.definitions was.scopes.items c.self.invariant c.args.self.now c.self.view_is c.in_ok-branch.ensures.keeps c.in_ok-branch.ensures.tree
+    all-texts was.branches.tree c.insert_below.new.tree was.branches.definitions was.scopes.items c.self.invariant c.args.self.now c.self.view_is c.in_ok-branch.ensures.keeps c.in_ok-branch.ensures.tree
     c.args.level c.truncate.new.self.items c.truncate.ensures.items c.requires c.index-scope.result.now c.index-scope.ensures c.args.name.now c.in_ok-branch.branch c.in_ok-branch.ensures.descendant
-    c.opened.result c.opened.ensures.root c.opened.ensures.other c.push.new.self.items c.in_ok-push.ensures.items)
-
-pub returns-clause-err : goal.returns-clause-err
-returns-clause-err c =
-    let was = c.self.inside in
-    on_err_weaker c.define.result
-    (λ same. same ∙ still was.branches.tree c.insert_below.new.tree was.branches.definitions was.scopes.items c.self.invariant c.args.self.now c.self.view_is c.in_ok-branch.ensures.keeps c.in_ok-branch.ensures.tree)
-    c.define.ensures.err
+    c.opened.result c.opened.ensures.root c.opened.ensures.other c.push.new.self.items c.in_ok-push.ensures.items
