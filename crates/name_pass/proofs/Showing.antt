@@ -44,15 +44,6 @@ stays-told v faults same = record {
   borrows = refl;
 }
 
--- what stays where a name comes to nothing, and faults come
-pub stays-held : (v : NameVisitor) (names : ByText Definition × List (List ℕ)) (faults : Faults) → names.0 ≡ v.names.now.0 → faults.labels ≡ v.faults.now.labels
-    → Stays v (record v { names = re_v names (re_v names v.names); faults = re_v faults v.faults })
-stays-held v names faults same labels = record {
-  files = labels;
-  kept = λ i. kept_with v (labels i) (same i);
-  borrows = refl;
-}
-
 -- what stays where scopes open or close, and nothing else changes
 pub stays-scoped : (v : NameVisitor) (names : ByText Definition × List (List ℕ)) → names.0 ≡ v.names.now.0 → Stays v (record v { names = re_v names v.names })
 stays-scoped v names same = record {

@@ -16,12 +16,12 @@ use Rattle.name_tables.proofs.OpenScopes.{scope-at, scopes-kept, text-at, texts-
 
 module _ (bs : List Branch) (ds : List (Option Definition)) (scopes : List ℕ) (held : AreBranches bs ds × AreScopes bs scopes)
     (was : ByText Definition × List (List ℕ)) (view : (names_of bs ds, scope_texts bs scopes) ≡ was) (some : 0 < length was.1) where
-  -- there is one
-  pub innermost-inside : length scopes - 1 < length scopes
-  innermost-inside = omega (arith, some, ap (λ v. length v.1) (sym view) ∙ length-map scopes (λ k. name_of (path bs k)))
-
   same-length : length was.1 ≡ length scopes
   same-length = ap (λ v. length v.1) (sym view) ∙ length-map scopes (λ k. name_of (path bs k))
+
+  -- there is one
+  innermost-inside : length scopes - 1 < length scopes
+  innermost-inside = omega (arith, some, same-length)
 
   module _ (scope : ℕ) (at : scope ≡ get_or scopes (length scopes - 1) scope) where
     -- its text is the name of its branch

@@ -99,14 +99,6 @@ module _ (old : List Branch) (scopes : List ℕ) (are : AreScopes old scopes) (l
     text-still = text-at ∙ ap name_of (sym (path-kept old new keeps tree scope scope-at.0))
 
     module _ (name : List ℕ) (branch : ℕ) (down : IsDescendant new scope (parts name) branch) where
-      -- the branch of a name in the scope is one, and not the root
-      pub entered-inside : (0 < branch) × (branch < length new)
-      entered-inside = full-inside new tree scope branch name still down
-
-      -- its name is the full name
-      pub entered-name : name_of (path new branch) ≡ join (get_or (scope_texts old scopes) level []) name
-      entered-name = sym (ap (λ text. join text name) text-still ∙ full-name new tree scope branch name still down)
-
       module _ (inner : ℕ) (root : scope ≡ 0 → name ≡ [] → inner ≡ 0) (other : (scope ≡ 0 → name ≡ [] → ⊥) → inner ≡ branch) where
         open-inner : IsScope new inner × (name_of (path new inner) ≡ join (name_of (path new scope)) name)
         open-inner = opened new tree scope branch name still down inner root other

@@ -1,4 +1,4 @@
-use Rattle.std.proofs.Common.{◌≡◌, ◌<◌, ◌+◌, ◌++◌, ◌∷◌, [], ℕ, List, Option, Result, Ok, Err, OnOk, ap, length, get_or, suc, take, sym, subst, ◌∙◌, arith}
+use Rattle.std.proofs.Common.{◌≡◌, ◌<◌, ◌+◌, ◌++◌, ◌∷◌, [], ℕ, List, Option, ap, length, get_or, suc, take, sym, subst, ◌∙◌, arith}
 use Rattle.std.proofs.lemmas.List.{length-map, map-append, take-map}
 use Rattle.std.proofs.lemmas.List.Elements.{All-append, All-cons, All-nil, All-take}
 use Rattle.proto_types.specs.Names.{join}
@@ -9,15 +9,10 @@ use Rattle.pool_types.specs.declared.contents.definition.Definition.{Definition}
 use Rattle.name_tables.specs.Branches.{AreBranches, names_of}
 use Rattle.name_tables.specs.Scopes.{AreScopes, IsScope, scope_texts}
 use Rattle.name_tables.proofs.BranchNames.{branches-kept, names-kept}
-use Rattle.name_tables.proofs.OpenScopes.{entered-inside, entered-name, entered-scope, entered-text, scopes-kept, texts-kept}
+use Rattle.name_tables.proofs.OpenScopes.{entered-scope, entered-text, scopes-kept, texts-kept}
 use Rattle.name_tables.proofs.scoped_names.ScopedNames.open.Goals as goal
 
--- what holds whatever the result is
-always : {X E : Type 0} {P : Type 0} (result : Result X E) → P → OnOk result P
-always (Ok x) p = p
-always (Err e) p = tt
-
--- where a name was entered: the branches before and after, and what the names and the scopes were
+-- where the scope of a name was opened: the branches before and after, and what the names and the scopes were
 module _ (old new : List Branch) (ds : List (Option Definition)) (scopes : List ℕ) (held : AreBranches old ds × AreScopes old scopes)
     (was : ByText Definition × List (List ℕ)) (view : (names_of old ds, scope_texts old scopes) ≡ was) (keeps : KeepsBranches old new) (tree : IsTree new) where
   still : names_of new ds ≡ was.0
@@ -44,12 +39,6 @@ module _ (old new : List Branch) (ds : List (Option Definition)) (scopes : List 
     module _ (below : level < length was.1) (scope : ℕ) (at : scope ≡ get_or scopes level scope) (name : List ℕ) (branch : ℕ) (down : IsDescendant new scope (parts name) branch) where
       inside : level < length scopes
       inside = subst (λ n. level < n) (ap length (sym texts) ∙ length-map scopes (λ k. name_of (path old k))) below
-
-      stands : (0 < branch) × (branch < length new)
-      stands = entered-inside old scopes held.1 level scope inside at new keeps tree name branch down
-
-      called : name_of (path new branch) ≡ join (get_or was.1 level []) name
-      called = entered-name old scopes held.1 level scope inside at new keeps tree name branch down ∙ ap (λ texts. join (get_or texts level []) name) texts
 
       module _ (inner : ℕ) (root : scope ≡ 0 → name ≡ [] → inner ≡ 0) (other : (scope ≡ 0 → name ≡ [] → ⊥) → inner ≡ branch) (all : List ℕ) (is : all ≡ left ++ inner ∷ []) where
         all-open : AreScopes new all
