@@ -75,14 +75,24 @@ fn written_type(
 {
     let kind = simple_kind(field.field_type());
     if kind.is_none() {
-        let label = faults.part_label(place, tag::field::TYPE_NAME)?;
-        faults.push(DescriptorErrorKind::MissingRequiredField { label })?;
+        tell_missing_type(faults, place)?;
     }
     if field.default_value.is_none() {
         return Ok((kind, None));
     }
     let default = kind_default(faults, place, kind, no_enum(), &field.default_value)?;
     Ok((kind, default))
+}
+
+/// Appends to `faults` that a field names no type.
+#[inline(never)]
+fn tell_missing_type(faults: &mut Faults, place: Place) -> Result<(), AllocError>
+    ensures { OnOk result (Tells faults.old faults.new
+        (MissingRequiredField (part_label (named_files faults.old) place.entry.file
+        place.entry.path.now TYPE_NAME) ∷ [])) }
+{
+    let label = faults.part_label(place, tag::field::TYPE_NAME)?;
+    faults.push(DescriptorErrorKind::MissingRequiredField { label })
 }
 
 /// The kind of the definition that the type name of a field means, and the default value.
