@@ -1,5 +1,6 @@
 -- What the parts of the reader answer, where memory may be refused at any point.
-use Rattle.std.specs.Prelude.{◌≡◌, ◌<◌, ℕ, List, ◌∷◌, length, reverse, IsUtf8}
+use Rattle.std.specs.Prelude.{◌≡◌, ◌<◌, ◌==◌, ℕ, ℤ, List, [], ◌∷◌, length, reverse, IsUtf8}
+use Rattle.std.specs.List.{slice_split}
 use Rattle.std.specs.Borrow.{Bor}
 use Rattle.std.specs.declared.option.Option.{Option}
 use Rattle.std.specs.declared.option.Option.TheVariants.{None, Some}
@@ -17,7 +18,7 @@ use Rattle.link_script.specs.declared.script.lines.FirstLine.{FirstLine}
 use Rattle.link_script.specs.Script.Words.{lines, words}
 use Rattle.link_script.specs.Script.Keyword.{Standing, standing_after}
 use Rattle.link_script.specs.declared.script.statement.Keyword.{Keyword}
-use Rattle.link_script.specs.Script.Arguments.{said_in, and_then}
+use Rattle.link_script.specs.Script.Arguments.{said_in, and_then, each_number}
 use Rattle.link_script.specs.Script.Reading.{Saying, of_words}
 
 -- an answer is the one that is meant, unless memory was refused
@@ -71,3 +72,15 @@ IsBegun line read (Err fault) = read ≡ Err fault
 IsBegun line read (Ok None) = read ≡ Ok None
 IsBegun line read (Ok (Some b)) =
     read ≡ and_then (said_in line b.0 (words_left b.1)) (λ s. Ok (Some (b.0, s)))
+
+-- the numbers of a text between commas
+abbrev pub numbers_between : List ℕ → Result (List ℤ) ScriptFault
+numbers_between text = each_number (slice_split (λ c. c == 44) text)
+
+-- the numbers of a text are a first one and those of the text behind its comma, if it has one, or
+-- its first number has a fault
+abbrev pub IsFirstNumber : List ℕ → Result (ℤ × Option (Bor (List ℕ))) ScriptFault → Type 0
+IsFirstNumber text (Ok (n, None)) = numbers_between text ≡ Ok (n ∷ [])
+IsFirstNumber text (Ok (n, Some rest)) = (length rest.now < length text)
+    × (numbers_between text ≡ and_then (numbers_between rest.now) (λ ns. Ok (n ∷ ns)))
+IsFirstNumber text (Err fault) = numbers_between text ≡ Err fault

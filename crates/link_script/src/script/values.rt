@@ -1,12 +1,13 @@
 //! What single words say.
 
-ghost use Rattle.std.specs.Prelude.{◌≡◌, ◌<◌, ◌==◌, map, length, IfOk};
+ghost use Rattle.std.specs.Prelude.{◌≡◌, ◌<◌, ◌≤◌, ◌==◌, map, length, take, IfOk};
 ghost use Rattle.std.specs.List.{slice_split};
+ghost use Rattle.std.specs.Str.Parse.{AllDigits, digits_value};
 ghost use Rattle.proto_types.specs.Readers.{text_of};
 ghost use Rattle.link_script.specs.Script.Arguments as spec;
-ghost use Rattle.link_script.specs.Script.Answers.{IsAnswer};
+ghost use Rattle.link_script.specs.Script.Answers.{IsAnswer, IsFirstNumber};
 
-use super::cuts::{cut_at, is_same};
+use super::cuts::{cut_at, is_same, parted};
 use super::line_error::LineError;
 use super::statement::ScriptFault;
 use plain_data::{Items, Text, parse_bool, parse_int32};
@@ -112,6 +113,58 @@ pub(super) fn given_number(word: &str) -> Result<i32, ScriptFault>
     parse_int32(word).ok_or(ScriptFault::BadNumber)
 }
 
+/// A number of so many digits is in range, whatever they are.
+const MOST_DIGITS: usize = 9;
+
+/// How many digits a text begins with, of which so many are read, and their value.
+fn leading_digits(text: &[u8]) -> (usize, u32)
+    ensures count { (result.0 ≤ MOST_DIGITS) × (result.0 ≤ length text.now) }
+    ensures digits { AllDigits 10 (take result.0 text.now) }
+    ensures value { result.1 ≡ digits_value 10 (take result.0 text.now) }
+{
+    let most = text.len().min(MOST_DIGITS);
+    let mut count = 0;
+    let mut value = 0;
+    while count < most {
+        let byte = text[count];
+        if !byte.is_ascii_digit() {
+            break;
+        }
+        value = value * 10 + (byte - b'0') as u32;
+        count += 1;
+    }
+    (count, value)
+}
+
+/// The first number between commas, whatever it is, and the text behind its comma, if it has one.
+fn any_first_number(text: &str) -> Result<(i32, Option<&str>), ScriptFault>
+    ensures { IsFirstNumber text.now result }
+{
+    match cut_at(text, b',') {
+        Some((number, rest)) => Ok((given_number(number)?, Some(rest))),
+        None => Ok((given_number(text)?, None)),
+    }
+}
+
+/// The first number between commas, and the text behind its comma, if it has one. Most numbers are a
+/// few digits, which are read where they stand.
+fn first_number(text: &str) -> Result<(i32, Option<&str>), ScriptFault>
+    ensures { IsFirstNumber text.now result }
+{
+    let (count, value) = leading_digits(text.as_bytes());
+    if count == 0 {
+        return any_first_number(text);
+    }
+    if count == text.len() {
+        return Ok((value as i32, None));
+    }
+    if text.as_bytes()[count] != b',' {
+        return any_first_number(text);
+    }
+    let (_, rest) = parted(text, count);
+    Ok((value as i32, Some(rest)))
+}
+
 /// The numbers between commas.
 fn between_commas(alloc: Global, word: &str) -> Result<Items<i32>, LineError>
     ensures { IsAnswer (spec.each_number (slice_split (λ c. c == 44) word.now)) result }
@@ -120,12 +173,14 @@ fn between_commas(alloc: Global, word: &str) -> Result<Items<i32>, LineError>
     let most = word.len() / 2 + 1;
     let mut numbers = Items::from_vec(Vec::with_capacity(alloc, most)?);
     let mut left = word;
-    while let Some((number, rest)) = cut_at(left, b',') {
-        numbers.push(given_number(number)?)?;
+    loop {
+        let (number, rest) = first_number(left)?;
+        numbers.push(number)?;
+        let Some(rest) = rest else {
+            return Ok(numbers);
+        };
         left = rest;
     }
-    numbers.push(given_number(left)?)?;
-    Ok(numbers)
 }
 
 /// Numbers between commas, or none in two quotes.
