@@ -5,3 +5,4 @@ pub mod Answers
 pub mod Reading
 pub mod Left
 pub mod Faults
+pub mod Locations

@@ -5,7 +5,7 @@ ghost use Rattle.proto_types.specs.declared.message.DescriptorProto.{out-Descrip
 ghost use Rattle.link_script.specs.declared.script.statement.Statement.TheVariants as say;
 ghost use Rattle.link_script.specs.Building.{change_last, more_said, in_file, in_message, in_enum, in_service};
 
-use crate::script::Statement;
+use crate::script::{SaidLocation, Statement};
 use plain_data::{Items, Text};
 use proto_types::{
     DescriptorProto, EnumDescriptorProto, EnumOptions, EnumReservedRange, ExtensionRange,
@@ -82,6 +82,24 @@ impl Open {
             Open::Message(message) => state_in_message(alloc, message, extends, statement),
             Open::Enum(opened) => state_in_enum(alloc, opened, statement),
             Open::Service(service) => state_in_service(alloc, service, statement),
+        }
+    }
+
+    /// Does what a location says of the record: it stands behind the others of a file.
+    ///
+    /// # Errors
+    /// `AllocError` where memory was refused.
+    pub fn locate(
+        &mut self,
+        alloc: Global,
+        extends: bool,
+        location: SaidLocation,
+    ) -> Result<(), AllocError>
+        ensures { OnOk result (self.new ≡ applied extends (say.At location) self.old) }
+    {
+        match self {
+            Open::File(file) => add_location(alloc, file, location.into_record(alloc)),
+            _ => self.state(alloc, extends, Statement::At(location)),
         }
     }
 

@@ -9,7 +9,7 @@ ghost use Rattle.link_script.specs.RecordsCode.{building_in};
 ghost use Rattle.link_script.specs.Script.Reading.{script};
 
 use crate::building::Open;
-use crate::script::{ScriptError, ScriptReader, Statement};
+use crate::script::{SaidLocation, ScriptError, ScriptReader, Statement};
 use plain_data::Text;
 use proto_types::FileDescriptorProto;
 use std::alloc::{AllocError, Global};
@@ -86,6 +86,20 @@ impl RecordBuilder {
             | Statement::Relink => Ok(()),
             statement => self.amend(statement),
         }
+    }
+
+    /// Does what a location says of the innermost open record.
+    ///
+    /// # Errors
+    /// `AllocError` where memory was refused.
+    pub fn locate(&mut self, location: SaidLocation) -> Result<(), AllocError>
+        ensures { OnOk result (building_in self.new
+            ≡ built (building_in self.old) (say.At location)) }
+    {
+        if let Some(innermost) = self.open_records.last_mut() {
+            innermost.locate(self.alloc, self.extends, location)?;
+        }
+        Ok(())
     }
 
     /// The files whose blocks have closed. There are none then.

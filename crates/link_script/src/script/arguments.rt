@@ -2,6 +2,8 @@
 
 ghost use Rattle.link_script.specs.Script.Arguments as spec;
 ghost use Rattle.link_script.specs.Script.Answers.{IsAnswer, words_left};
+ghost use Rattle.link_script.specs.Script.Locations.{IsLocation};
+ghost use Rattle.link_script.specs.declared.script.statement.Keyword.TheVariants as word;
 
 use super::line_error::LineError;
 use super::rest::rest;
@@ -104,6 +106,31 @@ fn of_one(alloc: Global, keyword: Keyword, word: &str) -> Result<Statement, Line
     }
 }
 
+/// A location by its path and its span.
+fn location(alloc: Global, path: &str, span: &str) -> Result<SaidLocation, LineError>
+    ensures { IsLocation (spec.of_two word.At path.now span.now) result }
+{
+    let path = numbers(alloc, path)?;
+    let span = numbers(alloc, span)?;
+    Ok(SaidLocation { path, span })
+}
+
+/// The location that the words behind its keyword say.
+pub(super) fn location_of(alloc: Global, mut words: Words<'_>) -> Result<SaidLocation, LineError>
+    ensures { IsLocation (spec.statement_in word.At (words_left words.entry)) result }
+{
+    let Some(path) = words.next() else {
+        return Err(LineError::Fault(ScriptFault::WrongCount));
+    };
+    let Some(span) = words.next() else {
+        return Err(LineError::Fault(ScriptFault::WrongCount));
+    };
+    if words.next().is_some() {
+        return Err(LineError::Fault(ScriptFault::WrongCount));
+    }
+    location(alloc, path, span)
+}
+
 fn of_two(
     alloc: Global,
     keyword: Keyword,
@@ -113,11 +140,7 @@ fn of_two(
     ensures { IsAnswer (spec.of_two keyword first.now second.now) result }
 {
     match keyword {
-        Keyword::At => {
-            let path = numbers(alloc, first)?;
-            let span = numbers(alloc, second)?;
-            Ok(Statement::At(SaidLocation { path, span }))
-        }
+        Keyword::At => Ok(Statement::At(location(alloc, first, second)?)),
         Keyword::Reserved => {
             let start = number_of(first)?;
             Ok(Statement::Reserved(start, number_of(second)?))

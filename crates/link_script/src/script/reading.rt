@@ -1,15 +1,19 @@
 //! Reading a script, line by line.
 
-ghost use Rattle.std.specs.Prelude.{◌≡◌, ℕ, List, ◌∷◌, IfOk, IfErr};
+ghost use Rattle.std.specs.Prelude.{◌≡◌, ℕ, List, ◌∷◌, Some, Ok, IfOk, IfErr};
 ghost use Rattle.link_script.specs.Script.Words as spec;
 ghost use Rattle.link_script.specs.Script.Reading.{script, line_said};
 ghost use Rattle.link_script.specs.Script.Answers.{IsBegun, IsFaultOf, IsTextOf, after_line, standing_in, text_said};
 ghost use Rattle.link_script.specs.Script.Left.{IsNext};
+ghost use Rattle.link_script.specs.Script.Locations.{IsNextLocation};
+ghost use Rattle.link_script.specs.declared.script.statement.Statement.TheVariants as say;
 
-use super::arguments::statement;
+use super::arguments::{location_of, statement};
+use super::cuts::is_same;
 use super::keyword::keyword_of;
 use super::line_error::LineError;
 use super::lines::{FirstLine, Lines};
+use super::said::SaidLocation;
 use super::standing::Standing;
 use super::statement::{Keyword, Script, ScriptError, ScriptFault, Statement};
 use super::words::Words;
@@ -80,6 +84,28 @@ impl<'a> ScriptReader<'a> {
         }
         Ok(None)
     }
+
+    /// Reads the next statement if it is a location, which has no fault, and stands in the next
+    /// line. The reader is as it was otherwise, and may be asked for any next statement.
+    ///
+    /// # Errors
+    /// `AllocError` where memory was refused. The reader is then as it was.
+    pub fn next_location(&mut self) -> Result<Option<SaidLocation>, AllocError>
+        ensures { IsNextLocation self.old result self.new }
+    {
+        let Some((text, rest)) = self.left.first_location() else {
+            return Ok(None);
+        };
+        match read_location(self.alloc, &mut self.here, text) {
+            Ok(location) => {
+                self.left = Lines::Text(rest);
+                self.number += 1;
+                Ok(Some(location))
+            }
+            Err(LineError::Fault(_)) => Ok(None),
+            Err(LineError::OutOfMemory) => Err(AllocError),
+        }
+    }
 }
 
 /// Whether a line that begins with a word is a comment.
@@ -123,6 +149,25 @@ fn read_text(alloc: Global, here: &mut Standing, line: &str) -> Result<Option<St
     let read = statement(alloc, line, keyword, words)?;
     here.follow(keyword)?;
     Ok(Some(read))
+}
+
+/// Reads a line of text that says a location, or else tells some fault.
+fn read_location(alloc: Global, here: &mut Standing, line: &str) -> Result<SaidLocation, LineError>
+    ensures ok { IfOk result (λ location. after_line (text_said (standing_in here.old) line.now)
+        (standing_in here.old) ≡ Ok (Some (say.At location), standing_in here.new)) }
+    ensures err { IfErr result (λ _. standing_in here.new ≡ standing_in here.old) }
+{
+    let mut words = Words::new(line);
+    let begins = match words.next() {
+        Some(word) => is_same(word, "at"),
+        None => false,
+    };
+    if !begins || !here.may_stand(Keyword::At) {
+        return Err(LineError::Fault(ScriptFault::Misplaced));
+    }
+    let location = location_of(alloc, words)?;
+    here.follow(Keyword::At)?;
+    Ok(location)
 }
 
 /// Reads a line: the statement that it says, if it says one.
