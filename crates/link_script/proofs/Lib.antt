@@ -4,6 +4,5 @@ pub mod Words
 pub mod Reading
 pub mod LastStated
 pub mod Innermost
-pub mod Names
 pub mod Blocks
 pub mod FirstLines
