@@ -71,6 +71,7 @@ and_then (Err fault) next = Err fault
 abbrev pub given_text_in : List ℕ → Result (List ℕ) ScriptFault
 given_text_in text = if is_absent text then Err BadWord else Ok (text_of (text_in text))
 
+-- a number that was read, or else the fault of a word that writes none
 abbrev pub number_or_bad : Option ℤ → Result ℤ ScriptFault
 number_or_bad (Some n) = Ok n
 number_or_bad None = Err BadNumber
