@@ -1,16 +1,13 @@
 -- What lines say, one after another.
 use Rattle.std.proofs.Common.{◌≡◌, ℕ, suc, Bool, true, false, cond, not, List, ◌∷◌, ◌++◌, refl, ap, sym, ◌∙◌, add-one, ◌+◌, Option, Some, None, is_some, Result, Ok, Err}
-use Rattle.std.specs.Prelude.{codes}
 use Rattle.std.specs.Str.{IsUtf8, is_utf8}
 use Rattle.std.proofs.lemmas.Str.{IsUtf8-from_is_utf8, is_utf8-from_IsUtf8}
 use Rattle.link_script.specs.declared.script.statement.Statement.{Statement}
 use Rattle.link_script.specs.declared.script.statement.Script.{Script}
 use Rattle.link_script.specs.declared.script.statement.ScriptFault.{ScriptFault}
-use Rattle.link_script.specs.declared.script.statement.ScriptFault.TheVariants.{BadText, Misplaced}
-use Rattle.link_script.specs.declared.script.statement.Keyword.TheVariants as word
-use Rattle.link_script.specs.Script.Arguments.{said_in, and_then}
+use Rattle.link_script.specs.declared.script.statement.ScriptFault.TheVariants.{BadText}
 use Rattle.link_script.specs.Script.Words.{lines, words}
-use Rattle.link_script.specs.Script.Keyword.{Standing, standing_after, may_stand}
+use Rattle.link_script.specs.Script.Keyword.{Standing, standing_after}
 use Rattle.link_script.specs.Script.Answers.{after_line}
 use Rattle.link_script.specs.Script.Left.{IsNext}
 use Rattle.link_script.specs.Script.Reading as spec
@@ -74,9 +71,3 @@ next-said old after None some is = absurd (cc)
 pub none-said : (old after : Script) (said : Option Statement) → is_some said ≡ false → old ≡ with_said said after → after ≡ old
 none-said old after (Some s) none is = absurd (cc)
 none-said old after None none is = sym is
-
--- what a line says that begins with the keyword of a location
-pub said-location : (here : Standing) (line : List ℕ) (ws : List (List ℕ)) → words line ≡ codes "at" ∷ ws → may_stand here word.At ≡ true
-    → spec.of_words here line (words line) ≡ and_then (said_in line word.At ws) (λ s. Ok (Some (word.At, s)))
-said-location here line ws first may =
-    ap (spec.of_words here line) first ∙ ap (λ b. cond b (and_then (said_in line word.At ws) (λ s. Ok (Some (word.At, s)))) (Err Misplaced)) may
