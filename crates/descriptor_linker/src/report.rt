@@ -51,8 +51,13 @@ pub fn report_of(alloc: Global, bytes: &[u8]) -> Result<Report, AllocError>
 fn obey(session: &mut Session, script: &mut ScriptReader<'_>) -> Result<(), ScriptError>
     ensures { IsObeyed step script.old (session_in session.old) result (session_in session.new) }
 {
-    while let Some(statement) = script.next()? {
-        session.step(statement)?;
+    loop {
+        if let Some(location) = script.next_location()? {
+            session.locate(location)?;
+        } else if let Some(statement) = script.next()? {
+            session.step(statement)?;
+        } else {
+            return Ok(());
+        }
     }
-    Ok(())
 }

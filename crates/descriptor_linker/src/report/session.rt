@@ -7,7 +7,7 @@ ghost use Rattle.descriptor_linker.specs.Report.Session.{new_session, step, Fits
 use super::answers::{write_ext, write_found, write_refs, write_walk};
 use super::relink::write_relink;
 use descriptor_pool::{BuildError, DescriptorPool};
-use link_script::{RecordBuilder, Statement};
+use link_script::{RecordBuilder, SaidLocation, Statement};
 use script_answers::{write_counts, write_refused, write_too_many};
 use std::alloc::{AllocError, Global};
 
@@ -34,6 +34,13 @@ impl Session {
             pool: DescriptorPool::new(alloc),
             text: String::new(alloc),
         }
+    }
+
+    /// Does what a location says.
+    pub(super) fn locate(&mut self, location: SaidLocation) -> Result<(), AllocError>
+        ensures { OnOk result (session_in self.new ≡ step (session_in self.old) (say.At location)) }
+    {
+        self.builder.locate(location)
     }
 
     /// Does what a statement says.
