@@ -1,4 +1,5 @@
-ghost use Rattle.std.specs.Prelude.{◌≡◌, true, [], OnOk, IfOk, map};
+ghost use Rattle.std.specs.Prelude.{◌≡◌, ◌∷◌, true, [], OnOk, IfOk, map};
+ghost use Rattle.pool_faults.specs.declared.fault.DescriptorErrorKind.TheVariants.{InvalidOneofIndex};
 ghost use Rattle.record_walk.specs.Counts.{fits_list};
 ghost use Rattle.plain_data.specs.Each.{map_enumerated};
 ghost use Rattle.record_walk.specs.Faults.{Tells};
@@ -24,9 +25,17 @@ pub fn check_oneof_index(
         (oneof_faults oneofs.now field.now)) }
 {
     if field.oneof_index.is_some() && oneof_of(oneofs, field).is_none() {
-        faults.push(DescriptorErrorKind::InvalidOneofIndex)?;
+        tell_invalid_oneof(faults)?;
     }
     Ok(())
+}
+
+/// Appends to `faults` that a field names no oneof of its message.
+#[inline(never)]
+fn tell_invalid_oneof(faults: &mut Faults) -> Result<(), AllocError>
+    ensures { OnOk result (Tells faults.old faults.new (InvalidOneofIndex ∷ [])) }
+{
+    faults.push(DescriptorErrorKind::InvalidOneofIndex)
 }
 
 /// The position of a field's oneof among those of its message, from 0, where it names one.

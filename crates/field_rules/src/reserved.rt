@@ -1,4 +1,7 @@
-ghost use Rattle.std.specs.Prelude.{◌≡◌, ◌<◌, ◌^◌, true, OnOk};
+ghost use Rattle.std.specs.Prelude.{◌≡◌, ◌<◌, ◌^◌, ◌∷◌, [], true, OnOk};
+ghost use Rattle.pool_faults.specs.Labels.{part_label};
+ghost use Rattle.pool_faults.specs.declared.fault.DescriptorErrorKind.TheVariants.{InvalidFieldNumber};
+ghost use Rattle.proto_types.specs.declared.tag.field.TheConstants.{NUMBER};
 ghost use Rattle.proto_types.specs.declared.message.DescriptorProto.{out-DescriptorProto};
 ghost use Rattle.record_walk.specs.Counts.{fits_list};
 ghost use Rattle.record_walk.specs.Faults.{Tells, named_files};
@@ -19,11 +22,22 @@ pub(crate) fn check_valid(faults: &mut Faults, place: Place, number: i32) -> Res
     ensures { OnOk result (Tells faults.old faults.new
         (invalid_faults (named_files faults.old) place.entry.file place.entry.path.now number)) }
 {
-    if !is_valid_number(number) {
-        let found = faults.part_label(place, tag::field::NUMBER)?;
-        faults.push(DescriptorErrorKind::InvalidFieldNumber { number, found })?;
+    if is_valid_number(number) {
+        Ok(())
+    } else {
+        tell_invalid(faults, place, number)
     }
-    Ok(())
+}
+
+/// Appends to `faults` that no field may have a number.
+#[inline(never)]
+fn tell_invalid(faults: &mut Faults, place: Place, number: i32) -> Result<(), AllocError>
+    ensures { OnOk result (Tells faults.old faults.new
+        (InvalidFieldNumber number (part_label (named_files faults.old) place.entry.file
+        place.entry.path.now NUMBER) ∷ [])) }
+{
+    let found = faults.part_label(place, tag::field::NUMBER)?;
+    faults.push(DescriptorErrorKind::InvalidFieldNumber { number, found })
 }
 
 /// Appends to `faults` one for each reserved range of a message that holds the number.

@@ -109,6 +109,9 @@ fn read_oneofs(
     ensures begin { IfOk result (λ items. All (λ o. BeginsAtBoundary o.id) items.items) }
 {
     let oneofs = message.oneof_decl.as_slice();
+    if oneofs.is_empty() {
+        return Ok(Vec::new(alloc));
+    }
     let lists = members(alloc, oneofs, message.field.as_slice())?;
     let mut items = Vec::with_capacity(alloc, oneofs.len())?;
     for (position, oneof) in oneofs.iter().enumerate() {
