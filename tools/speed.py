@@ -11,9 +11,11 @@ For each script: the instructions of `build_files` and of the whole program, in 
 valgrind's callgrind counts them; and the requests for memory and the peak of the heap in kB, of the
 whole program, as its dhat counts them. Of sets as bytes: the instructions of what reads them and of
 what writes them, in the example of sets; and of the one call of the library for C that links a set.
-Instructions repeat themselves, whatever else a machine does.
+Instructions repeat themselves, whatever else a machine does. On the standard error each row is told
+beside the figures that docs/SPEED.md has, which are of the last tree.
 
-Exit status: 0, or 2 where nothing could be counted.
+Exit status: 0, 1 where something takes more than 2 % more than that page tells, or 2 where nothing
+could be counted.
 
 Needed are valgrind, and the program, which `rt run` or the gate builds.
 """
@@ -34,12 +36,39 @@ import library_speed
 
 TWELVE_FILES = Path(__file__).resolve().parent.parent / "crates/well_known/stdin"
 SET = TWELVE_FILES.parent.parent / "set_example/data/well_known.pb"
+PAGE = TWELVE_FILES.parent.parent.parent / "docs/SPEED.md"
+MORE = 1.02
+"""How many times what the page tells is seen as dearer."""
 LINKED = "*DescriptorPool::build_files*"
 SET_CALLS = {"three times `decode`": "*decoding::decode", "twice `encode`": "*encoding::encode"}
 
 
 class ToolError(Exception):
     """What keeps the tool from counting."""
+
+
+def figures(row: str) -> tuple[tuple[str, ...], list[float]]:
+    """What a row of the table is of, and the instructions that it tells, in millions."""
+    cells = [cell.strip() for cell in row.strip().strip("|").split("|")]
+    return tuple(cells[:2]), [float(cell) for cell in cells[2:4] if re.fullmatch(r"[\d.]+", cell)]
+
+
+class Table:
+    """The table, row by row, beside that of the page."""
+
+    def __init__(self, page: str) -> None:
+        self.before = dict(figures(line) for line in page.splitlines() if line.startswith("| "))
+        self.is_dearer = False
+
+    def tell(self, row: str) -> None:
+        """Prints a row, and on the standard error how it compares with that of the page."""
+        print(row, flush=True)
+        names, now = figures(row)
+        for old, new in zip(self.before.get(names, []), now):
+            is_dearer = new > old * MORE
+            self.is_dearer |= is_dearer
+            word = ", dearer" if is_dearer else ""
+            print(f"  {old:.2f} before, {new:.2f} now{word}", file=sys.stderr)
 
 
 def field(name: str, number: int, type_: str = "int32", type_name: str = "~") -> str:
@@ -315,58 +344,65 @@ def main() -> None:
             return
         if not (options.program or options.sets or options.library):
             raise ToolError("which program? see --help")
+        table = Table(PAGE.read_text())
         with tempfile.TemporaryDirectory() as name:
-            tell(options, rows, Path(name))
+            tell(options, rows, table, Path(name))
+        sys.exit(1 if table.is_dearer else 0)
     except (ToolError, library_speed.ToolError, OSError) as error:
         print(f"speed.py: {error}", file=sys.stderr)
         sys.exit(2)
 
 
-def tell(options: argparse.Namespace, rows: dict[str, Callable[[], str]], folder: Path) -> None:
+def tell(
+    options: argparse.Namespace,
+    rows: dict[str, Callable[[], str]],
+    table: Table,
+    folder: Path,
+) -> None:
     """Prints the table: the rows of scripts, of sets, and of the library, of what is given."""
     print("| batch | counted | million | of the whole | requests for memory | peak in kB |")
     print("|---|---|---|---|---|---|")
     if options.program:
-        tell_scripts(str(Path(options.program).resolve()), rows, folder)
+        tell_scripts(str(Path(options.program).resolve()), rows, table, folder)
     if options.sets:
-        tell_sets(str(Path(options.sets).resolve()), folder)
+        tell_sets(str(Path(options.sets).resolve()), table, folder)
     if options.library:
-        tell_library(Path(options.library).resolve(), folder)
+        tell_library(Path(options.library).resolve(), table, folder)
 
 
-def tell_scripts(program: str, rows: dict[str, Callable[[], str]], folder: Path) -> None:
+def tell_scripts(
+    program: str, rows: dict[str, Callable[[], str]], table: Table, folder: Path
+) -> None:
     script = folder / "script"
     for row, make in rows.items():
         script.write_text(make())
         linked = instructions([program], LINKED, script, folder)
         whole = instructions([program], "", script, folder)
         requests, peak = heap(program, script, folder)
-        print(
+        table.tell(
             f"| {row} | `build_files` | {linked:.2f} | {whole:.2f} | {requests:,} "
-            f"| {peak / 1000:,.0f} |",
-            flush=True,
+            f"| {peak / 1000:,.0f} |"
         )
 
 
-def tell_sets(program: str, folder: Path) -> None:
+def tell_sets(program: str, table: Table, folder: Path) -> None:
     """The example of sets reads a set of protobuf's files three times, and writes it twice."""
     whole = instructions([program], "", SET, folder)
     requests, peak = heap(program, SET, folder)
     for words, counted in SET_CALLS.items():
         count = instructions([program], counted, SET, folder)
-        print(
+        table.tell(
             f"| the example of sets: twelve files with their places, 116 kB | {words} "
-            f"| {count:.2f} | {whole:.2f} | {requests:,} | {peak / 1000:,.0f} |",
-            flush=True,
+            f"| {count:.2f} | {whole:.2f} | {requests:,} | {peak / 1000:,.0f} |"
         )
 
 
-def tell_library(archive: Path, folder: Path) -> None:
+def tell_library(archive: Path, table: Table, folder: Path) -> None:
     program, set_ = library_speed.made(archive, folder), folder / "set.pb"
     for row, data in library_speed.rows(folder):
         set_.write_bytes(data)
         count = library_speed.instructions(program, "protolink", set_) / 1e6
-        print(f"| {row}, as a set | `protolink_pool_add_set` | {count:.2f} | | | |", flush=True)
+        table.tell(f"| {row}, as a set | `protolink_pool_add_set` | {count:.2f} | | | |")
 
 
 if __name__ == "__main__":
