@@ -1,5 +1,7 @@
 -- What a pass has found once its visitor has been shown all declarations, and is gone.
-use Rattle.std.proofs.Common.{rules, ◌≡◌, ℕ, true, List, [], ◌∷◌, ◌++◌, length, ap, sym, subst, ◌∙◌, append-nil, Result, Ok, Err, OnOk, OnErr, IfErr}
+use Rattle.descriptor_pool.specs.GivenBack.{GivesBack, breaks_rules}
+use Rattle.descriptor_pool.specs.declared.error.BuildError.TheVariants.{TooMany, Descriptor, OutOfMemory}
+use Rattle.std.proofs.Common.{rules, IsTrue, ◌≡◌, ℕ, true, List, [], ◌∷◌, ◌++◌, length, ap, sym, subst, ◌∙◌, append-nil, Result, Ok, Err, OnOk, OnErr, IfErr}
 use Rattle.std.specs.List.{fold}
 use Rattle.std.specs.Result.{is_err}
 use Rattle.std.specs.declared.alloc.AllocError.{AllocError}
@@ -132,3 +134,27 @@ ok-is (Err e) x a b same is = tt
 pub after-err : {U E P : Type 0} (r : Result U E) → true ≡ is_err r → OnErr r P → P
 after-err (Ok u) failed p = absurd (search rules)
 after-err (Err e) failed p = p
+
+-- new files that were refused with an error are given back, where they are there
+pub given-err : {U : Type 0} (r : Result U BuildError) (error : BuildError) (new back : List FileDescriptorProto) → r ≡ Err error → back ≡ new → GivesBack r new back
+given-err {U} r error new back is same = subst (λ x. GivesBack x new back) (sym is) (given error)
+  where
+    given : (e : BuildError) → GivesBack {U = U} (Err e) new back
+    given (TooMany kind) = same
+    given (Descriptor error) = same
+    given OutOfMemory = tt
+
+-- where new files break rules, and are there, they are as many as are given back
+pub room-back : {U : Type 0} (r : Result U BuildError) (new there : List FileDescriptorProto) → GivesBack r new there → IsTrue (breaks_rules r) → there ≡ new
+room-back (Ok u) new there gives broken = absurd (search rules)
+room-back (Err (TooMany kind)) new there gives broken = gives
+room-back (Err (Descriptor error)) new there gives broken = gives
+room-back (Err OutOfMemory) new there gives broken = absurd (search rules)
+
+-- new files are given back that were there, or for which too little memory was left
+pub given-back : {U : Type 0} (r : Result U BuildError) (faults : Faults) (new there back : List FileDescriptorProto) → TellsAll r faults → GivesBack r new there
+    → (IsTrue (breaks_rules r) → back ≡ there) → GivesBack r new back
+given-back (Ok u) faults new there back told gives given = tt
+given-back (Err (TooMany kind)) faults new there back told gives given = absurd told
+given-back (Err (Descriptor error)) faults new there back told gives given = given (search rules) ∙ gives
+given-back (Err OutOfMemory) faults new there back told gives given = tt

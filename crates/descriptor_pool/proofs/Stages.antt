@@ -111,7 +111,7 @@ module _ (old added r : GrowingPool) (new : List FileDescriptorProto) (base_is :
   base-added : added.base ≡ old.base
   base-added = same-base old added added_kept
 
-  fresh : new_records added ≡ new
+  pub fresh : new_records added ≡ new
   fresh = new-of added.base.files added.inner.files.items (files_of before) new (ap (λ (n : Counts). n.files) base-added ∙ first-is) files-added
 
   rest-added : contents_in added.inner ≡ record before { files = (contents_in added.inner).files }
@@ -158,7 +158,7 @@ module _ (old added r : GrowingPool) (new : List FileDescriptorProto) (base_is :
       base-seen : t.base ≡ old.base
       base-seen = same-base r t still ∙ same-base added r r_kept ∙ base-added
 
-      fresh-seen : new_records t ≡ new
+      pub fresh-seen : new_records t ≡ new
       fresh-seen = new-of t.base.files t.inner.files.items (files_of before) new (ap (λ (n : Counts). n.files) base-seen ∙ first-is) files-seen
 
       declared-seen : declarations t.base (new_records t) ≡ declarations old.base new

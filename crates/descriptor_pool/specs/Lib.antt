@@ -1,5 +1,6 @@
 pub mod Pool
 pub mod Error
+pub mod GivenBack
 pub mod Invariant
 pub mod Build
 pub mod Outcome

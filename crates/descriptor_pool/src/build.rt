@@ -1,6 +1,6 @@
 //! How a batch is linked: the two passes over its declarations, and the roll-back.
 
-ghost use Rattle.std.specs.Prelude.{◌≡◌, ◌≤◌, ◌++◌, [], IsOk, IfOk, IfErr, OnOk, OnErr, length, map, drop};
+ghost use Rattle.std.specs.Prelude.{◌≡◌, ◌≤◌, ◌++◌, [], IsTrue, IsOk, IfOk, IfErr, OnOk, OnErr, length, map, drop};
 ghost use Rattle.std.specs.List.{AllByRecursion, fold};
 ghost use Rattle.pool_types.specs.Contents.{files_of};
 ghost use Rattle.record_walk.specs.Counts.{counts_in};
@@ -19,6 +19,7 @@ ghost use Rattle.name_pass.specs.Steps.{name_step, state_at};
 ghost use Rattle.descriptor_pool.specs.Items.{HasImports, HasItems, LinksNew, with_new_items};
 ghost use Rattle.pool_contents.specs.Inner.{contents_in, NamesLieIn};
 ghost use Rattle.descriptor_pool.specs.Error.{TellsAll, TellsFaults};
+ghost use Rattle.descriptor_pool.specs.GivenBack.{GivesBack, breaks_rules};
 ghost use Rattle.descriptor_pool.specs.Against.{setting_against};
 ghost use Rattle.reference_pass.specs.Linking.{ItemsAre, lists_in};
 ghost use Rattle.descriptor_pool.specs.Pool.{Made};
@@ -34,58 +35,86 @@ use reference_pass::{Linker, NewItems, NextItems, PoolExtensions, Reading, Resol
 use std::alloc::{AllocError, Global};
 use std::mem;
 
-/// Links new files behind those of a pool, in the pool itself. A refusal is rolled back.
+/// Links new files behind those of a pool, in the pool itself. A refusal is rolled back, and new
+/// files that break rules get their records back.
 pub(crate) fn link(
     alloc: Global,
     base: Counts,
     pool: &mut DescriptorPoolInner,
-    new: Vec<FileDescriptorProto>,
+    new: &mut [FileDescriptorProto],
 ) -> Result<(), BuildError>
     requires made { Made (contents_in pool.old) }
     requires base { base ≡ counts_in (contents_in pool.old) }
-    requires counts { IsOk (counts_with base new.items) }
+    requires counts { IsOk (counts_with base new.old) }
     requires before { NamesLieIn (contents_in pool.old) }
     requires numbers { NumbersLead (contents_in pool.old).extensions
         (contents_in pool.old).messages }
     requires names { AllNamesBegin (contents_in pool.old) }
-    requires short { ShortFiles (files_of (contents_in pool.old) ++ new.items) }
+    requires short { ShortFiles (files_of (contents_in pool.old) ++ new.old) }
     ensures ok { OnOk result (contents_in pool.new
-        ≡ with_batch (contents_in pool.old) new.items) }
-    ensures faults { TellsAll result (batch_faults (contents_in pool.old) new.items) }
+        ≡ with_batch (contents_in pool.old) new.old) }
+    ensures faults { TellsAll result (batch_faults (contents_in pool.old) new.old) }
     ensures err { OnErr result (contents_in pool.new ≡ contents_in pool.old) }
     ensures names { AllNamesBegin (contents_in pool.new) }
+    ensures back { GivesBack result new.old new.new }
 {
     let before = mem::replace(pool, DescriptorPoolInner::new(alloc));
     let mut growing = GrowingPool::new(base, before);
     let linked = link_new(alloc, &mut growing, new);
     if linked.is_err() {
-        growing.rollback();
+        take_back(&mut growing, new, &linked);
     }
     let GrowingPool { inner, .. } = growing;
     *pool = inner;
     linked
 }
 
+/// Takes away what came of new files that were refused. Where they break rules, their records are
+/// given back.
+fn take_back(
+    growing: &mut GrowingPool,
+    new: &mut [FileDescriptorProto],
+    linked: &Result<(), BuildError>,
+)
+    requires { IsTrue (breaks_rules linked.now) → length new.old
+        ≡ length (new_records growing.old) }
+    ensures pool { contents_in growing.new.inner ≡ rolled_back growing.old }
+    ensures given { IsTrue (breaks_rules linked.now) → new.new ≡ new_records growing.old }
+{
+    if breaks_rules(linked) {
+        growing.give_back(new);
+    }
+    growing.rollback();
+}
+
+/// Whether new files were refused since they break rules.
+fn breaks_rules(linked: &Result<(), BuildError>) -> bool
+    ensures { result ≡ breaks_rules linked.now }
+{
+    matches!(linked, Err(BuildError::Descriptor(_)))
+}
+
 /// Links new files behind those of a pool, to which nothing came yet. A refusal may leave anything
-/// behind them.
+/// behind them; but the records of files that break rules are there as they were.
 fn link_new(
     alloc: Global,
     pool: &mut GrowingPool,
-    new: Vec<FileDescriptorProto>,
+    new: &mut [FileDescriptorProto],
 ) -> Result<(), BuildError>
     requires made { Made (contents_in pool.old.inner) }
     requires base { pool.old.base ≡ counts_in (contents_in pool.old.inner) }
-    requires counts { IsOk (counts_with pool.old.base new.items) }
+    requires counts { IsOk (counts_with pool.old.base new.old) }
     requires whole { rolled_back pool.old ≡ contents_in pool.old.inner }
     requires numbers { NumbersLead pool.old.inner.extensions.items pool.old.inner.messages.items }
     requires before { NamesLieIn (contents_in pool.old.inner) }
     requires names { AllNamesBegin (contents_in pool.old.inner) }
-    requires short { ShortFiles (files_of (contents_in pool.old.inner) ++ new.items) }
+    requires short { ShortFiles (files_of (contents_in pool.old.inner) ++ new.old) }
     ensures ok { OnOk result (contents_in pool.new.inner
-        ≡ with_batch (contents_in pool.old.inner) new.items) }
-    ensures faults { TellsAll result (batch_faults (contents_in pool.old.inner) new.items) }
+        ≡ with_batch (contents_in pool.old.inner) new.old) }
+    ensures faults { TellsAll result (batch_faults (contents_in pool.old.inner) new.old) }
     ensures kept { OnErr result (rolled_back pool.new ≡ rolled_back pool.old) }
     ensures names { OnOk result (AllNamesBegin (contents_in pool.new.inner)) }
+    ensures there { GivesBack result new.old (new_records pool.new) }
 {
     pool.add_files(alloc, new)?;
     enter_names(alloc, pool)?;
@@ -105,6 +134,7 @@ fn enter_names(alloc: Global, pool: &mut GrowingPool) -> Result<(), BuildError>
         (first_pass (files_of (contents_in pool.old.inner)) (contents_in pool.old.inner)
         (declarations pool.old.base (new_records pool.old))) }
     ensures kept { rolled_back pool.new ≡ rolled_back pool.old }
+    ensures there { new_records pool.new ≡ new_records pool.old }
 {
     let mut faults = Faults::new(alloc, &pool.inner.files);
     show_names(
@@ -196,6 +226,7 @@ fn make_items(alloc: Global, pool: &mut GrowingPool) -> Result<(), BuildError>
         pool.old.inner.extensions.items (declarations pool.old.base (new_records pool.old))) }
     ensures kept { OnErr result (rolled_back pool.new ≡ rolled_back pool.old) }
     ensures names { OnOk result (AllNamesBegin (contents_in pool.new.inner)) }
+    ensures there { GivesBack result (new_records pool.old) (new_records pool.new) }
 {
     let items = read_items(alloc, pool)?;
     put_items(pool, items)?;

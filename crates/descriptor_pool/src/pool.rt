@@ -51,6 +51,7 @@ impl DescriptorPool {
     ghost use Rattle.pool_contents.specs.LookUps.{definition_named};
     ghost use Rattle.field_rules.specs.NamesBegin.{EnumNamesBegin};
     ghost use Rattle.reference_pass.specs.NamesBegin.{ExtensionNameBegins, MessageNamesBegin, ServiceNamesBegin};
+    ghost use Rattle.descriptor_pool.specs.GivenBack.{GivesBack};
     ghost use Rattle.descriptor_pool.specs.Outcome.{Outcome};
     ghost use Rattle.descriptor_pool.specs.Pool.{new_files};
     ghost use Rattle.descriptor_pool.specs.References.{AllNamed, AllResolved};
@@ -223,12 +224,29 @@ impl DescriptorPool {
         ensures outcome { Outcome self.old files.items result self.new }
         ensures nothing_new { new_files self.old files.items ≡ [] → IsOk result }
     {
-        self.inner.retain_new(&mut files);
+        self.link_or_give_back(&mut files)
+    }
+
+    /// Links the files of a batch as `build_files` does. Where it is refused, but for memory, the
+    /// list has its new files as they were; those that were passed over are gone. What else is left
+    /// in the list isn't said.
+    ///
+    /// # Errors
+    /// Those of `build_files`, at the same batches.
+    pub fn link_or_give_back(
+        &mut self,
+        files: &mut Vec<FileDescriptorProto>,
+    ) -> Result<(), BuildError>
+        ensures outcome { Outcome self.old files.old.items result self.new }
+        ensures nothing_new { new_files self.old files.old.items ≡ [] → IsOk result }
+        ensures back { GivesBack result (new_files self.old files.old.items) files.new.items }
+    {
+        self.inner.retain_new(files);
         if files.is_empty() {
             return Ok(());
         }
         let base = self.counts();
-        if let Err(kind) = base.with_files(&files) {
+        if let Err(kind) = base.with_files(files) {
             return Err(BuildError::TooMany(kind));
         }
         link(self.alloc, base, &mut self.inner, files)

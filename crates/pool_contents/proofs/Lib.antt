@@ -2,3 +2,4 @@ pub mod Each
 pub mod Seeing
 pub mod Extending
 pub mod Numbered
+pub mod Returned

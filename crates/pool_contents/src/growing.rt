@@ -15,6 +15,7 @@ use proto_types::FileDescriptorProto;
 use record_walk::Counts;
 use std::alloc::{AllocError, Global};
 use std::collections::BTreeSet;
+use std::mem;
 
 /// What a pool holds while a batch is linked into it, and how much it had before. What a roll-back
 /// would give stays at each call, after a refusal too, but where extensions have been put into
@@ -38,7 +39,7 @@ impl GrowingPool {
     ghost use Rattle.name_resolution.specs.Sight.{AskedBefore};
     ghost use Rattle.pool_contents.specs.Inner.{contents_in, NamesLieIn};
     ghost use Rattle.name_tables.specs.NameTables.{FileNamesBefore};
-    ghost use Rattle.pool_contents.specs.Growing.{file_seeing, files_seeing, first_extension, first_new, rolled_back};
+    ghost use Rattle.pool_contents.specs.Growing.{file_seeing, files_seeing, first_extension, first_new, new_records, rolled_back};
     ghost use Rattle.pool_contents.specs.Extended.{extended_between, with_extended, NumbersLieBefore};
 
     /// A pool before anything of a batch came, and how much it has. Its names mean something in its
@@ -54,26 +55,40 @@ impl GrowingPool {
     }
 
     /// Puts new files behind the others as they are, without anything that linking makes of them.
-    /// Their records are moved.
+    /// Their records are moved, and leave empty ones behind.
     ///
     /// # Errors
     /// `AllocError` where memory was refused.
     pub fn add_files(
         &mut self,
         alloc: Global,
-        new: Vec<FileDescriptorProto>,
+        new: &mut [FileDescriptorProto],
     ) -> Result<(), AllocError>
         ensures ok { OnOk result (contents_in self.new.inner
             ≡ record (contents_in self.old.inner)
-            { files = self.old.inner.files.items ++ map unlinked new.items }) }
+            { files = self.old.inner.files.items ++ map unlinked new.old }) }
         ensures kept { rolled_back self.new ≡ rolled_back self.old }
     {
         self.inner.files.reserve(new.len())?;
-        self.inner.names.reserve(names_of_files(&new))?;
-        for file in new {
+        self.inner.names.reserve(names_of_files(new))?;
+        for index in 0..new.len() {
+            let file = mem::replace(&mut new[index], FileDescriptorProto::empty(alloc));
             self.inner.files.push(unlinked(alloc, file))?;
         }
         Ok(())
+    }
+
+    /// Gives the records of all files that came back, in place of as many others. It takes no memory.
+    pub fn give_back(&mut self, records: &mut [FileDescriptorProto])
+        requires { length records.old ≡ length (new_records self.old) }
+        ensures given { records.new ≡ new_records self.old }
+        ensures kept { rolled_back self.new ≡ rolled_back self.old }
+    {
+        let first = self.base.files as usize;
+        for index in 0..records.len() {
+            let item = &mut self.inner.files[first + index];
+            mem::swap(&mut records[index], &mut item.raw);
+        }
     }
 
     /// Gives each file that came the files that it imports and those that it sees, of all that

@@ -13,7 +13,7 @@ use Rattle.descriptor_pool.proofs.build.link.Goals.{then-is_err, else-is_err}
 
 pub returns-clause-faults : goal.returns-clause-faults
 returns-clause-faults c =
-    let Tells : DescriptorPoolInner → Type 0 = λ q. TellsAll c.link_new-linked.result (batch_faults (contents_in q) c.args.new.items) in
+    let Tells : DescriptorPoolInner → Type 0 = λ q. TellsAll c.link_new-linked.result (batch_faults (contents_in q) c.args.new.now) in
     subst Tells (c.new-growing.ensures.inner ∙ c.replace-before.ensures.value) c.link_new-linked.ensures.faults
 
 pub returns-clause-names : goal.returns-clause-names
@@ -21,7 +21,7 @@ returns-clause-names c =
     let linked = c.link_new-linked in
     elim c.if-is_err.branch [
       | then-is_err w ↦
-          let same = ap (λ (g : GrowingPool). contents_in g.inner) w.growing-is ∙ w.rollback.ensures ∙ after-err linked.result w.if-is_err.ensures.value linked.ensures.kept
+          let same = ap (λ (g : GrowingPool). contents_in g.inner) w.growing-is ∙ w.take_back.ensures.pool ∙ after-err linked.result w.if-is_err.ensures.value linked.ensures.kept
           ∙ c.new-growing.ensures.kept ∙ ap contents_in c.replace-before.ensures.value in
           subst AllNamesBegin (sym same) c.requires.names
       | else-is_err w ↦
@@ -41,5 +41,5 @@ returns-clause-ok c =
       | then-is_err w ↦ no-ok linked.result _ w.if-is_err.ensures.value
       | else-is_err w ↦
           let same = ap (λ (g : GrowingPool). contents_in g.inner) w.growing-is in
-          on-ok linked.result (λ is. same ∙ is ∙ ap (λ p. with_batch p c.args.new.items) start) linked.ensures.ok
+          on-ok linked.result (λ is. same ∙ is ∙ ap (λ p. with_batch p c.args.new.now) start) linked.ensures.ok
     ]
