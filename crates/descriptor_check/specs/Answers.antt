@@ -5,18 +5,19 @@ use Rattle.std.specs.Option.{option_map}
 use Rattle.std.specs.declared.option.Option.{Option}
 use Rattle.std.specs.declared.option.Option.TheVariants.{None}
 use Rattle.pool_faults.specs.declared.fault.DescriptorErrorKind.{DescriptorErrorKind}
-use Rattle.pool_types.specs.Contents.{Contents}
+use Rattle.pool_types.specs.Contents.{Contents, files_of}
 use Rattle.proto_types.specs.declared.file.FileDescriptorProto.{FileDescriptorProto}
 use Rattle.record_walk.specs.Counts.{counts_in}
 use Rattle.record_walk.specs.declared.counts.CountKind.{CountKind}
-use Rattle.stored_pools.specs.Stored.{stored}
+use Rattle.descriptor_encoding.specs.Encoding.{set_encoding}
+use Rattle.fault_texts.specs.declared.told.ToldFault.{ToldFault}
 use Rattle.descriptor_check.specs.Accepted.{accepted_text}
 use Rattle.descriptor_check.specs.Batches.{batch_of}
 use Rattle.descriptor_check.specs.Complaints.{complaint, no_answer}
 use Rattle.descriptor_check.specs.Described.{described, unknown_names}
 use Rattle.descriptor_check.specs.Listed.{listed}
 use Rattle.descriptor_check.specs.Objects.{accepted_json, refused_json, too_many_json, unread_json}
-use Rattle.descriptor_check.specs.Refused.{refused_text, too_many_text}
+use Rattle.descriptor_check.specs.Refused.{first_told, refused_text, too_many_text}
 use Rattle.descriptor_check.specs.Unread.{unread_words}
 use Rattle.descriptor_check.specs.Verdicts.{verdict_of}
 use Rattle.descriptor_check.specs.declared.answer.Answer.{Answer}
@@ -26,6 +27,7 @@ use Rattle.descriptor_check.specs.declared.answer.Status.TheVariants as status
 use Rattle.descriptor_check.specs.declared.answer.Wanted.{Wanted}
 use Rattle.descriptor_check.specs.declared.batches.NotASet.{NotASet}
 use Rattle.descriptor_check.specs.declared.inputs.Input.{Input}
+use Rattle.descriptor_check.specs.declared.verdicts.Refusal.{Refusal}
 use Rattle.descriptor_check.specs.declared.verdicts.Verdict.{Verdict}
 use Rattle.descriptor_check.specs.declared.verdicts.Verdict.TheVariants.{Accepted, Refused, TooMany}
 
@@ -54,7 +56,7 @@ accepted_report w p =
 
 -- the set of the linked files, for the file with a name
 abbrev pub set_for : List ℕ → Contents → LinkedSet
-set_for name p = record { name = name; bytes = stored p }
+set_for name p = record { name = name; bytes = set_encoding (record { file = files_of p }) }
 
 -- the same, where it is wanted
 abbrev pub linked_set : Wanted → Contents → Option LinkedSet
@@ -70,10 +72,15 @@ accepted_unless w p (c ∷ cs) = no_answer [] (c ∷ cs)
 abbrev pub accepted_answer : Wanted → Contents → Answer
 accepted_answer w p = accepted_unless w p (unknown_names p w.names)
 
--- of a refused one, whose faults these are
-abbrev pub refused_answer : Wanted → List FileDescriptorProto → List DescriptorErrorKind → Answer
-refused_answer w files faults = told status.Refused
-    (if w.is_json then refused_json files w.most faults else refused_text files w.most faults)
+-- what is told of a refused one, by the faults that are told
+abbrev pub refused_report : Wanted → List ToldFault → List DescriptorErrorKind → List ℕ
+refused_report w told faults =
+    if w.is_json then refused_json told w.most faults else refused_text told w.most faults
+
+-- of a refused one
+abbrev pub refused_answer : Wanted → Refusal → Answer
+refused_answer w refusal = told status.Refused
+    (refused_report w (first_told refusal.files w.most refusal.faults) refusal.faults)
 
 -- of one that has too much of a kind
 abbrev pub too_many_answer : Wanted → CountKind → Answer
@@ -86,14 +93,14 @@ unread_answer w n =
     no_answer (if w.is_json then unread_json (unread_words n) else []) (complaint (unread_words n))
 
 -- the answer for a verdict on a batch
-abbrev pub verdict_answer : Wanted → List FileDescriptorProto → Verdict → Answer
-verdict_answer w files (Accepted p) = accepted_answer w p
-verdict_answer w files (Refused faults) = refused_answer w files faults
-verdict_answer w files (TooMany kind) = too_many_answer w kind
+abbrev pub verdict_answer : Wanted → Verdict → Answer
+verdict_answer w (Accepted p) = accepted_answer w p
+verdict_answer w (Refused refusal) = refused_answer w refusal
+verdict_answer w (TooMany kind) = too_many_answer w kind
 
 -- the answer for a batch, or for an input that is no set
 abbrev pub answer_for : Wanted → Result (List FileDescriptorProto) NotASet → Answer
-answer_for w (Ok batch) = verdict_answer w batch (verdict_of batch)
+answer_for w (Ok batch) = verdict_answer w (verdict_of batch)
 answer_for w (Err n) = unread_answer w n
 
 -- the answer for some inputs

@@ -1,7 +1,6 @@
 -- The batch of some inputs: the files of their sets, a repeated one once.
 use Rattle.std.specs.Prelude.{◌≡◌, ℕ, Bool, false, List, [], ◌∷◌, ◌++◌, Result, Ok, Err, fold, if◌then◌else◌}
 use Rattle.std.specs.Option.{option_map_or}
-use Rattle.std.specs.Result.{result_unwrap_or}
 use Rattle.std.specs.declared.option.Option.{Option}
 use Rattle.wire_format.specs.declared.fault.WireFault.{WireFault}
 use Rattle.proto_types.specs.Readers.{text_of}
@@ -68,10 +67,6 @@ batch_behind files (i ∷ is) =
 -- the batch of some inputs, or the first that is no set
 unfoldable pub batch_of : List Input → Result (List FileDescriptorProto) NotASet
 batch_of inputs = batch_behind [] inputs
-
--- the batch of some inputs, or no files where one is no set
-abbrev pub files_in : List Input → List FileDescriptorProto
-files_in inputs = result_unwrap_or (batch_of inputs) []
 
 -- an input that is no set, as an error
 abbrev pub no_set : Input → Flaw → BatchError

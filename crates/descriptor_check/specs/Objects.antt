@@ -2,13 +2,13 @@
 use Rattle.std.specs.Prelude.{ℕ, ◌-◌, List, [], ◌++◌, codes, length}
 use Rattle.std.specs.Fmt.{decimal}
 use Rattle.pool_faults.specs.declared.fault.DescriptorErrorKind.{DescriptorErrorKind}
-use Rattle.proto_types.specs.declared.file.FileDescriptorProto.{FileDescriptorProto}
+use Rattle.fault_texts.specs.declared.told.ToldFault.{ToldFault}
 use Rattle.record_walk.specs.declared.counts.Counts.{Counts}
 use Rattle.record_walk.specs.declared.counts.CountKind.{CountKind}
 use Rattle.json_strings.specs.JsonStrings.{json_string}
 use Rattle.descriptor_check.specs.Accepted.{json_counts}
 use Rattle.script_answers.specs.Answers.{count_word}
-use Rattle.descriptor_check.specs.Refused.{json_faults, told_faults}
+use Rattle.descriptor_check.specs.Refused.{json_faults}
 
 -- an object: its first members, its faults, and its last members
 abbrev pub object : List ℕ → List ℕ → List ℕ → List ℕ
@@ -30,11 +30,11 @@ abbrev pub accepted_json : Counts → List ℕ
 accepted_json counts =
     object (head (codes "accepted") (json_counts counts) (codes "null")) [] (tail 0 (codes "null"))
 
--- the object of a refused one, with so many faults at most
-abbrev pub refused_json : List FileDescriptorProto → ℕ → List DescriptorErrorKind → List ℕ
-refused_json files most faults =
-    object (head (codes "refused") (codes "null") (codes "null"))
-    (json_faults files (told_faults files most faults)) (tail (length faults - most) (codes "null"))
+-- the object of a refused one, with the faults that are told, so many at most
+abbrev pub refused_json : List ToldFault → ℕ → List DescriptorErrorKind → List ℕ
+refused_json told most faults =
+    object (head (codes "refused") (codes "null") (codes "null")) (json_faults told)
+    (tail (length faults - most) (codes "null"))
 
 -- the object of one that has too much of a kind
 abbrev pub too_many_json : CountKind → List ℕ

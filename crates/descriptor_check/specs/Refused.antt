@@ -12,9 +12,9 @@ use Rattle.pool_faults.specs.declared.label.Label.{Label}
 use Rattle.proto_types.specs.declared.file.FileDescriptorProto.{FileDescriptorProto}
 use Rattle.record_walk.specs.declared.counts.CountKind.{CountKind}
 use Rattle.fault_texts.specs.JsonFaults.{json_fault}
-use Rattle.fault_texts.specs.Placed.{placed_faults}
-use Rattle.fault_texts.specs.Places.{places_of}
 use Rattle.fault_texts.specs.PlainFaults.{fault_lines}
+use Rattle.fault_texts.specs.Told.{told_faults}
+use Rattle.fault_texts.specs.declared.told.ToldFault.{ToldFault}
 use Rattle.script_answers.specs.Answers.{count_word}
 use Rattle.descriptor_check.specs.Grouped.{grouped, grouped_count}
 
@@ -47,29 +47,19 @@ abbrev pub refused_line : ℕ → List ℕ
 refused_line n =
     codes "refused: " ++ (grouped_count n (codes "fault") (codes "faults") ++ codes "\n")
 
--- the first faults of a batch, each with where it stands
-abbrev pub told_faults : List FileDescriptorProto → ℕ → List DescriptorErrorKind
-    → List (DescriptorErrorKind × Option Label)
-told_faults files most faults = placed_faults (places_of files) (take most faults)
+-- the first faults of a batch, as they are told
+abbrev pub first_told : List FileDescriptorProto → ℕ → List DescriptorErrorKind → List ToldFault
+first_told files most faults = told_faults files (take most faults)
 
--- the lines of a fault with where it stands
-abbrev pub told_lines : List FileDescriptorProto → DescriptorErrorKind × Option Label → List ℕ
-told_lines files told = fault_lines files told.0 told.1
-
--- a fault with where it stands as an object of JSON
-abbrev pub told_json : List FileDescriptorProto → DescriptorErrorKind × Option Label → List ℕ
-told_json files told = json_fault files told.0 told.1
-
--- the first faults, how many more there are and in how many files, and how many there are
-abbrev pub refused_text : List FileDescriptorProto → ℕ → List DescriptorErrorKind → List ℕ
-refused_text files most faults = flat_map (told_lines files) (told_faults files most faults)
-    ++ (more_line (drop most faults) ++ refused_line (length faults))
+-- the faults that are told, how many more there are and in how many files, and how many there are
+abbrev pub refused_text : List ToldFault → ℕ → List DescriptorErrorKind → List ℕ
+refused_text told most faults =
+    flat_map fault_lines told ++ (more_line (drop most faults) ++ refused_line (length faults))
 
 -- faults with a comma between each two
-abbrev pub json_faults : List FileDescriptorProto → List (DescriptorErrorKind × Option Label)
-    → List ℕ
-json_faults files [] = []
-json_faults files (f ∷ fs) = told_json files f ++ flat_map (λ g. 44 ∷ told_json files g) fs
+abbrev pub json_faults : List ToldFault → List ℕ
+json_faults [] = []
+json_faults (f ∷ fs) = json_fault f ++ flat_map (λ g. 44 ∷ json_fault g) fs
 
 -- the line that tells of what there is too much
 abbrev pub too_many_text : CountKind → List ℕ

@@ -2,7 +2,6 @@
 
 ghost use Rattle.std.specs.Prelude.{◌≡◌, ◌++◌, IfOk, OnOk, string_bytes};
 ghost use Rattle.descriptor_check.specs.Answers as spec;
-ghost use Rattle.descriptor_check.specs.Batches.{files_in};
 ghost use Rattle.descriptor_check.specs.declared.answer.Status.TheVariants.{Accepted};
 
 use crate::accepted::accepted_text;
@@ -13,16 +12,16 @@ use crate::described::{unknown_names, write_names};
 use crate::inputs::Input;
 use crate::listed::write_list;
 use crate::objects::{accepted_json, refused_json, too_many_json, unread_json};
-use crate::refused::{refused_text, too_many_text};
+use crate::refused::{first_faults, refused_text, too_many_text};
 use crate::unread::unread_words;
-use crate::verdicts::{Verdict, verdict_on};
+use crate::verdicts::{Refusal, Verdict, verdict_on};
+use descriptor_encoding::encode;
 use descriptor_pool::DescriptorPool;
+use fault_texts::tell_faults;
 use plain_data::{Items, Text};
-use pool_faults::DescriptorErrorKind;
-use proto_types::FileDescriptorProto;
+use proto_types::FileDescriptorSet;
 use record_walk::CountKind;
 use std::alloc::{AllocError, Global};
-use stored_pools::store;
 
 /// The verdict on the files of some inputs, linked as one batch, as text and as a status, and what
 /// is wanted of an accepted batch besides. Where a name is to be told that means nothing in it, there
@@ -30,53 +29,32 @@ use stored_pools::store;
 ///
 /// # Errors
 /// `AllocError` where memory was refused.
-#[tactic(auto, using(crate::proofs::FilesIn::files_in_is))]
 pub fn check(alloc: Global, wanted: &Wanted, inputs: &[Input]) -> Result<Answer, AllocError>
     ensures { IfOk result (λ answer. answer ≡ spec.answer wanted.now inputs.now) }
 {
     match read_batch(alloc, inputs) {
         Ok(batch) => {
             let verdict = verdict_on(alloc, batch)?;
-            tell_verdict(alloc, wanted, inputs, &verdict)
+            tell_verdict(alloc, wanted, &verdict)
         }
         Err(BatchError::NotASet(input)) => tell_unread(alloc, wanted, &input),
         Err(BatchError::OutOfMemory) => Err(AllocError),
     }
 }
 
-/// What is told of a verdict on the files of some inputs, which are decoded again for a refusal.
-fn tell_verdict(
-    alloc: Global,
-    wanted: &Wanted,
-    inputs: &[Input],
-    verdict: &Verdict,
-) -> Result<Answer, AllocError>
-    ensures { IfOk result (λ answer. answer
-        ≡ spec.verdict_answer wanted.now (files_in inputs.now) verdict.now) }
+/// What is told of a verdict.
+fn tell_verdict(alloc: Global, wanted: &Wanted, verdict: &Verdict) -> Result<Answer, AllocError>
+    ensures { IfOk result (λ answer. answer ≡ spec.verdict_answer wanted.now verdict.now) }
 {
     match verdict {
         Verdict::Accepted(pool) => tell_accepted(alloc, wanted, pool),
-        Verdict::Refused(faults) => {
-            let files = files_of(alloc, inputs)?;
-            tell_refused(alloc, wanted, files.as_slice(), faults.as_slice())
-        }
+        Verdict::Refused(refusal) => tell_refused(alloc, wanted, refusal),
         Verdict::TooMany(kind) => tell_too_many(alloc, wanted, *kind),
     }
 }
 
-/// The files of some inputs, or none where one is no set.
-fn files_of(alloc: Global, inputs: &[Input]) -> Result<Items<FileDescriptorProto>, AllocError>
-    ensures { IfOk result (λ files. files ≡ files_in inputs.now) }
-{
-    match read_batch(alloc, inputs) {
-        Ok(files) => Ok(files),
-        Err(BatchError::NotASet(_)) => Ok(Items::new(alloc)),
-        Err(BatchError::OutOfMemory) => Err(AllocError),
-    }
-}
-
 /// A verdict that is told by a text.
-fn told(alloc: Global, status: Status, report: String) -> Answer
+fn told_by(alloc: Global, status: Status, report: String) -> Answer
     ensures { result ≡ spec.told status (string_bytes report) }
 {
     Answer {
@@ -169,25 +147,28 @@ fn set_for(alloc: Global, name: &Text, pool: &DescriptorPool) -> Result<LinkedSe
     ensures { IfOk result (λ set. set ≡ spec.set_for name.now pool.now) }
 {
     let name = name.clone(alloc)?;
-    let bytes = Items::from_vec(store(alloc, pool)?);
-    Ok(LinkedSet { name, bytes })
+    let file = Items::from_vec(pool.linked_files()?);
+    let bytes = encode(alloc, &FileDescriptorSet { file })?;
+    Ok(LinkedSet {
+        name,
+        bytes: Items::from_vec(bytes),
+    })
 }
 
-fn tell_refused(
-    alloc: Global,
-    wanted: &Wanted,
-    files: &[FileDescriptorProto],
-    faults: &[DescriptorErrorKind],
-) -> Result<Answer, AllocError>
-    ensures { IfOk result (λ answer. answer
-        ≡ spec.refused_answer wanted.now files.now faults.now) }
+/// What is told of a batch that breaks rules: the first of its faults, as lines or as an object.
+fn tell_refused(alloc: Global, wanted: &Wanted, refusal: &Refusal) -> Result<Answer, AllocError>
+    ensures { IfOk result (λ answer. answer ≡ spec.refused_answer wanted.now refusal.now) }
 {
+    let faults = refusal.faults.as_slice();
+    let files = refusal.files.as_slice();
+    let told = tell_faults(alloc, files, first_faults(faults, wanted.most))?;
+    let told = told.as_slice();
     let report = if wanted.is_json {
-        refused_json(alloc, files, wanted.most, faults)?
+        refused_json(alloc, told, wanted.most, faults)?
     } else {
-        refused_text(alloc, files, wanted.most, faults)?
+        refused_text(alloc, told, wanted.most, faults)?
     };
-    Ok(told(alloc, Status::Refused, report))
+    Ok(told_by(alloc, Status::Refused, report))
 }
 
 fn tell_too_many(alloc: Global, wanted: &Wanted, kind: CountKind) -> Result<Answer, AllocError>
@@ -198,7 +179,7 @@ fn tell_too_many(alloc: Global, wanted: &Wanted, kind: CountKind) -> Result<Answ
     } else {
         too_many_text(alloc, kind)?
     };
-    Ok(told(alloc, Status::Refused, report))
+    Ok(told_by(alloc, Status::Refused, report))
 }
 
 fn tell_unread(alloc: Global, wanted: &Wanted, input: &NotASet) -> Result<Answer, AllocError>
@@ -222,5 +203,5 @@ fn tell_unread(alloc: Global, wanted: &Wanted, input: &NotASet) -> Result<Answer
 pub fn tell(alloc: Global, words: &str) -> Result<Answer, AllocError>
     ensures { IfOk result (λ answer. answer ≡ spec.told Accepted words.now) }
 {
-    Ok(told(alloc, Status::Accepted, String::from_str(alloc, words)?))
+    Ok(told_by(alloc, Status::Accepted, String::from_str(alloc, words)?))
 }

@@ -25,4 +25,4 @@ pub use inputs::Input;
 pub use objects::{refused_json, too_many_json, unread_json};
 pub use refused::{refused_text, too_many_text};
 pub use unread::bytes_words;
-pub use verdicts::{Verdict, verdict_on};
+pub use verdicts::{Refusal, Verdict, verdict_on};

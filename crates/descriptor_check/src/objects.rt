@@ -4,11 +4,10 @@ ghost use Rattle.std.specs.Prelude.{◌≡◌, IfOk, string_bytes};
 ghost use Rattle.descriptor_check.specs.Objects as spec;
 
 use crate::accepted::json_counts;
-use crate::refused::{first_faults, json_faults};
-use fault_texts::{Places, place_faults};
+use crate::refused::json_faults;
+use fault_texts::ToldFault;
 use json_strings::json_string;
 use pool_faults::DescriptorErrorKind;
-use proto_types::FileDescriptorProto;
 use record_walk::{CountKind, Counts};
 use script_answers::count_word;
 use std::alloc::{AllocError, Global};
@@ -45,21 +44,19 @@ pub(crate) fn accepted_json(alloc: Global, counts: Counts) -> Result<String, All
     object(alloc, head.as_str(), "", tail.as_str())
 }
 
-/// The object of a batch that is refused: its first faults, and how many more there are.
+/// The object of a batch that is refused: the faults that are told, and how many more there are.
 ///
 /// # Errors
 /// `AllocError` where memory was refused.
 pub fn refused_json(
     alloc: Global,
-    files: &[FileDescriptorProto],
+    told: &[ToldFault],
     most: usize,
     faults: &[DescriptorErrorKind],
 ) -> Result<String, AllocError>
-    ensures { IfOk result (λ s. string_bytes s ≡ spec.refused_json files.now most faults.now) }
+    ensures { IfOk result (λ s. string_bytes s ≡ spec.refused_json told.now most faults.now) }
 {
-    let places = Places::of(alloc, files)?;
-    let told = place_faults(alloc, &places, first_faults(faults, most))?;
-    let told = json_faults(alloc, files, told.as_slice())?;
+    let told = json_faults(alloc, told)?;
     let head = head(alloc, "refused", "null", "null")?;
     let tail = tail(alloc, faults.len().saturating_sub(most), "null")?;
     object(alloc, head.as_str(), told.as_str(), tail.as_str())

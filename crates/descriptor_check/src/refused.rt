@@ -2,30 +2,25 @@
 
 ghost use Rattle.std.specs.Prelude.{◌≡◌, ◌∷◌, ◌++◌, IfOk, OnOk, string_bytes, take, drop, length, map};
 ghost use Rattle.std.specs.List.{flat_map};
-ghost use Rattle.fault_texts.specs.Placed.{placed};
+ghost use Rattle.fault_texts.specs.JsonFaults.{json_fault};
+ghost use Rattle.fault_texts.specs.PlainFaults.{fault_lines};
 ghost use Rattle.descriptor_check.specs.Refused as spec;
 
 use crate::grouped::{grouped, grouped_count};
-use fault_texts::{PlacedFault, Places, json_fault, place_faults, write_fault_lines};
+use fault_texts::{ToldFault, write_fault_json, write_fault_lines};
 use pool_faults::DescriptorErrorKind;
-use proto_types::FileDescriptorProto;
 use record_walk::CountKind;
 use script_answers::count_word;
 use std::alloc::{AllocError, Global};
 use std::collections::BTreeSet;
 
 /// Writes faults as lines.
-fn write_faults(
-    alloc: Global,
-    text: &mut String,
-    files: &[FileDescriptorProto],
-    faults: &[PlacedFault],
-) -> Result<(), AllocError>
+fn write_faults(alloc: Global, text: &mut String, told: &[ToldFault]) -> Result<(), AllocError>
     ensures { OnOk result (string_bytes text.new ≡ string_bytes text.old
-        ++ flat_map (spec.told_lines files.now) (map placed faults.now)) }
+        ++ flat_map fault_lines told.now) }
 {
-    for fault in faults {
-        write_fault_lines(alloc, text, files, fault)?;
+    for fault in told {
+        write_fault_lines(alloc, text, fault)?;
     }
     Ok(())
 }
@@ -114,23 +109,21 @@ fn further_faults(faults: &[DescriptorErrorKind], most: usize) -> &[DescriptorEr
     }
 }
 
-/// The first faults, how many more there are and in how many files, and how many there are, for
-/// people.
+/// The faults that are told, how many more there are and in how many files, and how many there are,
+/// for people.
 ///
 /// # Errors
 /// `AllocError` where memory was refused.
 pub fn refused_text(
     alloc: Global,
-    files: &[FileDescriptorProto],
+    told: &[ToldFault],
     most: usize,
     faults: &[DescriptorErrorKind],
 ) -> Result<String, AllocError>
-    ensures { IfOk result (λ s. string_bytes s ≡ spec.refused_text files.now most faults.now) }
+    ensures { IfOk result (λ s. string_bytes s ≡ spec.refused_text told.now most faults.now) }
 {
     let mut text = String::new(alloc);
-    let places = Places::of(alloc, files)?;
-    let told = place_faults(alloc, &places, first_faults(faults, most))?;
-    write_faults(alloc, &mut text, files, told.as_slice())?;
+    write_faults(alloc, &mut text, told)?;
     let more = more_line(alloc, further_faults(faults, most))?;
     text.push_str(more.as_str())?;
     let count = refused_line(alloc, faults.len())?;
@@ -139,39 +132,27 @@ pub fn refused_text(
 }
 
 /// Writes faults as objects of JSON, with a comma before each.
-fn write_further(
-    alloc: Global,
-    text: &mut String,
-    files: &[FileDescriptorProto],
-    faults: &[PlacedFault],
-) -> Result<(), AllocError>
+fn write_further(text: &mut String, told: &[ToldFault]) -> Result<(), AllocError>
     ensures { OnOk result (string_bytes text.new ≡ string_bytes text.old
-        ++ flat_map (λ g. 44 ∷ spec.told_json files.now g) (map placed faults.now)) }
+        ++ flat_map (λ g. 44 ∷ json_fault g) told.now) }
 {
-    for fault in faults {
+    for fault in told {
         text.push(',')?;
-        text.push_str(json_fault(alloc, files, fault)?.as_str())?;
+        write_fault_json(text, fault)?;
     }
     Ok(())
 }
 
 /// Faults as objects of JSON, with a comma between each two.
-pub(crate) fn json_faults(
-    alloc: Global,
-    files: &[FileDescriptorProto],
-    faults: &[PlacedFault],
-) -> Result<String, AllocError>
-    ensures { IfOk result (λ s. string_bytes s
-        ≡ spec.json_faults files.now (map placed faults.now)) }
+pub(crate) fn json_faults(alloc: Global, told: &[ToldFault]) -> Result<String, AllocError>
+    ensures { IfOk result (λ s. string_bytes s ≡ spec.json_faults told.now) }
 {
-    match faults {
-        [] => Ok(String::new(alloc)),
-        [first, rest @ ..] => {
-            let mut text = json_fault(alloc, files, first)?;
-            write_further(alloc, &mut text, files, rest)?;
-            Ok(text)
-        }
+    let mut text = String::new(alloc);
+    if let [first, rest @ ..] = told {
+        write_fault_json(&mut text, first)?;
+        write_further(&mut text, rest)?;
     }
+    Ok(text)
 }
 
 /// The line that tells of what there is too much.

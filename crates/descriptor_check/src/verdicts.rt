@@ -6,20 +6,28 @@ ghost use Rattle.descriptor_check.specs.Verdicts as spec;
 use descriptor_pool::{BuildError, DescriptorPool};
 use plain_data::Items;
 use pool_faults::{DescriptorError, DescriptorErrorKind};
-use proto_types::{FileDescriptorProto, FileDescriptorSet};
+use proto_types::FileDescriptorProto;
 use record_walk::CountKind;
 use std::alloc::{AllocError, Global};
-use stored_pools::link;
 
 /// The verdict on a batch.
 #[derive(Drop)]
 pub enum Verdict {
     /// It breaks no rule: the pool of its files.
     Accepted(DescriptorPool),
-    /// It breaks rules: all faults of the first failing pass, in order.
-    Refused(Items<DescriptorErrorKind>),
+    /// It breaks rules.
+    Refused(Refusal),
     /// No pool has room for it: the first kind of which there is too much.
     TooMany(CountKind),
+}
+
+/// A batch that breaks rules.
+#[derive(Drop)]
+pub struct Refusal {
+    /// Its files, as they were.
+    pub files: Items<FileDescriptorProto>,
+    /// All faults of the first failing pass, in order.
+    pub faults: Items<DescriptorErrorKind>,
 }
 
 /// The verdict on a batch, linked into a pool without files.
@@ -29,21 +37,26 @@ pub enum Verdict {
 pub fn verdict_on(alloc: Global, batch: Items<FileDescriptorProto>) -> Result<Verdict, AllocError>
     ensures { IfOk result (λ verdict. verdict ≡ spec.verdict_of batch) }
 {
-    match link(alloc, FileDescriptorSet { file: batch }) {
-        Ok(pool) => Ok(Verdict::Accepted(pool)),
-        Err(error) => refusal(error),
+    let mut pool = DescriptorPool::new(alloc);
+    let mut files = batch.into_vec();
+    match pool.link_or_give_back(&mut files) {
+        Ok(()) => Ok(Verdict::Accepted(pool)),
+        Err(error) => by_error(Items::from_vec(files), error),
     }
 }
 
-/// The verdict that an error of linking tells.
-fn refusal(error: BuildError) -> Result<Verdict, AllocError>
-    ensures { IfOk result (λ verdict. spec.verdict_told error ≡ Some verdict) }
+/// The verdict that an error of linking tells, by the files that came back.
+fn by_error(files: Items<FileDescriptorProto>, error: BuildError) -> Result<Verdict, AllocError>
+    ensures { IfOk result (λ verdict. spec.verdict_told files error ≡ Some verdict) }
 {
     match error {
         BuildError::TooMany(kind) => Ok(Verdict::TooMany(kind)),
         BuildError::Descriptor(error) => {
             let DescriptorError { errors, .. } = error;
-            Ok(Verdict::Refused(errors))
+            Ok(Verdict::Refused(Refusal {
+                files,
+                faults: errors,
+            }))
         }
         BuildError::OutOfMemory => Err(AllocError),
     }

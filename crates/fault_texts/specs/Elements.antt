@@ -18,6 +18,8 @@ use Rattle.proto_types.specs.declared.tag.message.TheConstants as message
 use Rattle.proto_types.specs.declared.tag.enum_.TheConstants as enumeration
 use Rattle.proto_types.specs.declared.tag.service.TheConstants as service
 use Rattle.pool_faults.specs.declared.label.Label.{Label}
+use Rattle.fault_texts.specs.Known.{only}
+use Rattle.fault_texts.specs.declared.known.Known.{Known}
 
 -- the name of what a path of an enum stands in: a value, or else the enum
 abbrev pub name_in_enum : EnumDescriptorProto → List ℤ → List ℕ
@@ -95,7 +97,7 @@ element_in f (tag ∷ position ∷ path) =
 abbrev pub file_named : List FileDescriptorProto → List ℕ → Option FileDescriptorProto
 file_named files name = find (λ f. bytes_eq (text_of f.name) name) files
 
--- the full name of what a label stands in
-abbrev pub element_of : List FileDescriptorProto → Label → Option (List ℕ)
-element_of files label =
-    option_and_then (λ f. element_in f label.path) (file_named files label.file)
+-- the full name of what a label stands in, by the only file with its name
+abbrev pub element_of : List FileDescriptorProto → Known → Label → Option (List ℕ)
+element_of files known label =
+    option_and_then (λ f. element_in f label.path) (only files known label.file)

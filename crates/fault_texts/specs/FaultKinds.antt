@@ -1,5 +1,5 @@
 -- What is told of each kind of fault: its code, and the second place that it has.
-use Rattle.std.specs.Prelude.{ℕ, List, codes}
+use Rattle.std.specs.Prelude.{ℕ, Bool, false, true, List, codes}
 use Rattle.std.specs.declared.option.Option.{Option}
 use Rattle.std.specs.declared.option.Option.TheVariants.{None, Some}
 use Rattle.pool_faults.specs.declared.label.Label.{Label}
@@ -53,3 +53,9 @@ related_words (fault.FieldNumberInExtensionRange _ _ _ _ _) = codes "the range i
 related_words (fault.EnumNumberInReservedRange _ _ _ _ _) = codes "the range is declared at "
 related_words (fault.InvalidType _ _ _ _) = codes "it is declared at "
 related_words _ = codes "first declared at "
+
+-- whether a fault is of a reference
+abbrev pub is_of_reference : DescriptorErrorKind → Bool
+is_of_reference (fault.NameNotFound _ _) = true
+is_of_reference (fault.NameShadowed _ _ _) = true
+is_of_reference _ = false

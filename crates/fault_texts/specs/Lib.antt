@@ -4,7 +4,8 @@ pub mod Elements
 pub mod Lines
 pub mod PlainFaults
 pub mod JsonFaults
-pub mod DeclaringFiles
+pub mod Known
 pub mod Notes
 pub mod Places
 pub mod Placed
+pub mod Told

@@ -6,6 +6,7 @@ ghost use Rattle.plain_data.specs.Lists.{at};
 ghost use Rattle.proto_types.specs.Names as names;
 ghost use Rattle.fault_texts.specs.Elements as spec;
 
+use crate::known::Batch;
 use plain_data::{Items, Text};
 use pool_faults::Label;
 use proto_types::tag::{enum_, file, message, service};
@@ -116,7 +117,7 @@ fn element_in_message(
 }
 
 /// The full name of what a path of a file stands in: the innermost declaration, if there is one.
-pub(crate) fn element_in(
+fn element_in(
     alloc: Global,
     file: &FileDescriptorProto,
     path: &[i32],
@@ -159,29 +160,20 @@ pub(crate) fn element_in(
     }
 }
 
-/// The first file with a name, or none where no file has it.
-pub fn file_named<'a>(
-    files: &'a [FileDescriptorProto],
-    name: &str,
-) -> Option<&'a FileDescriptorProto>
-    ensures { option_copied result ≡ spec.file_named files.now name.now }
-{
-    files.iter().find(|file| file.name() == name)
-}
-
-/// The full name of what a label stands in, by the first file with its name; none where it stands
-/// in no declaration of that file.
+/// The full name of what a label stands in, by the only file with its name; none where several files
+/// have it, or where it stands in no declaration of that file.
 ///
 /// # Errors
 /// `AllocError` where memory was refused.
-pub fn element_of(
+pub(crate) fn element_of(
     alloc: Global,
-    files: &[FileDescriptorProto],
+    batch: &Batch,
     label: &Label,
 ) -> Result<Option<Text>, AllocError>
-    ensures { IfOk result (λ name. name ≡ spec.element_of files.now label.now) }
+    ensures { IfOk result (λ name. name
+        ≡ spec.element_of batch.now.files.now batch.now.known.now label.now) }
 {
-    match file_named(files, label.file()) {
+    match batch.only(label.file()) {
         Some(file) => element_in(alloc, file, label.path()),
         None => Ok(None),
     }

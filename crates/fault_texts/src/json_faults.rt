@@ -1,18 +1,12 @@
-//! A fault as an object of JSON, each piece as a text of its own.
+//! A fault as an object of JSON.
 
-ghost use Rattle.std.specs.Prelude.{◌≡◌, ◌++◌, IfOk, OnOk, string_bytes};
-ghost use Rattle.std.specs.Option.{option_copied};
+ghost use Rattle.std.specs.Prelude.{◌≡◌, ◌++◌, OnOk, string_bytes};
 ghost use Rattle.fault_texts.specs.JsonFaults as spec;
 
-use crate::elements::element_of;
-use crate::kinds::{fault_code, fault_message, related_label};
-use crate::notes::note;
-use crate::placed::PlacedFault;
-use json_strings::json_string;
+use crate::told::{Position, ToldFault, ToldPlace, ToldSecond};
+use json_strings::write_json_string;
 use plain_data::Text;
-use pool_faults::{DescriptorErrorKind, Label};
-use proto_types::FileDescriptorProto;
-use std::alloc::{AllocError, Global};
+use std::alloc::AllocError;
 
 /// Writes numbers as an array.
 fn write_json_numbers(text: &mut String, numbers: &[i32]) -> Result<(), AllocError>
@@ -31,143 +25,118 @@ fn write_json_numbers(text: &mut String, numbers: &[i32]) -> Result<(), AllocErr
     text.push(']')
 }
 
-/// Numbers as an array.
-fn json_numbers(alloc: Global, numbers: &[i32]) -> Result<String, AllocError>
-    ensures { IfOk result (λ s. string_bytes s ≡ spec.json_numbers numbers.now) }
+/// Writes a text that may be missing, as a string or null.
+fn write_json_text(text: &mut String, value: &Option<Text>) -> Result<(), AllocError>
+    ensures { OnOk result (string_bytes text.new ≡ string_bytes text.old
+        ++ spec.json_text value.now) }
 {
-    let mut text = String::new(alloc);
-    write_json_numbers(&mut text, numbers)?;
-    Ok(text)
-}
-
-/// A text that may be missing, as a string or null.
-fn json_text(alloc: Global, text: &Option<Text>) -> Result<String, AllocError>
-    ensures { IfOk result (λ s. string_bytes s ≡ spec.json_text text.now) }
-{
-    match text {
-        Some(text) => json_string(alloc, text.as_str()),
-        None => String::from_str(alloc, "null"),
+    match value {
+        Some(value) => write_json_string(text, value.as_str()),
+        None => text.push_str("null"),
     }
 }
 
-/// A line and a column, as two members of an object.
-fn json_line(alloc: Global, line: i64, column: i64) -> Result<String, AllocError>
-    ensures { IfOk result (λ s. string_bytes s ≡ spec.json_line line column) }
+/// Writes a line and a column, as two members of an object, or two nulls.
+fn write_json_position(text: &mut String, position: Option<Position>) -> Result<(), AllocError>
+    ensures { OnOk result (string_bytes text.new ≡ string_bytes text.old
+        ++ spec.json_position position) }
 {
-    format!(in alloc; "\"line\":{line},\"column\":{column}")
-}
-
-/// Where a span begins, from 1, or two nulls.
-fn json_position(alloc: Global, span: Option<[i32; 4]>) -> Result<String, AllocError>
-    ensures { IfOk result (λ s. string_bytes s ≡ spec.json_position span) }
-{
-    match span {
-        Some(span) => {
-            let [line, column, _, _] = span;
-            json_line(alloc, i64::from(line) + 1, i64::from(column) + 1)
+    match position {
+        Some(position) => {
+            let Position { line, column } = position;
+            write!(text, "\"line\":{line},\"column\":{column}")
         }
-        None => format!(in alloc; "\"line\":null,\"column\":null"),
+        None => text.push_str("\"line\":null,\"column\":null"),
     }
 }
 
-/// Where something stands, as five members of an object.
-fn json_label(
-    alloc: Global,
-    files: &[FileDescriptorProto],
-    label: &Label,
-) -> Result<String, AllocError>
-    ensures { IfOk result (λ s. string_bytes s ≡ spec.json_label files.now label.now) }
+/// Writes a file, and where something begins in it, as three members of an object.
+fn write_json_start(text: &mut String, place: &ToldPlace) -> Result<(), AllocError>
+    ensures { OnOk result (string_bytes text.new ≡ string_bytes text.old
+        ++ spec.json_start place.now) }
 {
-    let file = json_string(alloc, label.file())?;
-    let place = json_position(alloc, label.span())?;
-    let path = json_numbers(alloc, label.path())?;
-    let element = json_text(alloc, &element_of(alloc, files, label)?)?;
-    format!(in alloc; "\"file\":{file},{place},\"path\":{path},\"element\":{element}")
+    text.push_str("\"file\":")?;
+    write_json_string(text, place.file.as_str())?;
+    text.push_str(",")?;
+    write_json_position(text, place.position)
 }
 
-/// Where a fault stands, if it shows a place, or five nulls.
-fn json_place(
-    alloc: Global,
-    files: &[FileDescriptorProto],
-    place: Option<&Label>,
-) -> Result<String, AllocError>
-    ensures { IfOk result (λ s. string_bytes s
-        ≡ spec.json_place files.now (option_copied place.entry)) }
+/// Writes where something stands, as five members of an object.
+fn write_json_members(text: &mut String, place: &ToldPlace) -> Result<(), AllocError>
+    ensures { OnOk result (string_bytes text.new ≡ string_bytes text.old
+        ++ spec.json_members place.now) }
+{
+    write_json_start(text, place)?;
+    text.push_str(",\"path\":")?;
+    write_json_numbers(text, place.path.as_slice())?;
+    text.push_str(",\"element\":")?;
+    write_json_text(text, &place.element)
+}
+
+/// Writes where a fault stands, if it shows a place, or five nulls.
+fn write_json_place(text: &mut String, place: &Option<ToldPlace>) -> Result<(), AllocError>
+    ensures { OnOk result (string_bytes text.new ≡ string_bytes text.old
+        ++ spec.json_place place.now) }
 {
     match place {
-        Some(label) => json_label(alloc, files, label),
-        None => String::from_str(
-            alloc,
+        Some(place) => write_json_members(text, place),
+        None => text.push_str(
             "\"file\":null,\"line\":null,\"column\":null,\"path\":null,\"element\":null",
         ),
     }
 }
 
-/// The second place of a fault, as an array of at most one object.
-fn json_related(
-    alloc: Global,
-    files: &[FileDescriptorProto],
-    place: Option<&Label>,
-) -> Result<String, AllocError>
-    ensures { IfOk result (λ s. string_bytes s
-        ≡ spec.json_related files.now (option_copied place.entry)) }
+/// Writes the second place of a fault, as an array of at most one object.
+fn write_json_second(text: &mut String, second: &Option<ToldSecond>) -> Result<(), AllocError>
+    ensures { OnOk result (string_bytes text.new ≡ string_bytes text.old
+        ++ spec.json_second second.now) }
 {
-    match place {
-        Some(label) => {
-            let label = json_label(alloc, files, label)?;
-            format!(in alloc; "[{{{label}}}]")
+    match second {
+        Some(second) => {
+            text.push_str("[{")?;
+            write_json_members(text, &second.place)?;
+            text.push_str("}]")
         }
-        None => format!(in alloc; "[]"),
+        None => text.push_str("[]"),
     }
 }
 
-/// The text of a fault, as a string.
-fn json_message(alloc: Global, fault: &DescriptorErrorKind) -> Result<String, AllocError>
-    ensures { IfOk result (λ s. string_bytes s ≡ spec.json_message fault.now) }
+/// Writes the code and the text of a fault, as two members of an object.
+fn write_json_head(text: &mut String, told: &ToldFault) -> Result<(), AllocError>
+    ensures { OnOk result (string_bytes text.new ≡ string_bytes text.old
+        ++ spec.json_head told.now) }
 {
-    let message = fault_message(alloc, fault)?;
-    json_string(alloc, message.as_str())
+    let code = told.code.as_str();
+    write!(text, "\"code\":\"{code}\",\"message\":")?;
+    write_json_string(text, told.message.as_str())
 }
 
-/// The code and the text of a fault, as two members of an object.
-fn json_head(alloc: Global, fault: &DescriptorErrorKind) -> Result<String, AllocError>
-    ensures { IfOk result (λ s. string_bytes s ≡ spec.json_head fault.now) }
+/// Writes the second place of a fault, and what is told beside it, as two members of an object.
+fn write_json_tail(text: &mut String, told: &ToldFault) -> Result<(), AllocError>
+    ensures { OnOk result (string_bytes text.new ≡ string_bytes text.old
+        ++ spec.json_tail told.now) }
 {
-    let code = fault_code(fault);
-    let message = json_message(alloc, fault)?;
-    format!(in alloc; "\"code\":\"{code}\",\"message\":{message}")
+    text.push_str("\"related\":")?;
+    write_json_second(text, &told.second)?;
+    text.push_str(",\"note\":")?;
+    write_json_string(text, told.note.as_str())
 }
 
-/// The second place of a fault, and what is told beside it, as two members of an object.
-fn json_tail(
-    alloc: Global,
-    files: &[FileDescriptorProto],
-    fault: &DescriptorErrorKind,
-) -> Result<String, AllocError>
-    ensures { IfOk result (λ s. string_bytes s ≡ spec.json_tail files.now fault.now) }
-{
-    let related = json_related(alloc, files, related_label(fault))?;
-    let note = json_string(alloc, note(alloc, files, fault)?.as_str())?;
-    format!(in alloc; "\"related\":{related},\"note\":{note}")
-}
-
-/// A fault as an object of JSON: its code, its text, where it stands, its second place, and what is
-/// told beside it. Elements are told by the records of the files.
+/// Writes a fault as an object of JSON: its code, its text, where it stands, its second place, and
+/// what is told beside it.
 ///
 /// # Errors
 /// `AllocError` where memory was refused.
 #[tactic(auto, unfolding(crate::specs::JsonFaults::json_fault))]
-pub fn json_fault(
-    alloc: Global,
-    files: &[FileDescriptorProto],
-    placed: &PlacedFault,
-) -> Result<String, AllocError>
-    ensures { IfOk result (λ s. string_bytes s
-        ≡ spec.json_fault files.now placed.now.fault.now (option_copied placed.now.place)) }
+pub fn write_fault_json(text: &mut String, told: &ToldFault) -> Result<(), AllocError>
+    ensures { OnOk result (string_bytes text.new ≡ string_bytes text.old
+        ++ spec.json_fault told.now) }
 {
-    let fault = placed.fault;
-    let head = json_head(alloc, fault)?;
-    let place = json_place(alloc, files, placed.place)?;
-    let tail = json_tail(alloc, files, fault)?;
-    format!(in alloc; "{{{head},{place},{tail}}}")
+    text.push_str("{")?;
+    write_json_head(text, told)?;
+    text.push_str(",")?;
+    write_json_place(text, &told.place)?;
+    text.push_str(",")?;
+    write_json_tail(text, told)?;
+    text.push_str("}")
 }

@@ -72,6 +72,16 @@ pub fn related_words(fault: &DescriptorErrorKind) -> &'static str
     }
 }
 
+/// Whether a fault is of a reference: it tells where the name is declared that isn't found.
+pub(crate) fn is_of_reference(fault: &DescriptorErrorKind) -> bool
+    ensures { result ≡ spec.is_of_reference fault.now }
+{
+    matches!(
+        fault,
+        DescriptorErrorKind::NameNotFound { .. } | DescriptorErrorKind::NameShadowed { .. }
+    )
+}
+
 /// The text of a fault.
 pub(crate) fn fault_message(
     alloc: Global,

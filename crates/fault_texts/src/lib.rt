@@ -1,10 +1,11 @@
 //! Faults as texts: as lines for people, and as objects of JSON.
 #![tactic(auto)]
 
-mod declared;
+mod declaring;
 mod elements;
 mod json_faults;
 mod kinds;
+mod known;
 pub mod laws;
 mod lines;
 mod notes;
@@ -12,13 +13,11 @@ mod placed;
 mod places;
 mod plain_faults;
 mod remedies;
+mod told;
 
-pub use elements::{element_of, file_named};
-pub use json_faults::json_fault;
+pub use json_faults::write_fault_json;
 pub use kinds::{fault_code, related_label};
 pub use lines::{write_line, write_lines};
-pub use notes::note;
-pub use placed::{PlacedFault, place_faults};
-pub use places::Places;
 pub use plain_faults::write_fault_lines;
 pub use remedies::remedy;
+pub use told::{Position, ToldFault, ToldPlace, ToldSecond, tell_faults};

@@ -5,8 +5,8 @@ ghost use Rattle.std.specs.Option.{option_copied};
 ghost use Rattle.proto_types.specs.Names as names;
 ghost use Rattle.fault_texts.specs.Notes as spec;
 
-use crate::declared::{behind, declaring_file};
-use crate::elements::{file_named, full_name};
+use crate::elements::full_name;
+use crate::known::Batch;
 use crate::remedies::remedy;
 use name_resolution::CandidateParents;
 use plain_data::Text;
@@ -15,10 +15,10 @@ use proto_types::FileDescriptorProto;
 use std::alloc::{AllocError, Global};
 
 /// Whether a file is another one, or imported by it.
-fn is_near(files: &[FileDescriptorProto], from: &str, file: &str) -> bool
-    ensures { result ≡ spec.is_near files.now from.now file.now }
+fn is_near(batch: &Batch, from: &str, file: &str) -> bool
+    ensures { result ≡ spec.is_near batch.now.files.now batch.now.known.now from.now file.now }
 {
-    file == from || is_imported(file_named(files, from), file)
+    file == from || is_imported(batch.only(from), file)
 }
 
 /// The import of a file, if there is one.
@@ -40,11 +40,11 @@ fn is_imported(importing: Option<&FileDescriptorProto>, file: &str) -> bool
 }
 
 /// The name of the first file that declares a name, unless it is near.
-fn far_file<'a>(files: &'a [FileDescriptorProto], from: &str, name: &str) -> Option<&'a str>
-    ensures { option_copied result ≡ spec.far_file files.now from.now name.now }
+fn far_file<'a>(batch: &Batch<'a>, from: &str, name: &str) -> Option<&'a str>
+    ensures { option_copied result ≡ spec.far_file batch.now.files.now batch.now.known.now from.now name.now }
 {
-    let file = declaring_file(files, name)?.name();
-    if is_near(files, from, file) {
+    let file = batch.declaring(name)?.name();
+    if is_near(batch, from, file) {
         None
     } else {
         Some(file)
@@ -54,13 +54,13 @@ fn far_file<'a>(files: &'a [FileDescriptorProto], from: &str, name: &str) -> Opt
 /// What is told of a name that is declared in a file that is not imported.
 fn import_words(
     alloc: Global,
-    files: &[FileDescriptorProto],
+    batch: &Batch,
     from: &str,
     name: &str,
 ) -> Result<Option<Text>, AllocError>
-    ensures { IfOk result (λ words. words ≡ spec.import_note files.now from.now name.now) }
+    ensures { IfOk result (λ words. words ≡ spec.import_note batch.now.files.now batch.now.known.now from.now name.now) }
 {
-    match far_file(files, from, name) {
+    match far_file(batch, from, name) {
         Some(file) => {
             let words = format!(in alloc;
                 "'{name}' is declared in '{file}', which '{from}' does not import"
@@ -68,6 +68,16 @@ fn import_words(
             Ok(Some(Text::from_string(words)))
         }
         None => Ok(None),
+    }
+}
+
+/// What a name has behind a scope and a dot, if it begins with them.
+fn behind<'a>(scope: &[u8], name: &'a [u8]) -> Option<&'a [u8]>
+    ensures { option_copied result ≡ spec.behind scope.now name.now }
+{
+    match name.strip_prefix(scope)? {
+        [b'.', rest @ ..] => Some(rest),
+        _ => None,
     }
 }
 
@@ -89,17 +99,12 @@ fn scope_of<'a>(full_name: &'a str, name: &str) -> Option<&'a str>
 }
 
 /// The first name that a file declares, of those that a name could mean from a scope out.
-fn meant(
-    alloc: Global,
-    files: &[FileDescriptorProto],
-    scope: &str,
-    name: &str,
-) -> Result<Option<Text>, AllocError>
-    ensures { IfOk result (λ meant. meant ≡ spec.meant files.now scope.now name.now) }
+fn meant(alloc: Global, batch: &Batch, scope: &str, name: &str) -> Result<Option<Text>, AllocError>
+    ensures { IfOk result (λ meant. meant ≡ spec.meant batch.now.files.now batch.now.known.now scope.now name.now) }
 {
     for parent in CandidateParents::new(scope) {
         let meant = full_name(alloc, parent, name)?;
-        if declaring_file(files, meant.as_str()).is_some() {
+        if batch.declaring(meant.as_str()).is_some() {
             return Ok(Some(meant));
         }
     }
@@ -107,15 +112,10 @@ fn meant(
 }
 
 /// That a file is not imported, unless it is near.
-fn far_words(
-    alloc: Global,
-    files: &[FileDescriptorProto],
-    from: &str,
-    file: &str,
-) -> Result<Text, AllocError>
-    ensures { IfOk result (λ words. words ≡ spec.far_words files.now from.now file.now) }
+fn far_words(alloc: Global, batch: &Batch, from: &str, file: &str) -> Result<Text, AllocError>
+    ensures { IfOk result (λ words. words ≡ spec.far_words batch.now.files.now batch.now.known.now from.now file.now) }
 {
-    if !is_near(files, from, file) {
+    if !is_near(batch, from, file) {
         let words = format!(in alloc; ", which '{from}' does not import")?;
         return Ok(Text::from_string(words));
     }
@@ -125,16 +125,16 @@ fn far_words(
 /// How to write a name so that it means what the first file that has it declares.
 fn dotted_words(
     alloc: Global,
-    files: &[FileDescriptorProto],
+    batch: &Batch,
     from: &str,
     name: &str,
 ) -> Result<Option<Text>, AllocError>
-    ensures { IfOk result (λ words. words ≡ spec.dotted_note files.now from.now name.now) }
+    ensures { IfOk result (λ words. words ≡ spec.dotted_note batch.now.files.now batch.now.known.now from.now name.now) }
 {
-    match declaring_file(files, name) {
+    match batch.declaring(name) {
         Some(file) => {
             let file = file.name();
-            let far = far_words(alloc, files, from, file)?;
+            let far = far_words(alloc, batch, from, file)?;
             let far = far.as_str();
             let words = format!(in alloc; "write '.{name}' to mean what '{file}' declares{far}")?;
             Ok(Some(Text::from_string(words)))
@@ -174,10 +174,10 @@ struct Shadowed<'a> {
 /// What is told of a name that means something nearer, by the full name that it resolves to.
 fn shadowed_words(
     alloc: Global,
-    files: &[FileDescriptorProto],
+    batch: &Batch,
     shadowed: Shadowed,
 ) -> Result<Option<Text>, AllocError>
-    ensures { IfOk result (λ words. words ≡ spec.shadowed_note files.now shadowed.entry.from.now
+    ensures { IfOk result (λ words. words ≡ spec.shadowed_note batch.now.files.now batch.now.known.now shadowed.entry.from.now
         shadowed.entry.name.now shadowed.entry.full_name.now) }
 {
     let Shadowed {
@@ -188,10 +188,10 @@ fn shadowed_words(
     let Some(scope) = scope_of(full_name, name) else {
         return Ok(None);
     };
-    let Some(meant) = meant(alloc, files, scope, name)? else {
+    let Some(meant) = meant(alloc, batch, scope, name)? else {
         return Ok(None);
     };
-    match dotted_words(alloc, files, from, meant.as_str())? {
+    match dotted_words(alloc, batch, from, meant.as_str())? {
         Some(dotted) => Ok(Some(nearer_words(alloc, scope, name, dotted.as_str())?)),
         None => Ok(None),
     }
@@ -200,14 +200,14 @@ fn shadowed_words(
 /// What a look at the files tells of a name.
 fn looked_up(
     alloc: Global,
-    files: &[FileDescriptorProto],
+    batch: &Batch,
     fault: &DescriptorErrorKind,
 ) -> Result<Option<Text>, AllocError>
-    ensures { IfOk result (λ words. words ≡ spec.looked_up files.now fault.now) }
+    ensures { IfOk result (λ words. words ≡ spec.looked_up batch.now.files.now batch.now.known.now fault.now) }
 {
     match fault {
         DescriptorErrorKind::NameNotFound { name, found } => {
-            import_words(alloc, files, found.file(), name.as_str())
+            import_words(alloc, batch, found.file(), name.as_str())
         }
         DescriptorErrorKind::NameShadowed {
             name,
@@ -219,7 +219,7 @@ fn looked_up(
                 name: name.as_str(),
                 full_name: shadowed_name.as_str(),
             };
-            shadowed_words(alloc, files, shadowed)
+            shadowed_words(alloc, batch, shadowed)
         }
         _ => Ok(None),
     }
@@ -229,14 +229,14 @@ fn looked_up(
 ///
 /// # Errors
 /// `AllocError` where memory was refused.
-pub fn note(
+pub(crate) fn note(
     alloc: Global,
-    files: &[FileDescriptorProto],
+    batch: &Batch,
     fault: &DescriptorErrorKind,
 ) -> Result<Text, AllocError>
-    ensures { IfOk result (λ text. text ≡ spec.note files.now fault.now) }
+    ensures { IfOk result (λ text. text ≡ spec.note batch.now.files.now batch.now.known.now fault.now) }
 {
-    match looked_up(alloc, files, fault)? {
+    match looked_up(alloc, batch, fault)? {
         Some(words) => Ok(words),
         None => Text::from_str(alloc, remedy(fault)),
     }

@@ -1,16 +1,19 @@
 //! Faults with where they stand.
 
 ghost use Rattle.std.specs.Prelude.{◌≡◌, IfOk, drop, map};
+ghost use Rattle.std.specs.List.{list_any};
 ghost use Rattle.std.specs.Option.{option_copied};
 ghost use Rattle.fault_texts.specs.Placed as spec;
 
-use crate::places::Places;
+use crate::places::{Places, import_places, name_places, oneof_places};
+use plain_data::Items;
 use pool_faults::{DescriptorErrorKind, Label};
+use proto_types::FileDescriptorProto;
 use std::alloc::{AllocError, Global};
 
 /// A fault, and where it stands, if it shows a place.
 #[derive(Clone, Copy)]
-pub struct PlacedFault<'a> {
+pub(crate) struct PlacedFault<'a> {
     pub fault: &'a DescriptorErrorKind,
     pub place: Option<&'a Label>,
 }
@@ -46,6 +49,13 @@ fn place_among<'a>(
     }
 }
 
+/// Whether a fault is that of a name of a file.
+fn is_of_name(fault: &DescriptorErrorKind) -> bool
+    ensures { result ≡ spec.is_of_name fault.now }
+{
+    matches!(fault, DescriptorErrorKind::DuplicateFileName { .. })
+}
+
 /// Whether a fault is that of an index of an import.
 fn is_of_import(fault: &DescriptorErrorKind) -> bool
     ensures { result ≡ spec.is_of_import fault.now }
@@ -70,12 +80,97 @@ fn behind_first(labels: &[Label], is_wanted: bool) -> &[Label]
     }
 }
 
+/// Whether one of some faults is that of a name of a file.
+fn has_names(faults: &[DescriptorErrorKind]) -> bool
+    ensures { result ≡ list_any spec.is_of_name faults.now }
+{
+    faults.iter().any(|fault| is_of_name(fault))
+}
+
+/// Whether one of some faults is that of an index of an import.
+fn has_imports(faults: &[DescriptorErrorKind]) -> bool
+    ensures { result ≡ list_any spec.is_of_import faults.now }
+{
+    faults.iter().any(|fault| is_of_import(fault))
+}
+
+/// Whether one of some faults is that of an index of a oneof.
+fn has_oneofs(faults: &[DescriptorErrorKind]) -> bool
+    ensures { result ≡ list_any spec.is_of_oneof faults.now }
+{
+    faults.iter().any(|fault| is_of_oneof(fault))
+}
+
+/// The names of files, where one of some faults is of a name.
+fn names_for(
+    alloc: Global,
+    files: &[FileDescriptorProto],
+    faults: &[DescriptorErrorKind],
+) -> Result<Items<Label>, AllocError>
+    ensures { IfOk result (λ labels. labels ≡ spec.names_for files.now faults.now) }
+{
+    if has_names(faults) {
+        return name_places(alloc, files);
+    }
+    Ok(Items::new(alloc))
+}
+
+/// The indexes of imports that are no positions, where one of some faults is of such an index.
+fn imports_for(
+    alloc: Global,
+    files: &[FileDescriptorProto],
+    faults: &[DescriptorErrorKind],
+) -> Result<Items<Label>, AllocError>
+    ensures { IfOk result (λ labels. labels ≡ spec.imports_for files.now faults.now) }
+{
+    if has_imports(faults) {
+        return import_places(alloc, files);
+    }
+    Ok(Items::new(alloc))
+}
+
+/// The fields with oneof indexes that are no positions, where one of some faults is of such an
+/// index.
+fn oneofs_for(
+    alloc: Global,
+    files: &[FileDescriptorProto],
+    faults: &[DescriptorErrorKind],
+) -> Result<Items<Label>, AllocError>
+    ensures { IfOk result (λ labels. labels ≡ spec.oneofs_for files.now faults.now) }
+{
+    if has_oneofs(faults) {
+        return oneof_places(alloc, files);
+    }
+    Ok(Items::new(alloc))
+}
+
+/// The places of files that some faults can stand at, which show none by themselves.
+///
+/// # Errors
+/// `AllocError` where memory was refused.
+pub(crate) fn places_for(
+    alloc: Global,
+    files: &[FileDescriptorProto],
+    faults: &[DescriptorErrorKind],
+) -> Result<Places, AllocError>
+    ensures { IfOk result (λ places. places ≡ spec.places_for files.now faults.now) }
+{
+    let names = names_for(alloc, files, faults)?;
+    let imports = imports_for(alloc, files, faults)?;
+    let oneofs = oneofs_for(alloc, files, faults)?;
+    Ok(Places {
+        names,
+        imports,
+        oneofs,
+    })
+}
+
 /// Faults of a batch from the first on, each with where it stands. The k-th of a kind without a
 /// label stands at the k-th place of that kind.
 ///
 /// # Errors
 /// `AllocError` where memory was refused.
-pub fn place_faults<'a>(
+pub(crate) fn place_faults<'a>(
     alloc: Global,
     places: &'a Places,
     faults: &'a [DescriptorErrorKind],

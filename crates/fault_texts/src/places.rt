@@ -21,7 +21,7 @@ struct Row<'a> {
 
 /// Where the faults of a batch stand whose kinds have no label.
 #[derive(Drop)]
-pub struct Places {
+pub(crate) struct Places {
     /// The name of each file, in the order of the files.
     pub names: Items<Label>,
     /// Each public or weak index that is no position of its file's imports, in the order of the
@@ -30,25 +30,6 @@ pub struct Places {
     /// Each field with a oneof index that is no position of its message's oneofs, in the order of
     /// the walk.
     pub oneofs: Items<Label>,
-}
-
-impl Places {
-    /// The places of files.
-    ///
-    /// # Errors
-    /// `AllocError` where memory was refused.
-    pub fn of(alloc: Global, files: &[FileDescriptorProto]) -> Result<Places, AllocError>
-        ensures { IfOk result (λ places. places ≡ spec.places_of files.now) }
-    {
-        let names = name_places(alloc, files)?;
-        let imports = import_places(alloc, files)?;
-        let oneofs = oneof_places(alloc, files)?;
-        Ok(Places {
-            names,
-            imports,
-            oneofs,
-        })
-    }
 }
 
 /// A position as a path shows it, whose numbers end at 2 to the 31st less 1.
@@ -98,7 +79,10 @@ fn add_if(
 }
 
 /// The label of the name of each file.
-fn name_places(alloc: Global, files: &[FileDescriptorProto]) -> Result<Items<Label>, AllocError>
+pub(crate) fn name_places(
+    alloc: Global,
+    files: &[FileDescriptorProto],
+) -> Result<Items<Label>, AllocError>
     ensures { IfOk result (λ labels. labels ≡ spec.name_places files.now) }
 {
     let mut labels = Items::new(alloc);
@@ -144,7 +128,10 @@ fn add_imports(
 }
 
 /// The label of each index that is no position of the imports of its file.
-fn import_places(alloc: Global, files: &[FileDescriptorProto]) -> Result<Items<Label>, AllocError>
+pub(crate) fn import_places(
+    alloc: Global,
+    files: &[FileDescriptorProto],
+) -> Result<Items<Label>, AllocError>
     ensures { IfOk result (λ labels. labels ≡ spec.import_places files.now) }
 {
     let mut labels = Items::new(alloc);
@@ -240,7 +227,10 @@ fn add_oneofs(
 }
 
 /// The label of each field with a oneof index that is no position of the oneofs of its message.
-fn oneof_places(alloc: Global, files: &[FileDescriptorProto]) -> Result<Items<Label>, AllocError>
+pub(crate) fn oneof_places(
+    alloc: Global,
+    files: &[FileDescriptorProto],
+) -> Result<Items<Label>, AllocError>
     ensures { IfOk result (λ labels. labels ≡ spec.oneof_places files.now) }
 {
     let mut labels = Items::new(alloc);

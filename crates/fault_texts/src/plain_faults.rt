@@ -1,35 +1,27 @@
 //! A fault as lines for people.
 
 ghost use Rattle.std.specs.Prelude.{◌≡◌, ◌++◌, IfOk, OnOk, string_bytes};
-ghost use Rattle.std.specs.Option.{option_copied};
 ghost use Rattle.fault_texts.specs.PlainFaults as spec;
 
-use crate::elements::element_of;
-use crate::kinds::{fault_message, related_label, related_words};
 use crate::lines::write_line;
-use crate::notes::note;
-use crate::placed::PlacedFault;
-use pool_faults::{DescriptorErrorKind, Label};
-use proto_types::FileDescriptorProto;
+use crate::told::{Position, ToldFault, ToldPlace, ToldSecond};
+use plain_data::Text;
 use std::alloc::{AllocError, Global};
 
 /// A line and a column of a file.
-fn position_words(alloc: Global, file: &str, line: i64, column: i64) -> Result<String, AllocError>
-    ensures { IfOk result (λ s. string_bytes s ≡ spec.position_words file.now line column) }
+fn position_words(alloc: Global, file: &str, position: Position) -> Result<String, AllocError>
+    ensures { IfOk result (λ s. string_bytes s ≡ spec.position_words file.now position) }
 {
+    let Position { line, column } = position;
     format!(in alloc; "{file}:{line}:{column}")
 }
 
-/// The element of a label, or else its file alone.
-fn named_words(
-    alloc: Global,
-    files: &[FileDescriptorProto],
-    label: &Label,
-) -> Result<String, AllocError>
-    ensures { IfOk result (λ s. string_bytes s ≡ spec.named_words files.now label.now) }
+/// The element of a place, or else its file alone.
+fn named_words(alloc: Global, place: &ToldPlace) -> Result<String, AllocError>
+    ensures { IfOk result (λ s. string_bytes s ≡ spec.named_words place.now) }
 {
-    let file = label.file();
-    match element_of(alloc, files, label)? {
+    let file = place.file.as_str();
+    match &place.element {
         Some(element) => {
             let element = element.as_str();
             format!(in alloc; "{file}: {element}")
@@ -38,69 +30,35 @@ fn named_words(
     }
 }
 
-/// Where a label stands: line and column, or else the element, or else the file alone.
-fn place_words(
-    alloc: Global,
-    files: &[FileDescriptorProto],
-    label: &Label,
-) -> Result<String, AllocError>
-    ensures { IfOk result (λ s. string_bytes s ≡ spec.place_words files.now label.now) }
+/// Where something stands: line and column, or else the element, or else the file alone.
+fn place_words(alloc: Global, place: &ToldPlace) -> Result<String, AllocError>
+    ensures { IfOk result (λ s. string_bytes s ≡ spec.place_words place.now) }
 {
-    match label.span() {
-        Some(span) => {
-            let [line, column, _, _] = span;
-            position_words(
-                alloc,
-                label.file(),
-                i64::from(line) + 1,
-                i64::from(column) + 1,
-            )
-        }
-        None => named_words(alloc, files, label),
+    match place.position {
+        Some(position) => position_words(alloc, place.file.as_str(), position),
+        None => named_words(alloc, place),
     }
 }
 
-/// A text behind the place of a label, if there is one.
-fn placed_words(
-    alloc: Global,
-    files: &[FileDescriptorProto],
-    place: Option<&Label>,
-    text: &str,
-) -> Result<String, AllocError>
-    ensures { IfOk result (λ s. string_bytes s
-        ≡ spec.placed_words files.now (option_copied place.entry) text.now) }
+/// Where a fault stands, if it shows a place, and its text.
+fn fault_words(alloc: Global, told: &ToldFault) -> Result<String, AllocError>
+    ensures { IfOk result (λ s. string_bytes s ≡ spec.fault_words told.now) }
 {
-    match place {
-        Some(label) => {
-            let place = place_words(alloc, files, label)?;
-            format!(in alloc; "{place}: {text}")
+    let message = told.message.as_str();
+    match &told.place {
+        Some(place) => {
+            let place = place_words(alloc, place)?;
+            format!(in alloc; "{place}: {message}")
         }
-        None => String::from_str(alloc, text),
+        None => String::from_str(alloc, message),
     }
 }
 
-/// Where a fault stands, and its text.
-fn fault_words(
-    alloc: Global,
-    files: &[FileDescriptorProto],
-    placed: &PlacedFault,
-) -> Result<String, AllocError>
-    ensures { IfOk result (λ s. string_bytes s
-        ≡ spec.fault_words files.now placed.now.fault.now (option_copied placed.now.place)) }
+/// The element of a place, in brackets, if there is one.
+fn bracketed(alloc: Global, element: &Option<Text>) -> Result<String, AllocError>
+    ensures { IfOk result (λ s. string_bytes s ≡ spec.bracketed element.now) }
 {
-    let text = fault_message(alloc, placed.fault)?;
-    placed_words(alloc, files, placed.place, text.as_str())
-}
-
-/// The element of a second place, in brackets.
-fn bracketed(
-    alloc: Global,
-    files: &[FileDescriptorProto],
-    label: &Label,
-) -> Result<String, AllocError>
-    ensures { IfOk result (λ s. string_bytes s ≡ spec.bracketed files.now label.now) }
-{
-    match element_of(alloc, files, label)? {
+    match element {
         Some(element) => {
             let element = element.as_str();
             format!(in alloc; " ('{element}')")
@@ -110,48 +68,37 @@ fn bracketed(
 }
 
 /// The same, where the line does not tell the element.
-fn bracketed_words(
-    alloc: Global,
-    files: &[FileDescriptorProto],
-    label: &Label,
-) -> Result<String, AllocError>
-    ensures { IfOk result (λ s. string_bytes s ≡ spec.bracketed_words files.now label.now) }
+fn bracketed_words(alloc: Global, place: &ToldPlace) -> Result<String, AllocError>
+    ensures { IfOk result (λ s. string_bytes s ≡ spec.bracketed_words place.now) }
 {
-    match label.span() {
-        Some(_) => bracketed(alloc, files, label),
+    match place.position {
+        Some(_) => bracketed(alloc, &place.element),
         None => Ok(String::new(alloc)),
     }
 }
 
 /// Where the second place of a fault stands.
-fn second_words(
-    alloc: Global,
-    files: &[FileDescriptorProto],
-    fault: &DescriptorErrorKind,
-    label: &Label,
-) -> Result<String, AllocError>
-    ensures { IfOk result (λ s. string_bytes s
-        ≡ spec.second_words files.now fault.now label.now) }
+fn second_words(alloc: Global, second: &ToldSecond) -> Result<String, AllocError>
+    ensures { IfOk result (λ s. string_bytes s ≡ spec.second_words second.now) }
 {
-    let words = related_words(fault);
-    let place = place_words(alloc, files, label)?;
-    let element = bracketed_words(alloc, files, label)?;
+    let words = second.words.as_str();
+    let place = place_words(alloc, &second.place)?;
+    let element = bracketed_words(alloc, &second.place)?;
     format!(in alloc; "  note: {words}{place}{element}")
 }
 
 /// Writes the line of the second place, if there is one.
-fn write_related_line(
+fn write_second_line(
     alloc: Global,
     text: &mut String,
-    files: &[FileDescriptorProto],
-    fault: &DescriptorErrorKind,
+    second: &Option<ToldSecond>,
 ) -> Result<(), AllocError>
     ensures { OnOk result (string_bytes text.new ≡ string_bytes text.old
-        ++ spec.related_line files.now fault.now) }
+        ++ spec.second_line second.now) }
 {
-    match related_label(fault) {
-        Some(label) => {
-            let words = second_words(alloc, files, fault, label)?;
+    match second {
+        Some(second) => {
+            let words = second_words(alloc, second)?;
             write_line(text, words.as_str())
         }
         None => Ok(()),
@@ -159,20 +106,15 @@ fn write_related_line(
 }
 
 /// What is told beside a fault.
-fn note_words(
-    alloc: Global,
-    files: &[FileDescriptorProto],
-    fault: &DescriptorErrorKind,
-) -> Result<String, AllocError>
-    ensures { IfOk result (λ s. string_bytes s ≡ spec.note_words files.now fault.now) }
+fn note_words(alloc: Global, told: &ToldFault) -> Result<String, AllocError>
+    ensures { IfOk result (λ s. string_bytes s ≡ spec.note_words told.now) }
 {
-    let note = note(alloc, files, fault)?;
-    let note = note.as_str();
+    let note = told.note.as_str();
     format!(in alloc; "  note: {note}")
 }
 
 /// Writes a fault as lines for people: where it stands and its text; where its second place stands,
-/// if it has one; and what to do. Elements are told by the records of the files.
+/// if it has one; and what to do.
 ///
 /// # Errors
 /// `AllocError` where memory was refused.
@@ -180,16 +122,14 @@ fn note_words(
 pub fn write_fault_lines(
     alloc: Global,
     text: &mut String,
-    files: &[FileDescriptorProto],
-    placed: &PlacedFault,
+    told: &ToldFault,
 ) -> Result<(), AllocError>
     ensures { OnOk result (string_bytes text.new ≡ string_bytes text.old
-        ++ spec.fault_lines files.now placed.now.fault.now (option_copied placed.now.place)) }
+        ++ spec.fault_lines told.now) }
 {
-    let fault = placed.fault;
-    let words = fault_words(alloc, files, placed)?;
+    let words = fault_words(alloc, told)?;
     write_line(text, words.as_str())?;
-    write_related_line(alloc, text, files, fault)?;
-    let note = note_words(alloc, files, fault)?;
+    write_second_line(alloc, text, &told.second)?;
+    let note = note_words(alloc, told)?;
     write_line(text, note.as_str())
 }

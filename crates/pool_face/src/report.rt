@@ -4,7 +4,7 @@ ghost use Rattle.std.specs.Prelude.{◌≡◌, IfOk, string_bytes};
 ghost use Rattle.pool_face.specs.Reports as spec;
 
 use descriptor_check::{refused_json, refused_text, too_many_json, too_many_text, unread_json};
-use fault_texts::write_line;
+use fault_texts::{tell_faults, write_line};
 use plain_data::Text;
 use pool_faults::DescriptorErrorKind;
 use proto_types::FileDescriptorProto;
@@ -40,8 +40,10 @@ pub(crate) fn refused_report(
 ) -> Result<Report, AllocError>
     ensures { IfOk result (λ report. report ≡ spec.refused_report files.now faults.now) }
 {
-    let lines = refused_text(alloc, files, faults.len(), faults)?;
-    let json = refused_json(alloc, files, faults.len(), faults)?;
+    let told = tell_faults(alloc, files, faults)?;
+    let told = told.as_slice();
+    let lines = refused_text(alloc, told, faults.len(), faults)?;
+    let json = refused_json(alloc, told, faults.len(), faults)?;
     Ok(as_report(lines, json))
 }
 

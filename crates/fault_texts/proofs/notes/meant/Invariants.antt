@@ -1,7 +1,7 @@
 use Rattle.std.proofs.Common.{◌≡◌, is_some, map}
 use Rattle.std.specs.List.{find}
 use Rattle.proto_types.specs.Names.{join}
-use Rattle.fault_texts.specs.DeclaringFiles.{declaring_file}
+use Rattle.fault_texts.specs.Known.{declaring_file}
 use Rattle.fault_texts.specs.Notes.{meant}
 use Rattle.fault_texts.proofs.notes.meant.Given as goal
 
@@ -10,5 +10,5 @@ abbrev pub invariant-loop-parent : goal.invariant-loop-parent
 invariant-loop-parent l =
     (goal.iterator-loop-parent).can_next l.parent-iterator
     × (goal.iterator-loop-parent).is_finite l.parent-iterator
-    × (find (λ n. is_some (declaring_file l.files n)) (map (λ s. join s l.name) l.parent-iterator)
-    ≡ meant l.files l.scope l.name)
+    × (find (λ n. is_some (declaring_file l.batch.files.now l.batch.known.now n)) (map (λ s. join s l.name) l.parent-iterator)
+    ≡ meant l.batch.files.now l.batch.known.now l.scope l.name)
