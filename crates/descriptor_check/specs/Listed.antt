@@ -8,7 +8,7 @@ use Rattle.record_walk.specs.Counts.{no_counts}
 use Rattle.record_walk.specs.Declaration.{declaration_of}
 use Rattle.record_walk.specs.Declarations.{declarations}
 use Rattle.record_walk.specs.declared.declaration.Declaration.{Declaration}
-use Rattle.script_answers.specs.Answers.{alone, declared_word}
+use Rattle.record_walk.specs.Words.{alone, declared_word}
 
 -- the line of a declaration: its kind and its full name
 abbrev pub listed_line : Declaration → List ℕ

@@ -7,7 +7,7 @@ use Rattle.record_walk.specs.declared.counts.Counts.{Counts}
 use Rattle.record_walk.specs.declared.counts.CountKind.{CountKind}
 use Rattle.json_strings.specs.JsonStrings.{json_string}
 use Rattle.descriptor_check.specs.Accepted.{json_counts}
-use Rattle.script_answers.specs.Answers.{count_word}
+use Rattle.record_walk.specs.Words.{count_word}
 use Rattle.descriptor_check.specs.Refused.{json_faults}
 
 -- an object: its first members, its faults, and its last members

@@ -15,7 +15,7 @@ use Rattle.fault_texts.specs.JsonFaults.{json_fault}
 use Rattle.fault_texts.specs.PlainFaults.{fault_lines}
 use Rattle.fault_texts.specs.Told.{told_faults}
 use Rattle.fault_texts.specs.declared.told.ToldFault.{ToldFault}
-use Rattle.script_answers.specs.Answers.{count_word}
+use Rattle.record_walk.specs.Words.{count_word}
 use Rattle.descriptor_check.specs.Grouped.{grouped, grouped_count}
 
 -- a set of names, in their order, with the file of a label, if there is one

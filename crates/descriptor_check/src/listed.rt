@@ -10,8 +10,7 @@ use descriptor_pool::DescriptorPool;
 use fault_texts::write_line;
 use pool_types::FileDescriptorInner;
 use record_lists::Lister;
-use record_walk::{Counts, Declaration, walk};
-use script_answers::{alone, declared_word};
+use record_walk::{Counts, Declaration, alone, declared_word, walk};
 use std::alloc::{AllocError, Global};
 
 /// Writes each declaration of a pool as a line.

@@ -8,8 +8,7 @@ use crate::refused::json_faults;
 use fault_texts::ToldFault;
 use json_strings::json_string;
 use pool_faults::DescriptorErrorKind;
-use record_walk::{CountKind, Counts};
-use script_answers::count_word;
+use record_walk::{CountKind, Counts, count_word};
 use std::alloc::{AllocError, Global};
 
 /// An object: its first members, its faults, and its last members.

@@ -9,8 +9,7 @@ ghost use Rattle.descriptor_check.specs.Refused as spec;
 use crate::grouped::{grouped, grouped_count};
 use fault_texts::{ToldFault, write_fault_json, write_fault_lines};
 use pool_faults::DescriptorErrorKind;
-use record_walk::CountKind;
-use script_answers::count_word;
+use record_walk::{CountKind, count_word};
 use std::alloc::{AllocError, Global};
 use std::collections::BTreeSet;
 

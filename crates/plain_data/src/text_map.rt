@@ -407,6 +407,8 @@ fn push(bytes: &mut Vec<u8>, rows: &mut Vec<Row>, key: &[u8], number: u32) -> Re
     let start = bytes.len();
     let end = start.saturating_add(key.len());
     if end > u32::MAX as usize {
+        // No number is left for its end, so this asks for more room than can be granted.
+        bytes.reserve(usize::MAX)?;
         return Err(AllocError);
     }
     rows.reserve(1)?;

@@ -22,7 +22,6 @@ use Rattle.pool_types.specs.declared.kinds.KindIndex.{KindIndex}
 use Rattle.pool_types.specs.declared.kinds.KindIndex.TheVariants as kind
 use Rattle.pool_types.specs.declared.kinds.Syntax.{Syntax}
 use Rattle.pool_types.specs.declared.kinds.Syntax.TheVariants.{Proto2, Proto3}
-use Rattle.pool_text.specs.Words.{type_number}
 use Rattle.pool_face.specs.declared.numbers.EnumItem.{EnumItem}
 use Rattle.pool_face.specs.declared.numbers.ExtensionItem.{ExtensionItem}
 use Rattle.pool_face.specs.declared.numbers.FieldItem.{FieldItem}

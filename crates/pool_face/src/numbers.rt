@@ -4,7 +4,6 @@
 ghost use Rattle.std.specs.Prelude.{◌≡◌};
 ghost use Rattle.pool_face.specs.Numbers as spec;
 
-use pool_text::type_number;
 use pool_types::{
     Cardinality, Definition, DefinitionKind, EnumDescriptorInner, EnumValueDescriptorInner,
     ExtensionDescriptorInner, FieldDescriptorInner, FileDescriptorInner, KindIndex,
@@ -334,7 +333,7 @@ pub(crate) fn field_item(field: &FieldDescriptorInner) -> FieldItem
     FieldItem {
         number: field.number,
         cardinality: cardinality_number(field.cardinality),
-        kind: u32::from(type_number(field.kind)),
+        kind: u32::from(field.kind.type_number()),
         type_index: type_index(field.kind),
         oneof: or_none(field.oneof),
         is_packed: flag(field.is_packed),
@@ -353,7 +352,7 @@ pub(crate) fn extension_item(extension: &ExtensionDescriptorInner) -> ExtensionI
         extendee: extension.extendee,
         number: extension.number,
         cardinality: cardinality_number(extension.cardinality),
-        kind: u32::from(type_number(extension.kind)),
+        kind: u32::from(extension.kind.type_number()),
         type_index: type_index(extension.kind),
         is_packed: flag(extension.is_packed),
         has_default: flag(extension.default.is_some()),

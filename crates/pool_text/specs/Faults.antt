@@ -8,7 +8,7 @@ use Rattle.pool_faults.specs.declared.label.Label.{Label}
 use Rattle.pool_faults.specs.declared.fault.DescriptorErrorKind.{DescriptorErrorKind}
 use Rattle.pool_faults.specs.Fault.{path_text, shown_label, labelled_text}
 use Rattle.fault_texts.specs.FaultKinds.{related_label}
-use Rattle.pool_text.specs.Words.{alone}
+use Rattle.record_walk.specs.Words.{alone}
 
 -- the four numbers of a span, which count from 0, where it is known
 abbrev pub span_words : Option (List ℤ) → List ℕ

@@ -17,7 +17,8 @@ use Rattle.pool_types.specs.declared.contents.oneof.OneofDescriptorInner.{OneofD
 use Rattle.pool_types.specs.declared.contents.service.MethodDescriptorInner.{MethodDescriptorInner}
 use Rattle.pool_types.specs.declared.contents.service.ServiceDescriptorInner.{ServiceDescriptorInner}
 use Rattle.pool_text.specs.Values.{default_words}
-use Rattle.pool_text.specs.Words.{alone, file_name, message_name, place_words, syntax_word, type_words, flag_words, written_words}
+use Rattle.record_walk.specs.Words.{alone}
+use Rattle.pool_text.specs.Words.{file_name, message_name, place_words, syntax_word, type_words, flag_words, written_words}
 
 -- the name and the syntax of a file
 abbrev pub file_head : FileDescriptorInner → List ℕ

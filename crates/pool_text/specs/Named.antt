@@ -23,7 +23,8 @@ use Rattle.pool_faults.specs.Fault.{path_text}
 use Rattle.record_walk.specs.Leads.{leads}
 use Rattle.record_walk.specs.Protos.{as_message}
 use Rattle.pool_text.specs.Items.{enum_text, extension_text, file_text, message_text, service_text}
-use Rattle.pool_text.specs.Words.{alone, file_name}
+use Rattle.record_walk.specs.Words.{alone}
+use Rattle.pool_text.specs.Words.{file_name}
 
 -- a range of numbers behind a word for it: its first number and its last one
 unfoldable pub range_line : List ℕ → ℤ → ℤ → List ℕ

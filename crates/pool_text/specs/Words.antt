@@ -9,7 +9,7 @@ use Rattle.proto_types.specs.Readers.{text_of}
 use Rattle.proto_types.specs.declared.file.FileDescriptorProto.{FileDescriptorProto}
 use Rattle.proto_types.specs.declared.records.field.FieldDescriptorProto.{FieldDescriptorProto}
 use Rattle.pool_types.specs.Contents.{Contents}
-use Rattle.pool_types.specs.Kinds.{kind_name}
+use Rattle.pool_types.specs.Kinds.{kind_name, type_number}
 use Rattle.pool_types.specs.declared.contents.definition.Identity.{Identity}
 use Rattle.pool_types.specs.declared.kinds.Syntax.{Syntax}
 use Rattle.pool_types.specs.declared.kinds.Syntax.TheVariants.{Proto2, Proto3}
@@ -19,12 +19,8 @@ use Rattle.pool_types.specs.declared.kinds.KindIndex.{KindIndex}
 use Rattle.pool_types.specs.declared.kinds.KindIndex.TheVariants as kind
 use Rattle.pool_faults.specs.Fault.{path_text}
 use Rattle.record_walk.specs.Leads.{leads}
+use Rattle.record_walk.specs.Words.{alone}
 use Rattle.record_walk.specs.Protos.{as_field, as_extension}
-
--- a name as a word: two quotes where it is empty
-abbrev pub alone : List ℕ → List ℕ
-alone [] = codes "''"
-alone (c ∷ cs) = c ∷ cs
 
 -- the name of the file with an index
 abbrev pub file_name : Contents → ℕ → List ℕ
@@ -81,27 +77,6 @@ flag_words true true = codes " packed presence"
 flag_words true false = codes " packed"
 flag_words false true = codes " presence"
 flag_words false false = []
-
--- the number of the type that is written for a kind (descriptor.proto's `Type`)
-abbrev pub type_number : KindIndex → ℕ
-type_number kind.Double = 1
-type_number kind.Float = 2
-type_number kind.Int64 = 3
-type_number kind.Uint64 = 4
-type_number kind.Int32 = 5
-type_number kind.Fixed64 = 6
-type_number kind.Fixed32 = 7
-type_number kind.Bool = 8
-type_number kind.String = 9
-type_number (kind.Group _) = 10
-type_number (kind.Message _) = 11
-type_number kind.Bytes = 12
-type_number kind.Uint32 = 13
-type_number (kind.Enum _) = 14
-type_number kind.Sfixed32 = 15
-type_number kind.Sfixed64 = 16
-type_number kind.Sint32 = 17
-type_number kind.Sint64 = 18
 
 -- the record of a field or an extension
 abbrev pub field_record : FileDescriptorProto → List ℤ → Option FieldDescriptorProto

@@ -6,9 +6,10 @@ ghost use Rattle.pool_text.specs.Items as spec;
 
 use crate::head::{head_line, write_parent};
 use crate::values::default_words;
-use crate::words::{alone, flag_words, message_name, type_words, written_words};
+use crate::words::{flag_words, message_name, type_words, written_words};
 use descriptor_pool::DescriptorPool;
 use pool_types::{ExtensionDescriptor, ExtensionDescriptorInner};
+use record_walk::alone;
 use std::alloc::{AllocError, Global};
 
 /// Tells all extensions of a pool.

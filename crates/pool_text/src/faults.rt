@@ -4,9 +4,10 @@ ghost use Rattle.std.specs.Prelude.{◌≡◌, ◌++◌, IfOk, OnOk, string_byte
 ghost use Rattle.std.specs.Option.{option_copied};
 ghost use Rattle.pool_text.specs.Faults as spec;
 
-use crate::words::{alone, path_words};
+use crate::words::path_words;
 use fault_texts::related_label;
 use pool_faults::{DescriptorError, DescriptorErrorKind, Label, Labelled};
+use record_walk::alone;
 use std::alloc::{AllocError, Global};
 use std::fmt::Write;
 

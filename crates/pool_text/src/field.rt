@@ -5,10 +5,11 @@ ghost use Rattle.std.specs.Option.{option_copied};
 ghost use Rattle.pool_text.specs.Items as spec;
 
 use crate::values::default_words;
-use crate::words::{alone, flag_words, place_words, type_words, written_words};
+use crate::words::{flag_words, place_words, type_words, written_words};
 use descriptor_pool::DescriptorPool;
 use plain_data::Text;
 use pool_types::{FieldDescriptorInner, OneofDescriptorInner};
+use record_walk::alone;
 use std::alloc::{AllocError, Global};
 
 /// A field: its kind, its name, its number, where it is declared, and what its options say.

@@ -4,9 +4,10 @@ ghost use Rattle.std.specs.Prelude.{◌≡◌, ◌++◌, OnOk, string_bytes};
 ghost use Rattle.std.specs.List.{flat_map};
 ghost use Rattle.pool_text.specs.Items as spec;
 
-use crate::words::{alone, file_name, syntax_word};
+use crate::words::{file_name, syntax_word};
 use descriptor_pool::DescriptorPool;
 use pool_types::FileDescriptorInner;
+use record_walk::alone;
 use std::alloc::AllocError;
 use std::collections::BTreeSet;
 use std::fmt::Write;

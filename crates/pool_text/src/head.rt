@@ -3,9 +3,10 @@
 ghost use Rattle.std.specs.Prelude.{◌≡◌, ◌++◌, IfOk, OnOk, string_bytes};
 ghost use Rattle.pool_text.specs.Items as spec;
 
-use crate::words::{alone, file_name, message_name, place_words};
+use crate::words::{file_name, message_name, place_words};
 use descriptor_pool::DescriptorPool;
 use pool_types::Identity;
+use record_walk::alone;
 use std::alloc::{AllocError, Global};
 use std::fmt::Write;
 

@@ -22,7 +22,6 @@ use descriptor_pool::DescriptorPool;
 pub use faults::faults_text;
 pub use named::describe_name;
 use std::alloc::{AllocError, Global};
-pub use words::type_number;
 
 /// All that a pool has, as a text: its files, messages, enums, services and extensions, each kind
 /// in the order of linking. A line names an item or a part of one by its full name, and what it

@@ -6,12 +6,13 @@ ghost use Rattle.pool_text.specs.Items as spec;
 
 use crate::field::field_line;
 use crate::head::{head_line, write_parent};
-use crate::words::{alone, place_words};
+use crate::words::place_words;
 use descriptor_pool::DescriptorPool;
 use pool_types::{
     ExtensionDescriptor, ExtensionDescriptorInner, FieldDescriptorInner, MessageDescriptorInner,
     OneofDescriptorInner,
 };
+use record_walk::alone;
 use std::alloc::{AllocError, Global};
 use std::fmt::Write;
 

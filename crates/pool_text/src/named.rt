@@ -10,9 +10,10 @@ use crate::file::write_file;
 use crate::message::write_message;
 use crate::ranges::write_ranges;
 use crate::service::write_service_at;
-use crate::words::{alone, file_name, path_words};
+use crate::words::{file_name, path_words};
 use descriptor_pool::DescriptorPool;
 use pool_types::{Definition, DefinitionKind, FileDescriptorInner, MessageDescriptor};
+use record_walk::alone;
 use std::alloc::{AllocError, Global};
 
 /// What a name means in a pool, as a text; nothing where it means nothing. The name is a full name,

@@ -6,9 +6,10 @@ ghost use Rattle.std.specs.Option.{option_map_or};
 ghost use Rattle.pool_text.specs.Items as spec;
 
 use crate::head::head_line;
-use crate::words::{alone, message_name, place_words};
+use crate::words::{message_name, place_words};
 use descriptor_pool::DescriptorPool;
 use pool_types::{MethodDescriptorInner, ServiceDescriptor, ServiceDescriptorInner};
+use record_walk::alone;
 use std::alloc::{AllocError, Global};
 use std::fmt::Write;
 

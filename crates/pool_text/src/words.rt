@@ -9,14 +9,8 @@ use pool_types::{
     Cardinality, EnumDescriptor, FileDescriptor, Identity, KindIndex, MessageDescriptor, Syntax,
 };
 use record_lists::find_field_proto;
+use record_walk::alone;
 use std::alloc::{AllocError, Global};
-
-/// A name as a word: two quotes where it is empty.
-pub(super) fn alone(name: &str) -> &str
-    ensures { result.now ≡ spec.alone name.now }
-{
-    if name.is_empty() { "''" } else { name }
-}
 
 /// The name of a file, as a word.
 pub(super) fn file_name(pool: &DescriptorPool, file: u32) -> &str
@@ -154,32 +148,6 @@ fn has_dot_from(text: &str, index: usize) -> bool
     }
 }
 
-/// The number of the type that is written for a kind (descriptor.proto's `Type`).
-pub fn type_number(kind: KindIndex) -> u8
-    ensures { result ≡ spec.type_number kind }
-{
-    match kind {
-        KindIndex::Double => 1,
-        KindIndex::Float => 2,
-        KindIndex::Int64 => 3,
-        KindIndex::Uint64 => 4,
-        KindIndex::Int32 => 5,
-        KindIndex::Fixed64 => 6,
-        KindIndex::Fixed32 => 7,
-        KindIndex::Bool => 8,
-        KindIndex::String => 9,
-        KindIndex::Group(_) => 10,
-        KindIndex::Message(_) => 11,
-        KindIndex::Bytes => 12,
-        KindIndex::Uint32 => 13,
-        KindIndex::Enum(_) => 14,
-        KindIndex::Sfixed32 => 15,
-        KindIndex::Sfixed64 => 16,
-        KindIndex::Sint32 => 17,
-        KindIndex::Sint64 => 18,
-    }
-}
-
 /// The number of the type that the linked record of a field or an extension has.
 fn written_type(pool: &DescriptorPool, id: &Identity) -> Option<i32>
     ensures { result ≡ spec.written_type pool.now id.now }
@@ -192,7 +160,7 @@ fn written_type(pool: &DescriptorPool, id: &Identity) -> Option<i32>
 fn number_words(alloc: Global, kind: KindIndex, number: i32) -> Result<String, AllocError>
     ensures { IfOk result (λ s. string_bytes s ≡ spec.number_words kind number) }
 {
-    if number == i32::from(type_number(kind)) {
+    if number == i32::from(kind.type_number()) {
         Ok(String::new(alloc))
     } else {
         format!(in alloc; " type {number}")

@@ -29,6 +29,27 @@ is_message (index.Message _) = true
 is_message (index.Group _) = true
 is_message _ = false
 
+-- the number of the type that is written for a kind (descriptor.proto's `Type`)
+abbrev pub type_number : KindIndex → ℕ
+type_number index.Double = 1
+type_number index.Float = 2
+type_number index.Int64 = 3
+type_number index.Uint64 = 4
+type_number index.Int32 = 5
+type_number index.Fixed64 = 6
+type_number index.Fixed32 = 7
+type_number index.Bool = 8
+type_number index.String = 9
+type_number (index.Group _) = 10
+type_number (index.Message _) = 11
+type_number index.Bytes = 12
+type_number index.Uint32 = 13
+type_number (index.Enum _) = 14
+type_number index.Sfixed32 = 15
+type_number index.Sfixed64 = 16
+type_number index.Sint32 = 17
+type_number index.Sint64 = 18
+
 -- a kind with the typed index of what it means, where a group is a message
 abbrev pub kind_of : KindIndex → Kind
 kind_of index.Double = kind.Double

@@ -6,3 +6,4 @@ pub mod ContentsCode
 pub mod Extension
 pub mod LookUps
 pub mod Exact
+pub mod Members

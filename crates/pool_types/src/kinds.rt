@@ -1,5 +1,5 @@
 ghost use Rattle.std.specs.Prelude.{◌≡◌, ⊤};
-ghost use Rattle.pool_types.specs.Kinds.{is_packable, is_message, kind_of, kind_name, simple_kind, named_kind, cardinality_of};
+ghost use Rattle.pool_types.specs.Kinds.{is_packable, is_message, type_number, kind_of, kind_name, simple_kind, named_kind, cardinality_of};
 
 use crate::contents::DefinitionKind;
 use crate::indexes::{EnumDescriptor, MessageDescriptor};
@@ -144,6 +144,32 @@ impl KindIndex {
         ensures { result ≡ is_message self.now }
     {
         matches!(self, KindIndex::Message(_) | KindIndex::Group(_))
+    }
+
+    /// The number of the type that is written for a kind (descriptor.proto's `Type`).
+    pub fn type_number(self) -> u8
+        ensures { result ≡ type_number self }
+    {
+        match self {
+            KindIndex::Double => 1,
+            KindIndex::Float => 2,
+            KindIndex::Int64 => 3,
+            KindIndex::Uint64 => 4,
+            KindIndex::Int32 => 5,
+            KindIndex::Fixed64 => 6,
+            KindIndex::Fixed32 => 7,
+            KindIndex::Bool => 8,
+            KindIndex::String => 9,
+            KindIndex::Group(_) => 10,
+            KindIndex::Message(_) => 11,
+            KindIndex::Bytes => 12,
+            KindIndex::Uint32 => 13,
+            KindIndex::Enum(_) => 14,
+            KindIndex::Sfixed32 => 15,
+            KindIndex::Sfixed64 => 16,
+            KindIndex::Sint32 => 17,
+            KindIndex::Sint64 => 18,
+        }
     }
 
     /// The kind with its typed index; of a group it is that of its message.

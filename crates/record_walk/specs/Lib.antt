@@ -17,3 +17,4 @@ pub mod Parts
 pub mod Short
 pub mod Faults
 pub mod Place
+pub mod Words

@@ -9,6 +9,7 @@ mod laws;
 mod place;
 mod visitor;
 mod walking;
+mod words;
 
 pub use counts::{CountKind, Counts};
 pub use declaration::{Declaration, DeclarationKind};
@@ -17,3 +18,4 @@ pub use laws::{declared_changed, declared_in_turn, declared_indexes, declared_pa
 pub use place::Place;
 pub use visitor::Visitor;
 pub use walking::{visit, visit_each, walk, walk_files};
+pub use words::{alone, count_word, declared_word};

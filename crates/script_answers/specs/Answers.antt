@@ -14,13 +14,11 @@ use Rattle.pool_faults.specs.Fault.{path_text, labelled_text}
 use Rattle.pool_faults.specs.declared.fault.DescriptorErrorKind.{DescriptorErrorKind}
 use Rattle.record_walk.specs.declared.counts.Counts.{Counts}
 use Rattle.record_walk.specs.declared.counts.CountKind.{CountKind}
-use Rattle.record_walk.specs.declared.counts.CountKind.TheVariants as too_many
 use Rattle.record_walk.specs.declared.declaration.Declaration.{Declaration}
-use Rattle.record_walk.specs.declared.declaration.DeclarationKind.{DeclarationKind}
-use Rattle.record_walk.specs.declared.declaration.DeclarationKind.TheVariants as declared
 use Rattle.record_walk.specs.Counts.{no_counts}
 use Rattle.record_walk.specs.Declarations.{declarations}
 use Rattle.record_walk.specs.Declaration.{declaration_of}
+use Rattle.record_walk.specs.Words.{alone, count_word, declared_word}
 use Rattle.link_script.specs.declared.script.statement.ScriptFault.{ScriptFault}
 use Rattle.link_script.specs.Script.Faults.{fault_words}
 use Rattle.record_lists.specs.Reference.{Reference, references}
@@ -30,11 +28,6 @@ abbrev pub line : List (List ℕ) → List ℕ
 line [] = 10 ∷ []
 line (w ∷ []) = w ++ 10 ∷ []
 line (w ∷ v ∷ ws) = w ++ 32 ∷ line (v ∷ ws)
-
--- a name as it is printed alone: two quotes where it is empty
-abbrev pub alone : List ℕ → List ℕ
-alone [] = codes "''"
-alone (c ∷ cs) = c ∷ cs
 
 -- the line that tells how many files, messages, enums, services and extensions there are
 abbrev pub counts_line : Counts → List ℕ
@@ -46,15 +39,6 @@ counts_line c =
 abbrev pub refused_lines : List DescriptorErrorKind → List ℕ
 refused_lines faults = line (codes "refused" ∷ decimal (length faults) ∷ [])
     ++ flat_map (λ f. line (labelled_text f ∷ [])) faults
-
--- the word for what there is too much of, in the plural
-abbrev pub count_word : CountKind → List ℕ
-count_word too_many.ListTooLong = codes "lists"
-count_word too_many.Files = codes "files"
-count_word too_many.Messages = codes "messages"
-count_word too_many.Enums = codes "enums"
-count_word too_many.Services = codes "services"
-count_word too_many.Extensions = codes "extensions"
 
 -- the line that tells of what there is too much
 abbrev pub too_many_line : CountKind → List ℕ
@@ -83,18 +67,6 @@ definition_line file def = line (kind_words def.kind ∷ alone file ∷ path_tex
 -- the line of an extension: its index and its full name
 abbrev pub extension_line : ℕ → List ℕ → List ℕ
 extension_line index name = line (codes "extension" ∷ decimal index ∷ alone name ∷ [])
-
--- the word for a kind of declaration
-abbrev pub declared_word : DeclarationKind → List ℕ
-declared_word declared.File = codes "file"
-declared_word declared.Message = codes "message"
-declared_word declared.Field = codes "field"
-declared_word declared.Oneof = codes "oneof"
-declared_word declared.Service = codes "service"
-declared_word declared.Method = codes "method"
-declared_word declared.Enum = codes "enum"
-declared_word declared.EnumValue = codes "value"
-declared_word declared.Extension = codes "extension"
 
 -- the line of a declaration: its kind, its own index, its full name and its path
 abbrev pub declaration_line : Declaration → List ℕ

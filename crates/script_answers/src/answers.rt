@@ -14,16 +14,9 @@ use link_script::ScriptFault;
 use pool_faults::{DescriptorErrorKind, Labelled};
 use pool_types::{Definition, DefinitionKind, FileDescriptorInner};
 use record_lists::{Lister, Reference, references};
-use record_walk::{CountKind, Counts, Declaration, DeclarationKind, walk};
+use record_walk::{CountKind, Counts, Declaration, alone, count_word, declared_word, walk};
 use std::alloc::{AllocError, Global};
 use std::fmt;
-
-/// A name printed alone: two quotes where it is empty.
-pub fn alone(name: &str) -> &str
-    ensures { result.now ≡ spec.alone name.now }
-{
-    if name.is_empty() { "''" } else { name }
-}
 
 /// A kind, with the index that it holds.
 #[derive(Clone, Copy)]
@@ -47,20 +40,6 @@ impl fmt::Display for KindWords {
             DefinitionKind::EnumValue(index) => write!(f, "value {index}"),
             DefinitionKind::Extension(index) => write!(f, "extension {index}"),
         }
-    }
-}
-
-/// The word for what there is too much of, in the plural.
-pub fn count_word(kind: CountKind) -> &'static str
-    ensures { result.now ≡ spec.count_word kind }
-{
-    match kind {
-        CountKind::ListTooLong => "lists",
-        CountKind::Files => "files",
-        CountKind::Messages => "messages",
-        CountKind::Enums => "enums",
-        CountKind::Services => "services",
-        CountKind::Extensions => "extensions",
     }
 }
 
@@ -157,23 +136,6 @@ pub fn write_none(report: &mut String) -> Result<(), AllocError>
     ensures { OnOk result (string_bytes report.new ≡ string_bytes report.old ++ spec.none_line) }
 {
     writeln!(report, "none")
-}
-
-/// The word for a kind of declaration.
-pub fn declared_word(kind: DeclarationKind) -> &'static str
-    ensures { result.now ≡ spec.declared_word kind }
-{
-    match kind {
-        DeclarationKind::File => "file",
-        DeclarationKind::Message => "message",
-        DeclarationKind::Field => "field",
-        DeclarationKind::Oneof => "oneof",
-        DeclarationKind::Service => "service",
-        DeclarationKind::Method => "method",
-        DeclarationKind::Enum => "enum",
-        DeclarationKind::EnumValue => "value",
-        DeclarationKind::Extension => "extension",
-    }
 }
 
 /// Tells a declaration: its kind, its own index, its full name and its path.

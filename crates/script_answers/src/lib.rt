@@ -4,6 +4,6 @@
 mod answers;
 
 pub use answers::{
-    alone, count_word, declared_word, write_counts, write_definition, write_extension, write_fault,
-    write_none, write_refs, write_refused, write_too_many, write_walk,
+    write_counts, write_definition, write_extension, write_fault, write_none, write_refs,
+    write_refused, write_too_many, write_walk,
 };

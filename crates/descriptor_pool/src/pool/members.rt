@@ -4,14 +4,13 @@ ghost use Rattle.std.specs.Prelude.{◌≡◌};
 ghost use Rattle.std.specs.List.{All};
 ghost use Rattle.field_rules.specs.NamesBegin.{EnumNamesBegin};
 ghost use Rattle.reference_pass.specs.NamesBegin.{ExtensionNameBegins, MessageNamesBegin, ServiceNamesBegin};
-ghost use Rattle.pool_members.specs.Members.{members, message_in, enum_in, service_in, extension_in};
-ghost use Rattle.pool_members.specs.declared.declared.Parent.TheVariants as parent;
+ghost use Rattle.pool_types.specs.Members.{members, message_in, enum_in, service_in, extension_in};
+ghost use Rattle.pool_types.specs.declared.declared.Parent.TheVariants as parent;
 
 use super::DescriptorPool;
-use pool_members::{Members, Parent};
 use pool_types::{
-    EnumDescriptorInner, ExtensionDescriptorInner, FileDescriptor, MessageDescriptor,
-    MessageDescriptorInner, ServiceDescriptorInner,
+    EnumDescriptorInner, ExtensionDescriptorInner, FileDescriptor, Members, MessageDescriptor,
+    MessageDescriptorInner, Parent, ServiceDescriptorInner,
 };
 
 impl DescriptorPool {

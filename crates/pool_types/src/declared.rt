@@ -1,11 +1,12 @@
 ghost use Rattle.std.specs.Prelude.{◌≡◌, Bool, ℕ};
-ghost use Rattle.pool_members.specs.declared.declared.Parent.{Parent};
-ghost use Rattle.pool_members.specs.Members.{stands_in, message_in, enum_in, service_in, extension_in};
+ghost use Rattle.pool_types.specs.declared.declared.Parent.{Parent};
+ghost use Rattle.pool_types.specs.Members.{stands_in, message_in, enum_in, service_in, extension_in};
 
-use pool_types::{
-    EnumDescriptor, EnumDescriptorInner, ExtensionDescriptor, ExtensionDescriptorInner,
-    FileDescriptor, MessageDescriptor, MessageDescriptorInner, ServiceDescriptor,
-    ServiceDescriptorInner,
+use crate::contents::{
+    EnumDescriptorInner, ExtensionDescriptorInner, MessageDescriptorInner, ServiceDescriptorInner,
+};
+use crate::indexes::{
+    EnumDescriptor, ExtensionDescriptor, FileDescriptor, MessageDescriptor, ServiceDescriptor,
 };
 
 /// What an item stands in: a message, or a file where no message is around it.

@@ -1,6 +1,6 @@
 ghost use Rattle.std.specs.Prelude.{◌≡◌, ◌<◌, ◌^◌, ◌+◌, [], ◌∷◌, length, MatchOption, IfSome};
 ghost use Rattle.std.specs.Iterator.{YieldsFirstBy, item_count};
-ghost use Rattle.pool_members.specs.Members.{left_from, members};
+ghost use Rattle.pool_types.specs.Members.{left_from, members};
 
 use crate::{Declared, Parent};
 use std::marker::Model;
@@ -19,7 +19,7 @@ pub struct Members<'a, T: Declared> {
 
 impl<'a, T: Declared> Model for Members<'a, T> {
     ghost use Rattle.std.specs.Prelude.{◌<◌, ◌^◌, ℕ, List, length};
-    ghost use Rattle.pool_members.specs.Members.{left_from};
+    ghost use Rattle.pool_types.specs.Members.{left_from};
 
     ghost Value = { List ℕ };
 

@@ -1,6 +1,6 @@
 use Rattle.std.proofs.Common.{◌≡◌}
-use Rattle.pool_members.specs.Members.{left_from}
-use Rattle.pool_members.proofs.members.first_in.Given as goal
+use Rattle.pool_types.specs.Members.{left_from}
+use Rattle.pool_types.proofs.members.first_in.Given as goal
 
 -- no item that was looked at stands there
 abbrev pub invariant-loop-at : goal.invariant-loop-at

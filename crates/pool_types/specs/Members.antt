@@ -8,8 +8,8 @@ use Rattle.pool_types.specs.declared.contents.enumeration.EnumDescriptorInner.{E
 use Rattle.pool_types.specs.declared.contents.extension.ExtensionDescriptorInner.{ExtensionDescriptorInner}
 use Rattle.pool_types.specs.declared.contents.message.MessageDescriptorInner.{MessageDescriptorInner}
 use Rattle.pool_types.specs.declared.contents.service.ServiceDescriptorInner.{ServiceDescriptorInner}
-use Rattle.pool_members.specs.declared.declared.Parent.{Parent}
-use Rattle.pool_members.specs.declared.declared.Parent.TheVariants as parent
+use Rattle.pool_types.specs.declared.declared.Parent.{Parent}
+use Rattle.pool_types.specs.declared.declared.Parent.TheVariants as parent
 
 -- whether what stands in a file, and maybe in a message around it, stands in this file and in no
 -- message, or in this message
