@@ -1,2 +1,0 @@
-pub mod OneFits
-pub mod FileNamed
