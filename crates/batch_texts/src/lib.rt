@@ -1,10 +1,10 @@
 //! What a script's batches make, as a text: for the tests of what a pool has.
 #![tactic(auto)]
 
+use descriptor_linker::{write_counts, write_fault, write_too_many};
 use descriptor_pool::{BuildError, DescriptorPool};
 use link_script::{RecordBuilder, ScriptError, ScriptReader, Statement};
 use pool_text::{describe, faults_text};
-use script_answers::{write_counts, write_fault, write_too_many};
 use std::alloc::{AllocError, Global};
 
 /// What each `link` of a script makes of its batch: the counts of the pool, what there is too much

@@ -13,7 +13,7 @@ use Rattle.descriptor_pool.specs.Pool.{Batch, faults, faults_of_names, faults_of
 use Rattle.descriptor_pool.specs.Outcome.{IsLinked, IsRefused, Outcome}
 use Rattle.descriptor_pool.specs.declared.error.BuildError.{BuildError}
 use Rattle.descriptor_pool.specs.declared.error.BuildError.TheVariants.{Descriptor, TooMany}
-use Rattle.script_answers.specs.Answers.{counts_line, refused_lines, too_many_line}
+use Rattle.descriptor_linker.specs.Report.Lines.{counts_line, refused_lines, too_many_line}
 use Rattle.link_script.specs.Records.{Building}
 use Rattle.descriptor_linker.specs.Report.Session.{Session, FitsOrLacksRoom, write, accepted_or, linking, link_step}
 

@@ -6,7 +6,7 @@ use Rattle.std.specs.Str.{bytes_eq}
 use Rattle.proto_types.specs.Readers.{text_of}
 use Rattle.pool_types.specs.declared.contents.file.FileDescriptorInner.{FileDescriptorInner}
 use Rattle.record_lists.specs.Reference.{references}
-use Rattle.script_answers.specs.Answers.{none_line, reference_lines, refs_answer}
+use Rattle.descriptor_linker.specs.Report.Lines.{none_line, reference_lines, refs_answer}
 
 -- the first of some values, by what they are mapped to
 pub find-mapped : {X Y : Type 0} (h : X → Y) (test : Y → Bool) (xs : List X) → option_map h (find (λ x. test (h x)) xs) ≡ find test (map h xs)

@@ -1,3 +1,5 @@
+pub mod OneFits
+pub mod FileNamed
 pub mod Pieces
 pub mod Batches
 pub mod Relinked

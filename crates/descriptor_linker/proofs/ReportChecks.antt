@@ -12,7 +12,7 @@ use Rattle.link_script.specs.Script.Reading.{script}
 use Rattle.pool_contents.specs.Same.{contents-exact}
 use Rattle.descriptor_pool.specs.Pool.{link}
 use Rattle.record_lists.specs.Reference.{references}
-use Rattle.script_answers.specs.Answers.{line, reference_lines}
+use Rattle.descriptor_linker.specs.Report.Lines.{line, reference_lines}
 use Rattle.descriptor_linker.specs.Report.Session.{report, new_session, step}
 use Rattle.descriptor_linker.proofs.Computed.{scripts}
 

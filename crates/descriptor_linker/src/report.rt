@@ -5,11 +5,12 @@ ghost use Rattle.link_script.specs.Obeyed.{IsObeyed};
 ghost use Rattle.descriptor_linker.specs.Report.Session.{report, step};
 
 mod answers;
+mod lines;
 mod relink;
 mod session;
 
+pub use lines::{write_counts, write_fault, write_too_many, write_walk};
 use link_script::{ScriptError, ScriptReader};
-use script_answers::write_fault;
 use session::Session;
 use std::alloc::{AllocError, Global};
 

@@ -2,9 +2,8 @@
 //! `protoc` says of protobuf's own well-known files, as `tools/well_known.py` stores it.
 #![tactic(auto)]
 
-use descriptor_linker::DescriptorPool;
+use descriptor_linker::{DescriptorPool, write_counts, write_walk};
 use proto_records::{decode, encode};
-use script_answers::{write_counts, write_walk};
 use std::alloc::{AllocError, Global};
 use std::{fs, io};
 use stored_pools::{load, store};

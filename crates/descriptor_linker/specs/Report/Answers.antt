@@ -11,7 +11,7 @@ use Rattle.reference_pass.specs.SecondPass.{Faults}
 use Rattle.pool_contents.specs.Same.{contents_eq}
 use Rattle.pool_types.specs.Extension.{extension_numbered}
 use Rattle.pool_contents.specs.LookUps.{definition_named}
-use Rattle.script_answers.specs.Answers.{line, none_line, definition_line, extension_line}
+use Rattle.descriptor_linker.specs.Report.Lines.{line, none_line, definition_line, extension_line}
 use Rattle.descriptor_pool.specs.Pool.{faults, counts_after, link}
 
 -- the answer of `find`: what a name means in the pool, or `none`

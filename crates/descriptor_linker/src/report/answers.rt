@@ -5,12 +5,12 @@ ghost use Rattle.std.specs.Option.{option_map};
 ghost use Rattle.pool_types.specs.Contents.{files_of};
 ghost use Rattle.proto_types.specs.File.{file_at};
 ghost use Rattle.proto_types.specs.Readers.{text_of};
-ghost use Rattle.script_answers.specs.Answers.{walk_answer, refs_answer};
+ghost use Rattle.descriptor_linker.specs.Report.Lines.{walk_answer, refs_answer};
 ghost use Rattle.descriptor_linker.specs.Report.Answers as spec;
 
+use super::lines::{self, write_definition, write_extension, write_none};
 use descriptor_pool::DescriptorPool;
 use pool_types::{DefinitionKind, ExtensionDescriptor, FileDescriptor, MessageDescriptor};
-use script_answers::{write_definition, write_extension, write_none};
 use std::alloc::{AllocError, Global};
 
 /// The name of the file with an index, or the empty text where there is none.
@@ -47,7 +47,7 @@ pub(super) fn write_walk(
     ensures { OnOk result (string_bytes report.new ≡ string_bytes report.old
         ++ walk_answer (files_of pool.now)) }
 {
-    script_answers::write_walk(alloc, report, pool.files())
+    lines::write_walk(alloc, report, pool.files())
 }
 
 /// Tells to what a pool's file with a name refers.
@@ -60,7 +60,7 @@ pub(super) fn write_refs(
     ensures { OnOk result (string_bytes report.new ≡ string_bytes report.old
         ++ refs_answer (files_of pool.now) name.now) }
 {
-    script_answers::write_refs(alloc, report, pool.files(), name)
+    lines::write_refs(alloc, report, pool.files(), name)
 }
 
 /// The message that a name means in a pool.

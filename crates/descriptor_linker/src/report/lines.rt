@@ -1,4 +1,4 @@
-//! What the commands of a script answer.
+//! The lines that the commands of a script answer, of what they found.
 
 ghost use Rattle.std.specs.Prelude.{◌≡◌, ◌<◌, ◌+◌, ◌++◌, IsOk, OnOk, OnErr, length, map, string_bytes, string_len, string_capacity};
 ghost use Rattle.std.specs.List.{find};
@@ -8,7 +8,7 @@ ghost use Rattle.proto_types.specs.Readers.{text_of};
 ghost use Rattle.record_walk.specs.Counts.{no_counts};
 ghost use Rattle.record_walk.specs.Fits.{counts_with};
 ghost use Rattle.record_lists.specs.Code.{reference_of};
-ghost use Rattle.script_answers.specs.Answers as spec;
+ghost use Rattle.descriptor_linker.specs.Report.Lines as spec;
 
 use link_script::ScriptFault;
 use pool_faults::{DescriptorErrorKind, Labelled};
@@ -24,7 +24,7 @@ struct KindWords(DefinitionKind);
 
 impl fmt::Display for KindWords {
     ghost use Rattle.std.specs.Prelude.{Some};
-    ghost use Rattle.script_answers.specs.Answers.{kind_words};
+    ghost use Rattle.descriptor_linker.specs.Report.Lines.{kind_words};
 
     ghost output = { λ kind. Some (kind_words kind.0) };
 

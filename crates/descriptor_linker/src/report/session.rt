@@ -5,10 +5,10 @@ ghost use Rattle.link_script.specs.declared.script.statement.Statement.TheVarian
 ghost use Rattle.descriptor_linker.specs.Report.Session.{new_session, step, FitsOrLacksRoom};
 
 use super::answers::{write_ext, write_found, write_refs, write_walk};
+use super::lines::{write_counts, write_refused, write_too_many};
 use super::relink::write_relink;
 use descriptor_pool::{BuildError, DescriptorPool};
 use link_script::{RecordBuilder, SaidLocation, Statement};
-use script_answers::{write_counts, write_refused, write_too_many};
 use std::alloc::{AllocError, Global};
 
 /// What the statements so far have made.

@@ -107,6 +107,10 @@ use descriptor_linker::laws::split;
 use descriptor_linker::read_script;
 use descriptor_linker::report_of;
 use descriptor_linker::run;
+use descriptor_linker::write_counts;
+use descriptor_linker::write_fault;
+use descriptor_linker::write_too_many;
+use descriptor_linker::write_walk;
 use std::test::Fail;
 
 #[test]

@@ -1,7 +1,6 @@
 //! What is told of a batch that has too much of a kind, which no test can build.
 
-use descriptor_linker::CountKind;
-use script_answers::write_too_many;
+use descriptor_linker::{CountKind, write_too_many};
 use std::test::Fail;
 
 const LINES: [(CountKind, &str); 6] = [

@@ -1,6 +1,6 @@
 use Rattle.std.proofs.Common.{rules}
 use Rattle.pool_faults.proofs.PathText.{debug_list-path}
-use Rattle.script_answers.proofs.answers.write_declaration.Goals as goal
+use Rattle.descriptor_linker.proofs.report.lines.write_declaration.Goals as goal
 
 -- the path is printed as the library prints it
 pub returns : goal.returns

@@ -1,7 +1,7 @@
 use Rattle.std.proofs.Common.{◌≡◌, ◌++◌, string_bytes, take}
 use Rattle.std.specs.List.{flat_map}
-use Rattle.script_answers.specs.Answers.{declaration_line}
-use Rattle.script_answers.proofs.answers.write_declarations.Given as goal
+use Rattle.descriptor_linker.specs.Report.Lines.{declaration_line}
+use Rattle.descriptor_linker.proofs.report.lines.write_declarations.Given as goal
 
 -- the declarations so far are told
 abbrev pub invariant-loop-declaration : goal.invariant-loop-declaration

@@ -1,5 +1,5 @@
 use Rattle.std.proofs.Common.{rules}
-use Rattle.script_answers.proofs.answers.write_reference.Goals as goal
+use Rattle.descriptor_linker.proofs.report.lines.write_reference.Goals as goal
 
 pub returns : goal.returns
 returns c = search rules

@@ -1,8 +1,8 @@
 use Rattle.std.proofs.Common.{◌≡◌, ◌++◌, string_bytes, map, take}
 use Rattle.std.specs.List.{flat_map}
-use Rattle.script_answers.specs.Answers.{reference_line}
+use Rattle.descriptor_linker.specs.Report.Lines.{reference_line}
 use Rattle.record_lists.specs.Code.{reference_of}
-use Rattle.script_answers.proofs.answers.write_references.Given as goal
+use Rattle.descriptor_linker.proofs.report.lines.write_references.Given as goal
 
 -- the references so far are told
 abbrev pub invariant-loop-reference : goal.invariant-loop-reference

@@ -2,10 +2,10 @@ use Rattle.std.proofs.Common.{◌≡◌, ◌++◌, None, Some, OnOk, map, string
 use Rattle.std.specs.Str.{bytes_eq}
 use Rattle.proto_types.specs.Readers.{text_of}
 use Rattle.record_lists.specs.Code.{reference_of}
-use Rattle.script_answers.specs.Answers.{reference_lines}
-use Rattle.script_answers.proofs.FileNamed.{found-named, refs-named}
-use Rattle.script_answers.proofs.OneFits.{one-fits}
-use Rattle.script_answers.proofs.answers.write_refs.Goals as goal
+use Rattle.descriptor_linker.specs.Report.Lines.{reference_lines}
+use Rattle.descriptor_linker.proofs.FileNamed.{found-named, refs-named}
+use Rattle.descriptor_linker.proofs.OneFits.{one-fits}
+use Rattle.descriptor_linker.proofs.report.lines.write_refs.Goals as goal
 
 -- what the file declares fits, since it is one of those
 pub references-requires : goal.references-requires

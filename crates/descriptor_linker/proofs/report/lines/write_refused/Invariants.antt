@@ -1,8 +1,8 @@
 use Rattle.std.proofs.Common.{◌≡◌, ◌++◌, [], ◌∷◌, string_bytes, take}
 use Rattle.std.specs.List.{flat_map}
 use Rattle.pool_faults.specs.Fault.{labelled_text}
-use Rattle.script_answers.specs.Answers.{line}
-use Rattle.script_answers.proofs.answers.write_refused.Given as goal
+use Rattle.descriptor_linker.specs.Report.Lines.{line}
+use Rattle.descriptor_linker.proofs.report.lines.write_refused.Given as goal
 
 abbrev pub invariant-loop-fault : goal.invariant-loop-fault
 invariant-loop-fault l =

@@ -3,8 +3,8 @@ use Rattle.record_walk.specs.Counts.{no_counts}
 use Rattle.record_walk.specs.Declarations.{declarations}
 use Rattle.record_walk.specs.Declaration.{declaration_of}
 use Rattle.record_walk.specs.Visitor.{Progress}
-use Rattle.script_answers.specs.Answers.{declaration_lines}
-use Rattle.script_answers.proofs.answers.write_walk.Goals as goal
+use Rattle.descriptor_linker.specs.Report.Lines.{declaration_lines}
+use Rattle.descriptor_linker.proofs.report.lines.write_walk.Goals as goal
 
 -- the list is that of all declarations
 pub returns : goal.returns

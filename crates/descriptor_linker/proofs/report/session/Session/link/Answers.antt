@@ -1,5 +1,5 @@
 use Rattle.std.proofs.Common.{◌≡◌, ◌++◌, OnOk, ap, subst, ◌∙◌, string_bytes, string_len, string_capacity}
-use Rattle.script_answers.specs.Answers.{counts_line}
+use Rattle.descriptor_linker.specs.Report.Lines.{counts_line}
 use Rattle.link_script.specs.RecordsCode.{building_in}
 use Rattle.descriptor_linker.specs.Report.Code.{session_in}
 use Rattle.descriptor_linker.proofs.Batches.{lacks-room, on-linked, on-refused}
