@@ -1,12 +1,11 @@
--- The exit status of a run's ending.
+-- The exit status of each way in which a run ends.
 use Rattle.std.specs.Prelude.{ℕ}
 use Rattle.descriptor_linker.specs.declared.ending.Ending.{Ending}
-use Rattle.descriptor_linker.specs.declared.ending.Ending.TheVariants.{Whole, ScriptFault, OutOfMemory, Device}
+use Rattle.descriptor_linker.specs.declared.ending.Ending.TheVariants as ending
 
--- the exit status of an ending: 0, 2, 3 and 4 for `Whole`, `ScriptFault`, `OutOfMemory` and
--- `Device`
-abbrev pub status_of : Ending → ℕ
-status_of Whole = 0
-status_of ScriptFault = 2
-status_of OutOfMemory = 3
-status_of Device = 4
+-- the exit status
+abbrev pub ending_number : Ending → ℕ
+ending_number ending.Whole = 0
+ending_number ending.ScriptFault = 2
+ending_number ending.OutOfMemory = 3
+ending_number ending.Device = 4
