@@ -10,8 +10,8 @@ row has it. Each fact is asked of the linked descriptors of protobuf's Python pa
 records are paths, the JSON names and the texts of fractions that were given, and whether a list is
 packed, for which that package has no word.
 
-Each file NAME.proto of crates/item_rows/data/protoc/ is a row; imported/ there has what they import
-of one another. `write` writes the NAME.script and the NAME.text of each, and `compare` tells
+Each file NAME.proto of crates/test_rows/data/items/protoc/ is a row; imported/ there has what they
+import of one another. `write` writes the NAME.script and the NAME.text of each, and `compare` tells
 whether the stored ones are what is made, with status 1 where one is not. They were made by protoc
 3.21.12; with another version the files of protobuf may differ.
 
@@ -46,7 +46,7 @@ if TYPE_CHECKING:
     from google.protobuf.descriptor import Descriptor, FieldDescriptor, FileDescriptor
     from google.protobuf.descriptor_pb2 import FieldDescriptorProto, FileDescriptorProto
 
-ROWS = Path(__file__).resolve().parent.parent / "crates" / "item_rows" / "data" / "protoc"
+ROWS = Path(__file__).resolve().parent.parent / "crates" / "test_rows" / "data" / "items" / "protoc"
 
 LABELS = {1: "optional", 2: "required", 3: "repeated"}
 

@@ -1,16 +1,16 @@
 #!/usr/bin/env python3
-"""Makes the rows of crates/check_rows that break a schema, or find that they are as stored.
+"""Makes the rows of the check that break a schema, or find that they are as stored.
 
     python3 make_break_sets.py write
     python3 make_break_sets.py compare
 
-Each row of the group breaks is a set of the sources in crates/check_rows/data/sources, as protoc describes them, with
-one part of a record changed. Behind each change stands what is wanted of it, by docs/RULES.md and
-docs/CHECK.md: the faults in order, each with its kind, its text, the path at which it is, the
-element, its second place, and the note. Lines and columns are those that protoc gives for a path.
-`write` writes NAME.pb, NAME.text, NAME.json and, where it is not 0, NAME.status of each row into
-crates/check_rows/data/breaks, and the sets of the rows in crates/check_rows/data/runs, whose texts
-are written by hand. `compare` ends with status 1 where a stored file is another.
+The rows stand in crates/test_rows/data/checks. Each of the group breaks is a set of the sources in
+sources, as protoc describes them, with one part of a record changed. Behind each change stands what
+is wanted of it, by docs/RULES.md and docs/CHECK.md: the faults in order, each with its kind, its
+text, the path at which it is, the element, its second place, and the note. Lines and columns are
+those that protoc gives for a path. `write` writes NAME.pb, NAME.text, NAME.json and, where it is
+not 0, NAME.status of each row into breaks, and the sets of the rows in runs, whose texts are
+written by hand. `compare` ends with status 1 where a stored file is another.
 
 Needed are protoc and protobuf's Python package: protobuf-compiler, libprotobuf-dev and
 python3-protobuf on Debian. That package serves the system's own Python, /usr/bin/python3.
@@ -30,7 +30,7 @@ from typing import Optional
 
 from google.protobuf import descriptor_pb2, text_format
 
-DATA = Path(__file__).resolve().parent.parent / "crates" / "check_rows" / "data"
+DATA = Path(__file__).resolve().parent.parent / "crates" / "test_rows" / "data" / "checks"
 SOURCES = DATA / "sources"
 
 Records = dict[str, descriptor_pb2.FileDescriptorProto]

@@ -3,7 +3,7 @@
 checks each ending.
 
     python3 refuse_memory.py trials ../crates/memory_trials/out/memory_trials
-    python3 refuse_memory.py script ../crates/protolink/out/protolink ../crates/well_known/stdin
+    python3 refuse_memory.py script ../crates/protolink/out/protolink ../crates/protolink/stdin
 
 `trials` runs each trial of crates/memory_trials. Requests count from the mark before its call to
 the one behind it. A refused run must tell that memory was refused and that all is right, and one

@@ -34,9 +34,10 @@ from pathlib import Path
 
 import library_speed
 
-TWELVE_FILES = Path(__file__).resolve().parent.parent / "crates/well_known/stdin"
-SET = TWELVE_FILES.parent.parent / "set_example/data/well_known.pb"
-PAGE = TWELVE_FILES.parent.parent.parent / "docs/SPEED.md"
+TOP = Path(__file__).resolve().parent.parent
+TWELVE_FILES = TOP / "crates/test_rows/data/scripts/protoc/well_known.script"
+SET = TOP / "crates/set_example/data/well_known.pb"
+PAGE = TOP / "docs/SPEED.md"
 MORE = 1.02
 """How many times what the page tells is seen as dearer."""
 LINKED = "*DescriptorPool::build_files*"

@@ -2,8 +2,8 @@
 """Makes the stored runs over protobuf's own files again: the script of the one and the set of the
 other, or the reports that they owe; and the set of which the trials of refused memory make copies.
 
-    python3 well_known.py script > ../crates/well_known/stdin
-    python3 well_known.py report > ../crates/well_known/stdout
+    python3 well_known.py script > ../crates/test_rows/data/scripts/protoc/well_known.script
+    python3 well_known.py report > ../crates/test_rows/data/scripts/protoc/well_known.report
     python3 well_known.py set > ../crates/set_example/data/well_known.pb
     python3 well_known.py told > ../crates/set_example/stdout
     python3 well_known.py parts > ../crates/memory_trials/stdin
@@ -58,8 +58,8 @@ STORED = Path(__file__).resolve().parent.parent / "crates"
 
 STORED_AS = {
     "parts": "memory_trials/stdin",
-    "script": "well_known/stdin",
-    "report": "well_known/stdout",
+    "script": "test_rows/data/scripts/protoc/well_known.script",
+    "report": "test_rows/data/scripts/protoc/well_known.report",
     "set": "set_example/data/well_known.pb",
     "told": "set_example/stdout",
 }

@@ -1,6 +1,3 @@
-//! What a script's batches make, as a text: for the tests of what a pool has.
-#![tactic(auto)]
-
 use descriptor_linker::{write_counts, write_fault, write_too_many};
 use descriptor_pool::{BuildError, DescriptorPool};
 use link_script::{RecordBuilder, ScriptError, ScriptReader, Statement};
@@ -13,7 +10,7 @@ use std::alloc::{AllocError, Global};
 ///
 /// # Errors
 /// `AllocError` where memory was refused.
-pub fn batches_text(alloc: Global, script: &[u8]) -> Result<String, AllocError> {
+pub(super) fn batches_text(alloc: Global, script: &[u8]) -> Result<String, AllocError> {
     let mut text = String::new(alloc);
     let mut pool = DescriptorPool::new(alloc);
     match link_all(alloc, &mut text, &mut pool, script) {

@@ -1,79 +1,37 @@
-ghost use Rattle.std.specs.Prelude.{◌≡◌, ◌↔◌, IsTrue, string_bytes};
+use crate::files::read_if_there;
+use crate::outputs::Output;
+use crate::trials::Trial;
+use descriptor_check::{
+    Answer, HELP, Input, Job, Request, VERSION, check, complain_of_arguments, read_arguments, tell,
+};
+use plain_data::{Items, Text};
+use std::{fs, io};
 
-use crate::told::Told;
-use plain_data::Text;
-use row_files::{Trial, read, read_if_there, status_wanted, tell_difference};
-use std::io;
-
-/// What is wanted of a run, and what it told.
-#[derive(Drop)]
-struct Run {
-    wanted: Vec<u8>,
-    status: u8,
-    told: Told,
+/// The rows of the check of descriptor sets: what it tells people, and what it tells as an object.
+pub(super) enum CheckRows {
+    AsText,
+    AsJson,
 }
 
-impl Run {
-    /// Whether what was told is what is wanted.
-    fn is_met(&self) -> bool
-        ensures { IsTrue result ↔ ((string_bytes self.now.told.text ≡ self.now.wanted.items)
-            × (self.now.told.status ≡ self.now.status)) }
-    {
-        self.told.text.as_bytes() == self.wanted.as_slice() && self.told.status == self.status
+impl Trial for CheckRows {
+    fn folder(&self) -> &'static str {
+        "checks"
     }
 
-    /// Tells how it differs from what is wanted.
-    fn tell_difference(&self, rt: &HostRuntime) -> io::Result<()> {
-        let (wanted, got) = (self.status, self.told.status);
-        if wanted != got {
-            println!(rt; "  status: wanted {wanted}, got {got}")?;
+    fn wanted(&self) -> &'static str {
+        match self {
+            CheckRows::AsText => "text",
+            CheckRows::AsJson => "json",
         }
-        let (wanted, got) = (self.wanted.as_slice(), self.told.text.as_bytes());
-        if wanted != got {
-            tell_difference(rt, wanted, got)?;
-        }
-        Ok(())
     }
-}
 
-/// The runs of a row: for people, and for those that have one, for an object.
-#[derive(Drop)]
-pub struct Row {
-    runs: Vec<Run>,
-}
-
-impl Trial for Row {
-    fn run(rt: &HostRuntime, name: &str) -> io::Result<Row> {
-        let (folder, own) = name.split_once('/').unwrap_or(("", name));
+    fn output(&self, rt: &HostRuntime, name: &str) -> io::Result<Output> {
+        let (folder, own) = name.rsplit_once('/').unwrap_or(("", name));
         let mut words = arguments(rt, name, own)?;
-        let status = status_wanted(rt, name)?;
-        let mut runs = Vec::new(rt.alloc());
-        runs.push(Run {
-            wanted: read(rt, name, "text")?,
-            status,
-            told: Told::of(rt, folder, words.as_slice())?,
-        })?;
-        if let Some(wanted) = read_if_there(rt, name, "json")? {
+        if matches!(self, CheckRows::AsJson) {
             words.push(Text::from_str(rt.alloc(), "--json")?)?;
-            let told = Told::of(rt, folder, words.as_slice())?;
-            runs.push(Run {
-                wanted,
-                status,
-                told,
-            })?;
         }
-        Ok(Row { runs })
-    }
-
-    fn is_as_wanted(&self) -> bool {
-        self.runs.iter().all(|run| run.is_met())
-    }
-
-    fn tell_difference(&self, rt: &HostRuntime) -> io::Result<()> {
-        for run in self.runs.as_slice() {
-            run.tell_difference(rt)?;
-        }
-        Ok(())
+        both_outputs(rt, &answer(rt, folder, words.as_slice())?)
     }
 }
 
@@ -98,4 +56,43 @@ fn lines_of(bytes: &[u8]) -> io::Result<&str> {
         Ok(text) => Ok(text),
         Err(_) => Err(io::Error::other("arguments are no text")),
     }
+}
+
+/// What the check answers to some arguments, whose files stand in a folder.
+fn answer(rt: &HostRuntime, folder: &str, words: &[Text]) -> io::Result<Answer> {
+    let alloc = rt.alloc();
+    match read_arguments(alloc, words)? {
+        Request::Check(job) => check_files(rt, folder, &job),
+        Request::Help => Ok(tell(alloc, HELP)?),
+        Request::Version => Ok(tell(alloc, VERSION)?),
+        Request::Wrong(words) => Ok(complain_of_arguments(alloc, words.as_str())?),
+    }
+}
+
+/// The answer for the files that a job names.
+fn check_files(rt: &HostRuntime, folder: &str, job: &Job) -> io::Result<Answer> {
+    let alloc = rt.alloc();
+    let mut inputs = Vec::new(alloc);
+    for name in job.files.as_slice() {
+        inputs.push(input(rt, folder, name.as_str())?)?;
+    }
+    Ok(check(alloc, &job.wanted, inputs.as_slice())?)
+}
+
+/// A file of a folder.
+fn input(rt: &HostRuntime, folder: &str, name: &str) -> io::Result<Input> {
+    let alloc = rt.alloc();
+    let path = format!(in alloc; "{folder}/{name}")?;
+    let bytes = Items::from_vec(fs::read(rt, path.as_str())?);
+    let name = Text::from_str(alloc, name)?;
+    Ok(Input { name, bytes })
+}
+
+/// What an answer writes to the standard output, and behind it what it writes to the standard
+/// error.
+fn both_outputs(rt: &HostRuntime, answer: &Answer) -> io::Result<Output> {
+    let (report, complaint) = (answer.report.as_str(), answer.complaint.as_str());
+    let text = format!(in rt.alloc(); "{report}{complaint}")?.into_bytes();
+    let status = answer.status.number();
+    Ok(Output { text, status })
 }

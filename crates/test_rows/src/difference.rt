@@ -4,7 +4,7 @@ use std::io;
 ///
 /// # Errors
 /// Where the standard output could not be written.
-pub fn tell_difference(rt: &HostRuntime, wanted: &[u8], got: &[u8]) -> io::Result<()> {
+pub(super) fn tell_difference(rt: &HostRuntime, wanted: &[u8], got: &[u8]) -> io::Result<()> {
     let (number, wanted, got) = first_difference(wanted, got);
     println!(rt; "  line {number}")?;
     tell_line(rt, "wanted", wanted)?;

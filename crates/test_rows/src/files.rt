@@ -1,15 +1,17 @@
 use std::io::ErrorKind;
 use std::{fs, io};
 
-/// The names of all rows, in order, of which there is one at least: that of the folder, a slash,
-/// and that of the file that has a part.
-pub(super) fn row_names(rt: &HostRuntime, part: &str) -> io::Result<Vec<String>> {
-    let ending = format!(in rt.alloc(); ".{part}")?;
+/// The names of all rows in the groups of a folder, in order, of which there is one at least: each
+/// is the path of the file with an ending, without the ending.
+pub(super) fn row_names(rt: &HostRuntime, folder: &str, ending: &str) -> io::Result<Vec<String>> {
+    let ending = format!(in rt.alloc(); ".{ending}")?;
     let mut names = Vec::new(rt.alloc());
-    for group in fs::read_dir(rt, ".")? {
+    for group in fs::read_dir(rt, folder)? {
         let group = group?;
         if group.file_type()?.is_dir() {
-            push_rows(rt, &mut names, group.file_name(), ending.as_str())?;
+            let name = group.file_name();
+            let group = format!(in rt.alloc(); "{folder}/{name}")?;
+            push_rows(rt, &mut names, group.as_str(), ending.as_str())?;
         }
     }
     if names.is_empty() {
@@ -19,7 +21,7 @@ pub(super) fn row_names(rt: &HostRuntime, part: &str) -> io::Result<Vec<String>>
     Ok(names)
 }
 
-/// Puts the names of the rows in one folder behind others.
+/// Puts the names of the rows in one group behind others.
 fn push_rows(
     rt: &HostRuntime,
     names: &mut Vec<String>,
@@ -36,11 +38,8 @@ fn push_rows(
 }
 
 /// Reads a file of a row, and names it where it can't be read.
-///
-/// # Errors
-/// What the system says of the file, or want of memory.
-pub fn read(rt: &HostRuntime, name: &str, part: &str) -> io::Result<Vec<u8>> {
-    let path = format!(in rt.alloc(); "{name}.{part}")?;
+pub(super) fn read(rt: &HostRuntime, name: &str, ending: &str) -> io::Result<Vec<u8>> {
+    let path = format!(in rt.alloc(); "{name}.{ending}")?;
     match fs::read(rt, path.as_str()) {
         Ok(bytes) => Ok(bytes),
         Err(error) => {
@@ -51,11 +50,12 @@ pub fn read(rt: &HostRuntime, name: &str, part: &str) -> io::Result<Vec<u8>> {
 }
 
 /// Reads a file that some rows have: none where it is not there.
-///
-/// # Errors
-/// What the system says of a file that is there, or want of memory.
-pub fn read_if_there(rt: &HostRuntime, name: &str, part: &str) -> io::Result<Option<Vec<u8>>> {
-    let path = format!(in rt.alloc(); "{name}.{part}")?;
+pub(super) fn read_if_there(
+    rt: &HostRuntime,
+    name: &str,
+    ending: &str,
+) -> io::Result<Option<Vec<u8>>> {
+    let path = format!(in rt.alloc(); "{name}.{ending}")?;
     match fs::read(rt, path.as_str()) {
         Ok(bytes) => Ok(Some(bytes)),
         Err(error) if error.kind() == ErrorKind::NotFound => Ok(None),
@@ -63,11 +63,8 @@ pub fn read_if_there(rt: &HostRuntime, name: &str, part: &str) -> io::Result<Opt
     }
 }
 
-/// The status that the file of it has, or 0 where there is none.
-///
-/// # Errors
-/// As `read_if_there`, and where the file is no number.
-pub fn status_wanted(rt: &HostRuntime, name: &str) -> io::Result<u8> {
+/// The status that is wanted of a row: the one that its file has, or 0 where there is none.
+pub(super) fn status_wanted(rt: &HostRuntime, name: &str) -> io::Result<u8> {
     let Some(bytes) = read_if_there(rt, name, "status")? else {
         return Ok(0);
     };

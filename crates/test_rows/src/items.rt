@@ -1,38 +1,24 @@
-ghost use Rattle.std.specs.Prelude.{◌≡◌, ◌↔◌, IsTrue, string_bytes};
-
-use batch_texts::batches_text;
-use row_files::{Trial, read, tell_difference};
+use crate::batches::batches_text;
+use crate::files::read;
+use crate::outputs::Output;
+use crate::trials::Trial;
 use std::io;
 
-/// The text of a script's batches, and the one that is wanted.
-#[derive(Drop)]
-pub struct Row {
-    wanted: Vec<u8>,
-    text: String,
-}
+/// The rows of what a pool has.
+pub(super) struct ItemRows;
 
-impl Row {
-    /// Whether the text is the one that is wanted.
-    fn is_met(&self) -> bool
-        ensures { IsTrue result ↔ (string_bytes self.now.text ≡ self.now.wanted.items) }
-    {
-        self.text.as_bytes() == self.wanted.as_slice()
+impl Trial for ItemRows {
+    fn folder(&self) -> &'static str {
+        "items"
     }
-}
 
-impl Trial for Row {
-    fn run(rt: &HostRuntime, name: &str) -> io::Result<Row> {
+    fn wanted(&self) -> &'static str {
+        "text"
+    }
+
+    fn output(&self, rt: &HostRuntime, name: &str) -> io::Result<Output> {
         let script = read(rt, name, "script")?;
-        let wanted = read(rt, name, "text")?;
-        let text = batches_text(rt.alloc(), script.as_slice())?;
-        Ok(Row { wanted, text })
-    }
-
-    fn is_as_wanted(&self) -> bool {
-        self.is_met()
-    }
-
-    fn tell_difference(&self, rt: &HostRuntime) -> io::Result<()> {
-        tell_difference(rt, self.wanted.as_slice(), self.text.as_bytes())
+        let text = batches_text(rt.alloc(), script.as_slice())?.into_bytes();
+        Ok(Output { text, status: 0 })
     }
 }

@@ -1,57 +1,54 @@
-use crate::files::row_names;
+use crate::files::{read, row_names, status_wanted};
+use crate::outputs::{Output, Run};
 use std::io;
-use std::process::ExitCode;
 
-/// A row that was run.
-pub trait Trial: Sized + Drop {
-    /// Reads the files of the row with a name, and runs it.
-    fn run(rt: &HostRuntime, name: &str) -> io::Result<Self>;
+/// A kind of rows: where they stand, and how one is run.
+pub(super) trait Trial {
+    /// The folder of the rows.
+    fn folder(&self) -> &'static str;
 
-    /// Whether all is as wanted.
-    fn is_as_wanted(&self) -> bool;
+    /// The ending of the file that has what is wanted.
+    fn wanted(&self) -> &'static str;
 
-    /// Tells how it differs from what is wanted.
-    fn tell_difference(&self, rt: &HostRuntime) -> io::Result<()>;
+    /// Reads the other files of the row with a name, and runs it.
+    fn output(&self, rt: &HostRuntime, name: &str) -> io::Result<Output>;
 }
 
-/// Runs all rows, each of which has a part, as `script`, and tells a line of each. The exit status
-/// is 0 where all are as wanted, 1 where one differs, and 2 where there is no row or a file can't be
-/// read.
-pub fn run_rows<T: Trial>(rt: &HostRuntime, part: &str) -> ExitCode {
-    match count_differing::<T>(rt, part) {
-        Ok(0) => ExitCode::from(0),
-        Ok(_) => ExitCode::from(1),
-        Err(error) => {
-            let _ = eprintln!(rt; "{error}");
-            ExitCode::from(2)
-        }
-    }
+/// How many rows were run, and how many of them differ from what is wanted.
+#[derive(Clone, Copy, Default)]
+pub(super) struct Tally {
+    pub(super) rows: u64,
+    pub(super) differing: u64,
 }
 
-/// Runs all rows, and says how many differ from what is wanted.
-fn count_differing<T: Trial>(rt: &HostRuntime, part: &str) -> io::Result<u64> {
-    let mut rows = 0u64;
-    let mut differing = 0u64;
-    let names = row_names(rt, part)?;
-    for name in names.as_slice() {
-        if !run_row::<T>(rt, name.as_str())? {
-            differing = differing.saturating_add(1);
+impl Tally {
+    /// Runs all rows of a kind, tells a line of each, and counts them.
+    pub(super) fn run<T: Trial>(&mut self, rt: &HostRuntime, trial: &T) -> io::Result<()> {
+        for name in row_names(rt, trial.folder(), trial.wanted())?.as_slice() {
+            if !run_row(rt, trial, name.as_str())? {
+                self.differing = self.differing.saturating_add(1);
+            }
+            self.rows = self.rows.saturating_add(1);
         }
-        rows = rows.saturating_add(1);
+        Ok(())
     }
-    println!(rt; "{rows} rows, {differing} differ")?;
-    Ok(differing)
 }
 
 /// Runs a row, tells a line of it, and says whether all is as wanted.
-fn run_row<T: Trial>(rt: &HostRuntime, name: &str) -> io::Result<bool> {
-    let trial = T::run(rt, name)?;
-    let is_as_wanted = trial.is_as_wanted();
-    if is_as_wanted {
-        println!(rt; "ok {name}")?;
+fn run_row<T: Trial>(rt: &HostRuntime, trial: &T, name: &str) -> io::Result<bool> {
+    let ending = trial.wanted();
+    let wanted = Output {
+        text: read(rt, name, ending)?,
+        status: status_wanted(rt, name)?,
+    };
+    let got = trial.output(rt, name)?;
+    let run = Run { wanted, got };
+    let is_met = run.is_met();
+    if is_met {
+        println!(rt; "ok {name}.{ending}")?;
     } else {
-        println!(rt; "differs {name}")?;
-        trial.tell_difference(rt)?;
+        println!(rt; "differs {name}.{ending}")?;
+        run.tell_difference(rt)?;
     }
-    Ok(is_as_wanted)
+    Ok(is_met)
 }

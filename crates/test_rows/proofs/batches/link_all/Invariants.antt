@@ -1,5 +1,5 @@
 use Rattle.std.proofs.Common.{length}
-use Rattle.batch_texts.proofs.link_all.Given as goal
+use Rattle.test_rows.proofs.batches.link_all.Given as goal
 
 -- the statements that are left
 abbrev pub decreases-loop-script : goal.decreases-loop-script
