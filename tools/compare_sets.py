@@ -1,8 +1,8 @@
 #!/usr/bin/env python3
 """Compares how descriptor sets are read here and by protobuf's Python package, row by row.
 
-    python3 compare_sets.py ../crates/decode_rows/out/decode_rows
-    python3 compare_sets.py --damaged 20000 ../crates/decode_rows/out/decode_rows
+    python3 compare_sets.py ../crates/test_trials/out/test_trials
+    python3 compare_sets.py --damaged 20000 ../crates/test_trials/out/test_trials
 
 Two kinds of sets are read. Fields: for each field of each message of descriptor.proto, in a set
 with as little else as can be, the field absent, at its default, twice, with each other wire type,
@@ -191,8 +191,8 @@ def damaged_rows(count: int, number: int) -> Iterator[bytes]:
 
 def answers(program: str, rows: list[bytes]) -> list[Answer]:
     """What the program says of rows."""
-    text = "".join(f"{row.hex()}\n" for row in rows)
-    done = subprocess.run([program], input=text.encode(), stdout=subprocess.PIPE, check=True)
+    text = "".join(f"{row.hex()}\n" for row in rows).encode()
+    done = subprocess.run([program, "rows"], input=text, stdout=subprocess.PIPE, check=True)
     told = []
     for line in done.stdout.decode().splitlines():
         word, rest = line.split(" ", 1)
@@ -346,7 +346,7 @@ def main() -> int:
     parser = argparse.ArgumentParser(
         description=__doc__, formatter_class=argparse.RawDescriptionHelpFormatter
     )
-    parser.add_argument("program", help="the program decode_rows, as `rt run` builds it")
+    parser.add_argument("program", help="the program test_trials, as `rt run` builds it")
     parser.add_argument("--damaged", type=int, default=2000, help="how many sets are damaged")
     parser.add_argument("--seed", type=int, default=1, help="what the changes are chosen by")
     parser.add_argument("--fields", action=argparse.BooleanOptionalAction, default=True)

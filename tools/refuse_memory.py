@@ -2,10 +2,10 @@
 """Runs a program again and again, each time with another of its requests for memory refused, and
 checks each ending.
 
-    python3 refuse_memory.py trials ../crates/memory_trials/out/memory_trials
+    python3 refuse_memory.py trials ../crates/test_trials/out/test_trials
     python3 refuse_memory.py script ../crates/protolink/out/protolink ../crates/protolink/stdin
 
-`trials` runs each trial of crates/memory_trials. Requests count from the mark before its call to
+`trials` runs each trial of crates/test_trials. Requests count from the mark before its call to
 the one behind it. A refused run must tell that memory was refused and that all is right, and one
 without a refusal must write the line that is stored beside the program's sources.
 
@@ -47,11 +47,11 @@ from pathlib import Path
 from typing import NamedTuple, Optional
 
 TOOLS = Path(__file__).resolve().parent
-STORED_LINES = TOOLS.parent / "crates/memory_trials/stdout"
-STORED_INPUT = TOOLS.parent / "crates/memory_trials/stdin"
+STORED_LINES = TOOLS.parent / "crates/test_trials/stdout"
+STORED_INPUT = TOOLS.parent / "crates/test_trials/stdin"
 
 MARK = 7777
-"""The size of a request that begins and ends the count, as crates/memory_trials makes it."""
+"""The size of a request that begins and ends the count, as crates/test_trials makes it."""
 
 AGAIN = "one_pool"
 """How the names of the trials begin that make their call again and again."""
@@ -266,17 +266,19 @@ def trial_cases(program: str) -> Iterator[Case]:
     """The trials of a built program, by the lines that are stored of them."""
     given = STORED_INPUT.read_bytes()
     for line in STORED_LINES.read_text().splitlines(keepends=True):
-        name = line.partition(":")[0]
+        name, colon, _ = line.partition(":")
+        if not colon:
+            continue
         whole, refused = line.encode(), f"{name}: out of memory, right\n".encode()
         ending = Ending(0, whole if name in UNMOVED else refused)
         yield Case(name, [program, name], given, MARK, Ending(0, whole), ending)
 
 
-def script_case(program: str, script: str) -> Case:
-    """A run of protolink on a script."""
+def script_case(words: list[str], script: str) -> Case:
+    """A run of protolink on a script, or of another program with its arguments."""
     given = Path(script).read_bytes()
-    whole = run([program], given, dict(os.environ))
-    return Case(script, [program], given, 0, whole, Ending(OUT_OF_MEMORY, b""))
+    whole = run(words, given, dict(os.environ))
+    return Case(script, words, given, 0, whole, Ending(OUT_OF_MEMORY, b""))
 
 
 def argument_parser() -> argparse.ArgumentParser:
@@ -287,6 +289,7 @@ def argument_parser() -> argparse.ArgumentParser:
     parser.add_argument("what", choices=("trials", "script"))
     parser.add_argument("program", metavar="PROGRAM", help="the built program")
     parser.add_argument("script", nargs="?", metavar="SCRIPT", help="the script for protolink")
+    parser.add_argument("words", nargs="*", metavar="WORD", help="arguments of another program")
     parser.add_argument("--first", type=int, default=2000, help="refuse each of the first so many")
     parser.add_argument("--every", type=int, default=97, help="and each so many-th behind them")
     parser.add_argument("--behind", action="store_true", help="refuse those behind a refusal too")
@@ -305,7 +308,8 @@ def results(asked: argparse.Namespace) -> Iterator[Result]:
     with tempfile.TemporaryDirectory() as room:
         shim = Shim(room)
         is_script = asked.what == "script"
-        for case in [script_case(program, asked.script)] if is_script else trial_cases(program):
+        words = [program, *asked.words]
+        for case in [script_case(words, asked.script)] if is_script else trial_cases(program):
             yield result_of(shim, case, sample)
 
 

@@ -6,7 +6,7 @@ other, or the reports that they owe; and the set of which the trials of refused 
     python3 well_known.py report > ../crates/test_rows/data/scripts/protoc/well_known.report
     python3 well_known.py set > ../crates/set_example/data/well_known.pb
     python3 well_known.py told > ../crates/set_example/stdout
-    python3 well_known.py parts > ../crates/memory_trials/stdin
+    python3 well_known.py parts > ../crates/test_trials/stdin
     python3 well_known.py compare
 
 protoc describes the twelve files of protobuf that every installation has, with their locations.
@@ -17,7 +17,7 @@ they are known to break no rule, and protoc has written each type name as a full
 The set has the same files as bytes. What is told of it is that it is written as it was read, that
 a pool that is stored as a set is loaded as an equal pool, and what the files declare.
 
-The set with each part of a record filled is what protoc makes of crates/memory_trials/data, the
+The set with each part of a record filled is what protoc makes of crates/test_trials/data, the
 file that imports the others first, with options of oneofs and of extension ranges besides, which
 no source can set without options of its own.
 
@@ -57,7 +57,7 @@ if TYPE_CHECKING:
 STORED = Path(__file__).resolve().parent.parent / "crates"
 
 STORED_AS = {
-    "parts": "memory_trials/stdin",
+    "parts": "test_trials/stdin",
     "script": "test_rows/data/scripts/protoc/well_known.script",
     "report": "test_rows/data/scripts/protoc/well_known.report",
     "set": "set_example/data/well_known.pb",
@@ -215,7 +215,7 @@ def told_lines(files: list[FileDescriptorProto]) -> Iterator[str]:
 
 def filled_files() -> list[FileDescriptorProto]:
     """Files in whose records each part is filled."""
-    files = compiled_files(["first.proto"], [str(STORED / "memory_trials/data")])
+    files = compiled_files(["first.proto"], [str(STORED / "test_trials/data")])
     files.sort(key=lambda file: file.name != "first.proto")
     every = files[0].message_type[0]
     for options in (every.oneof_decl[0].options, every.extension_range[0].options):

@@ -106,7 +106,7 @@ pub(crate) fn link(alloc: Global, script: &str) -> Result<Told, AllocError> {
     link_once(alloc, &mut pools_of(alloc, scripts::FIRST)?, script)
 }
 
-/// The same of three pools.
+/// Links the batch of a script once into one of three pools.
 fn link_once(alloc: Global, pools: &mut Pools, script: &str) -> Result<Told, AllocError> {
     let wanted = build(&mut pools.ample, scripts::files(alloc, script)?);
     let linking = link_marked(alloc, &mut pools.pool, script)?;
@@ -123,7 +123,7 @@ pub(crate) fn link_known(alloc: Global) -> Result<Told, AllocError> {
     link_once_more(alloc, &mut pools_of(alloc, scripts::FIRST)?)
 }
 
-/// The same of three pools.
+/// Links the first batch once more into one of three pools.
 fn link_once_more(alloc: Global, pools: &mut Pools) -> Result<Told, AllocError> {
     let linking = link_marked(alloc, &mut pools.pool, scripts::FIRST)?;
     let is_right = linking.ended == Ended::Linked && pools.pool == pools.before;
@@ -134,13 +134,13 @@ fn link_once_more(alloc: Global, pools: &mut Pools) -> Result<Told, AllocError> 
 const MOST: usize = 10_000;
 
 /// Links copies of a second batch into one pool, until one of them is refused no memory. After each
-/// refusal before it the pool should be what it was, and in the end the one that took the batch with
-/// memory enough, or what it was if that refused the batch.
+/// refusal before it the pool should be what it was, and in the end the one that took the batch
+/// with memory enough, or what it was if that refused the batch.
 pub(crate) fn link_again_and_again(alloc: Global, script: &str) -> Result<Told, AllocError> {
     link_copies(alloc, &mut pools_of(alloc, scripts::EXTENDED)?, script)
 }
 
-/// The same of three pools.
+/// Links copies of the batch of a script into one of three pools.
 fn link_copies(alloc: Global, pools: &mut Pools, script: &str) -> Result<Told, AllocError> {
     let wanted = build(&mut pools.ample, scripts::files(alloc, script)?);
     let mut is_right = (wanted == Ended::Linked) == (pools.ample != pools.before);

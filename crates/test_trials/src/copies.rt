@@ -21,7 +21,8 @@ pub(crate) fn in_a_pool(alloc: Global, name: &str, set: &[u8]) -> Result<Option<
     in_pools(alloc, name, &pool, &before)
 }
 
-/// The same in a pool, which is equal to another: the pool itself, or its first item of a kind.
+/// A copy of what a trial names in a pool, which is equal to another: the pool itself, or its first
+/// item of a kind.
 fn in_pools(
     alloc: Global,
     name: &str,

@@ -1,22 +1,30 @@
 //! Calls that ask for memory, each tried with what it needs made before. A tool runs a trial again
-//! and again, and each time refuses another of the requests that the call makes.
+//! and again, and each time refuses another of the requests that the call makes. Another tool
+//! damages descriptor sets, and has each told row by row.
 //!
-//! The arguments name the trials; without any, all are run. A trial writes one line: its name, what
-//! its call answered, and `right`, or `wrong` where something is not what it should then be.
-//! Standard input has a descriptor set, the one that `protoc` makes of the sources in `data`.
+//! The arguments name trials, each of which writes one line: its name, what its call answered, and
+//! `right`, or `wrong` where something is not what it should then be. Standard input has a
+//! descriptor set, the one that `protoc` makes of the sources in `data`. By the argument `rows`
+//! standard input is told row by row. Without any argument all trials are run, and the rows of the
+//! file `sets.rows` are told behind them.
+//!
+//! Where memory is refused, nothing is written and the status is 3.
 #![tactic(auto)]
 
 mod batches;
 mod copies;
 mod names;
+mod rows;
 mod scripts;
 mod sets;
 mod told;
 mod values;
 
+use rows::write_rows;
 use std::alloc::{AllocError, Global};
 use std::io::Read;
-use std::{env, io};
+use std::process::ExitCode;
+use std::{env, fs, io};
 use told::Told;
 
 /// The names of all trials.
@@ -49,20 +57,44 @@ const TRIALS: [&str; 26] = [
     "escapes",
 ];
 
-fn main(rt: HostRuntime) -> io::Result<()> {
+fn main(rt: HostRuntime) -> ExitCode {
+    ExitCode::from(match tell(&rt) {
+        Ok(()) => 0,
+        Err(error) if error.kind() == io::ErrorKind::OutOfMemory => 3,
+        Err(_error) => 1,
+    })
+}
+
+/// Tells all that is asked for at once, so that nothing is told where memory is refused.
+fn tell(rt: &HostRuntime) -> io::Result<()> {
     let alloc = rt.alloc();
-    let words: Vec<String> = env::args(&rt)?.collect(alloc)?;
-    let mut set = Vec::new(alloc);
-    rt.stdin().read_to_end(&mut set)?;
+    let words: Vec<String> = env::args(rt)?.collect(alloc)?;
+    let mut input = Vec::new(alloc);
+    rt.stdin().read_to_end(&mut input)?;
     let mut report = String::new(alloc);
-    if words.len() > 1 {
-        for name in words.as_slice().iter().skip(1) {
-            write_trial(alloc, &mut report, name.as_str(), set.as_slice())?;
+    match words.as_slice().get(1..).unwrap_or(&[]) {
+        [] => {
+            write_all(alloc, &mut report, input.as_slice())?;
+            let rows = fs::read(rt, "sets.rows")?;
+            write_rows(alloc, &mut report, rows.as_slice())?;
         }
-    } else {
-        write_all(alloc, &mut report, set.as_slice())?;
+        [word] if word.as_str() == "rows" => write_rows(alloc, &mut report, input.as_slice())?,
+        names => write_named(alloc, &mut report, names, input.as_slice())?,
     }
     print!(rt; "{report}")
+}
+
+/// Writes the lines of the trials that are named.
+fn write_named(
+    alloc: Global,
+    report: &mut String,
+    names: &[String],
+    set: &[u8],
+) -> Result<(), AllocError> {
+    for name in names {
+        write_trial(alloc, report, name.as_str(), set)?;
+    }
+    Ok(())
 }
 
 /// Writes the lines of all trials.
@@ -102,7 +134,7 @@ fn trial(alloc: Global, name: &str, set: &[u8]) -> Result<Option<Told>, AllocErr
     Ok(Some(told))
 }
 
-/// The same of the trials over the descriptor set.
+/// What a trial over the descriptor set tells, or one of names or of copies.
 fn trial_of_sets(alloc: Global, name: &str, set: &[u8]) -> Result<Option<Told>, AllocError> {
     let told = match name {
         "decode" => sets::decoded(alloc, set)?,
@@ -113,7 +145,7 @@ fn trial_of_sets(alloc: Global, name: &str, set: &[u8]) -> Result<Option<Told>, 
     Ok(Some(told))
 }
 
-/// The same of the trials over tables of names, and over the set's pool.
+/// What a trial over tables of names tells, or one over the set's pool.
 fn trial_of_names(alloc: Global, name: &str, set: &[u8]) -> Result<Option<Told>, AllocError> {
     let told = match name {
         "table" => names::copy_hashed(alloc)?,

@@ -22,7 +22,7 @@ fn hashed(alloc: Global) -> Result<HashedNames, AllocError> {
     Ok(names)
 }
 
-/// The same as a tree.
+/// A table of names, as a tree.
 fn in_parts(alloc: Global) -> Result<PartNames, AllocError> {
     let mut names = PartNames::new(alloc);
     fill(alloc, &mut names)?;

@@ -1,40 +1,28 @@
-//! Reads a row of hexadecimal digits for each descriptor set from the standard input, and writes a
-//! row for each: `ok` and the set's canonical encoding, or its first fault with the offset. Where
-//! memory is refused, nothing is written and the status is 3.
-#![tactic(auto)]
-
+//! Descriptor sets row by row. Each row is the hexadecimal digits of one.
 use descriptor_decoding::{DecodeError, decode};
 use descriptor_encoding::encode;
 use std::alloc::{AllocError, Global};
 use std::io;
-use std::process::ExitCode;
 
-fn main(rt: HostRuntime) -> ExitCode {
-    ExitCode::from(match tell_rows(&rt) {
-        Ok(()) => 0,
-        Err(error) if error.kind() == io::ErrorKind::OutOfMemory => 3,
-        Err(_error) => 1,
-    })
-}
-
-/// Tells of all rows at once, so that nothing is told where memory is refused.
-fn tell_rows(rt: &HostRuntime) -> io::Result<()> {
-    let alloc = rt.alloc();
-    let rows = io::read_to_string(alloc, rt.stdin())?;
-    let mut report = String::new(alloc);
+/// Writes a row for each: `ok` and the set's canonical encoding, or its first fault with the
+/// offset.
+pub(crate) fn write_rows(alloc: Global, report: &mut String, rows: &[u8]) -> io::Result<()> {
+    let Ok(rows) = str::from_utf8(rows) else {
+        return Err(io::Error::other("a row has digits from 0 to f"));
+    };
     for row in rows.lines() {
-        tell_row(alloc, &mut report, row)?;
+        write_row(alloc, report, row)?;
     }
-    print!(rt; "{report}")
+    Ok(())
 }
 
-/// Tells what the bytes of a row are.
-fn tell_row(alloc: Global, report: &mut String, row: &str) -> io::Result<()> {
+/// Writes what the bytes of a row are.
+fn write_row(alloc: Global, report: &mut String, row: &str) -> io::Result<()> {
     let bytes = bytes_of(alloc, row)?;
     match decode(alloc, bytes.as_slice()) {
         Ok(set) => {
             report.push_str("ok ")?;
-            tell_bytes(report, encode(alloc, &set)?.as_slice())?;
+            write_bytes(report, encode(alloc, &set)?.as_slice())?;
             Ok(writeln!(report)?)
         }
         Err(DecodeError::Fault(fault)) => Ok(writeln!(report, "{:?} {}", fault.kind, fault.at)?),
@@ -65,8 +53,8 @@ fn digit_of(byte: u8) -> io::Result<u8> {
     }
 }
 
-/// Tells bytes by their digits.
-fn tell_bytes(report: &mut String, bytes: &[u8]) -> Result<(), AllocError> {
+/// Writes bytes as their digits.
+fn write_bytes(report: &mut String, bytes: &[u8]) -> Result<(), AllocError> {
     for byte in bytes {
         write!(report, "{byte:02x}")?;
     }

@@ -3,7 +3,8 @@ use link_script::files_of;
 use proto_types::FileDescriptorProto;
 use std::alloc::{AllocError, Global};
 
-/// What the pool has before batches are linked into it: messages, of which one has extensions, an enum, a service.
+/// What the pool has before batches are linked into it: messages, of which one has extensions, an
+/// enum, a service.
 pub(crate) const FIRST: &str = "file first.proto
 package p
 message M
@@ -110,7 +111,7 @@ extend e 100 optional int32 ~ M
 end
 ";
 
-/// The same with another extension, whose type is not defined.
+/// A batch with that extension and with another, whose type is not defined.
 pub(crate) const EXTENDING_AND_FAULTY: &str = "file b.proto
 import a.proto
 extend e 100 optional int32 ~ M
