@@ -7,7 +7,7 @@
 Two kinds of sets are read. Fields: for each field of each message of descriptor.proto, in a set
 with as little else as can be, the field absent, at its default, twice, with each other wire type,
 packed and not, and each of these cut at each byte. Damaged sets: copies of protobuf's own twelve
-files (crates/set_example/data/well_known.pb), a file a set, with bytes changed, bits turned, bytes
+files (crates/example_pool/data/well_known.pb), a file a set, with bytes changed, bits turned, bytes
 removed, put in or doubled, or cut off, by a fixed seed (--seed).
 
 What should be: both accept, and then what is written here is read by protobuf as the same set and
@@ -38,7 +38,7 @@ try:
 except ImportError:
     descriptor_pb2 = None
 
-STORED = Path(__file__).resolve().parent.parent / "crates/set_example/data/well_known.pb"
+STORED = Path(__file__).resolve().parent.parent / "crates/example_pool/data/well_known.pb"
 ROWS_AT_A_TIME = 500
 NUMBER, FIXED_64, BYTES, GROUP, GROUP_END, FIXED_32 = range(6)
 READ_HERE = {  # the fields of descriptor.proto that records have

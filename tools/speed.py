@@ -2,7 +2,7 @@
 """Counts what linking takes on the batches of docs/SPEED.md, and prints the table of them.
 
     python3 speed.py ../crates/protolink/out/protolink
-    python3 speed.py --sets ../crates/set_example/out/set_example
+    python3 speed.py --sets ../crates/example_pool/out/example_pool
     python3 speed.py --library ../dist/lib/libprotolink.a
     python3 speed.py --only '4,000 files' ../crates/protolink/out/protolink
     python3 speed.py --script '4,000 files' > files.script
@@ -36,7 +36,7 @@ import library_speed
 
 TOP = Path(__file__).resolve().parent.parent
 TWELVE_FILES = TOP / "crates/test_rows/data/scripts/protoc/well_known.script"
-SET = TOP / "crates/set_example/data/well_known.pb"
+SET = TOP / "crates/example_pool/data/well_known.pb"
 PAGE = TOP / "docs/SPEED.md"
 MORE = 1.02
 """How many times what the page tells is seen as dearer."""
@@ -330,7 +330,7 @@ def heap(program: str, script: Path, folder: Path) -> tuple[int, int]:
 def main() -> None:
     parser = argparse.ArgumentParser(description=__doc__.split("\n\n")[0])
     parser.add_argument("program", nargs="?", help="the built program protolink")
-    parser.add_argument("--sets", metavar="PROGRAM", help="the built program set_example")
+    parser.add_argument("--sets", metavar="PROGRAM", help="the built program example_pool")
     parser.add_argument("--library", metavar="ARCHIVE", help="the built library for C")
     parser.add_argument("--only", metavar="WORDS", help="the rows with these words alone")
     parser.add_argument("--script", metavar="WORDS", help="print the script of a row, and end")

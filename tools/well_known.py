@@ -4,8 +4,8 @@ other, or the reports that they owe; and the set of which the trials of refused 
 
     python3 well_known.py script > ../crates/test_rows/data/scripts/protoc/well_known.script
     python3 well_known.py report > ../crates/test_rows/data/scripts/protoc/well_known.report
-    python3 well_known.py set > ../crates/set_example/data/well_known.pb
-    python3 well_known.py told > ../crates/set_example/stdout
+    python3 well_known.py set > ../crates/example_pool/data/well_known.pb
+    python3 well_known.py told > ../crates/example_pool/stdout
     python3 well_known.py parts > ../crates/test_trials/stdin
     python3 well_known.py compare
 
@@ -15,7 +15,8 @@ protoc wrote, by going over its records: no linker is run. This is right for the
 they are known to break no rule, and protoc has written each type name as a full name.
 
 The set has the same files as bytes. What is told of it is that it is written as it was read, that
-a pool that is stored as a set is loaded as an equal pool, and what the files declare.
+a pool that is stored as a set is loaded as an equal pool, and what the files declare. Before it
+stands what is told of a file that is built by hand, which was written by hand too.
 
 The set with each part of a record filled is what protoc makes of crates/test_trials/data, the
 file that imports the others first, with options of oneofs and of extension ranges besides, which
@@ -60,8 +61,8 @@ STORED_AS = {
     "parts": "test_trials/stdin",
     "script": "test_rows/data/scripts/protoc/well_known.script",
     "report": "test_rows/data/scripts/protoc/well_known.report",
-    "set": "set_example/data/well_known.pb",
-    "told": "set_example/stdout",
+    "set": "example_pool/data/well_known.pb",
+    "told": "example_pool/stdout",
 }
 """What can be asked for, and where it is stored."""
 
@@ -104,6 +105,19 @@ COMMANDS = (
     "refs missing.proto",
     "walk",
 )
+
+BUILT_BY_HAND = (
+    "shop.proto: name 'Statuss' is not defined",
+    "linked",
+    "file shop.proto",
+    "message shop.Order",
+    "  id = 1: Optional string",
+    "  status = 2: Optional enum shop.Status",
+    "  parts = 3: Repeated message shop.Order",
+    "  number 3: parts",
+    "enum shop.Status: shop.NEW",
+)
+"""What crates/example_pool tells of the file in its src/shop.rt."""
 
 REFERENCES = {
     "field": ("type_name",),
@@ -205,8 +219,9 @@ def set_bytes(files: list[FileDescriptorProto]) -> bytes:
 
 
 def told_lines(files: list[FileDescriptorProto]) -> Iterator[str]:
-    """What is told of the set."""
+    """What is told of the file that is built by hand, and of the set."""
     report = Report(files)
+    yield from BUILT_BY_HAND
     yield "written: same"
     yield "loaded: same"
     yield from report.answer("link")

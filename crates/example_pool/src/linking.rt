@@ -1,24 +1,18 @@
-//! An example: a batch that is refused, the batch that is accepted in its place, and what the pool
-//! then has.
-#![tactic(auto)]
+//! A batch that is refused, the batch that is accepted in its place, and what the pool then has.
 
-mod shop;
-
+use crate::shop;
 use descriptor_linker::{
     AllFaults, BuildError, DescriptorPool, EnumDescriptor, EnumValueDescriptor, FileDescriptor,
     FileDescriptorProto, KindIndex, MessageDescriptor, MessageDescriptorInner,
 };
 use std::alloc::{AllocError, Global};
-use std::io;
 
-fn main(rt: HostRuntime) -> io::Result<()> {
-    let alloc = rt.alloc();
-    let mut report = String::new(alloc);
+/// Tells what comes of two batches of a file that is built by hand, and of the pool.
+pub(crate) fn tell_linking(alloc: Global, report: &mut String) -> Result<(), AllocError> {
     let mut pool = DescriptorPool::new(alloc);
-    link(alloc, &mut report, &mut pool, shop::file(alloc, "Statuss")?)?;
-    link(alloc, &mut report, &mut pool, shop::file(alloc, "Status")?)?;
-    write_file(&mut report, &pool, "shop.proto")?;
-    print!(rt; "{report}")
+    link(alloc, report, &mut pool, shop::file(alloc, "Statuss")?)?;
+    link(alloc, report, &mut pool, shop::file(alloc, "Status")?)?;
+    write_file(report, &pool, "shop.proto")
 }
 
 /// Links one file, and tells what has come of it.

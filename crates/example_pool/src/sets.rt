@@ -1,24 +1,16 @@
-//! An example: a descriptor set, from its bytes to a pool and back. `data/well_known.pb` is what
-//! `protoc` says of protobuf's own well-known files, as `tools/well_known.py` stores it.
-#![tactic(auto)]
+//! A descriptor set, from its bytes to a pool and back.
 
 use descriptor_linker::{DescriptorPool, write_counts, write_walk};
 use proto_records::{decode, encode};
 use std::alloc::{AllocError, Global};
-use std::{fs, io};
+use std::io;
 use stored_pools::{load, store};
 
-fn main(rt: HostRuntime) -> io::Result<()> {
-    let alloc = rt.alloc();
-    let bytes = fs::read(&rt, "well_known.pb")?;
-    let mut report = String::new(alloc);
-    tell_same(
-        &mut report,
-        "written",
-        is_written_again(alloc, bytes.as_slice())?,
-    )?;
-    tell_pool(alloc, &mut report, &pool_of(alloc, bytes.as_slice())?)?;
-    print!(rt; "{report}")
+/// Tells whether a set is written as it was read, whether its pool is loaded again as an equal one,
+/// and what the pool declares.
+pub(crate) fn tell_set(alloc: Global, report: &mut String, bytes: &[u8]) -> io::Result<()> {
+    tell_same(report, "written", is_written_again(alloc, bytes)?)?;
+    tell_pool(alloc, report, &pool_of(alloc, bytes)?)
 }
 
 /// Tells whether a pool that is stored as a set is loaded as an equal pool, and what it declares.
@@ -37,6 +29,7 @@ fn is_written_again(alloc: Global, bytes: &[u8]) -> io::Result<bool> {
     }
 }
 
+/// Whether a pool that is stored as a set is loaded as an equal pool.
 fn is_loaded_again(alloc: Global, pool: &DescriptorPool) -> io::Result<bool> {
     let stored = store(alloc, pool)?;
     Ok(pool_of(alloc, stored.as_slice())? == *pool)
@@ -50,6 +43,7 @@ fn pool_of(alloc: Global, bytes: &[u8]) -> io::Result<DescriptorPool> {
     }
 }
 
+/// Tells in a word whether two are the same.
 fn tell_same(report: &mut String, what: &str, is_same: bool) -> Result<(), AllocError> {
     let word = if is_same { "same" } else { "different" };
     writeln!(report, "{what}: {word}")

@@ -1,5 +1,5 @@
 ghost use Rattle.std.specs.Prelude.{◌≡◌, [], ◌++◌, length};
-ghost use Rattle.visitor_example.specs.FieldVisitor.{fields_in, longest_path};
+ghost use Rattle.example_visitor.specs.FieldVisitor.{fields_in, longest_path};
 
 use plain_data::{Items, Text};
 use proto_types::{

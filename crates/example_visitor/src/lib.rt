@@ -5,7 +5,7 @@
 ghost use Rattle.std.specs.Prelude.{◌≡◌, IsOk, IfOk};
 ghost use Rattle.record_walk.specs.Declarations.{declarations};
 ghost use Rattle.record_walk.specs.Fits.{counts_with};
-ghost use Rattle.visitor_example.specs.FieldVisitor.{fields_in};
+ghost use Rattle.example_visitor.specs.FieldVisitor.{fields_in};
 
 mod field_visitor;
 

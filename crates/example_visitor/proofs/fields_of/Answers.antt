@@ -6,10 +6,10 @@ use Rattle.record_walk.specs.declared.declaration.Declaration.{Declaration}
 use Rattle.record_walk.specs.Declarations.{declarations}
 use Rattle.record_walk.specs.Declaration.{declaration_of}
 use Rattle.record_walk.specs.Visitor.{Progress}
-use Rattle.visitor_example.specs.FieldVisitor.{is_field}
-use Rattle.visitor_example.proofs.fields_of.OwnLists.{own-1, at-1-1, entry-1-1, same-1-1}
-use Rattle.visitor_example.proofs.fields_of.Object-1 as object
-use Rattle.visitor_example.proofs.fields_of.Goals as goal
+use Rattle.example_visitor.specs.FieldVisitor.{is_field}
+use Rattle.example_visitor.proofs.fields_of.OwnLists.{own-1, at-1-1, entry-1-1, same-1-1}
+use Rattle.example_visitor.proofs.fields_of.Object-1 as object
+use Rattle.example_visitor.proofs.fields_of.Goals as goal
 
 -- the visitor object that is shown the declarations is the visitor
 pub returns : goal.returns

@@ -7,7 +7,7 @@ use record_walk::{declared_changed, declared_in_turn, declared_indexes, declared
 use std::alloc::{AllocError, Global};
 use std::process::Abort;
 use std::test::Fail;
-use visitor_example::fields_of;
+use example_visitor::fields_of;
 
 #[test]
 fn laws_are_called(rt: HostRuntime) -> Result<(), Fail> {

@@ -1,5 +1,5 @@
 use Rattle.std.proofs.Common.{rules}
-use Rattle.visitor_example.proofs.field_visitor.FieldVisitor.count.Goals as goal
+use Rattle.example_visitor.proofs.field_visitor.FieldVisitor.count.Goals as goal
 
 pub returns : goal.returns
 returns c = search rules
