@@ -1,6 +1,8 @@
-//! What no contract says of a pool: whether calls succeed, and worked batches that no script says.
+//! What no contract says of a pool and of scripts: whether calls succeed, worked batches that no
+//! row of `test_rows` has, what a reader gives, and devices that fail.
 
 mod batches;
+mod devices;
 mod errors;
 mod escapes;
 mod example;
@@ -8,9 +10,16 @@ mod extensions;
 mod face;
 mod kinds;
 mod laws;
+mod linker_example;
+mod linker_face;
+mod linker_laws;
 mod parts;
 mod rules;
 mod scopes;
+mod scripts;
+mod statements;
+mod streams;
+mod too_many;
 mod trees;
 mod values;
 

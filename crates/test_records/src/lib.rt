@@ -1,4 +1,4 @@
-//! The tests of the records, of the contents of a pool, and of the walk.
+//! The tests of the records, of their bytes, and of the walk.
 #![tactic(auto)]
 
 #[cfg(test)]

@@ -1,14 +1,21 @@
-//! What no contract says of records: whether calls succeed, and worked numbers, paths and walks.
+//! What no contract says of records and of sets as bytes: whether calls succeed, worked numbers,
+//! paths, walks and faults, and what protoc writes.
 //! That copies equal what they are of is tried by the trials of refused memory too.
 
+mod choices;
 mod counting;
 mod example;
 mod face;
+mod faults;
 mod finding;
 mod laws;
+mod levels;
+mod options;
+mod protoc;
 mod reading;
 mod showing;
 mod visiting;
+mod written;
 
 use proto_types::FileDescriptorProto;
 use std::alloc::{AllocError, Global};

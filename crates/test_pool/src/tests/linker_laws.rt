@@ -1,19 +1,11 @@
 //! The laws of pools: calls that do nothing.
 
+use super::files_of;
 use descriptor_linker::laws::{
     dot_says_nothing, earlier_stays, prefixes, relink, reorder, seen_names_stand, split,
 };
-use descriptor_linker::{DescriptorPool, FileDescriptorProto, files_of};
-use std::alloc::{AllocError, Global};
+use descriptor_linker::{DescriptorPool, FileDescriptorProto};
 use std::test::Fail;
-
-/// The files of a script without a fault.
-fn batch(alloc: Global, script: &str) -> Result<Vec<FileDescriptorProto>, AllocError> {
-    match files_of(alloc, script.as_bytes()) {
-        Ok(files) => Ok(files),
-        Err(_) => Err(AllocError),
-    }
-}
 
 fn call_laws(pool: &DescriptorPool, front: &[FileDescriptorProto], back: &[FileDescriptorProto]) {
     relink(pool);
@@ -29,8 +21,8 @@ fn call_laws(pool: &DescriptorPool, front: &[FileDescriptorProto], back: &[FileD
 
 #[test]
 fn laws_of_pools_are_called(rt: HostRuntime) -> Result<(), Fail> {
-    let front = batch(rt.alloc(), "file a.proto\nmessage A\nend\nend\n")?;
-    let back = batch(rt.alloc(), "file b.proto\nmessage B\nend\nend\n")?;
+    let front = files_of(rt.alloc(), "file a.proto\nmessage A\nend\nend\n")?;
+    let back = files_of(rt.alloc(), "file b.proto\nmessage B\nend\nend\n")?;
     call_laws(&DescriptorPool::new(rt.alloc()), &front, &back);
     Ok(())
 }

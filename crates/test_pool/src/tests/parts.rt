@@ -1,5 +1,5 @@
-//! What items hold that follows from their records, and that no line of a pool's text tells: numbers
-//! of values, and encodings by what no statement says.
+//! What items hold that follows from their records, and that no line of a pool's text tells:
+//! numbers of values, and encodings by what no statement says.
 
 use super::batches::pool_of;
 use super::files_of;

@@ -2,12 +2,12 @@
 
 use super::counting::{EVERY_KIND, NONE};
 use super::files_of;
+use example_visitor::fields_of;
 use proto_types::FileDescriptorProto;
 use record_walk::{declared_changed, declared_in_turn, declared_indexes, declared_paths};
 use std::alloc::{AllocError, Global};
 use std::process::Abort;
 use std::test::Fail;
-use example_visitor::fields_of;
 
 #[test]
 fn laws_are_called(rt: HostRuntime) -> Result<(), Fail> {
