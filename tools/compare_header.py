@@ -29,7 +29,13 @@ HEADER = TOP / "include/protolink.h"
 RUST = TOP / "bindings/rust/src/ffi.rs"
 DESCRIPTORS = TOP / "bindings/rust/src/descriptors.rs"
 PYTHON = TOP / "bindings/python/protolink.py"
-EXPORTS = tuple(TOP / "crates" / name / "src" for name in ("protolink_c", "pool_face", "pool_text"))
+EXPORTS = (
+    *sorted((TOP / "crates/protolink_c/src").rglob("*.rt")),
+    *sorted((TOP / "crates/pool_face/src").rglob("*.rt")),
+    TOP / "crates/pool_types/src/kinds.rt",
+)
+"""The files that have the calls, what they take and give, and the numbers. A `rank` says how values
+are ordered, and is no number of them."""
 
 Members = list[tuple[str, str]]
 """The members of a struct: names and types."""
@@ -168,8 +174,8 @@ RATTLE_TYPES = {name: name for name in ("u8", "u32", "u64", "i32", "usize")} | {
 
 def exports() -> Declared:
     """What the library exports."""
-    files = sorted(path for folder in EXPORTS for path in folder.rglob("*.rt"))
-    text = "\n".join(re.sub(r"//.*", "", path.read_text()) for path in files)
+    text = "\n".join(re.sub(r"//.*", "", path.read_text()) for path in EXPORTS)
+    text = re.sub(r"fn rank\(self\).*?^    \}", "", text, flags=re.DOTALL | re.MULTILINE)
     types = dict(RATTLE_TYPES)
 
     def plain(words: str) -> str:
