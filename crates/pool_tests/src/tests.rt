@@ -6,7 +6,6 @@ mod escapes;
 mod example;
 mod extensions;
 mod face;
-mod kinds;
 mod laws;
 mod parts;
 mod rules;
