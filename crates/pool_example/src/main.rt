@@ -1,7 +1,8 @@
-//! An example: a batch that is refused, the batch that is accepted in its place, and what the pool
-//! then has.
+//! An example: a batch that is refused, the batch that is accepted in its place, one more, and what
+//! the pool then has.
 #![tactic(auto)]
 
+mod depot;
 mod shop;
 
 use descriptor_linker::{
@@ -18,6 +19,7 @@ fn main(rt: HostRuntime) -> io::Result<()> {
     link(alloc, &mut report, &mut pool, shop::file(alloc, "Statuss")?)?;
     link(alloc, &mut report, &mut pool, shop::file(alloc, "Status")?)?;
     write_file(&mut report, &pool, "shop.proto")?;
+    link_depot(alloc, &mut report, &mut pool)?;
     print!(rt; "{report}")
 }
 
@@ -38,6 +40,22 @@ fn link(
             writeln!(report, "{faults}")
         }
         Err(BuildError::OutOfMemory) => Err(AllocError),
+    }
+}
+
+/// Links the file `depot.proto`, and tells what stands in it.
+fn link_depot(
+    alloc: Global,
+    report: &mut String,
+    pool: &mut DescriptorPool,
+) -> Result<(), AllocError> {
+    let mut files = depot::files(alloc)?;
+    if let Some(file) = files.pop() {
+        link(alloc, report, pool, file)?;
+    }
+    match pool.get_file_by_name("depot.proto") {
+        Some(file) => depot::write_declared(report, pool, file),
+        None => writeln!(report, "no file depot.proto"),
     }
 }
 
