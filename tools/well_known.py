@@ -1,12 +1,15 @@
 #!/usr/bin/env python3
 """Makes the stored runs over protobuf's own files again: the script of the one and the set of the
-other, or the reports that they owe; and the set of which the trials of refused memory make copies.
+other, or the reports that they owe; the set of which the trials of refused memory make copies; and
+the sets of the stored run of check_descriptors.
 
     python3 well_known.py script > ../crates/well_known/stdin
     python3 well_known.py report > ../crates/well_known/stdout
     python3 well_known.py set > ../crates/set_example/data/well_known.pb
     python3 well_known.py told > ../crates/set_example/stdout
     python3 well_known.py parts > ../crates/memory_trials/stdin
+    python3 well_known.py accepted > ../crates/check_descriptors/data/well_known.pb
+    python3 well_known.py refused > ../crates/check_descriptors/data/refused.pb
     python3 well_known.py compare
 
 protoc describes the twelve files of protobuf that every installation has, with their locations.
@@ -20,6 +23,9 @@ a pool that is stored as a set is loaded as an equal pool, and what the files de
 The set with each part of a record filled is what protoc makes of crates/memory_trials/data, the
 file that imports the others first, with options of oneofs and of extension ranges besides, which
 no source can set without options of its own.
+
+The set that is accepted is that of the same files, and the one that is refused is made of the text
+beside it.
 
 `compare` tells whether the stored files are what is made, with status 1 where one is not. The files
 that are stored were made by protoc 3.21.12; with another version its files may differ.
@@ -58,6 +64,8 @@ STORED = Path(__file__).resolve().parent.parent / "crates"
 
 STORED_AS = {
     "parts": "memory_trials/stdin",
+    "accepted": "check_descriptors/data/well_known.pb",
+    "refused": "check_descriptors/data/refused.pb",
     "script": "well_known/stdin",
     "report": "well_known/stdout",
     "set": "set_example/data/well_known.pb",
@@ -213,6 +221,15 @@ def told_lines(files: list[FileDescriptorProto]) -> Iterator[str]:
     yield from report.answer("walk")
 
 
+def refused_set() -> bytes:
+    """The set that is written down as protobuf's text format."""
+    from google.protobuf import text_format
+
+    text = (STORED / STORED_AS["refused"]).with_suffix(".textproto").read_text()
+    files = text_format.Parse(text, descriptor_records().FileDescriptorSet())
+    return files.SerializeToString(deterministic=True)
+
+
 def filled_files() -> list[FileDescriptorProto]:
     """Files in whose records each part is filled."""
     files = compiled_files(["first.proto"], [str(STORED / "memory_trials/data")])
@@ -235,8 +252,10 @@ def made(what: str, directories: tuple[str, ...]) -> bytes:
     """What is asked for by a word."""
     if what == "parts":
         return set_bytes(filled_files())
+    if what == "refused":
+        return refused_set()
     files = well_known_files(directories)
-    if what == "set":
+    if what in ("set", "accepted"):
         return set_bytes(files)
     makers = {"script": script_lines, "report": report_lines, "told": told_lines}
     return script_bytes(makers[what](files))
