@@ -29,9 +29,22 @@ HEADER = TOP / "include/protolink.h"
 RUST = TOP / "bindings/rust/src/ffi.rs"
 DESCRIPTORS = TOP / "bindings/rust/src/descriptors.rs"
 PYTHON = TOP / "bindings/python/protolink.py"
+
+
+def sources(crate: str) -> list[Path]:
+    return sorted((TOP / "crates" / crate / "src").rglob("*.rt"))
+
+
+def crates_of_exports() -> list[str]:
+    """The crate of the calls, and the one that it names whose structs C has too."""
+    line = re.search(r"^protolink_c staticlib: (.*)$", (TOP / "crates.txt").read_text(), re.MULTILINE)
+    named = line[1].split() if line else []
+    has_structs = [any("#[repr(C)]" in it.read_text() for it in sources(name)) for name in named]
+    return ["protolink_c", *(name for name, found in zip(named, has_structs) if found)]
+
+
 EXPORTS = (
-    *sorted((TOP / "crates/protolink_c/src").rglob("*.rt")),
-    *sorted((TOP / "crates/pool_face/src").rglob("*.rt")),
+    *(path for crate in crates_of_exports() for path in sources(crate)),
     TOP / "crates/pool_types/src/kinds.rt",
 )
 """The files that have the calls, what they take and give, and the numbers. A `rank` says how values
