@@ -96,14 +96,15 @@ class Ending(NamedTuple):
 
 
 class Case(NamedTuple):
-    """A run that is repeated, with the two endings that it may have."""
+    """A run that is repeated, with the ending that it has where nothing is refused, and those that
+    it may have where something is."""
 
     name: str
     words: list[str]
     input: bytes
     mark: int
     whole: Ending
-    refused: Ending
+    refused: tuple[Ending, ...]
 
 
 class Counts(NamedTuple):
@@ -180,13 +181,13 @@ class Result:
         if counts.refused == 0:
             return (self.case.whole,)
         if counts.may_pass_over(self.requests):
-            return (self.case.whole, self.case.refused)
-        return (self.case.refused,)
+            return (self.case.whole, *self.case.refused)
+        return self.case.refused
 
     def add_checked(self, number: int, ending: Ending) -> None:
         """Takes a run with a refusal under valgrind."""
         self.checked_runs += 1
-        if ending not in (self.case.refused, self.case.whole):
+        if ending not in (*self.case.refused, self.case.whole):
             self.faults.append(f"request {number}: {ending.words()}, under valgrind")
 
     def line(self) -> str:
@@ -282,17 +283,18 @@ def trial_cases(program: str) -> Iterator[Case]:
         name = line.partition(":")[0]
         whole, refused = line.encode(), f"{name}: out of memory, right\n".encode()
         ending = Ending(0, whole if name in UNMOVED else refused)
-        yield Case(name, [program, name], given, MARK, Ending(0, whole), ending)
+        yield Case(name, [program, name], given, MARK, Ending(0, whole), (ending,))
 
 
-def run_case(words: list[str], given: str) -> Case:
-    """A run of a program with arguments on a file."""
+def run_case(words: list[str], given: str, status: Optional[int]) -> Case:
+    """A run of a program with arguments on a file. It may end with another status too, if any."""
     data = Path(given).read_bytes()
     whole = run(words, data, dict(os.environ))
     if not whole.output:
         raise ToolError(f"{' '.join(words)} writes nothing: {whole.words()}")
     name = " ".join([Path(words[0]).name, *words[1:], "<", given])
-    return Case(name, words, data, 0, whole, Ending(OUT_OF_MEMORY, b""))
+    statuses = (OUT_OF_MEMORY,) if status is None else (OUT_OF_MEMORY, status)
+    return Case(name, words, data, 0, whole, tuple(Ending(it, b"") for it in statuses))
 
 
 def argument_parser() -> argparse.ArgumentParser:
@@ -307,6 +309,7 @@ def argument_parser() -> argparse.ArgumentParser:
     parser.add_argument("--every", type=int, default=97, help="and each so many-th behind them")
     parser.add_argument("--last", type=int, default=20, help="and each of the last so many")
     parser.add_argument("--behind", action="store_true", help="refuse those behind a refusal too")
+    parser.add_argument("--status", type=int, help="which a refused `run` may end with, besides 3")
     parser.add_argument("--valgrind", type=int, default=0, metavar="N", help="see above")
     return parser
 
@@ -324,8 +327,9 @@ def results(asked: argparse.Namespace, words: list[str]) -> Iterator[Result]:
     )
     with tempfile.TemporaryDirectory() as room:
         shim = Shim(room)
-        cases = [run_case([program, *words], asked.input)] if is_run else trial_cases(program)
-        for case in cases:
+        words = [program, *words]
+        run_alone = [run_case(words, asked.input, asked.status)] if is_run else []
+        for case in run_alone or trial_cases(program):
             yield result_of(shim, case, sample)
 
 
