@@ -21,8 +21,9 @@ The set has the same files as bytes. What is told of it is that it is written as
 a pool that is stored as a set is loaded as an equal pool, and what the files declare.
 
 The set with each part of a record filled is what protoc makes of crates/memory_trials/data, the
-file that imports the others first, with options of oneofs and of extension ranges besides, which
-no source can set without options of its own.
+file that imports the others first. Besides it has options of oneofs and of extension ranges, which
+no source can set without options of its own, the syntax, and a field that says that it is optional
+in proto3.
 
 The set that is accepted is that of the same files, and the one that is refused is made of the text
 beside it.
@@ -235,6 +236,8 @@ def filled_files() -> list[FileDescriptorProto]:
     files = compiled_files(["first.proto"], [str(STORED / "memory_trials/data")])
     files.sort(key=lambda file: file.name != "first.proto")
     every = files[0].message_type[0]
+    files[0].syntax = "proto2"
+    every.field[0].proto3_optional = True
     for options in (every.oneof_decl[0].options, every.extension_range[0].options):
         options.uninterpreted_option.add(identifier_value="VALUE").name.add(
             name_part="option", is_extension=False
