@@ -68,9 +68,9 @@ extern "C" {
 
 /*
  * The version of this header: a million for the first number, a thousand for the second, one for
- * the third. 0.1.0 is 1000.
+ * the third. 0.2.0 is 2000.
  */
-#define PROTOLINK_VERSION 1000
+#define PROTOLINK_VERSION 2000
 
 /*
  * A pool of linked files. All zero is an empty pool, which owns nothing. The pointer is the

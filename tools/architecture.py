@@ -1,7 +1,11 @@
 #!/usr/bin/env python3
-"""Checks the tables of docs/ARCHITECTURE.md: whether all that they name is there.
+"""Checks crates.txt, and the tables of docs/ARCHITECTURE.md: whether all that they name is there.
 
     python3 architecture.py
+    python3 architecture.py --storeys     puts crates.txt and the layers in the order of the storeys
+
+A crate of storey 1 names none, and each other one stands a storey above the highest that it names.
+In crates.txt a line `# storey N` stands before those of a storey, from the lowest on.
 
 The table of the layers has each crate of crates.txt, in that order. Each rule of the table "Each
 rule twice" has all five columns. Each file that this table and the one of a new rule name is there,
@@ -16,6 +20,7 @@ import re
 import sys
 from collections.abc import Iterator
 from pathlib import Path
+from typing import NamedTuple
 
 CRATES = Path(__file__).resolve().parent.parent / "crates"
 TOP = CRATES.parent
@@ -60,8 +65,67 @@ def cell_faults(crates: list[str], cell: str) -> Iterator[str]:
                 yield f"no {word} in any file"
 
 
+class Crate(NamedTuple):
+    """A crate of crates.txt: its name, its lines there, and what it names."""
+
+    name: str
+    lines: str
+    named: list[str]
+
+
+def crates_of(text: str) -> list[Crate]:
+    """The crates of crates.txt, in its order, each with the comment above it."""
+    found = re.findall(r"((?:^#(?! storey ).*\n)*^(\w+)(?: staticlib)?:(.*)\n)", text, re.MULTILINE)
+    return [Crate(name, lines, named.split()) for lines, name, named in found]
+
+
+def storeys(crates: list[Crate]) -> dict[str, int]:
+    """The storey of each crate. What a crate names may stand anywhere in the list."""
+    named = {crate.name: crate.named for crate in crates}
+    found: dict[str, int] = {}
+
+    def storey(name: str) -> int:
+        if name not in found:
+            below = [storey(other) for other in named[name] if other in named]
+            found[name] = 1 + max(below, default=0)
+        return found[name]
+
+    for name in named:
+        storey(name)
+    return found
+
+
+def by_storeys(text: str) -> str:
+    """crates.txt in the order of the storeys; those of one stay in the order that they have."""
+    crates = crates_of(text)
+    of = storeys(crates)
+    parts = []
+    for number in range(1, max(of.values()) + 1):
+        parts.append(f"# storey {number}\n")
+        parts += [crate.lines for crate in crates if of[crate.name] == number]
+    return "".join(parts)
+
+
+def put_in_order() -> None:
+    """Writes crates.txt, and the rows of the layers, in the order of the storeys."""
+    path = TOP / "crates.txt"
+    path.write_text(by_storeys(path.read_text()))
+    order = {crate.name: place for place, crate in enumerate(crates_of(path.read_text()))}
+    front, rest = PAGE.read_text().split("\n## Layers\n")
+    lines = rest.split("\n")
+    rows = [place for place, line in enumerate(lines) if re.match(r"\| `\w+` \|", line)]
+    rows = [place for place in rows if "\n## " not in "\n".join(lines[:place])]
+    moved = sorted((lines[place] for place in rows), key=lambda line: order[line.split("`")[1]])
+    for place, line in zip(rows, moved):
+        lines[place] = line
+    PAGE.write_text(front + "\n## Layers\n" + "\n".join(lines))
+
+
 def faults() -> Iterator[str]:
-    listed = re.findall(r"^(\w+)(?: staticlib)?:", (TOP / "crates.txt").read_text(), re.MULTILINE)
+    text = (TOP / "crates.txt").read_text()
+    listed = [crate.name for crate in crates_of(text)]
+    if by_storeys(text) != text:
+        yield "crates.txt is not in the order of its storeys: architecture.py --storeys writes it"
     if [row[0].strip("`") for row in section("Layers")] != listed:
         yield "the layers are not the crates of crates.txt, in that order"
     for step, files in section("To add a rule on fields"):
@@ -76,6 +140,8 @@ def faults() -> Iterator[str]:
 
 
 def main() -> None:
+    if sys.argv[1:] == ["--storeys"]:
+        put_in_order()
     told = list(faults())
     if told:
         sys.exit("\n".join(told))

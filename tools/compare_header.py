@@ -29,7 +29,26 @@ HEADER = TOP / "include/protolink.h"
 RUST = TOP / "bindings/rust/src/ffi.rs"
 DESCRIPTORS = TOP / "bindings/rust/src/descriptors.rs"
 PYTHON = TOP / "bindings/python/protolink.py"
-EXPORTS = tuple(TOP / "crates" / name / "src" for name in ("protolink_c", "pool_face", "pool_text"))
+
+
+def sources(crate: str) -> list[Path]:
+    return sorted((TOP / "crates" / crate / "src").rglob("*.rt"))
+
+
+def crates_of_exports() -> list[str]:
+    """The crate of the calls, and the one that it names whose structs C has too."""
+    line = re.search(r"^protolink_c staticlib: (.*)$", (TOP / "crates.txt").read_text(), re.MULTILINE)
+    named = line[1].split() if line else []
+    has_structs = [any("#[repr(C)]" in it.read_text() for it in sources(name)) for name in named]
+    return ["protolink_c", *(name for name, found in zip(named, has_structs) if found)]
+
+
+EXPORTS = (
+    *(path for crate in crates_of_exports() for path in sources(crate)),
+    TOP / "crates/pool_types/src/kinds.rt",
+)
+"""The files that have the calls, what they take and give, and the numbers. A `rank` says how values
+are ordered, and is no number of them."""
 
 Members = list[tuple[str, str]]
 """The members of a struct: names and types."""
@@ -168,8 +187,8 @@ RATTLE_TYPES = {name: name for name in ("u8", "u32", "u64", "i32", "usize")} | {
 
 def exports() -> Declared:
     """What the library exports."""
-    files = sorted(path for folder in EXPORTS for path in folder.rglob("*.rt"))
-    text = "\n".join(re.sub(r"//.*", "", path.read_text()) for path in files)
+    text = "\n".join(re.sub(r"//.*", "", path.read_text()) for path in EXPORTS)
+    text = re.sub(r"fn rank\(self\).*?^    \}", "", text, flags=re.DOTALL | re.MULTILINE)
     types = dict(RATTLE_TYPES)
 
     def plain(words: str) -> str:

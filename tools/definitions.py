@@ -1,12 +1,11 @@
 #!/usr/bin/env python3
-"""Prints docs/DEFINITIONS.md: the public definitions of crates/*/specs, each with its comment.
+"""Prints a page of the public definitions of crates/*/specs, each with its comment.
 
-    python3 definitions.py > ../docs/DEFINITIONS.md
-    python3 definitions.py --check
+    tools/definitions.py             writes dist/DEFINITIONS.md
+    tools/definitions.py --check     writes nothing
 
 A crate is a section, in the order of crates.txt, and a module a part of it, in the order of the
-crate's specs/Lib.antt. `--check` tells which definitions have no comment, and whether the page is
-what is printed, with status 1 where something is amiss.
+crate's specs/Lib.antt. A definition without a comment is told, with status 1.
 """
 
 from __future__ import annotations
@@ -17,7 +16,7 @@ from collections.abc import Iterator
 from pathlib import Path
 
 TOP = Path(__file__).resolve().parent.parent
-PAGE = TOP / "docs" / "DEFINITIONS.md"
+PAGE = TOP / "dist" / "DEFINITIONS.md"
 # A unit is what unfolds where another definition names it, and says nothing itself.
 DEFINITION = re.compile(
     r"(?:(?:abbrev|unfoldable) )*pub (?:record |data )?(?!mod )(\S+)(?!\S| : Unit)"
@@ -25,9 +24,9 @@ DEFINITION = re.compile(
 PREFACE = """\
 # The definitions
 
-The contracts of the public calls cite these definitions. `tools/definitions.py` makes this page of their comments: a section for each crate, a part for each file of its `specs/`, and the public definitions as they stand there. What the rules say to a user stands in [RULES.md](RULES.md), what a script says and a report tells in [SCRIPT.md](SCRIPT.md), what the pool, its laws and the program promise by them in [PROVED.md](PROVED.md), and where each rule is code in [ARCHITECTURE.md](ARCHITECTURE.md#each-rule-twice).
+The contracts of the public calls cite these definitions. `tools/definitions.py` prints this page of their comments: a section for each crate, a part for each file of its `specs/`, and the public definitions as they stand there. What the rules say to a user stands in [RULES.md](../docs/RULES.md), what a script says and a report tells in [SCRIPT.md](../docs/SCRIPT.md), what the pool, its laws and the program promise by them in [PROVED.md](../docs/PROVED.md), and where each rule is code in [ARCHITECTURE.md](../docs/ARCHITECTURE.md#each-rule-twice).
 
-A law is a statement that is proved: those that [PROVED.md](PROVED.md) lists are contracts of calls, the others are lemmas. A text is a list of bytes. A declaration is a file, or what in it has a full name: a message, a field, a oneof, an enum, a value of an enum, a service, a method or an extension. To be exact is, of a test, to be true exactly where two values are one; the lines that end so are proved lemmas, which stand among the definitions because the law of an implementation may cite these alone.
+A law is a statement that is proved: those that [PROVED.md](../docs/PROVED.md) lists are contracts of calls, the others are lemmas. A text is a list of bytes. A declaration is a file, or what in it has a full name: a message, a field, a oneof, an enum, a value of an enum, a service, a method or an extension. A test is *exact* if it holds only for equal values; the lines that end so are proved lemmas, which stand among the definitions because the law of an implementation may cite these alone.
 
 Modules whose names end with `Code`, and `Walking`, `Totals`, `Seen` and `Cursor`, tie what the code holds to the definitions. `State` and `Steps` of a pass say what `after`, `kept`, `borrows` and `ready` of its visitor mean; the contract of `build_files` cites none of them.
 """
@@ -84,16 +83,21 @@ def page() -> str:
     return "\n".join(parts)
 
 
+def uncommented() -> list[str]:
+    """The definitions that have no comment."""
+    return re.findall(r"^- `(.*)`: $", page(), re.MULTILINE)
+
+
 def main() -> None:
-    printed = page()
-    if sys.argv[1:] != ["--check"]:
-        sys.stdout.write(printed)
-        return
-    bare = re.findall(r"^- (`.*`): $", printed, re.MULTILINE)
+    if sys.argv[1:] not in ([], ["--check"]):
+        sys.exit((__doc__ or "").strip())
+    if not sys.argv[1:]:
+        PAGE.parent.mkdir(exist_ok=True)
+        PAGE.write_text(page())
+        print(PAGE.relative_to(TOP))
+    bare = uncommented()
     if bare:
         sys.exit("no comment: " + ", ".join(bare))
-    if printed != PAGE.read_text():
-        sys.exit(f"{PAGE} is not what definitions.py prints")
 
 
 if __name__ == "__main__":

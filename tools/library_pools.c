@@ -1,69 +1,32 @@
 /* Makes pools, asks them and frees them, as many as its argument says, for valgrind to watch.
    tools/library builds and runs it. Exit status: 0, or the line at which an answer was wrong. */
-#include <protolink.h>
+#include "library_readers.h"
 
 #include <stdlib.h>
-#include <string.h>
 
-#define WANT(condition)       \
-    do {                      \
-        if (!(condition))     \
-            return __LINE__ % 256; \
-    } while (0)
-
-static const char first[] =
-    "file a.proto\npackage p.q\nmessage M\nfield f 1 optional int32 ~ ~\ndefault 7\njson g\n"
-    "oneof o\nextensions 100 200\nend\nextend x 100 optional int32 ~ .p.q.M\nenum E\nvalue A 0\n"
-    "end\nservice S\nmethod T .p.q.M .p.q.M\nend\nend\n";
-static const char second[] = "file b.proto\nimport a.proto\nend\n";
 static const char refused[] = "file c.proto\nmessage N\nend\nmessage N\nend\nend\n";
-
-static const uint8_t *bytes(const char *text)
-{
-    return (const uint8_t *)text;
-}
 
 static int add(protolink_pool *pool, const char *script)
 {
-    return protolink_pool_add_script(pool, bytes(script), strlen(script));
+    return protolink_pool_add_script(pool, as_bytes(script), strlen(script));
 }
 
-/* What the first file has, by each call that looks something up. */
+/* What the pool has, by each call that reads it. */
 static int look_up(protolink_pool *pool)
 {
-    protolink_item item;
-    protolink_counts counts;
-    protolink_message_info message;
-    protolink_field_info field;
-    protolink_extension_info extension;
-    uint32_t number;
+    protolink_item item = { PROTOLINK_FIELD, 0, 0 };
     uint8_t text[64];
-    int32_t path[8];
     size_t length;
-    WANT(protolink_pool_find(pool, bytes("p.q.M.f"), 7, &item, &number) == PROTOLINK_DONE);
-    WANT(item.kind == PROTOLINK_FIELD && item.index == 0 && item.position == 0 && number == 0);
-    WANT(protolink_pool_find_path(pool, bytes("p.q.M"), 5, path, 8, &length) == PROTOLINK_DONE);
-    WANT(length == 3 && path[0] == 4 && path[1] == 0 && path[2] == 1);
-    WANT(protolink_pool_find(pool, bytes("\xff"), 1, &item, &number) == PROTOLINK_NOT_FOUND);
-    protolink_pool_counts(pool, &counts);
-    WANT(counts.messages == 1 && counts.enums == 1 && counts.services == 1);
-    WANT(protolink_message(pool, 0, &message) == PROTOLINK_DONE && message.fields == 1);
-    WANT(protolink_message(pool, 1, &message) == PROTOLINK_NOT_FOUND);
-    WANT(protolink_field(pool, 0, 0, &field) == PROTOLINK_DONE && field.number == 1);
-    WANT(protolink_extension(pool, 0, &extension) == PROTOLINK_DONE && extension.number == 100);
-    WANT(protolink_field_by_json_name(pool, 0, bytes("g"), 1, &number) == PROTOLINK_DONE);
-    WANT(protolink_full_name(pool, &item, text, 64, &length) == PROTOLINK_DONE);
-    WANT(length == 7 && memcmp(text, "p.q.M.f", 7) == 0);
     WANT(protolink_full_name(pool, &item, text, 6, &length) == PROTOLINK_SHORT && length == 7);
     WANT(protolink_default(pool, &item, text, 64, &length) == PROTOLINK_DONE && length == 1);
-    return 0;
+    return read_all(pool);
 }
 
 /* The linked set of one pool, taken in by another. */
 static int hand_over(protolink_pool *pool)
 {
     protolink_pool other = PROTOLINK_POOL_EMPTY;
-    uint8_t set[512];
+    uint8_t set[1024];
     size_t length;
     int status;
     WANT(protolink_pool_linked(pool, set, sizeof set, &length) == PROTOLINK_DONE);
@@ -82,11 +45,12 @@ static int one_pool(void)
     uint8_t text[4096];
     size_t length;
     int status;
-    WANT(add(&pool, first) == PROTOLINK_DONE && add(&pool, second) == PROTOLINK_DONE);
+    WANT(add(&pool, read_first) == PROTOLINK_DONE && add(&pool, read_second) == PROTOLINK_DONE);
     WANT(add(&pool, refused) == PROTOLINK_REFUSED);
     WANT(protolink_pool_report(&pool, text, sizeof text, &length) == PROTOLINK_DONE && length > 0);
     WANT(protolink_pool_report_json(&pool, text, sizeof text, &length) == PROTOLINK_DONE);
     WANT(add(&pool, "nonsense\n") == PROTOLINK_FAULT);
+    WANT(add(&copy, "file d.proto\npackage d\nend\n") == PROTOLINK_DONE);
     WANT(protolink_pool_clone(&pool, &copy) == PROTOLINK_DONE);
     protolink_pool_clear(&pool);
     protolink_pool_clear(&pool);

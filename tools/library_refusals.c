@@ -2,10 +2,9 @@
    its pool as it was, or succeed where it could do without, and no block may be left.
    tools/library builds it with -Wl,--wrap=malloc,--wrap=realloc,--wrap=free, and runs it.
    It prints a line for each call: its requests, and how many were wrong. Exit status: 0 none. */
-#include <protolink.h>
+#include "library_readers.h"
 
 #include <stdio.h>
-#include <string.h>
 
 void *__real_malloc(size_t size);
 void *__real_realloc(void *block, size_t size);
@@ -213,6 +212,21 @@ static int asks_for_nothing(void)
     return right && pool.at == NULL && copy.at == NULL && requests == 0;
 }
 
+/* How many requests the readers make of a pool that has files: a number below 0 where one of them
+   answers otherwise than it must. */
+static long reader_requests(void)
+{
+    protolink_pool pool = PROTOLINK_POOL_EMPTY;
+    int status = add(&pool, read_first) | add(&pool, read_second);
+    long made;
+    requests = 0;
+    if (status == PROTOLINK_DONE)
+        status = read_all(&pool);
+    made = requests;
+    protolink_pool_clear(&pool);
+    return status == 0 ? made : -status;
+}
+
 /* The linked second file alone, and the set of both. */
 static int make_inputs(void)
 {
@@ -239,5 +253,7 @@ int main(void)
     }
     int wrong = !asks_for_nothing();
     printf("an empty pool: %ld requests, %d wrong\n", requests, wrong);
-    return status || wrong;
+    long made = reader_requests();
+    printf("readers of a pool: %ld requests, %d wrong\n", made, made != 0);
+    return status || wrong || made != 0;
 }

@@ -3,22 +3,24 @@
 checks each ending.
 
     python3 refuse_memory.py trials ../crates/test_trials/out/test_trials
-    python3 refuse_memory.py script ../crates/protolink/out/protolink ../crates/protolink/stdin
+    python3 refuse_memory.py run ../crates/protolink/out/protolink ../crates/test_rows/data/scripts/protoc/well_known.script
+    python3 refuse_memory.py run ../crates/check_descriptors/out/check_descriptors SET -- --list -
 
 `trials` runs each trial of crates/test_trials. Requests count from the mark before its call to
 the one behind it. A refused run must tell that memory was refused and that all is right, and one
 without a refusal must write the line that is stored beside the program's sources.
 
-`script` runs protolink on a script. Requests count from the beginning of the program. A refused run
-must end with status 3 and write nothing, and one without a refusal must write what the program
-writes when it is left alone.
+`run` runs a program, with the arguments behind `--`, on a file as its standard input, in a folder
+of its own. Requests count from the beginning of the program. A refused run must end with status 3,
+write nothing and leave no file, and one without a refusal must write what the program writes when
+it is left alone, to its outputs and to the files of the folder.
 
 The first request is refused, then the second, and so on, until a run comes to its end without
 having met a refusal. A run may go on, and must then end as without a refusal, in two cases: where
 the request was for a block that has room enough already, as when it is to shrink; and where the
 program asked once more and was given the room, as the library's `collect` does, so that there was
-one request more than without a refusal. With --first and --every some are left out: all of the first are refused, and
-of those behind them each so many. With --behind a refusal lasts: all requests behind the refused
+one request more than without a refusal. With --first, --every and --last some are left out: all of
+the first and of the last are refused, and of those between them each so many. With --behind a refusal lasts: all requests behind the refused
 one are refused too, up to the mark behind the call. A run is wrong if it is ended by a signal, ends
 otherwise than it must, or leaves a block of memory that it was given.
 
@@ -63,7 +65,7 @@ SECONDS = 600
 """The time that a run has."""
 
 OUT_OF_MEMORY = 3
-"""The exit status of protolink that was refused memory."""
+"""The exit status of a program that was refused memory."""
 
 MEMORY_CHECK = (
     "valgrind",
@@ -81,21 +83,28 @@ class ToolError(Exception):
 
 
 class Ending(NamedTuple):
-    """How a run ends: its status, which is negative for a signal, and what it writes."""
+    """How a run ends: its status, which is negative for a signal, and what it writes: to its
+    outputs, and as files in its folder, by their names."""
 
     status: int
     output: bytes
+    files: tuple[tuple[str, bytes], ...] = ()
+
+    def words(self) -> str:
+        files = f", files {' '.join(name for name, _ in self.files)}" if self.files else ""
+        return f"status {self.status}, wrote {self.output[:60]!r}{files}"
 
 
 class Case(NamedTuple):
-    """A run that is repeated, with the two endings that it may have."""
+    """A run that is repeated, with the ending that it has where nothing is refused, and those that
+    it may have where something is."""
 
     name: str
     words: list[str]
     input: bytes
     mark: int
     whole: Ending
-    refused: Ending
+    refused: tuple[Ending, ...]
 
 
 class Counts(NamedTuple):
@@ -118,16 +127,15 @@ class Sample(NamedTuple):
 
     first: int
     every: int
+    last: int
     is_lasting: bool
     valgrind: int
 
-    def requests(self) -> Iterator[int]:
-        """The numbers of the requests, without end, behind a 0."""
-        yield 0
-        number = 1
-        while True:
-            yield number
-            number += 1 if number < self.first else self.every
+    def behind(self, number: int, requests: int) -> int:
+        """The request that is refused behind one, of so many."""
+        if number < self.first:
+            return number + 1
+        return min(number + self.every, max(number + 1, requests - self.last + 1))
 
 
 class Result:
@@ -153,8 +161,7 @@ class Result:
             self.refused_runs += 1
             self.whole_runs += ending == self.case.whole
         if ending not in self._endings(counts):
-            told = ending.output[:60]
-            self.faults.append(f"request {number}: status {ending.status}, wrote {told!r}")
+            self.faults.append(f"request {number}: {ending.words()}")
         if counts.left != 0:
             self.faults.append(f"request {number}: {counts.left} blocks left")
         return number == 0 or counts.refused > 0
@@ -167,22 +174,21 @@ class Result:
             return
         self.requests, self.refused_runs = counts.requests, counts.refused
         if ending != self.case.whole or counts.refused < max(counts.requests, 1) or counts.left != 0:
-            told = ending.output[:60]
-            self.faults.append(f"status {ending.status}, wrote {told!r}, {counts}")
+            self.faults.append(f"{ending.words()}, {counts}")
 
     def _endings(self, counts: Counts) -> tuple[Ending, ...]:
         """The endings that a run with these counts may have."""
         if counts.refused == 0:
             return (self.case.whole,)
         if counts.may_pass_over(self.requests):
-            return (self.case.whole, self.case.refused)
-        return (self.case.refused,)
+            return (self.case.whole, *self.case.refused)
+        return self.case.refused
 
     def add_checked(self, number: int, ending: Ending) -> None:
         """Takes a run with a refusal under valgrind."""
         self.checked_runs += 1
-        if ending not in (self.case.refused, self.case.whole):
-            self.faults.append(f"request {number}: status {ending.status} under valgrind")
+        if ending not in (*self.case.refused, self.case.whole):
+            self.faults.append(f"request {number}: {ending.words()}, under valgrind")
 
     def line(self) -> str:
         """The result in one line."""
@@ -229,21 +235,25 @@ class Shim:
 
 
 def run(words: list[str], given: bytes, environment: dict[str, str]) -> Ending:
-    """Runs a program on an input."""
-    try:
-        done = subprocess.run(
-            words,
-            input=given,
-            env=environment,
-            stdout=subprocess.PIPE,
-            timeout=SECONDS,
-            check=False,
-        )
-    except OSError as fault:
-        raise ToolError(f"{words[0]} cannot be run: {fault.strerror}") from fault
-    except subprocess.TimeoutExpired as fault:
-        raise ToolError(f"{words[0]} did not end within {SECONDS} seconds") from fault
-    return Ending(done.returncode, done.stdout)
+    """Runs a program on an input, in an empty folder."""
+    with tempfile.TemporaryDirectory() as folder:
+        try:
+            done = subprocess.run(
+                words,
+                cwd=folder,
+                input=given,
+                env=environment,
+                stdout=subprocess.PIPE,
+                timeout=SECONDS,
+                check=False,
+            )
+        except OSError as fault:
+            raise ToolError(f"{words[0]} cannot be run: {fault.strerror}") from fault
+        except subprocess.TimeoutExpired as fault:
+            raise ToolError(f"{words[0]} did not end within {SECONDS} seconds") from fault
+        paths = sorted(Path(folder).iterdir())
+        files = tuple((path.name, path.read_bytes()) for path in paths)
+        return Ending(done.returncode, done.stdout, files)
 
 
 def result_of(shim: Shim, case: Case, sample: Sample) -> Result:
@@ -252,14 +262,18 @@ def result_of(shim: Shim, case: Case, sample: Sample) -> Result:
     if case.name.startswith(AGAIN):
         result.add_rising(*shim.run(case, {"RISING": 1}))
         return result
-    for number in sample.requests():
-        asked = {"REQUEST": number, "BEHIND": int(sample.is_lasting)}
-        if not result.add(number, *shim.run(case, asked)):
-            break
+    number = 0
+    while result.add(number, *shim.run(case, asked_for(sample, number))):
         if sample.valgrind and number > 0 and number % sample.valgrind == 0:
-            checked, _ = shim.run(case, asked, MEMORY_CHECK)
+            checked, _ = shim.run(case, asked_for(sample, number), MEMORY_CHECK)
             result.add_checked(number, checked)
+        number = sample.behind(number, result.requests)
     return result
+
+
+def asked_for(sample: Sample, number: int) -> dict[str, int]:
+    """What the shim is asked where a request is to be refused."""
+    return {"REQUEST": number, "BEHIND": int(sample.is_lasting)}
 
 
 def trial_cases(program: str) -> Iterator[Case]:
@@ -271,14 +285,18 @@ def trial_cases(program: str) -> Iterator[Case]:
             continue
         whole, refused = line.encode(), f"{name}: out of memory, right\n".encode()
         ending = Ending(0, whole if name in UNMOVED else refused)
-        yield Case(name, [program, name], given, MARK, Ending(0, whole), ending)
+        yield Case(name, [program, name], given, MARK, Ending(0, whole), (ending,))
 
 
-def script_case(words: list[str], script: str) -> Case:
-    """A run of protolink on a script, or of another program with its arguments."""
-    given = Path(script).read_bytes()
-    whole = run(words, given, dict(os.environ))
-    return Case(script, words, given, 0, whole, Ending(OUT_OF_MEMORY, b""))
+def run_case(words: list[str], given: str, status: Optional[int]) -> Case:
+    """A run of a program with arguments on a file. It may end with another status too, if any."""
+    data = Path(given).read_bytes()
+    whole = run(words, data, dict(os.environ))
+    if not whole.output:
+        raise ToolError(f"{' '.join(words)} writes nothing: {whole.words()}")
+    name = " ".join([Path(words[0]).name, *words[1:], "<", given])
+    statuses = (OUT_OF_MEMORY,) if status is None else (OUT_OF_MEMORY, status)
+    return Case(name, words, data, 0, whole, tuple(Ending(it, b"") for it in statuses))
 
 
 def argument_parser() -> argparse.ArgumentParser:
@@ -286,39 +304,45 @@ def argument_parser() -> argparse.ArgumentParser:
     parser = argparse.ArgumentParser(
         description=__doc__, formatter_class=argparse.RawDescriptionHelpFormatter
     )
-    parser.add_argument("what", choices=("trials", "script"))
+    parser.add_argument("what", choices=("trials", "run"))
     parser.add_argument("program", metavar="PROGRAM", help="the built program")
-    parser.add_argument("script", nargs="?", metavar="SCRIPT", help="the script for protolink")
-    parser.add_argument("words", nargs="*", metavar="WORD", help="arguments of another program")
+    parser.add_argument("input", nargs="?", metavar="FILE", help="the standard input for `run`")
     parser.add_argument("--first", type=int, default=2000, help="refuse each of the first so many")
     parser.add_argument("--every", type=int, default=97, help="and each so many-th behind them")
+    parser.add_argument("--last", type=int, default=20, help="and each of the last so many")
     parser.add_argument("--behind", action="store_true", help="refuse those behind a refusal too")
+    parser.add_argument("--status", type=int, help="which a refused `run` may end with, besides 3")
     parser.add_argument("--valgrind", type=int, default=0, metavar="N", help="see above")
     return parser
 
 
-def results(asked: argparse.Namespace) -> Iterator[Result]:
+def results(asked: argparse.Namespace, words: list[str]) -> Iterator[Result]:
     """What comes of each case that is asked for."""
-    if (asked.what == "script") != (asked.script is not None):
-        raise ToolError("a script is given for `script`, and for nothing else")
+    is_run = asked.what == "run"
+    if is_run != (asked.input is not None) or (words and not is_run):
+        raise ToolError("a file is given for `run`, and arguments for nothing else")
     if asked.valgrind and shutil.which("valgrind") is None:
         raise ToolError("there is no valgrind")
     program = str(Path(asked.program).resolve())
-    sample = Sample(asked.first, max(asked.every, 1), asked.behind, asked.valgrind)
+    sample = Sample(
+        asked.first, max(asked.every, 1), max(asked.last, 0), asked.behind, asked.valgrind
+    )
     with tempfile.TemporaryDirectory() as room:
         shim = Shim(room)
-        is_script = asked.what == "script"
-        words = [program, *asked.words]
-        for case in [script_case(words, asked.script)] if is_script else trial_cases(program):
+        words = [program, *words]
+        run_alone = [run_case(words, asked.input, asked.status)] if is_run else []
+        for case in run_alone or trial_cases(program):
             yield result_of(shim, case, sample)
 
 
 def main() -> int:
     """Tells what has come of each case, and answers the exit status."""
     parser = argument_parser()
+    given = sys.argv[1:]
+    own = given.index("--") if "--" in given else len(given)
     status = 0
     try:
-        for result in results(parser.parse_args()):
+        for result in results(parser.parse_args(given[:own]), given[own + 1 :]):
             print("\n  ".join([result.line(), *result.faults]), flush=True)
             status = 1 if result.faults else status
     except (ToolError, OSError) as fault:

@@ -14,8 +14,8 @@ what writes them, in the example of sets; and of the one call of the library for
 Instructions repeat themselves, whatever else a machine does. On the standard error each row is told
 beside the figures that docs/SPEED.md has, which are of the last tree.
 
-Exit status: 0, 1 where something takes more than 2 % more than that page tells, or 2 where nothing
-could be counted.
+Exit status: 0, 1 where a figure is more than 2 % above the one of that page, or 2 where something
+could not be counted, as a script with a fault, or the page has no such row.
 
 Needed are valgrind, and the program, which `rt run` or the gate builds.
 """
@@ -31,6 +31,7 @@ import sys
 import tempfile
 from collections.abc import Callable
 from pathlib import Path
+from typing import Optional
 
 import library_speed
 
@@ -48,10 +49,16 @@ class ToolError(Exception):
     """What keeps the tool from counting."""
 
 
-def figures(row: str) -> tuple[tuple[str, ...], list[float]]:
-    """What a row of the table is of, and the instructions that it tells, in millions."""
+FIGURES = ("million", "million of the whole", "requests", "kB")
+"""What the figures of a row are, behind its two names."""
+
+
+def figures(row: str) -> tuple[tuple[str, ...], list[Optional[float]]]:
+    """What a row of the table is of, and its figures; none where a cell has no number."""
     cells = [cell.strip() for cell in row.strip().strip("|").split("|")]
-    return tuple(cells[:2]), [float(cell) for cell in cells[2:4] if re.fullmatch(r"[\d.]+", cell)]
+    numbers = [cell.replace(",", "") for cell in cells[2:]]
+    is_number = [re.fullmatch(r"[\d.]+", number) for number in numbers]
+    return tuple(cells[:2]), [float(it) if found else None for it, found in zip(numbers, is_number)]
 
 
 class Table:
@@ -60,16 +67,24 @@ class Table:
     def __init__(self, page: str) -> None:
         self.before = dict(figures(line) for line in page.splitlines() if line.startswith("| "))
         self.is_dearer = False
+        self.unknown: list[str] = []
 
     def tell(self, row: str) -> None:
         """Prints a row, and on the standard error how it compares with that of the page."""
         print(row, flush=True)
         names, now = figures(row)
-        for old, new in zip(self.before.get(names, []), now):
+        before = self.before.get(names, [])
+        if [old is None for old in before] != [new is None for new in now]:
+            self.unknown.append(names[0])
+            print(f"  {PAGE.name} has no such row with these figures", file=sys.stderr)
+            return
+        for what, old, new in zip(FIGURES, before, now):
+            if old is None or new is None:
+                continue
             is_dearer = new > old * MORE
             self.is_dearer |= is_dearer
             word = ", dearer" if is_dearer else ""
-            print(f"  {old:.2f} before, {new:.2f} now{word}", file=sys.stderr)
+            print(f"  {old:,.10g} before, {new:,.10g} now, {what}{word}", file=sys.stderr)
 
 
 def field(name: str, number: int, type_: str = "int32", type_name: str = "~") -> str:
@@ -298,7 +313,7 @@ def run(words: list[str], given: Path) -> str:
     except OSError as error:
         raise ToolError(f"{words[0]}: {error.strerror}") from error
     first = done.stdout.split(b"\n")[0].decode(errors="replace")
-    if done.returncode not in (0, 2) or not first:
+    if done.returncode != 0 or not first:
         raise ToolError(f"{words[-1]} ended with status {done.returncode}")
     print(first, file=sys.stderr)
     return done.stderr.decode(errors="replace")
@@ -348,6 +363,8 @@ def main() -> None:
         table = Table(PAGE.read_text())
         with tempfile.TemporaryDirectory() as name:
             tell(options, rows, table, Path(name))
+        if table.unknown:
+            raise ToolError(f"the page lacks {len(table.unknown)} rows: {'; '.join(table.unknown)}")
         sys.exit(1 if table.is_dearer else 0)
     except (ToolError, library_speed.ToolError, OSError) as error:
         print(f"speed.py: {error}", file=sys.stderr)

@@ -1,12 +1,15 @@
 #!/usr/bin/env python3
 """Makes the stored runs over protobuf's own files again: the script of the one and the set of the
-other, or the reports that they owe; and the set of which the trials of refused memory make copies.
+other, or the reports that they owe; the set of which the trials of refused memory make copies; and
+the sets of the stored run of check_descriptors.
 
     python3 well_known.py script > ../crates/test_rows/data/scripts/protoc/well_known.script
     python3 well_known.py report > ../crates/test_rows/data/scripts/protoc/well_known.report
     python3 well_known.py set > ../crates/example_pool/data/well_known.pb
     python3 well_known.py told > ../crates/example_pool/stdout
     python3 well_known.py parts > ../crates/test_trials/stdin
+    python3 well_known.py accepted > ../crates/check_descriptors/data/well_known.pb
+    python3 well_known.py refused > ../crates/check_descriptors/data/refused.pb
     python3 well_known.py compare
 
 protoc describes the twelve files of protobuf that every installation has, with their locations.
@@ -16,11 +19,15 @@ they are known to break no rule, and protoc has written each type name as a full
 
 The set has the same files as bytes. What is told of it is that it is written as it was read, that
 a pool that is stored as a set is loaded as an equal pool, and what the files declare. Before it
-stands what is told of a file that is built by hand, which was written by hand too.
+stands what is told of two files that are built by hand, which was written by hand too.
 
 The set with each part of a record filled is what protoc makes of crates/test_trials/data, the
-file that imports the others first, with options of oneofs and of extension ranges besides, which
-no source can set without options of its own.
+file that imports the others first. Besides it has options of oneofs and of extension ranges, which
+no source can set without options of its own, the syntax, and a field that says that it is optional
+in proto3.
+
+The set that is accepted is that of the same files, and the one that is refused is made of the text
+beside it.
 
 `compare` tells whether the stored files are what is made, with status 1 where one is not. The files
 that are stored were made by protoc 3.21.12; with another version its files may differ.
@@ -59,6 +66,8 @@ STORED = Path(__file__).resolve().parent.parent / "crates"
 
 STORED_AS = {
     "parts": "test_trials/stdin",
+    "accepted": "check_descriptors/data/well_known.pb",
+    "refused": "check_descriptors/data/refused.pb",
     "script": "test_rows/data/scripts/protoc/well_known.script",
     "report": "test_rows/data/scripts/protoc/well_known.report",
     "set": "example_pool/data/well_known.pb",
@@ -116,8 +125,15 @@ BUILT_BY_HAND = (
     "  parts = 3: Repeated message shop.Order",
     "  number 3: parts",
     "enum shop.Status: shop.NEW",
+    "linked",
+    "service depot.Depot: depot.Depot.Find",
+    "extension depot.keeper",
+    "  number: 1, shelfNumber: 1",
+    "  message depot.Shelf.Box",
+    "  enum depot.Shelf.Size: 2 is depot.Shelf.LARGE, SMALL is 1",
+    "  extension depot.Shelf.room",
 )
-"""What crates/example_pool tells of the file in its src/shop.rt."""
+"""What crates/example_pool tells of the files in its src/shop.rt and src/depot.rt."""
 
 REFERENCES = {
     "field": ("type_name",),
@@ -219,7 +235,7 @@ def set_bytes(files: list[FileDescriptorProto]) -> bytes:
 
 
 def told_lines(files: list[FileDescriptorProto]) -> Iterator[str]:
-    """What is told of the file that is built by hand, and of the set."""
+    """What is told of the files that are built by hand, and of the set."""
     report = Report(files)
     yield from BUILT_BY_HAND
     yield "written: same"
@@ -228,11 +244,22 @@ def told_lines(files: list[FileDescriptorProto]) -> Iterator[str]:
     yield from report.answer("walk")
 
 
+def refused_set() -> bytes:
+    """The set that is written down as protobuf's text format."""
+    from google.protobuf import text_format
+
+    text = (STORED / STORED_AS["refused"]).with_suffix(".textproto").read_text()
+    files = text_format.Parse(text, descriptor_records().FileDescriptorSet())
+    return files.SerializeToString(deterministic=True)
+
+
 def filled_files() -> list[FileDescriptorProto]:
     """Files in whose records each part is filled."""
     files = compiled_files(["first.proto"], [str(STORED / "test_trials/data")])
     files.sort(key=lambda file: file.name != "first.proto")
     every = files[0].message_type[0]
+    files[0].syntax = "proto2"
+    every.field[0].proto3_optional = True
     for options in (every.oneof_decl[0].options, every.extension_range[0].options):
         options.uninterpreted_option.add(identifier_value="VALUE").name.add(
             name_part="option", is_extension=False
@@ -250,8 +277,10 @@ def made(what: str, directories: tuple[str, ...]) -> bytes:
     """What is asked for by a word."""
     if what == "parts":
         return set_bytes(filled_files())
+    if what == "refused":
+        return refused_set()
     files = well_known_files(directories)
-    if what == "set":
+    if what in ("set", "accepted"):
         return set_bytes(files)
     makers = {"script": script_lines, "report": report_lines, "told": told_lines}
     return script_bytes(makers[what](files))

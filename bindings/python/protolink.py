@@ -197,7 +197,7 @@ _lib = _library()
 
 
 def version() -> str:
-    """The version of the library, as `0.1.0`."""
+    """The version of the library, as `0.2.0`."""
     number = _lib.protolink_version()
     return f"{number // 1_000_000}.{number // 1000 % 1000}.{number % 1000}"
 

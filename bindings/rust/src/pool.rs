@@ -335,7 +335,7 @@ impl DescriptorPool {
         (0..self.counts().extensions).map(move |index| ExtensionDescriptor::new(self, index))
     }
 
-    /// The version of the linked library, as `0.1.0`.
+    /// The version of the linked library, as `0.2.0`.
     #[must_use]
     pub fn library_version() -> String {
         let version = version();

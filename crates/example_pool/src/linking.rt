@@ -1,6 +1,7 @@
-//! A batch that is refused, the batch that is accepted in its place, and what the pool then has.
+//! A batch that is refused, the batch that is accepted in its place, one more, and what the pool
+//! then has.
 
-use crate::shop;
+use crate::{depot, shop};
 use descriptor_linker::{
     AllFaults, BuildError, DescriptorPool, EnumDescriptor, EnumValueDescriptor, FileDescriptor,
     FileDescriptorProto, KindIndex, MessageDescriptor, MessageDescriptorInner,
@@ -12,7 +13,8 @@ pub(crate) fn tell_linking(alloc: Global, report: &mut String) -> Result<(), All
     let mut pool = DescriptorPool::new(alloc);
     link(alloc, report, &mut pool, shop::file(alloc, "Statuss")?)?;
     link(alloc, report, &mut pool, shop::file(alloc, "Status")?)?;
-    write_file(report, &pool, "shop.proto")
+    write_file(report, &pool, "shop.proto")?;
+    link_depot(alloc, report, &mut pool)
 }
 
 /// Links one file, and tells what has come of it.
@@ -32,6 +34,22 @@ fn link(
             writeln!(report, "{faults}")
         }
         Err(BuildError::OutOfMemory) => Err(AllocError),
+    }
+}
+
+/// Links the file `depot.proto`, and tells what stands in it.
+fn link_depot(
+    alloc: Global,
+    report: &mut String,
+    pool: &mut DescriptorPool,
+) -> Result<(), AllocError> {
+    let mut files = depot::files(alloc)?;
+    if let Some(file) = files.pop() {
+        link(alloc, report, pool, file)?;
+    }
+    match pool.get_file_by_name("depot.proto") {
+        Some(file) => depot::write_declared(report, pool, file),
+        None => writeln!(report, "no file depot.proto"),
     }
 }
 

@@ -3,6 +3,7 @@
 //! own well-known files, as `tools/well_known.py` stores it.
 #![tactic(auto)]
 
+mod depot;
 mod linking;
 mod sets;
 mod shop;

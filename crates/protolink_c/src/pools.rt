@@ -21,14 +21,14 @@ use pool_face::{Item, PoolCounts};
 use std::alloc::Global;
 use std::mem;
 
-/// 0.1.0
-const VERSION: u32 = 1000;
+/// 0.2.0, as the programs have it.
+const VERSION: u32 = 2000;
 
 /// The version of the library: a thousand thousands for the first number, a thousand for the
 /// second, one for the third.
 #[unsafe(no_mangle)]
 pub extern "C" fn protolink_version() -> u32
-    ensures { result ≡ 1000 }
+    ensures { result ≡ 2000 }
 {
     VERSION
 }

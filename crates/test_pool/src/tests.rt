@@ -8,7 +8,6 @@ mod escapes;
 mod example;
 mod extensions;
 mod face;
-mod kinds;
 mod laws;
 mod linker_example;
 mod linker_face;

@@ -7,6 +7,7 @@ use std::process::Abort;
 use std::test::*;
 
 fn check_fields(rt: &impl Abort, message: &DescriptorProto) {
+    assert!(rt; message.field.as_slice().len() > 3);
     for field in message.field.as_slice() {
         // `x` alone is.
         assert!(rt; field.is_deprecated().ok() == Some(field.name() == "x"));
@@ -14,8 +15,10 @@ fn check_fields(rt: &impl Abort, message: &DescriptorProto) {
 }
 
 fn check_files(rt: &impl Abort, set: &FileDescriptorSet) {
+    assert!(rt; set.file.as_slice().len() == 1);
     for file in set.file.as_slice() {
         assert!(rt; file.is_deprecated().ok() == Some(false));
+        assert!(rt; file.message_type.as_slice().len() == 1);
         for message in file.message_type.as_slice() {
             check_fields(rt, message);
         }
@@ -30,6 +33,7 @@ fn fields_are_deprecated(rt: HostRuntime) -> Result<(), Fail> {
 }
 
 fn check_entries(rt: &impl Abort, file: &FileDescriptorProto) {
+    assert!(rt; file.message_type.as_slice().len() == 1);
     for message in file.message_type.as_slice() {
         assert!(rt; is_map_entry(message).ok() == Some(true));
         assert!(rt; is_message_set(message).ok() == Some(false));
@@ -44,8 +48,9 @@ fn messages_are_map_entries(rt: HostRuntime) -> Result<(), Fail> {
     let set = decode(rt.alloc(), &bytes)
         .ok()
         .ok_or("the bytes are a set")?;
-    for file in set.file.as_slice() {
-        check_entries(&rt, file);
-    }
+    let [file] = set.file.as_slice() else {
+        return Err("the set has one file".into());
+    };
+    check_entries(&rt, file);
     Ok(())
 }
