@@ -315,7 +315,7 @@ keeps-itself s m = record {
   left_out = λ k g e. refl;
 }
 
-keeps-all-own : (s : Schema) → KeepsAll eqb (λ m k. false) s s
+pub keeps-all-own : (s : Schema) → KeepsAll eqb (λ m k. false) s s
 keeps-all-own s m n pair = subst (λ (x : ℕ). KeepsMessage eqb (λ m k. false) s s m x) (eqb-true m n pair) (keeps-itself s m)
 
 pub own : (s : Schema) (levels m : ℕ) (vs : List Numbered) → IsWritten s (λ m k. false) levels m vs → IsRead s levels m vs
