@@ -1,0 +1,401 @@
+-- Where nothing changes, the new message keeps the old one.
+use Rattle.std.proofs.Common.{◌≡◌, ◌≢◌, ℕ, zero, suc, Bool, true, false, not, cond, eqb, ◌&&◌, ◌||◌, List, [], ◌∷◌, ◌++◌, Option, Some, None, option_map, option_and_then, slice_get, unwrap_or, flat_map, ◌⊎◌, inl, inr, refl, ap, sym, subst, subst₂, ◌∙◌}
+use Rattle.std.proofs.lemmas.Bool.{and_parts, and_from, eq-eqb, eqb-true, or_cases, false≢true, false_from_ne_true}
+use Rattle.std.proofs.lemmas.List.Elements.{All-contains, All-from_recursion}
+use Rattle.std.specs.FinMap as finite
+use Rattle.std.specs.Prelude.{⊤}
+use Rattle.std.specs.List.{AllByRecursion, Contains}
+use Rattle.std.specs.Option.{option_or}
+use Rattle.pool_types.specs.Kinds.{is_message}
+use Rattle.pool_types.specs.LookUps.{field_numbered}
+use Rattle.pool_types.specs.declared.contents.extension.ExtensionDescriptorInner.{ExtensionDescriptorInner}
+use Rattle.pool_types.specs.declared.contents.field.FieldDescriptorInner.{FieldDescriptorInner}
+use Rattle.pool_types.specs.declared.contents.message.MessageDescriptorInner.{MessageDescriptorInner}
+use Rattle.pool_types.specs.declared.contents.oneof.OneofDescriptorInner.{OneofDescriptorInner}
+use Rattle.pool_types.specs.declared.kinds.Cardinality.{Cardinality}
+use Rattle.pool_types.specs.declared.kinds.Cardinality.TheVariants as cardinality
+use Rattle.pool_types.specs.declared.kinds.KindIndex.{KindIndex}
+use Rattle.pool_types.specs.declared.kinds.KindIndex.TheVariants as index
+use Rattle.message_values.specs.Values.{Numbered}
+use Rattle.message_values.specs.Schema.{Schema, Kind, Field}
+use Rattle.message_values.specs.Schema as kind
+use Rattle.message_values.specs.Numbers.{Form, form}
+use Rattle.message_values.specs.Numbers as form
+use Rattle.message_values.specs.Fields.{in_one}
+use Rattle.message_values.specs.Fields as fields
+use Rattle.message_values.specs.Reading.{IsRead}
+use Rattle.message_values.specs.Writing.{Besides, IsWritten}
+use Rattle.message_values.specs.Kept.{KeepsCardinality, KeepsField, KeepsMessage, KeepsAll}
+use Rattle.message_values.specs.Carried.{AreCarried}
+use Rattle.message_values.proofs.Step.{law}
+use Rattle.schema_changes.specs.declared.change.WireChangeKind.{WireChangeKind}
+use Rattle.schema_changes.specs.declared.change.WireChangeKind.TheVariants as change
+use Rattle.schema_changes.specs.declared.entries.Entry.{Entry}
+use Rattle.schema_changes.specs.Parts.{Parts, in_proto3, are_named_alike, named_as, one_name}
+use Rattle.schema_changes.specs.Entries.{field_entry, extension_entry, extension_at, entry_numbered, entry_at, kind_seen, cardinality_seen, field_seen, field_at, schema_of}
+use Rattle.schema_changes.specs.Kinds.{keeps_cardinality, keeps_kind, is_repeated, is_required}
+use Rattle.schema_changes.specs.Changes.{Compared, old_entry, new_entry, unless, kept_changes, entry_changes, old_member, first_some, joined_changes, members_changes, oneof_changes, was_required, required_changes, extension_changes, required_extension_changes, message_changes}
+use Rattle.schema_changes.specs.Unchanged.{LooksUp, LookUp, NothingChanges, IsReached, IsClosed, LeavesOut}
+use Rattle.schema_changes.proofs.Forms.{named_alike, keeps-form}
+
+-- ---- lists that are empty
+
+pub left-none : {A : Type 0} (xs ys : List A) → xs ++ ys ≡ [] → xs ≡ []
+left-none [] ys h = refl
+left-none (x ∷ xs) ys h = absurd cc
+
+pub right-none : {A : Type 0} (xs ys : List A) → xs ++ ys ≡ [] → ys ≡ []
+right-none [] ys h = h
+right-none (x ∷ xs) ys h = absurd cc
+
+pub each-none : {A B : Type 0} (f : A → List B) (xs : List A) → flat_map f xs ≡ [] → AllByRecursion (λ x. f x ≡ []) xs
+each-none f [] h = tt
+each-none f (x ∷ xs) h = (left-none (f x) (flat_map f xs) h, each-none f xs (right-none (f x) (flat_map f xs) h))
+
+five-none : {A : Type 0} (a b c d e : List A) → a ++ (b ++ (c ++ (d ++ e))) ≡ [] → (a ≡ []) × (b ≡ []) × (c ≡ []) × (d ≡ []) × (e ≡ [])
+five-none a b c d e h =
+    let p = right-none a _ h in
+    let q = right-none b _ p in
+    let r = right-none c _ q in
+    (left-none a _ h, left-none b _ p, left-none c _ q, left-none d e r, right-none d e r)
+
+-- what holds of each element, at an index
+pub at-index : {A : Type 0} (P : A → Type 0) (xs : List A) (i : ℕ) (x : A) → AllByRecursion P xs → slice_get xs i ≡ Some x → P x
+at-index P [] i x all e = absurd cc
+at-index P (y ∷ ys) zero x all e = let same : y ≡ x = cc in subst P same all.0
+at-index P (y ∷ ys) (suc i) x all e = at-index P ys i x all.1 e
+
+pub at-contained : {A : Type 0} (P : A → Type 0) (xs : List A) (x : A) → AllByRecursion P xs → Contains xs x → P x
+at-contained P xs x all has = All-contains P xs x (All-from_recursion P xs all) has
+
+passed : (ok : Bool) (n : ℕ) (k : WireChangeKind) → unless ok n k ≡ [] → ok ≡ true
+passed true n k h = refl
+passed false n k h = absurd cc
+
+pub mapped : {A B : Type 0} (f : A → B) (o : Option A) (y : B) → option_map f o ≡ Some y → (x : A) × (o ≡ Some x) × (f x ≡ y)
+mapped f (Some x) y h = let same : f x ≡ y = cc in (x, refl, same)
+mapped f None y h = absurd cc
+
+pub followed : {A B : Type 0} (f : A → Option B) (o : Option A) (y : B) → option_and_then f o ≡ Some y → (x : A) × (o ≡ Some x) × (f x ≡ Some y)
+followed f (Some x) y h = (x, refl, h)
+followed f None y h = absurd cc
+
+-- ---- kinds and cardinalities
+
+abbrev HasMessages : Form → Bool → Type 0
+HasMessages (form.Message m) b = b ≡ true
+HasMessages (form.Group m) b = b ≡ true
+HasMessages _ b = ⊤
+
+has-messages : (b : Bool) (k : KindIndex) → HasMessages (form (kind_seen b k)) (is_message k)
+has-messages b (index.Message m) = refl
+has-messages b (index.Group m) = refl
+has-messages b _ = tt
+
+same-repeated : (c d : Cardinality) → cond (is_repeated c) (is_repeated d) (not (true && is_repeated d)) ≡ true → fields.is_repeated (cardinality_seen c) ≡ fields.is_repeated (cardinality_seen d)
+same-repeated cardinality.Optional cardinality.Optional h = refl
+same-repeated cardinality.Optional cardinality.Required h = refl
+same-repeated cardinality.Required cardinality.Optional h = refl
+same-repeated cardinality.Required cardinality.Required h = refl
+same-repeated cardinality.Repeated cardinality.Repeated h = refl
+same-repeated _ _ h = absurd (false≢true h)
+
+still-repeated : (b : Bool) (c d : Cardinality) → cond (is_repeated c) (is_repeated d) (not (b && is_repeated d)) ≡ true → fields.is_repeated (cardinality_seen c) ≡ true → fields.is_repeated (cardinality_seen d) ≡ true
+still-repeated b cardinality.Repeated cardinality.Repeated h e = refl
+still-repeated b cardinality.Repeated cardinality.Optional h e = absurd (false≢true h)
+still-repeated b cardinality.Repeated cardinality.Required h e = absurd (false≢true h)
+still-repeated b cardinality.Optional d h e = absurd (false≢true e)
+still-repeated b cardinality.Required d h e = absurd (false≢true e)
+
+cardinality-by : (F : Form) (b : Bool) (c d : Cardinality) → HasMessages F b → cond (is_repeated c) (is_repeated d) (not (b && is_repeated d)) ≡ true → KeepsCardinality F (cardinality_seen c) (cardinality_seen d)
+cardinality-by (form.Message m) b c d has h = same-repeated c d (subst (λ x. cond (is_repeated c) (is_repeated d) (not (x && is_repeated d)) ≡ true) has h)
+cardinality-by (form.Group m) b c d has h = same-repeated c d (subst (λ x. cond (is_repeated c) (is_repeated d) (not (x && is_repeated d)) ≡ true) has h)
+cardinality-by (form.Number k) b c d has h = still-repeated b c d h
+cardinality-by form.Text b c d has h = still-repeated b c d h
+
+required-seen : (c : Cardinality) → cardinality_seen c ≡ kind.Required → is_required c ≡ true
+required-seen cardinality.Required h = refl
+required-seen cardinality.Optional h = absurd cc
+required-seen cardinality.Repeated h = absurd cc
+
+seen-required : (c : Cardinality) → is_required c ≡ true → cardinality_seen c ≡ kind.Required
+seen-required cardinality.Required h = refl
+seen-required cardinality.Optional h = absurd (false≢true h)
+seen-required cardinality.Repeated h = absurd (false≢true h)
+
+was-some : (o : Option Entry) → was_required o ≡ true → (f : Entry) × (o ≡ Some f) × (is_required f.cardinality ≡ true)
+was-some (Some f) h = (f, refl, h)
+was-some None h = absurd (false≢true h)
+
+or_of_not : (b c : Bool) → (not b || c) ≡ true → b ≡ true → c ≡ true
+or_of_not true c h e = h
+or_of_not false c h e = absurd (false≢true e)
+
+-- ---- entries
+
+-- where an entry comes from: a field at a position, or an extension that is listed
+data Source (p : Parts) (m : MessageDescriptorInner) (f : Entry) : Type 0 where
+  OfField : (i : ℕ) (x : FieldDescriptorInner) → slice_get m.fields i ≡ Some x → field_entry x ≡ f → Source p m f
+  OfExtension : (i : ℕ) → Contains m.extensions i → extension_at p i ≡ Some f → f.oneof ≡ None → Source p m f
+
+number-at : (xs : List FieldDescriptorInner) (i n : ℕ) (x : FieldDescriptorInner) → slice_get xs i ≡ Some x → option_map (λ f. f.number) (slice_get xs i) ≡ Some n → x.number ≡ n
+number-at xs i n x e h = let same : Some x.number ≡ Some n = sym (ap (option_map (λ (f : FieldDescriptorInner). f.number)) e) ∙ h in cc
+
+extension-number : (xs : List ExtensionDescriptorInner) (i n : ℕ) (x : ExtensionDescriptorInner) → slice_get xs i ≡ Some x → option_map (λ f. f.number) (slice_get xs i) ≡ Some n → x.number ≡ n
+extension-number xs i n x e h = let same : Some x.number ≡ Some n = sym (ap (option_map (λ (f : ExtensionDescriptorInner). f.number)) e) ∙ h in cc
+
+-- an entry that is found by a number has that number
+source-by : (p : Parts) (m : MessageDescriptorInner) → LooksUp p m → (n : ℕ) (f : Entry) (o : Option FieldDescriptorInner) → field_numbered m n ≡ o
+    → option_or (option_map field_entry o) (option_and_then (extension_at p) (finite.get m.extension_numbers n)) ≡ Some f → Source p m f × (f.number ≡ n)
+source-by p m looks n f (Some x) e h =
+    let same : field_entry x ≡ f = cc in
+    let at = followed (slice_get m.fields) (finite.get m.field_numbers n) x e in
+    (OfField at.0 x at.2 same, sym (ap (λ (g : Entry). g.number) same) ∙ number-at m.fields at.0 n x at.2 (looks.fields n at.0 at.1))
+source-by p m looks n f None e h =
+    let at = followed (extension_at p) (finite.get m.extension_numbers n) f h in
+    let listed = looks.extensions n at.0 at.1 in
+    let x = mapped extension_entry (slice_get p.extensions at.0) f at.2 in
+    (OfExtension at.0 listed.0 at.2 (sym (ap (λ (g : Entry). g.oneof) x.2)), sym (ap (λ (g : Entry). g.number) x.2) ∙ extension-number p.extensions at.0 n x.0 x.1 listed.1)
+
+source : (p : Parts) (m : MessageDescriptorInner) → LooksUp p m → (n : ℕ) (f : Entry) → entry_numbered p m n ≡ Some f → Source p m f × (f.number ≡ n)
+unfolding entry_numbered
+source p m looks n f h = source-by p m looks n f (field_numbered m n) refl h
+
+-- what holds of each field and of each extension holds of an entry
+by-source : (P : Entry → Type 0) (Q : Option Entry → Type 0) (p : Parts) (m : MessageDescriptorInner) (f : Entry) → AllByRecursion (λ x. P (field_entry x)) m.fields → AllByRecursion (λ i. Q (extension_at p i)) m.extensions
+    → ((g : Entry) → Q (Some g) → P g) → Source p m f → P f
+by-source P Q p m f of-fields of-extensions step (OfField i x e same) = subst P same (at-index (λ y. P (field_entry y)) m.fields i x of-fields e)
+by-source P Q p m f of-fields of-extensions step (OfExtension i has e none) = step f (subst Q e (at-contained (λ j. Q (extension_at p j)) m.extensions i of-extensions has))
+
+-- ---- the first member of a oneof
+
+first-by : (f : ℕ → Option Entry) (x : ℕ) (xs : List ℕ) (o : Option Entry) → f x ≡ o → (a : Entry) → option_or o (first_some f xs) ≡ Some a
+    → ((a : Entry) → first_some f xs ≡ Some a → (j : ℕ) × (f j ≡ Some a)) → (j : ℕ) × (f j ≡ Some a)
+first-by f x xs (Some b) e a h more = let same : b ≡ a = cc in (x, e ∙ ap Some same)
+first-by f x xs None e a h more = more a h
+
+first-is : (f : ℕ → Option Entry) (xs : List ℕ) (a : Entry) → first_some f xs ≡ Some a → (j : ℕ) × (f j ≡ Some a)
+first-is f [] a h = absurd cc
+first-is f (x ∷ xs) a h = first-by f x xs (f x) refl a h (first-is f xs)
+
+-- a member changes nothing by itself, or there is no first one
+joined-at : (c : Compared) (o : Option Entry) (xs : List ℕ) (f : Entry) (i : ℕ) → members_changes c o xs ≡ [] → Contains xs i → old_member c i ≡ Some f
+    → (o ≡ None) ⊎ ((a : Entry) × (o ≡ Some a) × ((eqb a.number f.number || in_one a.oneof f.oneof) ≡ true))
+joined-at c None xs f i none has e = inl refl
+joined-at c (Some a) xs f i none has e =
+    let at = at-contained (λ j. joined_changes a (old_member c j) ≡ []) xs i (each-none (λ j. joined_changes a (old_member c j)) xs none) has in
+    inr (a, refl, passed _ f.number change.Oneof (subst (λ o. joined_changes a o ≡ []) e at))
+
+-- a list with a member has a first one
+first-some-at : (f : ℕ → Option Entry) (xs : List ℕ) (i : ℕ) (a : Entry) → first_some f xs ≡ None → Contains xs i → f i ≡ Some a → ⊥
+first-some-at f xs i a none has e = let at = at-contained (λ j. f j ≡ None) xs i (all-none xs none) has in absurd cc
+  where
+    each : (x : ℕ) (ys : List ℕ) (o : Option Entry) → f x ≡ o → option_or o (first_some f ys) ≡ None → (f x ≡ None) × (first_some f ys ≡ None)
+    each x ys None e h = (e, h)
+    each x ys (Some b) e h = absurd cc
+
+    all-none : (xs : List ℕ) → first_some f xs ≡ None → AllByRecursion (λ j. f j ≡ None) xs
+    all-none [] h = tt
+    all-none (x ∷ ys) h = let both = each x ys (f x) refl h in (both.0, all-none ys both.1)
+
+one_oneof : (a b c : Option ℕ) → in_one a b ≡ true → in_one a c ≡ true → in_one b c ≡ true
+one_oneof (Some x) (Some y) (Some z) h k = let xy : x ≡ y = eqb-true x y h in let xz : x ≡ z = eqb-true x z k in subst₂ (λ u v. eqb u v ≡ true) xy xz (eq-eqb x x refl)
+one_oneof (Some x) (Some y) None h k = absurd (false≢true k)
+one_oneof (Some x) None c h k = absurd (false≢true h)
+one_oneof None b c h k = absurd (false≢true h)
+
+turned : (a b : Option ℕ) → in_one a b ≡ true → in_one b a ≡ true
+turned (Some x) (Some y) h = let same : x ≡ y = eqb-true x y h in eq-eqb y x (sym same)
+turned (Some x) None h = absurd (false≢true h)
+turned None b h = absurd (false≢true h)
+
+-- both are in one oneof with the first, or are it
+both-joined : (k l : ℕ) (a f g : Entry) → k ≢ l → f.number ≡ k → g.number ≡ l → (a.number ≡ f.number → a ≡ f) → (a.number ≡ g.number → a ≡ g)
+    → (eqb a.number f.number || in_one a.oneof f.oneof) ≡ true → (eqb a.number g.number || in_one a.oneof g.oneof) ≡ true → in_one f.oneof g.oneof ≡ true
+both-joined k l a f g apart fk gl is-f is-g h i =
+    elim (or_cases (eqb a.number f.number) (in_one a.oneof f.oneof) h) [
+      | inl same ↦ elim (or_cases (eqb a.number g.number) (in_one a.oneof g.oneof) i) [
+        | inl same' ↦ absurd (apart (sym fk ∙ sym (eqb-true _ _ same) ∙ eqb-true _ _ same' ∙ gl))
+        | inr with' ↦ subst (λ (x : Entry). in_one x.oneof g.oneof ≡ true) (is-f (eqb-true _ _ same)) with'
+      ]
+      | inr with ↦ elim (or_cases (eqb a.number g.number) (in_one a.oneof g.oneof) i) [
+        | inl same' ↦ turned g.oneof f.oneof (subst (λ (x : Entry). in_one x.oneof f.oneof ≡ true) (is-g (eqb-true _ _ same')) with)
+        | inr with' ↦ one_oneof a.oneof f.oneof g.oneof with with'
+      ]
+    ]
+
+-- ---- a message of which nothing changes
+
+module _ (reached : ℕ → Bool) (c : Compared) (looks-old : LooksUp c.old c.before) (looks-new : LooksUp c.new c.after) (reaches : (k : ℕ) (f : Entry) → old_entry c k ≡ Some f → IsReached reached f.kind) (none : message_changes c ≡ []) where
+  lists-none : (flat_map (λ x. entry_changes c (field_entry x)) c.before.fields ≡ []) × (flat_map (λ i. extension_changes c (extension_at c.old i)) c.before.extensions ≡ []) × (flat_map (oneof_changes c) c.after.oneofs ≡ [])
+      × (flat_map (λ x. required_changes c (field_entry x)) c.after.fields ≡ []) × (flat_map (λ i. required_extension_changes c (extension_at c.new i)) c.after.extensions ≡ [])
+  lists-none = five-none _ _ _ _ _ none
+
+  fields-none : AllByRecursion (λ x. entry_changes c (field_entry x) ≡ []) c.before.fields
+  fields-none = each-none (λ x. entry_changes c (field_entry x)) c.before.fields lists-none.0
+
+  extensions-none : AllByRecursion (λ i. extension_changes c (extension_at c.old i) ≡ []) c.before.extensions
+  extensions-none = each-none (λ i. extension_changes c (extension_at c.old i)) c.before.extensions lists-none.1
+
+  oneofs-none : AllByRecursion (λ o. oneof_changes c o ≡ []) c.after.oneofs
+  oneofs-none = each-none (oneof_changes c) c.after.oneofs lists-none.2
+
+  required-none : AllByRecursion (λ x. required_changes c (field_entry x) ≡ []) c.after.fields
+  required-none = each-none (λ x. required_changes c (field_entry x)) c.after.fields lists-none.3
+
+  required-extensions-none : AllByRecursion (λ i. required_extension_changes c (extension_at c.new i) ≡ []) c.after.extensions
+  required-extensions-none = each-none (λ i. required_extension_changes c (extension_at c.new i)) c.after.extensions lists-none.4
+
+  kept-at : (k : ℕ) (f g : Entry) → old_entry c k ≡ Some f → new_entry c k ≡ Some g → kept_changes c f (Some g) ≡ []
+  kept-at k f g e eg =
+      let s = source c.old c.before looks-old k f e in
+      let h = by-source (λ y. entry_changes c y ≡ []) (λ o. extension_changes c o ≡ []) c.old c.before f fields-none extensions-none (λ y q. q) s.0 in
+      subst (λ o. kept_changes c f o ≡ []) (ap (new_entry c) s.1 ∙ eg) h
+
+  entry-kept : (k : ℕ) (f g : Entry) → old_entry c k ≡ Some f → new_entry c k ≡ Some g → KeepsField (named_alike reached c.old c.new) (schema_of c.old) (schema_of c.new) (field_seen c.old f) (field_seen c.new g)
+  entry-kept k f g e eg =
+      let h = kept-at k f g e eg in
+      let kind : keeps_kind c.old f c.new g ≡ true = passed _ f.number change.Kind (left-none _ _ h) in
+      let card : keeps_cardinality f.kind f.cardinality g.cardinality ≡ true = passed _ f.number change.Cardinality (right-none (unless (keeps_kind c.old f c.new g) f.number change.Kind) _ h) in
+      record {
+        kind = keeps-form reached c.old c.new f g (reaches k f e) kind;
+        cardinality = cardinality-by (form (kind_seen (in_proto3 c.old f.file) f.kind)) (is_message f.kind) f.cardinality g.cardinality (has-messages (in_proto3 c.old f.file) f.kind) card;
+      }
+
+  -- the oneof of a new entry, in which its position is listed
+  in-oneof : (k : ℕ) (g : Entry) (o : ℕ) → new_entry c k ≡ Some g → g.oneof ≡ Some o
+      → (w : OneofDescriptorInner) × (i : ℕ) × (slice_get c.after.oneofs o ≡ Some w) × Contains w.fields i × (old_member c i ≡ old_entry c k)
+  in-oneof k g o e eo = by (source c.new c.after looks-new k g e).0 (source c.new c.after looks-new k g e).1
+    where
+      by : Source c.new c.after g → g.number ≡ k → (w : OneofDescriptorInner) × (i : ℕ) × (slice_get c.after.oneofs o ≡ Some w) × Contains w.fields i × (old_member c i ≡ old_entry c k)
+      by (OfField i x at same) number =
+          let w = looks-new.oneofs i o x at (ap (λ (y : Entry). y.oneof) same ∙ eo) in
+          (w.0, i, w.1, w.2, ap (option_and_then (λ (y : FieldDescriptorInner). old_entry c y.number)) at ∙ ap (old_entry c) (ap (λ (y : Entry). y.number) same ∙ number))
+      by (OfExtension i has at nothing) number = let no : None ≡ Some o = sym nothing ∙ eo in absurd cc
+
+  member-found : (k : ℕ) (a f : Entry) → old_entry c k ≡ Some f → (j : ℕ) → old_member c j ≡ Some a → a.number ≡ f.number → a ≡ f
+  member-found k a f e j at same =
+      let x = followed (λ (y : FieldDescriptorInner). old_entry c y.number) (slice_get c.after.fields j) a at in
+      let number : a.number ≡ (x.0).number = (source c.old c.before looks-old (x.0).number a x.2).1 in
+      let fk : f.number ≡ k = (source c.old c.before looks-old k f e).1 in
+      let here : old_entry c k ≡ Some a = ap (old_entry c) (sym fk ∙ sym same ∙ number) ∙ x.2 in
+      cc
+
+  entries-joined : (k l o : ℕ) (f f' g g' : Entry) → k ≢ l → old_entry c k ≡ Some f → old_entry c l ≡ Some f' → new_entry c k ≡ Some g → new_entry c l ≡ Some g' → g.oneof ≡ Some o → g'.oneof ≡ Some o → in_one f.oneof f'.oneof ≡ true
+  entries-joined k l o f f' g g' apart e e' eg eg' eo eo' =
+      let w = in-oneof k g o eg eo in
+      let w' = in-oneof l g' o eg' eo' in
+      let one : w'.0 ≡ w.0 = (let two : Some w'.0 ≡ Some w.0 = sym w'.2 ∙ w.2 in cc) in
+      let none-here = at-index (λ v. oneof_changes c v ≡ []) c.after.oneofs o w.0 oneofs-none w.2 in
+      let first = first_some (old_member c) (w.0).fields in
+      let has' : Contains (w.0).fields w'.1 = subst (λ (v : OneofDescriptorInner). Contains v.fields w'.1) one w'.3 in
+      let mine : old_member c w.1 ≡ Some f = w.4 ∙ e in
+      let mine' : old_member c w'.1 ≡ Some f' = w'.4 ∙ e' in
+      elim (joined-at c first (w.0).fields f w.1 none-here w.3 mine) [
+        | inl empty ↦ absurd (first-some-at (old_member c) (w.0).fields w.1 f empty w.3 mine)
+        | inr p ↦ elim (joined-at c first (w.0).fields f' w'.1 none-here has' mine') [
+          | inl empty ↦ absurd (first-some-at (old_member c) (w.0).fields w.1 f empty w.3 mine)
+          | inr q ↦
+              let same : q.0 ≡ p.0 = (let two : Some q.0 ≡ Some p.0 = sym q.1 ∙ p.1 in cc) in
+              let j = first-is (old_member c) (w.0).fields p.0 p.1 in
+              both-joined k l p.0 f f' apart (source c.old c.before looks-old k f e).1 (source c.old c.before looks-old l f' e').1
+              (member-found k p.0 f e j.0 j.1) (member-found l p.0 f' e' j.0 j.1) p.2
+              (subst (λ (y : Entry). (eqb y.number f'.number || in_one y.oneof f'.oneof) ≡ true) same q.2)
+        ]
+      ]
+
+  oneofs-at : (k l : ℕ) (f f' g g' : Entry) (o o' : Option ℕ) → k ≢ l → old_entry c k ≡ Some f → old_entry c l ≡ Some f' → new_entry c k ≡ Some g → new_entry c l ≡ Some g'
+      → g.oneof ≡ o → g'.oneof ≡ o' → in_one o o' ≡ true → in_one f.oneof f'.oneof ≡ true
+  oneofs-at k l f f' g g' (Some o) (Some p) apart e e' eg eg' eo eo' one = let same : o ≡ p = eqb-true o p one in entries-joined k l o f f' g g' apart e e' eg eg' eo (eo' ∙ ap Some (sym same))
+  oneofs-at k l f f' g g' (Some o) None apart e e' eg eg' eo eo' one = absurd (false≢true one)
+  oneofs-at k l f f' g g' None o' apart e e' eg eg' eo eo' one = absurd (false≢true one)
+
+  required-at : (k : ℕ) (g : Entry) → new_entry c k ≡ Some g → is_required g.cardinality ≡ true → (f : Entry) × (old_entry c k ≡ Some f) × (is_required f.cardinality ≡ true)
+  required-at k g eg needs =
+      let s = source c.new c.after looks-new k g eg in
+      let h = by-source (λ y. required_changes c y ≡ []) (λ o. required_extension_changes c o ≡ []) c.new c.after g required-none required-extensions-none (λ y q. q) s.0 in
+      let was = was-some (old_entry c g.number) (or_of_not (is_required g.cardinality) _ (passed _ g.number change.Required h) needs) in
+      (was.0, ap (old_entry c) (sym s.1) ∙ was.1, was.2)
+
+-- ---- the messages with two indexes
+
+module _ (reached : ℕ → Bool) (old new : Parts) (m n : ℕ) (x y : MessageDescriptorInner) (at-x : slice_get old.messages m ≡ Some x) (at-y : slice_get new.messages n ≡ Some y) (looks-old : LooksUp old x) (looks-new : LooksUp new y)
+    (reaches : (k : ℕ) (f : Entry) → entry_at old m k ≡ Some f → IsReached reached f.kind) (besides : Besides) (free : (k : ℕ) → besides m k ≡ true → entry_at new n k ≡ None) (none : message_changes (record { old = old; before = x; new = new; after = y }) ≡ []) where
+  abbrev c : Compared
+  c = record { old = old; before = x; new = new; after = y }
+
+  old-at : (k : ℕ) → entry_at old m k ≡ entry_numbered old x k
+  unfolding entry_at
+  old-at k = ap (option_and_then (λ (z : MessageDescriptorInner). entry_numbered old z k)) at-x
+
+  new-at : (k : ℕ) → entry_at new n k ≡ entry_numbered new y k
+  unfolding entry_at
+  new-at k = ap (option_and_then (λ (z : MessageDescriptorInner). entry_numbered new z k)) at-y
+
+  reached-at : (k : ℕ) (f : Entry) → entry_numbered old x k ≡ Some f → IsReached reached f.kind
+  reached-at k f e = reaches k f (old-at k ∙ e)
+
+  old-entry : (k : ℕ) (F : Field) → field_at old m k ≡ Some F → (f : Entry) × (entry_numbered old x k ≡ Some f) × (field_seen old f ≡ F)
+  old-entry k F e = let f = mapped (field_seen old) _ F e in (f.0, sym (old-at k) ∙ f.1, f.2)
+
+  new-entry : (k : ℕ) (G : Field) → field_at new n k ≡ Some G → (g : Entry) × (entry_numbered new y k ≡ Some g) × (field_seen new g ≡ G)
+  new-entry k G e = let g = mapped (field_seen new) _ G e in (g.0, sym (new-at k) ∙ g.1, g.2)
+
+  fields-kept : (k : ℕ) (F G : Field) → field_at old m k ≡ Some F → field_at new n k ≡ Some G → KeepsField (named_alike reached old new) (schema_of old) (schema_of new) F G
+  fields-kept k F G e eg =
+      let f = old-entry k F e in
+      let g = new-entry k G eg in
+      subst₂ (λ a b. KeepsField (named_alike reached old new) (schema_of old) (schema_of new) a b) f.2 g.2 (entry-kept reached c looks-old looks-new reached-at none k f.0 g.0 f.1 g.1)
+
+  oneofs-kept : (k l : ℕ) (F F' G G' : Field) → field_at old m k ≡ Some F → field_at old m l ≡ Some F' → field_at new n k ≡ Some G → field_at new n l ≡ Some G' → k ≢ l → in_one G.oneof G'.oneof ≡ true → in_one F.oneof F'.oneof ≡ true
+  oneofs-kept k l F F' G G' e e' eg eg' apart one =
+      let f = old-entry k F e in
+      let f' = old-entry l F' e' in
+      let g = new-entry k G eg in
+      let g' = new-entry l G' eg' in
+      subst₂ (λ (a b : Field). in_one a.oneof b.oneof ≡ true) f.2 f'.2
+      (oneofs-at reached c looks-old looks-new reached-at none k l f.0 f'.0 g.0 g'.0 (g.0).oneof (g'.0).oneof apart f.1 f'.1 g.1 g'.1 refl refl
+      (subst₂ (λ (a b : Field). in_one a.oneof b.oneof ≡ true) (sym g.2) (sym g'.2) one))
+
+  required-kept : (k : ℕ) (G : Field) → field_at new n k ≡ Some G → G.cardinality ≡ kind.Required → (F : Field) × (field_at old m k ≡ Some F) × (F.cardinality ≡ kind.Required)
+  required-kept k G eg req =
+      let g = new-entry k G eg in
+      let needs : is_required (g.0).cardinality ≡ true = required-seen (g.0).cardinality (ap (λ (z : Field). z.cardinality) g.2 ∙ req) in
+      let f = required-at reached c looks-old looks-new reached-at none k g.0 g.1 needs in
+      (field_seen old f.0, ap (option_map (field_seen old)) (old-at k ∙ f.1), seen-required (f.0).cardinality f.2)
+
+  besides-kept : (k : ℕ) (G : Field) → field_at new n k ≡ Some G → besides m k ≡ false
+  besides-kept k G eg =
+      let g = mapped (field_seen new) _ G eg in
+      false_from_ne_true _ (λ has. let found : entry_at new n k ≡ Some g.0 = g.1 in let left : entry_at new n k ≡ None = free k has in absurd cc)
+
+  pub keeps-message : KeepsMessage (named_alike reached old new) besides (schema_of old) (schema_of new) m n
+  keeps-message = record { fields = fields-kept; required = required-kept; oneofs = oneofs-kept; left_out = besides-kept }
+
+-- messages with one name are there
+named-at : (new : Parts) (n : ℕ) (x : MessageDescriptorInner) (r : Option MessageDescriptorInner) → slice_get new.messages n ≡ r → named_as new n x ≡ true → (y : MessageDescriptorInner) × (r ≡ Some y) × (are_named_alike x y ≡ true)
+named-at new n x (Some y) e h = (y, refl, subst (λ (o : Option MessageDescriptorInner). unwrap_or (option_map (are_named_alike x) o) false ≡ true) e h)
+named-at new n x None e h = absurd (false≢true (subst (λ (o : Option MessageDescriptorInner). unwrap_or (option_map (are_named_alike x) o) false ≡ true) e h))
+
+both-at : (old new : Parts) (m n : ℕ) (o : Option MessageDescriptorInner) → slice_get old.messages m ≡ o → unwrap_or (option_map (named_as new n) o) false ≡ true
+    → (x : MessageDescriptorInner) × (y : MessageDescriptorInner) × (slice_get old.messages m ≡ Some x) × (slice_get new.messages n ≡ Some y) × (are_named_alike x y ≡ true)
+both-at old new m n (Some x) e h = let y = named-at new n x (slice_get new.messages n) refl h in (x, y.0, e, y.1, y.2)
+both-at old new m n None e h = absurd (false≢true h)
+
+pub both-named : (old new : Parts) (m n : ℕ) → one_name old m new n ≡ true
+    → (x : MessageDescriptorInner) × (y : MessageDescriptorInner) × (slice_get old.messages m ≡ Some x) × (slice_get new.messages n ≡ Some y) × (are_named_alike x y ≡ true)
+unfolding one_name
+both-named old new m n h = both-at old new m n (slice_get old.messages m) refl h
+
+pub keeps-all : (old new : Parts) (reached : ℕ → Bool) (besides : Besides) → LookUp old → LookUp new → IsClosed old reached → NothingChanges old new reached → LeavesOut old new reached besides
+    → KeepsAll (named_alike reached old new) besides (schema_of old) (schema_of new)
+keeps-all old new reached besides look-old look-new closed none free m n pair =
+    let p = and_parts (reached m) (one_name old m new n) pair in
+    let b = both-named old new m n p.1 in
+    keeps-message reached old new m n b.0 b.1 b.2 b.3 (look-old m b.0 b.2) (look-new n b.1 b.3) (λ k f e. closed m k f p.0 e) besides (λ k. free m n k p.0 p.1) (none m n b.0 b.1 p.0 p.1 b.2 b.3)
+
+pub unchanged : (old new : Parts) (reached : ℕ → Bool) (besides : Besides) → LookUp old → LookUp new → IsClosed old reached → NothingChanges old new reached → LeavesOut old new reached besides
+    → (levels m n : ℕ) → reached m ≡ true → one_name old m new n ≡ true → (vs : List Numbered) → IsWritten (schema_of old) besides levels m vs
+    → IsRead (schema_of new) levels n vs × AreCarried (schema_of old) (schema_of new) levels m n vs
+unchanged old new reached besides look-old look-new closed none free levels m n here same vs w =
+    law (schema_of old) (schema_of new) (named_alike reached old new) besides (keeps-all old new reached besides look-old look-new closed none free) levels m n (and_from (reached m) _ here same) vs w

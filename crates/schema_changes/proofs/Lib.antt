@@ -1,0 +1,5 @@
+pub mod Forms
+pub mod Keeping
+pub mod Members
+pub mod Named
+pub mod Chained

@@ -1,0 +1,7 @@
+pub mod Parts
+pub mod Entries
+pub mod Kinds
+pub mod Changes
+pub mod Unchanged
+pub mod Pools
+pub mod Chains

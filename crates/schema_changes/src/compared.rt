@@ -1,0 +1,202 @@
+//! What changes of a message, so that bytes are read otherwise.
+
+ghost use Rattle.std.specs.Prelude.{◌≡◌, ◌++◌, OnOk};
+ghost use Rattle.std.specs.List.{flat_map};
+ghost use Rattle.schema_changes.specs.Parts.{parts};
+ghost use Rattle.schema_changes.specs.Entries.{field_entry, extension_at};
+ghost use Rattle.schema_changes.specs.Changes.{compared, unless, old_entry, new_entry, entry_changes, extension_changes, was_required, required_changes, required_extension_changes, oneof_changes, message_changes};
+
+use crate::entries::field_entry;
+use crate::kinds::{keeps_cardinality, keeps_kind};
+use crate::{Entry, Parts, WireChange, WireChangeKind};
+use pool_types::{Cardinality, MessageDescriptorInner};
+use std::alloc::AllocError;
+
+/// An old and a new message that are compared, each with the items of its pool.
+#[derive(Clone, Copy)]
+pub struct Compared<'a> {
+    pub old: Parts<'a>,
+    pub before: &'a MessageDescriptorInner,
+    pub new: Parts<'a>,
+    pub after: &'a MessageDescriptorInner,
+}
+
+/// Appends a change, unless a test passes.
+pub(crate) fn push_unless(
+    changes: &mut Vec<WireChange>,
+    passes: bool,
+    number: u32,
+    kind: WireChangeKind,
+) -> Result<(), AllocError>
+    ensures { OnOk result (changes.new.items ≡ changes.old.items ++ unless passes number kind) }
+{
+    if !passes {
+        changes.push(WireChange { number, kind })?;
+    }
+    Ok(())
+}
+
+/// Whether an old entry was required.
+fn was_required(entry: Option<Entry>) -> bool
+    ensures { result ≡ was_required entry }
+{
+    match entry {
+        Some(entry) => entry.cardinality == Cardinality::Required,
+        None => false,
+    }
+}
+
+impl Compared<'_> {
+    /// The old entry with a number.
+    pub(crate) fn old_entry(self, number: u32) -> Option<Entry>
+        ensures { result ≡ old_entry (compared self.entry) number }
+    {
+        self.old.entry_numbered(self.before, number)
+    }
+
+    /// The new entry with a number.
+    fn new_entry(self, number: u32) -> Option<Entry>
+        ensures { result ≡ new_entry (compared self.entry) number }
+    {
+        self.new.entry_numbered(self.after, number)
+    }
+
+    /// Appends what the new entry with its number changes of an old one.
+    fn tell_entry(self, changes: &mut Vec<WireChange>, entry: &Entry) -> Result<(), AllocError>
+        ensures { OnOk result (changes.new.items ≡ changes.old.items
+            ++ entry_changes (compared self.entry) entry.now) }
+    {
+        let Some(kept) = self.new_entry(entry.number) else {
+            return Ok(());
+        };
+        let kind = keeps_kind(self.old, entry, self.new, &kept);
+        push_unless(changes, kind, entry.number, WireChangeKind::Kind)?;
+        let cardinality = keeps_cardinality(entry.kind, entry.cardinality, kept.cardinality);
+        push_unless(
+            changes,
+            cardinality,
+            entry.number,
+            WireChangeKind::Cardinality,
+        )
+    }
+
+    /// Appends that a new entry is required, where the old one was not.
+    fn tell_required(self, changes: &mut Vec<WireChange>, entry: &Entry) -> Result<(), AllocError>
+        ensures { OnOk result (changes.new.items ≡ changes.old.items
+            ++ required_changes (compared self.entry) entry.now) }
+    {
+        let passes = entry.cardinality != Cardinality::Required
+            || was_required(self.old_entry(entry.number));
+        push_unless(changes, passes, entry.number, WireChangeKind::Required)
+    }
+
+    /// Appends what the new entries with their numbers change of the old fields.
+    fn tell_fields(self, changes: &mut Vec<WireChange>) -> Result<(), AllocError>
+        ensures { OnOk result (changes.new.items ≡ changes.old.items
+            ++ flat_map (λ f. entry_changes (compared self.entry) (field_entry f))
+            self.entry.before.now.fields) }
+    {
+        let fields = self.before.fields.as_slice();
+        for field in fields {
+            self.tell_entry(changes, &field_entry(field))?;
+        }
+        Ok(())
+    }
+
+    /// Appends what the new entry with its number changes of an old extension, if there is one.
+    fn tell_extension(
+        self,
+        changes: &mut Vec<WireChange>,
+        extension: Option<Entry>,
+    ) -> Result<(), AllocError>
+        ensures { OnOk result (changes.new.items ≡ changes.old.items
+            ++ extension_changes (compared self.entry) extension) }
+    {
+        match extension {
+            Some(entry) => self.tell_entry(changes, &entry),
+            None => Ok(()),
+        }
+    }
+
+    /// Appends what the new entries with their numbers change of the old extensions.
+    fn tell_extensions(self, changes: &mut Vec<WireChange>) -> Result<(), AllocError>
+        ensures { OnOk result (changes.new.items ≡ changes.old.items
+            ++ flat_map (λ i. extension_changes (compared self.entry)
+            (extension_at (parts self.entry.old) i)) self.entry.before.now.extensions) }
+    {
+        let extensions = self.before.extensions.as_slice();
+        for index in extensions {
+            self.tell_extension(changes, self.old.extension_at(*index))?;
+        }
+        Ok(())
+    }
+
+    /// Appends which old entries are in one new oneof now, and were not.
+    fn tell_oneofs(self, changes: &mut Vec<WireChange>) -> Result<(), AllocError>
+        ensures { OnOk result (changes.new.items ≡ changes.old.items
+            ++ flat_map (oneof_changes (compared self.entry)) self.entry.after.now.oneofs) }
+    {
+        let oneofs = self.after.oneofs.as_slice();
+        for oneof in oneofs {
+            self.tell_oneof(changes, oneof)?;
+        }
+        Ok(())
+    }
+
+    /// Appends which new fields are required, and were not.
+    fn tell_required_fields(self, changes: &mut Vec<WireChange>) -> Result<(), AllocError>
+        ensures { OnOk result (changes.new.items ≡ changes.old.items
+            ++ flat_map (λ g. required_changes (compared self.entry) (field_entry g))
+            self.entry.after.now.fields) }
+    {
+        let fields = self.after.fields.as_slice();
+        for field in fields {
+            self.tell_required(changes, &field_entry(field))?;
+        }
+        Ok(())
+    }
+
+    /// Appends that a new extension is required, where the old one was not, if there is one.
+    fn tell_required_extension(
+        self,
+        changes: &mut Vec<WireChange>,
+        extension: Option<Entry>,
+    ) -> Result<(), AllocError>
+        ensures { OnOk result (changes.new.items ≡ changes.old.items
+            ++ required_extension_changes (compared self.entry) extension) }
+    {
+        match extension {
+            Some(entry) => self.tell_required(changes, &entry),
+            None => Ok(()),
+        }
+    }
+
+    /// Appends which new extensions are required, and were not.
+    fn tell_required_extensions(self, changes: &mut Vec<WireChange>) -> Result<(), AllocError>
+        ensures { OnOk result (changes.new.items ≡ changes.old.items
+            ++ flat_map (λ i. required_extension_changes (compared self.entry)
+            (extension_at (parts self.entry.new) i)) self.entry.after.now.extensions) }
+    {
+        let extensions = self.after.extensions.as_slice();
+        for index in extensions {
+            self.tell_required_extension(changes, self.new.extension_at(*index))?;
+        }
+        Ok(())
+    }
+
+    /// Appends the changes of the message by which bytes are read otherwise: of each old field and
+    /// extension, of each new oneof, and then of each new field and extension.
+    ///
+    /// # Errors
+    /// `AllocError` where memory was refused. What is appended then isn't said.
+    pub fn tell(self, changes: &mut Vec<WireChange>) -> Result<(), AllocError>
+        ensures { OnOk result (changes.new.items ≡ changes.old.items
+            ++ message_changes (compared self.entry)) }
+    {
+        self.tell_fields(changes)?;
+        self.tell_extensions(changes)?;
+        self.tell_oneofs(changes)?;
+        self.tell_required_fields(changes)?;
+        self.tell_required_extensions(changes)
+    }
+}

@@ -1,0 +1,71 @@
+//! The entries of a message: its fields, and the extensions of it.
+
+ghost use Rattle.std.specs.Prelude.{◌≡◌};
+ghost use Rattle.schema_changes.specs.Parts.{parts};
+ghost use Rattle.schema_changes.specs.Entries.{field_entry, extension_entry, extension_at, entry_numbered};
+
+use crate::Parts;
+use pool_types::{
+    Cardinality, ExtensionDescriptorInner, FieldDescriptorInner, KindIndex, MessageDescriptorInner,
+};
+
+/// A field or an extension of a message, as far as bytes are read by it.
+#[derive(Clone, Copy)]
+pub struct Entry {
+    /// The index of its file.
+    pub file: u32,
+    pub number: u32,
+    pub kind: KindIndex,
+    pub cardinality: Cardinality,
+    /// The position of its oneof in the message.
+    pub oneof: Option<u32>,
+}
+
+/// The entry of a field.
+pub(crate) fn field_entry(field: &FieldDescriptorInner) -> Entry
+    ensures { result ≡ field_entry field.now }
+{
+    Entry {
+        file: field.id.file,
+        number: field.number,
+        kind: field.kind,
+        cardinality: field.cardinality,
+        oneof: field.oneof,
+    }
+}
+
+/// The entry of an extension, which is in no oneof.
+fn extension_entry(extension: &ExtensionDescriptorInner) -> Entry
+    ensures { result ≡ extension_entry extension.now }
+{
+    Entry {
+        file: extension.id.file,
+        number: extension.number,
+        kind: extension.kind,
+        cardinality: extension.cardinality,
+        oneof: None,
+    }
+}
+
+impl Parts<'_> {
+    /// The entry of the extension with an index, if there is one.
+    pub(crate) fn extension_at(self, index: u32) -> Option<Entry>
+        ensures { result ≡ extension_at (parts self.entry) index }
+    {
+        match self.extensions.get(index as usize) {
+            Some(extension) => Some(extension_entry(extension)),
+            None => None,
+        }
+    }
+
+    /// The entry of a message with a number: a field, or else an extension.
+    #[tactic(auto, unfolding(crate::specs::Entries::entry_numbered))]
+    pub fn entry_numbered(self, message: &MessageDescriptorInner, number: u32) -> Option<Entry>
+        ensures { result ≡ entry_numbered (parts self.entry) message.now number }
+    {
+        match message.get_field(number) {
+            Some(field) => Some(field_entry(field)),
+            None => self.extension_at(message.extension_numbers.get(number)?),
+        }
+    }
+}

@@ -1,0 +1,154 @@
+//! Whether a new kind keeps an old one.
+
+ghost use Rattle.std.specs.Prelude.{◌≡◌};
+ghost use Rattle.std.specs.List.{list_all};
+ghost use Rattle.schema_changes.specs.Parts.{parts};
+ghost use Rattle.schema_changes.specs.Kinds.{holds, holds_all, is_plain, holds_unsigned, keeps_numbers, text_check, keeps_check, entry_check, keeps_message, keeps_kind, keeps_cardinality};
+
+use crate::parts::has_value;
+use crate::{Entry, Parts};
+use pool_types::{Cardinality, EnumValueDescriptorInner, KindIndex};
+
+/// Whether a number of 32 bits is one of a kind that is encoded as int32 is.
+#[tactic(auto, unfolding(crate::specs::Kinds::holds))]
+fn holds(items: Parts<'_>, kind: KindIndex, number: i32) -> bool
+    ensures { result ≡ holds (parts items.entry) kind number }
+{
+    match kind {
+        KindIndex::Int32 | KindIndex::Int64 => true,
+        KindIndex::Uint32 | KindIndex::Uint64 => number >= 0,
+        KindIndex::Bool => number == 0 || number == 1,
+        KindIndex::Enum(index) => items.is_open(index) || has_value(items.values(index), number),
+        _ => false,
+    }
+}
+
+/// Whether each number of 32 bits is one of a kind that is encoded as int32 is.
+#[tactic(auto, unfolding(crate::specs::Kinds::holds_all))]
+fn holds_all(items: Parts<'_>, kind: KindIndex) -> bool
+    ensures { result ≡ holds_all (parts items.entry) kind }
+{
+    match kind {
+        KindIndex::Int32 | KindIndex::Int64 => true,
+        KindIndex::Enum(index) => items.is_open(index),
+        _ => false,
+    }
+}
+
+/// Whether a kind is encoded as int32 is.
+fn is_plain(kind: KindIndex) -> bool
+    ensures { result ≡ is_plain kind }
+{
+    matches!(
+        kind,
+        KindIndex::Int32
+            | KindIndex::Int64
+            | KindIndex::Uint32
+            | KindIndex::Uint64
+            | KindIndex::Bool
+            | KindIndex::Enum(_)
+    )
+}
+
+/// Whether the numbers of values are numbers of a kind.
+fn holds_each(items: Parts<'_>, kind: KindIndex, values: &[EnumValueDescriptorInner]) -> bool
+    ensures { result ≡ list_all (λ v. holds (parts items.entry) kind v.number) values.now }
+{
+    values.iter().all(|value| holds(items, kind, value.number))
+}
+
+/// Whether each number of an old kind is one of a new kind, and is encoded alike.
+#[tactic(auto, unfolding(crate::specs::Kinds::keeps_numbers))]
+fn keeps_numbers(old: Parts<'_>, old_kind: KindIndex, new: Parts<'_>, new_kind: KindIndex) -> bool
+    ensures { result ≡ keeps_numbers (parts old.entry) old_kind (parts new.entry) new_kind }
+{
+    match old_kind {
+        KindIndex::Int32 => holds_all(new, new_kind),
+        KindIndex::Enum(index) => {
+            if old.is_open(index) {
+                holds_all(new, new_kind)
+            } else {
+                is_plain(new_kind) && holds_each(new, new_kind, old.values(index))
+            }
+        }
+        KindIndex::Bool => holds(new, new_kind, 0) && holds(new, new_kind, 1),
+        KindIndex::Uint32 => matches!(
+            new_kind,
+            KindIndex::Uint32 | KindIndex::Uint64 | KindIndex::Int64
+        ),
+        KindIndex::Int64 => matches!(new_kind, KindIndex::Int64),
+        KindIndex::Uint64 => matches!(new_kind, KindIndex::Uint64),
+        KindIndex::Sint32 => matches!(new_kind, KindIndex::Sint32 | KindIndex::Sint64),
+        KindIndex::Sint64 => matches!(new_kind, KindIndex::Sint64),
+        KindIndex::Fixed32 => matches!(new_kind, KindIndex::Fixed32),
+        KindIndex::Fixed64 => matches!(new_kind, KindIndex::Fixed64),
+        KindIndex::Sfixed32 => matches!(new_kind, KindIndex::Sfixed32),
+        KindIndex::Sfixed64 => matches!(new_kind, KindIndex::Sfixed64),
+        KindIndex::Float => matches!(new_kind, KindIndex::Float),
+        KindIndex::Double => matches!(new_kind, KindIndex::Double),
+        KindIndex::String | KindIndex::Bytes | KindIndex::Message(_) | KindIndex::Group(_) => false,
+    }
+}
+
+/// Whether texts of a kind are checked to be UTF-8; none where it is no kind of texts or bytes.
+fn text_check(proto3: bool, kind: KindIndex) -> Option<bool>
+    ensures { result ≡ text_check proto3 kind }
+{
+    match kind {
+        KindIndex::String => Some(proto3),
+        KindIndex::Bytes => Some(false),
+        _ => None,
+    }
+}
+
+/// How the texts of an entry are checked.
+fn entry_check(items: Parts<'_>, entry: &Entry) -> Option<bool>
+    ensures { result ≡ entry_check (parts items.entry) entry.now }
+{
+    text_check(items.in_proto3(entry.file), entry.kind)
+}
+
+/// Whether texts that were not checked are not checked now.
+fn keeps_check(old: Option<bool>, new: Option<bool>) -> bool
+    ensures { result ≡ keeps_check old new }
+{
+    match (old, new) {
+        (Some(old), Some(new)) => old || !new,
+        _ => false,
+    }
+}
+
+/// Whether a message, or a group, stays one with its full name.
+fn keeps_message(old: Parts<'_>, old_kind: KindIndex, new: Parts<'_>, new_kind: KindIndex) -> bool
+    ensures { result ≡ keeps_message (parts old.entry) old_kind (parts new.entry) new_kind }
+{
+    match (old_kind, new_kind) {
+        (KindIndex::Message(old_index), KindIndex::Message(new_index)) => {
+            old.has_name_of(old_index, new, new_index)
+        }
+        (KindIndex::Group(old_index), KindIndex::Group(new_index)) => {
+            old.has_name_of(old_index, new, new_index)
+        }
+        _ => false,
+    }
+}
+
+/// Whether the kind of a new entry keeps that of an old one.
+pub(crate) fn keeps_kind(old: Parts<'_>, field: &Entry, new: Parts<'_>, kept: &Entry) -> bool
+    ensures { result ≡ keeps_kind (parts old.entry) field.now (parts new.entry) kept.now }
+{
+    keeps_numbers(old, field.kind, new, kept.kind)
+        || keeps_check(entry_check(old, field), entry_check(new, kept))
+        || keeps_message(old, field.kind, new, kept.kind)
+}
+
+/// Whether a field of a kind may become repeated, or not repeated.
+pub(crate) fn keeps_cardinality(kind: KindIndex, old: Cardinality, new: Cardinality) -> bool
+    ensures { result ≡ keeps_cardinality kind old new }
+{
+    if old == Cardinality::Repeated {
+        new == Cardinality::Repeated
+    } else {
+        !(kind.is_message() && new == Cardinality::Repeated)
+    }
+}

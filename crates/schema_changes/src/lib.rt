@@ -1,0 +1,16 @@
+//! What a new schema changes of an old one, so that bytes are read otherwise.
+#![tactic(auto)]
+
+mod change;
+mod compared;
+mod entries;
+mod kinds;
+mod laws;
+mod oneofs;
+mod parts;
+
+pub use change::{MessageChange, WireChange, WireChangeKind};
+pub use compared::Compared;
+pub use entries::Entry;
+pub use laws::{chains, no_change_is_read, unchanged_is_read};
+pub use parts::Parts;

@@ -1,0 +1,74 @@
+//! The items of a pool by which bytes are read.
+
+ghost use Rattle.std.specs.Prelude.{◌≡◌};
+ghost use Rattle.schema_changes.specs.Parts.{parts, in_proto3, is_open, has_value, values_of, one_name};
+
+use pool_types::{
+    EnumDescriptorInner, EnumValueDescriptorInner, ExtensionDescriptorInner, FileDescriptorInner,
+    MessageDescriptorInner, Syntax,
+};
+
+/// The items of a pool by which bytes are read.
+#[derive(Clone, Copy)]
+pub struct Parts<'a> {
+    pub files: &'a [FileDescriptorInner],
+    pub messages: &'a [MessageDescriptorInner],
+    pub enums: &'a [EnumDescriptorInner],
+    pub extensions: &'a [ExtensionDescriptorInner],
+}
+
+impl<'a> Parts<'a> {
+    /// Whether a file is one of proto3.
+    #[tactic(auto, unfolding(crate::specs::Parts::in_proto3))]
+    pub(crate) fn in_proto3(self, file: u32) -> bool
+        ensures { result ≡ in_proto3 (parts self.entry) file }
+    {
+        match self.files.get(file as usize) {
+            Some(file) => file.syntax == Syntax::Proto3,
+            None => false,
+        }
+    }
+
+    /// Whether an enum is open.
+    #[tactic(auto, unfolding(crate::specs::Parts::is_open))]
+    pub(crate) fn is_open(self, index: u32) -> bool
+        ensures { result ≡ is_open (parts self.entry) index }
+    {
+        match self.enums.get(index as usize) {
+            Some(enumeration) => self.in_proto3(enumeration.id.file),
+            None => false,
+        }
+    }
+
+    /// The values of an enum.
+    #[tactic(auto, unfolding(crate::specs::Parts::values_of))]
+    pub(crate) fn values(self, index: u32) -> &'a [EnumValueDescriptorInner]
+        ensures { result.now ≡ values_of (parts self.entry) index }
+    {
+        match self.enums.get(index as usize) {
+            Some(enumeration) => enumeration.values.as_slice(),
+            None => &[],
+        }
+    }
+
+    /// Whether a message has the full name of one of another pool.
+    #[tactic(auto, unfolding(crate::specs::Parts::one_name))]
+    pub(crate) fn has_name_of(self, message: u32, other: Parts<'_>, index: u32) -> bool
+        ensures { result ≡ one_name (parts self.entry) message (parts other.entry) index }
+    {
+        let Some(here) = self.messages.get(message as usize) else {
+            return false;
+        };
+        let Some(there) = other.messages.get(index as usize) else {
+            return false;
+        };
+        here.id.full_name() == there.id.full_name()
+    }
+}
+
+/// Whether values have a number.
+pub(crate) fn has_value(values: &[EnumValueDescriptorInner], number: i32) -> bool
+    ensures { result ≡ has_value values.now number }
+{
+    values.iter().any(|value| value.number == number)
+}
