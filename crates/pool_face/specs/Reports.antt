@@ -4,8 +4,8 @@ use Rattle.pool_faults.specs.declared.fault.DescriptorErrorKind.{DescriptorError
 use Rattle.proto_types.specs.declared.file.FileDescriptorProto.{FileDescriptorProto}
 use Rattle.record_walk.specs.declared.counts.CountKind.{CountKind}
 use Rattle.fault_texts.specs.Lines.{line}
-use Rattle.fault_texts.specs.Told.{told_faults}
-use Rattle.fault_texts.specs.declared.told.ToldFault.{ToldFault}
+use Rattle.fault_texts.specs.Telling.{told_faults}
+use Rattle.fault_texts.specs.declared.telling.ToldFault.{ToldFault}
 use Rattle.descriptor_check.specs.Objects.{refused_json, too_many_json, unread_json}
 use Rattle.descriptor_check.specs.Refused.{refused_text, too_many_text}
 use Rattle.pool_face.specs.declared.report.Report.{Report}

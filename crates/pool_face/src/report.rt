@@ -40,7 +40,7 @@ pub(crate) fn refused_report(
 ) -> Result<Report, AllocError>
     ensures { IfOk result (λ report. report ≡ spec.refused_report files.now faults.now) }
 {
-    let told = tell_faults(alloc, files, faults)?;
+    let told = tell_faults(alloc, &[], files, faults)?;
     let told = told.as_slice();
     let lines = refused_text(alloc, told, faults.len(), faults)?;
     let json = refused_json(alloc, told, faults.len(), faults)?;
