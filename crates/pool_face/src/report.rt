@@ -3,13 +3,15 @@
 ghost use Rattle.std.specs.Prelude.{◌≡◌, IfOk, string_bytes};
 ghost use Rattle.pool_face.specs.Reports as spec;
 
-use descriptor_check::{refused_json, refused_text, too_many_json, too_many_text, unread_json};
-use fault_texts::{tell_faults, write_line};
 use plain_data::Text;
 use pool_faults::DescriptorErrorKind;
 use proto_types::FileDescriptorProto;
 use record_walk::CountKind;
 use std::alloc::{AllocError, Global};
+use verdict_texts::{
+    RefusedBatch, refused_json, refused_text, tell_refusal, too_many_json, too_many_text,
+    unread_json, write_line,
+};
 
 /// What the last call that added files tells. Both texts are empty where it told nothing.
 #[derive(PartialEq, Drop)]
@@ -40,10 +42,14 @@ pub(crate) fn refused_report(
 ) -> Result<Report, AllocError>
     ensures { IfOk result (λ report. report ≡ spec.refused_report files.now faults.now) }
 {
-    let told = tell_faults(alloc, files, faults)?;
-    let told = told.as_slice();
-    let lines = refused_text(alloc, told, faults.len(), faults)?;
-    let json = refused_json(alloc, told, faults.len(), faults)?;
+    let batch = RefusedBatch {
+        linked: &[],
+        files,
+        faults,
+    };
+    let refusal = tell_refusal(alloc, &batch, faults.len())?;
+    let lines = refused_text(alloc, &refusal)?;
+    let json = refused_json(alloc, &refusal)?;
     Ok(as_report(lines, json))
 }
 

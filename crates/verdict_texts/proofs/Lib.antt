@@ -1,0 +1,10 @@
+pub mod Going
+pub mod OneFeed
+pub mod Looking
+pub mod Placing
+pub mod ReadStrings
+pub mod Grouping
+pub mod Shown
+pub mod Entering
+pub mod Declared
+pub mod Naming
