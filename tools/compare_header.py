@@ -29,7 +29,7 @@ HEADER = TOP / "include/protolink.h"
 RUST = TOP / "bindings/rust/src/ffi.rs"
 DESCRIPTORS = TOP / "bindings/rust/src/descriptors.rs"
 PYTHON = TOP / "bindings/python/protolink.py"
-EXPORTS = tuple(TOP / "crates" / name / "src" for name in ("protolink_c", "pool_face", "pool_text"))
+EXPORTS = tuple(TOP / f"crates/{name}/src" for name in ("protolink_c", "numbered_pool", "pool_text"))
 
 Members = list[tuple[str, str]]
 """The members of a struct: names and types."""

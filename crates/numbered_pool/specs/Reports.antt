@@ -8,7 +8,7 @@ use Rattle.fault_texts.specs.Told.{told_faults}
 use Rattle.fault_texts.specs.declared.told.ToldFault.{ToldFault}
 use Rattle.descriptor_check.specs.Objects.{refused_json, too_many_json, unread_json}
 use Rattle.descriptor_check.specs.Refused.{refused_text, too_many_text}
-use Rattle.pool_face.specs.declared.report.Report.{Report}
+use Rattle.numbered_pool.specs.declared.report.Report.{Report}
 
 -- nothing told
 abbrev pub no_report : Report
