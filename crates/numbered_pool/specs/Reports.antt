@@ -1,6 +1,7 @@
 -- What is told of a call that added nothing: lines for people, and an object of JSON.
-use Rattle.std.specs.Prelude.{ℕ, List, [], length}
+use Rattle.std.specs.Prelude.{ℕ, List, [], take}
 use Rattle.pool_faults.specs.declared.fault.DescriptorErrorKind.{DescriptorErrorKind}
+use Rattle.pool_types.specs.declared.contents.file.FileDescriptorInner.{FileDescriptorInner}
 use Rattle.proto_types.specs.declared.file.FileDescriptorProto.{FileDescriptorProto}
 use Rattle.record_walk.specs.declared.counts.CountKind.{CountKind}
 use Rattle.fault_texts.specs.Lines.{line}
@@ -14,16 +15,16 @@ use Rattle.numbered_pool.specs.declared.report.Report.{Report}
 abbrev pub no_report : Report
 no_report = record { lines = []; json = [] }
 
--- faults, by all of them as they are told
-abbrev pub told_report : List ToldFault → List DescriptorErrorKind → Report
-told_report told faults = record {
-  lines = refused_text told (length faults) faults;
-  json = refused_json told (length faults) faults;
-}
+-- faults by one list of those that are told, in both texts
+abbrev pub told_report : List ToldFault → ℕ → List DescriptorErrorKind → Report
+told_report told most faults =
+    record { lines = refused_text told most faults; json = refused_json told most faults }
 
--- all faults of files that break rules
-abbrev pub refused_report : List FileDescriptorProto → List DescriptorErrorKind → Report
-refused_report files faults = told_report (told_faults files faults) faults
+-- the first faults of new files that break rules, by the files of a pool and the new ones
+abbrev pub refused_report : ℕ → List FileDescriptorInner → List FileDescriptorProto
+    → List DescriptorErrorKind → Report
+refused_report most linked files faults =
+    told_report (told_faults linked files (take most faults)) most faults
 
 -- of what there is too much
 abbrev pub too_many_report : CountKind → Report

@@ -32,18 +32,32 @@ impl Report {
     }
 }
 
-/// What is told of files that break rules: all faults, by the records of the files.
+/// New files that break rules.
+#[derive(Clone, Copy)]
+pub(crate) struct Refusal<'a> {
+    /// The files of the pool.
+    pub linked: &'a [FileDescriptorInner],
+    /// The new files, as they were handed in.
+    pub files: &'a [FileDescriptorProto],
+    /// All faults of the first failing pass, in order.
+    pub faults: &'a [DescriptorErrorKind],
+}
+
+/// What is told of new files that break rules: the first faults, as many as are wanted. Both texts
+/// are printed of one list.
 pub(crate) fn refused_report(
     alloc: Global,
-    files: &[FileDescriptorProto],
-    faults: &[DescriptorErrorKind],
+    refusal: &Refusal,
+    most: usize,
 ) -> Result<Report, AllocError>
-    ensures { IfOk result (λ report. report ≡ spec.refused_report files.now faults.now) }
+    ensures { IfOk result (λ report. report ≡ spec.refused_report most
+        refusal.now.linked.now refusal.now.files.now refusal.now.faults.now) }
 {
-    let told = tell_faults(alloc, files, faults)?;
+    let faults = refusal.faults;
+    let told = tell_faults(alloc, refusal.linked, refusal.files, first_faults(faults, most))?;
     let told = told.as_slice();
-    let lines = refused_text(alloc, told, faults.len(), faults)?;
-    let json = refused_json(alloc, told, faults.len(), faults)?;
+    let lines = refused_text(alloc, told, most, faults)?;
+    let json = refused_json(alloc, told, most, faults)?;
     Ok(as_report(lines, json))
 }
 
