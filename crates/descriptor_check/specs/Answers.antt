@@ -10,7 +10,7 @@ use Rattle.proto_types.specs.declared.file.FileDescriptorProto.{FileDescriptorPr
 use Rattle.record_walk.specs.Counts.{counts_in}
 use Rattle.record_walk.specs.declared.counts.CountKind.{CountKind}
 use Rattle.descriptor_encoding.specs.Encoding.{set_encoding}
-use Rattle.fault_texts.specs.declared.told.ToldFault.{ToldFault}
+use Rattle.fault_texts.specs.declared.telling.ToldFault.{ToldFault}
 use Rattle.descriptor_check.specs.Accepted.{accepted_text}
 use Rattle.descriptor_check.specs.Batches.{batch_of}
 use Rattle.descriptor_check.specs.Complaints.{complaint, no_answer}

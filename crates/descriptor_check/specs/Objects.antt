@@ -2,7 +2,7 @@
 use Rattle.std.specs.Prelude.{ℕ, ◌-◌, List, [], ◌++◌, codes, length}
 use Rattle.std.specs.Fmt.{decimal}
 use Rattle.pool_faults.specs.declared.fault.DescriptorErrorKind.{DescriptorErrorKind}
-use Rattle.fault_texts.specs.declared.told.ToldFault.{ToldFault}
+use Rattle.fault_texts.specs.declared.telling.ToldFault.{ToldFault}
 use Rattle.record_walk.specs.declared.counts.Counts.{Counts}
 use Rattle.record_walk.specs.declared.counts.CountKind.{CountKind}
 use Rattle.json_strings.specs.JsonStrings.{json_string}

@@ -13,8 +13,8 @@ use Rattle.proto_types.specs.declared.file.FileDescriptorProto.{FileDescriptorPr
 use Rattle.record_walk.specs.declared.counts.CountKind.{CountKind}
 use Rattle.fault_texts.specs.JsonFaults.{json_fault}
 use Rattle.fault_texts.specs.PlainFaults.{fault_lines}
-use Rattle.fault_texts.specs.Told.{told_faults}
-use Rattle.fault_texts.specs.declared.told.ToldFault.{ToldFault}
+use Rattle.fault_texts.specs.Telling.{told_faults}
+use Rattle.fault_texts.specs.declared.telling.ToldFault.{ToldFault}
 use Rattle.record_walk.specs.Words.{count_word}
 use Rattle.descriptor_check.specs.Grouped.{grouped, grouped_count}
 
@@ -49,7 +49,7 @@ refused_line n =
 
 -- the first faults of a batch, as they are told
 abbrev pub first_told : List FileDescriptorProto → ℕ → List DescriptorErrorKind → List ToldFault
-first_told files most faults = told_faults files (take most faults)
+first_told files most faults = told_faults [] files (take most faults)
 
 -- the faults that are told, how many more there are and in how many files, and how many there are
 abbrev pub refused_text : List ToldFault → ℕ → List DescriptorErrorKind → List ℕ

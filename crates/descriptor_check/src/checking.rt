@@ -161,7 +161,7 @@ fn tell_refused(alloc: Global, wanted: &Wanted, refusal: &Refusal) -> Result<Ans
 {
     let faults = refusal.faults.as_slice();
     let files = refusal.files.as_slice();
-    let told = tell_faults(alloc, files, first_faults(faults, wanted.most))?;
+    let told = tell_faults(alloc, &[], files, first_faults(faults, wanted.most))?;
     let told = told.as_slice();
     let report = if wanted.is_json {
         refused_json(alloc, told, wanted.most, faults)?

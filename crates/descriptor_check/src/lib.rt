@@ -23,6 +23,6 @@ pub use checking::{check, tell};
 pub use complaints::{complain, complain_of_arguments};
 pub use inputs::Input;
 pub use objects::{refused_json, too_many_json, unread_json};
-pub use refused::{refused_text, too_many_text};
+pub use refused::{first_faults, refused_text, too_many_text};
 pub use unread::bytes_words;
 pub use verdicts::{Refusal, Verdict, verdict_on};

@@ -87,7 +87,7 @@ fn refused_line(alloc: Global, count: usize) -> Result<String, AllocError>
 }
 
 /// The first of some faults.
-pub(crate) fn first_faults(faults: &[DescriptorErrorKind], most: usize) -> &[DescriptorErrorKind]
+pub fn first_faults(faults: &[DescriptorErrorKind], most: usize) -> &[DescriptorErrorKind]
     ensures { result.now ≡ take most faults.now }
 {
     if most < faults.len() {

@@ -1,9 +1,7 @@
 -- The element in which a fault stands, by its full name.
 use Rattle.std.specs.Prelude.{ℕ, ℤ, List, [], ◌∷◌, if◌then◌else◌}
-use Rattle.std.specs.List.{find}
 use Rattle.std.specs.Option.{option_map, option_map_or, option_and_then}
 use Rattle.std.specs.Ordering.{int_eq}
-use Rattle.std.specs.Str.{bytes_eq}
 use Rattle.std.specs.declared.option.Option.{Option}
 use Rattle.std.specs.declared.option.Option.TheVariants.{None, Some}
 use Rattle.plain_data.specs.Lists.{at}
@@ -19,7 +17,6 @@ use Rattle.proto_types.specs.declared.tag.enum_.TheConstants as enumeration
 use Rattle.proto_types.specs.declared.tag.service.TheConstants as service
 use Rattle.pool_faults.specs.declared.label.Label.{Label}
 use Rattle.fault_texts.specs.Known.{only}
-use Rattle.fault_texts.specs.declared.known.Known.{Known}
 
 -- the name of what a path of an enum stands in: a value, or else the enum
 abbrev pub name_in_enum : EnumDescriptorProto → List ℤ → List ℕ
@@ -93,11 +90,7 @@ element_in f (tag ∷ position ∷ path) =
     then option_map (λ x. join scope (text_of x.name)) (at f.extension position)
     else None)))
 
--- the first file with a name
-abbrev pub file_named : List FileDescriptorProto → List ℕ → Option FileDescriptorProto
-file_named files name = find (λ f. bytes_eq (text_of f.name) name) files
-
 -- the full name of what a label stands in, by the only file with its name
-abbrev pub element_of : List FileDescriptorProto → Known → Label → Option (List ℕ)
-element_of files known label =
-    option_and_then (λ f. element_in f label.path) (only files known label.file)
+abbrev pub element_of : List FileDescriptorProto → Label → Option (List ℕ)
+element_of files label =
+    option_and_then (λ f. element_in f label.path) (only files label.file)

@@ -5,10 +5,10 @@ use Rattle.std.specs.List.{flat_map}
 use Rattle.std.specs.Option.{option_map_or}
 use Rattle.std.specs.declared.option.Option.{Option}
 use Rattle.json_strings.specs.JsonStrings.{json_string}
-use Rattle.fault_texts.specs.declared.told.Position.{Position}
-use Rattle.fault_texts.specs.declared.told.ToldFault.{ToldFault}
-use Rattle.fault_texts.specs.declared.told.ToldPlace.{ToldPlace}
-use Rattle.fault_texts.specs.declared.told.ToldSecond.{ToldSecond}
+use Rattle.fault_texts.specs.declared.telling.Position.{Position}
+use Rattle.fault_texts.specs.declared.telling.ToldFault.{ToldFault}
+use Rattle.fault_texts.specs.declared.telling.ToldPlace.{ToldPlace}
+use Rattle.fault_texts.specs.declared.telling.ToldSecond.{ToldSecond}
 
 -- numbers as an array
 abbrev pub json_numbers : List ℤ → List ℕ

@@ -5,7 +5,9 @@ pub mod Lines
 pub mod PlainFaults
 pub mod JsonFaults
 pub mod Known
+pub mod Named
+pub mod Types
 pub mod Notes
 pub mod Places
 pub mod Placed
-pub mod Told
+pub mod Telling

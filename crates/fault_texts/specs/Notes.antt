@@ -13,7 +13,6 @@ use Rattle.pool_faults.specs.declared.fault.DescriptorErrorKind.{DescriptorError
 use Rattle.pool_faults.specs.declared.fault.DescriptorErrorKind.TheVariants as fault
 use Rattle.name_resolution.specs.Parents.{outer}
 use Rattle.fault_texts.specs.Known.{declaring_file, only}
-use Rattle.fault_texts.specs.declared.known.Known.{Known}
 use Rattle.fault_texts.specs.Remedies.{remedy}
 
 -- the import of a file, if there is one
@@ -25,18 +24,18 @@ abbrev pub is_imported : Option FileDescriptorProto → List ℕ → Bool
 is_imported importing file = option_map_or (λ f. is_some (import_of f file)) importing false
 
 -- whether a file is another one, or imported by it
-abbrev pub is_near : List FileDescriptorProto → Known → List ℕ → List ℕ → Bool
-is_near files known from file = bytes_eq file from || is_imported (only files known from) file
+abbrev pub is_near : List FileDescriptorProto → List ℕ → List ℕ → Bool
+is_near files from file = bytes_eq file from || is_imported (only files from) file
 
 -- the name of a file, unless it is near
-abbrev pub if_far : List FileDescriptorProto → Known → List ℕ → List ℕ → Option (List ℕ)
-if_far files known from file = if is_near files known from file then None else Some file
+abbrev pub if_far : List FileDescriptorProto → List ℕ → List ℕ → Option (List ℕ)
+if_far files from file = if is_near files from file then None else Some file
 
 -- the first file that declares a name, unless it is near
-abbrev pub far_file : List FileDescriptorProto → Known → List ℕ → List ℕ → Option (List ℕ)
-far_file files known from name =
-    option_and_then (λ f. if_far files known from (text_of f.name))
-    (declaring_file files known name)
+abbrev pub far_file : List FileDescriptorProto → List ℕ → List ℕ → Option (List ℕ)
+far_file files from name =
+    option_and_then (λ f. if_far files from (text_of f.name))
+    (declaring_file files name)
 
 -- a name that is declared in a file that is not imported
 abbrev pub import_words : List ℕ → List ℕ → List ℕ → List ℕ
@@ -45,9 +44,9 @@ import_words name from file =
     ++ codes "' does not import")))))
 
 -- what is told of a name that a file does not see
-abbrev pub import_note : List FileDescriptorProto → Known → List ℕ → List ℕ → Option (List ℕ)
-import_note files known from name =
-    option_map (import_words name from) (far_file files known from name)
+abbrev pub import_note : List FileDescriptorProto → List ℕ → List ℕ → Option (List ℕ)
+import_note files from name =
+    option_map (import_words name from) (far_file files from name)
 
 -- whether two names are one
 abbrev pub is : List ℕ → List ℕ → Bool
@@ -72,13 +71,13 @@ abbrev pub scope_of : List ℕ → List ℕ → Option (List ℕ)
 scope_of full name = find (is_in full name) (outer full)
 
 -- the first name that a file declares, of those that a name could mean from a scope out
-abbrev pub meant : List FileDescriptorProto → Known → List ℕ → List ℕ → Option (List ℕ)
-meant files known scope name =
-    find (λ n. is_some (declaring_file files known n)) (map (λ s. join s name) (outer scope))
+abbrev pub meant : List FileDescriptorProto → List ℕ → List ℕ → Option (List ℕ)
+meant files scope name =
+    find (λ n. is_some (declaring_file files n)) (map (λ s. join s name) (outer scope))
 
 -- that a file is not imported, unless it is near
-abbrev pub far_words : List FileDescriptorProto → Known → List ℕ → List ℕ → List ℕ
-far_words files known from file = if is_near files known from file then codes ""
+abbrev pub far_words : List FileDescriptorProto → List ℕ → List ℕ → List ℕ
+far_words files from file = if is_near files from file then codes ""
     else codes ", which '" ++ (from ++ codes "' does not import")
 
 -- how to write a name so that it means what a file declares
@@ -87,10 +86,10 @@ dotted_words name file far =
     codes "write '." ++ (name ++ (codes "' to mean what '" ++ (file ++ (codes "' declares" ++ far))))
 
 -- the same, by the first file that declares it
-abbrev pub dotted_note : List FileDescriptorProto → Known → List ℕ → List ℕ → Option (List ℕ)
-dotted_note files known from name = option_map
-    (λ f. dotted_words name (text_of f.name) (far_words files known from (text_of f.name)))
-    (declaring_file files known name)
+abbrev pub dotted_note : List FileDescriptorProto → List ℕ → List ℕ → Option (List ℕ)
+dotted_note files from name = option_map
+    (λ f. dotted_words name (text_of f.name) (far_words files from (text_of f.name)))
+    (declaring_file files name)
 
 -- which scope hides what a name means, and how to write it
 abbrev pub nearer_words : List ℕ → List ℕ → List ℕ → List ℕ
@@ -99,19 +98,19 @@ nearer_words scope name dotted = codes "'" ++ (scope ++ (codes "' has a nearer '
 
 -- what is told of a name that means something nearer, by the full name that it resolves to
 abbrev pub shadowed_note :
-    List FileDescriptorProto → Known → List ℕ → List ℕ → List ℕ → Option (List ℕ)
-shadowed_note files known from name full = option_and_then
+    List FileDescriptorProto → List ℕ → List ℕ → List ℕ → Option (List ℕ)
+shadowed_note files from name full = option_and_then
     (λ scope. option_map (nearer_words scope name)
-    (option_and_then (dotted_note files known from) (meant files known scope name)))
+    (option_and_then (dotted_note files from) (meant files scope name)))
     (scope_of full name)
 
 -- what a look at the files tells of a name
-abbrev pub looked_up : List FileDescriptorProto → Known → DescriptorErrorKind → Option (List ℕ)
-looked_up files known (fault.NameNotFound name found) = import_note files known found.file name
-looked_up files known (fault.NameShadowed name full found) =
-    shadowed_note files known found.file name full
-looked_up files known _ = None
+abbrev pub looked_up : List FileDescriptorProto → DescriptorErrorKind → Option (List ℕ)
+looked_up files (fault.NameNotFound name found) = import_note files found.file name
+looked_up files (fault.NameShadowed name full found) =
+    shadowed_note files found.file name full
+looked_up files _ = None
 
 -- what is told beside a fault
-abbrev pub note : List FileDescriptorProto → Known → DescriptorErrorKind → List ℕ
-note files known f = unwrap_or (looked_up files known f) (remedy f)
+abbrev pub note : List FileDescriptorProto → DescriptorErrorKind → List ℕ
+note files f = unwrap_or (looked_up files f) (remedy f)

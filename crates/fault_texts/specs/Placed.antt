@@ -1,22 +1,17 @@
--- Faults with where they stand: the label that one shows, or else the place of its kind, in order.
-use Rattle.std.specs.Prelude.{ℕ, Bool, true, false, List, [], ◌∷◌, length, drop, slice_get, if◌then◌else◌}
+-- Where a fault stands: the label that it shows, or else the place of its kind, in order.
+use Rattle.std.specs.Prelude.{ℕ, Bool, true, false, List, [], length, drop, slice_get, if◌then◌else◌}
 use Rattle.std.specs.List.{filter, find, list_any}
-use Rattle.std.specs.Option.{option_copied}
 use Rattle.std.specs.Str.{bytes_eq}
 use Rattle.std.specs.declared.option.Option.{Option}
-use Rattle.plain_data.specs.Lists.{flat_map_after}
 use Rattle.proto_types.specs.declared.file.FileDescriptorProto.{FileDescriptorProto}
 use Rattle.pool_faults.specs.Fault.{shown_label}
 use Rattle.pool_faults.specs.declared.label.Label.{Label}
 use Rattle.pool_faults.specs.declared.fault.DescriptorErrorKind.{DescriptorErrorKind}
 use Rattle.pool_faults.specs.declared.fault.DescriptorErrorKind.TheVariants as fault
-use Rattle.fault_texts.specs.Places.{import_places, name_places, oneof_places}
-use Rattle.fault_texts.specs.declared.placed.PlacedFault.{PlacedFault}
+use Rattle.fault_texts.specs.Places.{labels_of}
 use Rattle.fault_texts.specs.declared.places.Places.{Places}
-
--- a fault, and where it stands
-abbrev pub placed : PlacedFault → DescriptorErrorKind × Option Label
-placed p = (p.fault.now, option_copied p.place)
+use Rattle.fault_texts.specs.declared.places.Unplaced.{Unplaced}
+use Rattle.fault_texts.specs.declared.places.Unplaced.TheVariants.{Import, Name, Oneof}
 
 -- the first label that names a file
 abbrev pub label_of : List Label → List ℕ → Option Label
@@ -29,39 +24,26 @@ place_among names imports oneofs fault.InvalidImportIndex = slice_get imports 0
 place_among names imports oneofs fault.InvalidOneofIndex = slice_get oneofs 0
 place_among names imports oneofs other = shown_label other
 
--- whether a fault is that of a name of a file
-abbrev pub is_of_name : DescriptorErrorKind → Bool
-is_of_name (fault.DuplicateFileName _) = true
-is_of_name _ = false
+-- whether a fault is of a kind without a label
+abbrev pub is_of : Unplaced → DescriptorErrorKind → Bool
+is_of Name (fault.DuplicateFileName _) = true
+is_of Name _ = false
+is_of Import fault.InvalidImportIndex = true
+is_of Import _ = false
+is_of Oneof fault.InvalidOneofIndex = true
+is_of Oneof _ = false
 
--- whether a fault is that of an index of an import
-abbrev pub is_of_import : DescriptorErrorKind → Bool
-is_of_import fault.InvalidImportIndex = true
-is_of_import _ = false
-
--- whether a fault is that of an index of a oneof
-abbrev pub is_of_oneof : DescriptorErrorKind → Bool
-is_of_oneof fault.InvalidOneofIndex = true
-is_of_oneof _ = false
-
--- the names of files, where one of some faults is of a name
-abbrev pub names_for : List FileDescriptorProto → List DescriptorErrorKind → List Label
-names_for files faults = if list_any is_of_name faults then name_places files else []
-
--- the indexes of imports that are no positions, where one of some faults is of such an index
-abbrev pub imports_for : List FileDescriptorProto → List DescriptorErrorKind → List Label
-imports_for files faults = if list_any is_of_import faults then import_places files else []
-
--- the fields with oneof indexes that are no positions, where one of some faults is of such an index
-abbrev pub oneofs_for : List FileDescriptorProto → List DescriptorErrorKind → List Label
-oneofs_for files faults = if list_any is_of_oneof faults then oneof_places files else []
+-- the places of a kind in files, where one of some faults is of it
+abbrev pub labels_for : List FileDescriptorProto → List DescriptorErrorKind → Unplaced → List Label
+labels_for files faults kind =
+    if list_any (is_of kind) faults then labels_of kind files else []
 
 -- the places of files that some faults can stand at
 abbrev pub places_for : List FileDescriptorProto → List DescriptorErrorKind → Places
 places_for files faults = record {
-  names = names_for files faults;
-  imports = imports_for files faults;
-  oneofs = oneofs_for files faults;
+  names = labels_for files faults Name;
+  imports = labels_for files faults Import;
+  oneofs = labels_for files faults Oneof;
 }
 
 -- how many labels go where one is wanted
@@ -74,10 +56,5 @@ behind kind earlier labels = drop (length (filter kind earlier)) labels
 
 -- where a fault stands, by those before it in its batch
 abbrev pub place_of : Places → List DescriptorErrorKind → DescriptorErrorKind → Option Label
-place_of p earlier fault = place_among p.names (behind is_of_import earlier p.imports)
-    (behind is_of_oneof earlier p.oneofs) fault
-
--- faults of a batch from the first on, each with where it stands
-abbrev pub placed_faults : Places → List DescriptorErrorKind
-    → List (DescriptorErrorKind × Option Label)
-placed_faults p faults = flat_map_after (λ earlier g. (g, place_of p earlier g) ∷ []) faults
+place_of p earlier fault = place_among p.names (behind (is_of Import) earlier p.imports)
+    (behind (is_of Oneof) earlier p.oneofs) fault

@@ -14,6 +14,8 @@ use Rattle.proto_types.specs.declared.tag.file.TheConstants as file
 use Rattle.proto_types.specs.declared.tag.message.TheConstants as message
 use Rattle.pool_faults.specs.Labels.{label}
 use Rattle.pool_faults.specs.declared.label.Label.{Label}
+use Rattle.fault_texts.specs.declared.places.Unplaced.{Unplaced}
+use Rattle.fault_texts.specs.declared.places.Unplaced.TheVariants.{Import, Name, Oneof}
 
 -- a position as a path shows it, whose numbers end at 2 to the 31st less 1
 abbrev pub shown_position : ℕ → ℤ
@@ -98,3 +100,9 @@ oneofs_of f = messages_places f (file.MESSAGE_TYPE ∷ []) f.message_type
 -- each field of files that has a oneof index that is no position of its message's oneofs
 abbrev pub oneof_places : List FileDescriptorProto → List Label
 oneof_places files = flat_map oneofs_of files
+
+-- the places of a kind in files
+abbrev pub labels_of : Unplaced → List FileDescriptorProto → List Label
+labels_of Name files = name_places files
+labels_of Import files = import_places files
+labels_of Oneof files = oneof_places files

@@ -4,10 +4,10 @@ use Rattle.std.specs.Fmt.{signed_decimal}
 use Rattle.std.specs.Option.{option_map_or}
 use Rattle.std.specs.declared.option.Option.{Option}
 use Rattle.fault_texts.specs.Lines.{line}
-use Rattle.fault_texts.specs.declared.told.Position.{Position}
-use Rattle.fault_texts.specs.declared.told.ToldFault.{ToldFault}
-use Rattle.fault_texts.specs.declared.told.ToldPlace.{ToldPlace}
-use Rattle.fault_texts.specs.declared.told.ToldSecond.{ToldSecond}
+use Rattle.fault_texts.specs.declared.telling.Position.{Position}
+use Rattle.fault_texts.specs.declared.telling.ToldFault.{ToldFault}
+use Rattle.fault_texts.specs.declared.telling.ToldPlace.{ToldPlace}
+use Rattle.fault_texts.specs.declared.telling.ToldSecond.{ToldSecond}
 
 -- a line and a column of a file
 abbrev pub position_words : List ℕ → Position → List ℕ

@@ -1,149 +1,94 @@
-//! A visitor that enters the files of messages and enums by their full names.
+//! The names of the messages and enums that a file declares, entered where none has them.
 
-ghost use Rattle.std.specs.Prelude.{◌≡◌, []};
-ghost use Rattle.std.specs.FinMap as map;
+ghost use Rattle.std.specs.Prelude.{OnOk};
+ghost use Rattle.fault_texts.specs.Named.{Enters};
+ghost use Rattle.fault_texts.specs.Types as spec;
 
+use crate::elements::full_name;
 use crate::known::enter;
 use name_tables::FileNames;
-use proto_types::{
-    DescriptorProto, EnumDescriptorProto, EnumValueDescriptorProto, FieldDescriptorProto,
-    FileDescriptorProto, MethodDescriptorProto, OneofDescriptorProto, ServiceDescriptorProto,
-};
-use record_walk::Visitor;
+use plain_data::Items;
+use proto_types::{DescriptorProto, EnumDescriptorProto, FileDescriptorProto};
 use std::alloc::{AllocError, Global};
 
-/// A visitor that enters the files of messages and enums by their full names.
-#[derive(Drop)]
-pub(crate) struct DeclaringVisitor {
-    pub names: FileNames,
+/// What declarations stand in: the file, by its position, and the scope of their names.
+#[derive(Clone, Copy)]
+struct Surrounding<'a> {
+    alloc: Global,
+    file: u32,
+    scope: &'a str,
 }
 
-impl DeclaringVisitor {
-    /// A visitor that was shown nothing, which takes no memory.
-    pub fn new(alloc: Global) -> DeclaringVisitor
-        ensures { result.names ≡ map.empty }
-    {
-        DeclaringVisitor {
-            names: FileNames::new(alloc),
-        }
+/// Enters the names of the enums of a list.
+fn enter_enums(
+    here: &Surrounding,
+    names: &mut FileNames,
+    enums: &Items<EnumDescriptorProto>,
+) -> Result<(), AllocError>
+    ensures { OnOk result (Enters names.old names.new here.now.file
+        (spec.enum_names here.now.scope.now enums.now)) }
+{
+    for enumeration in enums.as_slice() {
+        let full = full_name(here.alloc, here.scope, enumeration.name())?;
+        enter(names, full.as_str(), here.file)?;
     }
+    Ok(())
 }
 
-impl Visitor for DeclaringVisitor {
-    ghost use Rattle.std.specs.List.{fold};
-    ghost use Rattle.pool_types.specs.Contents.{no_contents};
-    ghost use Rattle.fault_texts.specs.Known.{with_declared};
+/// Enters the name of a message, and those of all messages and enums in it.
+#[cycle(types)]
+fn enter_message(
+    here: &Surrounding,
+    names: &mut FileNames,
+    message: &DescriptorProto,
+) -> Result<(), AllocError>
+    ensures { OnOk result (Enters names.old names.new here.now.file
+        (spec.message_types message.now here.now.scope.now)) }
+{
+    let full = full_name(here.alloc, here.scope, message.name())?;
+    enter(names, full.as_str(), here.file)?;
+    let inside = Surrounding {
+        alloc: here.alloc,
+        file: here.file,
+        scope: full.as_str(),
+    };
+    enter_messages(&inside, names, &message.nested_type)?;
+    enter_enums(&inside, names, &message.enum_type)
+}
 
-    ghost after = { λ v ds. record {
-      contents = record no_contents { file_names = fold with_declared v.names ds };
-      faults = [];
-      listed = [];
-    } };
-
-    ghost ready = { λ _ _. Unit {0} };
-
-    ghost kept = { λ _. no_contents };
-
-    ghost borrows = { λ _. [] };
-
-    ghost front_ready = { λ _ _ _ _. tt };
-
-    fn visit_file(&mut self, _: &[i32], _: u32, _: &FileDescriptorProto) -> Result<(), AllocError> {
-        Ok(())
+/// The same of each message of a list.
+#[cycle(types)]
+fn enter_messages(
+    here: &Surrounding,
+    names: &mut FileNames,
+    messages: &Items<DescriptorProto>,
+) -> Result<(), AllocError>
+    ensures { OnOk result (Enters names.old names.new here.now.file
+        (spec.messages_types here.now.scope.now messages.now)) }
+{
+    for message in messages.as_slice() {
+        enter_message(here, names, message)?;
     }
+    Ok(())
+}
 
-    fn visit_message(
-        &mut self,
-        _: &[i32],
-        full_name: &str,
-        file: u32,
-        _: Option<u32>,
-        _: u32,
-        _: &DescriptorProto,
-    ) -> Result<(), AllocError> {
-        enter(&mut self.names, full_name, file)
-    }
-
-    fn visit_field(
-        &mut self,
-        _: &[i32],
-        _: &str,
-        _: u32,
-        _: u32,
-        _: u32,
-        _: &FieldDescriptorProto,
-    ) -> Result<(), AllocError> {
-        Ok(())
-    }
-
-    fn visit_oneof(
-        &mut self,
-        _: &[i32],
-        _: &str,
-        _: u32,
-        _: u32,
-        _: u32,
-        _: &OneofDescriptorProto,
-    ) -> Result<(), AllocError> {
-        Ok(())
-    }
-
-    fn visit_service(
-        &mut self,
-        _: &[i32],
-        _: &str,
-        _: u32,
-        _: u32,
-        _: &ServiceDescriptorProto,
-    ) -> Result<(), AllocError> {
-        Ok(())
-    }
-
-    fn visit_method(
-        &mut self,
-        _: &[i32],
-        _: &str,
-        _: u32,
-        _: u32,
-        _: u32,
-        _: &MethodDescriptorProto,
-    ) -> Result<(), AllocError> {
-        Ok(())
-    }
-
-    fn visit_enum(
-        &mut self,
-        _: &[i32],
-        full_name: &str,
-        file: u32,
-        _: Option<u32>,
-        _: u32,
-        _: &EnumDescriptorProto,
-    ) -> Result<(), AllocError> {
-        enter(&mut self.names, full_name, file)
-    }
-
-    fn visit_enum_value(
-        &mut self,
-        _: &[i32],
-        _: &str,
-        _: u32,
-        _: u32,
-        _: u32,
-        _: &EnumValueDescriptorProto,
-    ) -> Result<(), AllocError> {
-        Ok(())
-    }
-
-    fn visit_extension(
-        &mut self,
-        _: &[i32],
-        _: &str,
-        _: u32,
-        _: Option<u32>,
-        _: u32,
-        _: &FieldDescriptorProto,
-    ) -> Result<(), AllocError> {
-        Ok(())
-    }
+/// Enters the names of the messages and enums of the file with a position.
+///
+/// # Errors
+/// `AllocError` where memory was refused.
+pub(crate) fn enter_types(
+    alloc: Global,
+    names: &mut FileNames,
+    file: &FileDescriptorProto,
+    at: u32,
+) -> Result<(), AllocError>
+    ensures { OnOk result (Enters names.old names.new at (spec.file_types file.now)) }
+{
+    let here = Surrounding {
+        alloc,
+        file: at,
+        scope: file.package(),
+    };
+    enter_messages(&here, names, &file.message_type)?;
+    enter_enums(&here, names, &file.enum_type)
 }

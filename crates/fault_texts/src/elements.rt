@@ -6,7 +6,7 @@ ghost use Rattle.plain_data.specs.Lists.{at};
 ghost use Rattle.proto_types.specs.Names as names;
 ghost use Rattle.fault_texts.specs.Elements as spec;
 
-use crate::known::Batch;
+use crate::known::Known;
 use plain_data::{Items, Text};
 use pool_faults::Label;
 use proto_types::tag::{enum_, file, message, service};
@@ -167,13 +167,13 @@ fn element_in(
 /// `AllocError` where memory was refused.
 pub(crate) fn element_of(
     alloc: Global,
-    batch: &Batch,
+    known: &Known,
     label: &Label,
 ) -> Result<Option<Text>, AllocError>
     ensures { IfOk result (λ name. name
-        ≡ spec.element_of batch.now.files.now batch.now.known.now label.now) }
+        ≡ spec.element_of known.now.0 label.now) }
 {
-    match batch.only(label.file()) {
+    match known.only(label.file()) {
         Some(file) => element_in(alloc, file, label.path()),
         None => Ok(None),
     }

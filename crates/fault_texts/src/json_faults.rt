@@ -3,7 +3,7 @@
 ghost use Rattle.std.specs.Prelude.{◌≡◌, ◌++◌, OnOk, string_bytes};
 ghost use Rattle.fault_texts.specs.JsonFaults as spec;
 
-use crate::told::{Position, ToldFault, ToldPlace, ToldSecond};
+use crate::telling::{Position, ToldFault, ToldPlace, ToldSecond};
 use json_strings::write_json_string;
 use plain_data::Text;
 use std::alloc::AllocError;

@@ -13,11 +13,11 @@ mod placed;
 mod places;
 mod plain_faults;
 mod remedies;
-mod told;
+mod telling;
 
 pub use json_faults::write_fault_json;
 pub use kinds::{fault_code, related_label};
 pub use lines::{write_line, write_lines};
 pub use plain_faults::write_fault_lines;
 pub use remedies::remedy;
-pub use told::{Position, ToldFault, ToldPlace, ToldSecond, tell_faults};
+pub use telling::{Position, ToldFault, ToldPlace, ToldSecond, tell_faults};

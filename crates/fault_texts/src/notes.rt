@@ -1,12 +1,13 @@
 //! What is told beside a fault.
 
-ghost use Rattle.std.specs.Prelude.{◌≡◌, IfOk, string_bytes};
+ghost use Rattle.std.specs.Prelude.{◌≡◌, IfOk, IsTrue, string_bytes};
 ghost use Rattle.std.specs.Option.{option_copied};
 ghost use Rattle.proto_types.specs.Names as names;
+ghost use Rattle.fault_texts.specs.FaultKinds.{is_of_reference};
 ghost use Rattle.fault_texts.specs.Notes as spec;
 
 use crate::elements::full_name;
-use crate::known::Batch;
+use crate::known::Known;
 use crate::remedies::remedy;
 use name_resolution::CandidateParents;
 use plain_data::Text;
@@ -15,10 +16,10 @@ use proto_types::FileDescriptorProto;
 use std::alloc::{AllocError, Global};
 
 /// Whether a file is another one, or imported by it.
-fn is_near(batch: &Batch, from: &str, file: &str) -> bool
-    ensures { result ≡ spec.is_near batch.now.files.now batch.now.known.now from.now file.now }
+fn is_near(known: &Known, from: &str, file: &str) -> bool
+    ensures { result ≡ spec.is_near known.now.0 from.now file.now }
 {
-    file == from || is_imported(batch.only(from), file)
+    file == from || is_imported(known.only(from), file)
 }
 
 /// The import of a file, if there is one.
@@ -40,11 +41,12 @@ fn is_imported(importing: Option<&FileDescriptorProto>, file: &str) -> bool
 }
 
 /// The name of the first file that declares a name, unless it is near.
-fn far_file<'a>(batch: &Batch<'a>, from: &str, name: &str) -> Option<&'a str>
-    ensures { option_copied result ≡ spec.far_file batch.now.files.now batch.now.known.now from.now name.now }
+fn far_file<'a>(known: &Known<'a>, from: &str, name: &str) -> Option<&'a str>
+    requires { IsTrue known.now.1 }
+    ensures { option_copied result ≡ spec.far_file known.now.0 from.now name.now }
 {
-    let file = batch.declaring(name)?.name();
-    if is_near(batch, from, file) {
+    let file = known.declaring(name)?.name();
+    if is_near(known, from, file) {
         None
     } else {
         Some(file)
@@ -54,13 +56,14 @@ fn far_file<'a>(batch: &Batch<'a>, from: &str, name: &str) -> Option<&'a str>
 /// What is told of a name that is declared in a file that is not imported.
 fn import_words(
     alloc: Global,
-    batch: &Batch,
+    known: &Known,
     from: &str,
     name: &str,
 ) -> Result<Option<Text>, AllocError>
-    ensures { IfOk result (λ words. words ≡ spec.import_note batch.now.files.now batch.now.known.now from.now name.now) }
+    requires { IsTrue known.now.1 }
+    ensures { IfOk result (λ words. words ≡ spec.import_note known.now.0 from.now name.now) }
 {
-    match far_file(batch, from, name) {
+    match far_file(known, from, name) {
         Some(file) => {
             let words = format!(in alloc;
                 "'{name}' is declared in '{file}', which '{from}' does not import"
@@ -99,12 +102,13 @@ fn scope_of<'a>(full_name: &'a str, name: &str) -> Option<&'a str>
 }
 
 /// The first name that a file declares, of those that a name could mean from a scope out.
-fn meant(alloc: Global, batch: &Batch, scope: &str, name: &str) -> Result<Option<Text>, AllocError>
-    ensures { IfOk result (λ meant. meant ≡ spec.meant batch.now.files.now batch.now.known.now scope.now name.now) }
+fn meant(alloc: Global, known: &Known, scope: &str, name: &str) -> Result<Option<Text>, AllocError>
+    requires { IsTrue known.now.1 }
+    ensures { IfOk result (λ meant. meant ≡ spec.meant known.now.0 scope.now name.now) }
 {
     for parent in CandidateParents::new(scope) {
         let meant = full_name(alloc, parent, name)?;
-        if batch.declaring(meant.as_str()).is_some() {
+        if known.declaring(meant.as_str()).is_some() {
             return Ok(Some(meant));
         }
     }
@@ -112,10 +116,10 @@ fn meant(alloc: Global, batch: &Batch, scope: &str, name: &str) -> Result<Option
 }
 
 /// That a file is not imported, unless it is near.
-fn far_words(alloc: Global, batch: &Batch, from: &str, file: &str) -> Result<Text, AllocError>
-    ensures { IfOk result (λ words. words ≡ spec.far_words batch.now.files.now batch.now.known.now from.now file.now) }
+fn far_words(alloc: Global, known: &Known, from: &str, file: &str) -> Result<Text, AllocError>
+    ensures { IfOk result (λ words. words ≡ spec.far_words known.now.0 from.now file.now) }
 {
-    if !is_near(batch, from, file) {
+    if !is_near(known, from, file) {
         let words = format!(in alloc; ", which '{from}' does not import")?;
         return Ok(Text::from_string(words));
     }
@@ -125,16 +129,17 @@ fn far_words(alloc: Global, batch: &Batch, from: &str, file: &str) -> Result<Tex
 /// How to write a name so that it means what the first file that has it declares.
 fn dotted_words(
     alloc: Global,
-    batch: &Batch,
+    known: &Known,
     from: &str,
     name: &str,
 ) -> Result<Option<Text>, AllocError>
-    ensures { IfOk result (λ words. words ≡ spec.dotted_note batch.now.files.now batch.now.known.now from.now name.now) }
+    requires { IsTrue known.now.1 }
+    ensures { IfOk result (λ words. words ≡ spec.dotted_note known.now.0 from.now name.now) }
 {
-    match batch.declaring(name) {
+    match known.declaring(name) {
         Some(file) => {
             let file = file.name();
-            let far = far_words(alloc, batch, from, file)?;
+            let far = far_words(alloc, known, from, file)?;
             let far = far.as_str();
             let words = format!(in alloc; "write '.{name}' to mean what '{file}' declares{far}")?;
             Ok(Some(Text::from_string(words)))
@@ -174,10 +179,11 @@ struct Shadowed<'a> {
 /// What is told of a name that means something nearer, by the full name that it resolves to.
 fn shadowed_words(
     alloc: Global,
-    batch: &Batch,
+    known: &Known,
     shadowed: Shadowed,
 ) -> Result<Option<Text>, AllocError>
-    ensures { IfOk result (λ words. words ≡ spec.shadowed_note batch.now.files.now batch.now.known.now shadowed.entry.from.now
+    requires { IsTrue known.now.1 }
+    ensures { IfOk result (λ words. words ≡ spec.shadowed_note known.now.0 shadowed.entry.from.now
         shadowed.entry.name.now shadowed.entry.full_name.now) }
 {
     let Shadowed {
@@ -188,10 +194,10 @@ fn shadowed_words(
     let Some(scope) = scope_of(full_name, name) else {
         return Ok(None);
     };
-    let Some(meant) = meant(alloc, batch, scope, name)? else {
+    let Some(meant) = meant(alloc, known, scope, name)? else {
         return Ok(None);
     };
-    match dotted_words(alloc, batch, from, meant.as_str())? {
+    match dotted_words(alloc, known, from, meant.as_str())? {
         Some(dotted) => Ok(Some(nearer_words(alloc, scope, name, dotted.as_str())?)),
         None => Ok(None),
     }
@@ -200,14 +206,15 @@ fn shadowed_words(
 /// What a look at the files tells of a name.
 fn looked_up(
     alloc: Global,
-    batch: &Batch,
+    known: &Known,
     fault: &DescriptorErrorKind,
 ) -> Result<Option<Text>, AllocError>
-    ensures { IfOk result (λ words. words ≡ spec.looked_up batch.now.files.now batch.now.known.now fault.now) }
+    requires { IsTrue (is_of_reference fault.now) → IsTrue known.now.1 }
+    ensures { IfOk result (λ words. words ≡ spec.looked_up known.now.0 fault.now) }
 {
     match fault {
         DescriptorErrorKind::NameNotFound { name, found } => {
-            import_words(alloc, batch, found.file(), name.as_str())
+            import_words(alloc, known, found.file(), name.as_str())
         }
         DescriptorErrorKind::NameShadowed {
             name,
@@ -219,7 +226,7 @@ fn looked_up(
                 name: name.as_str(),
                 full_name: shadowed_name.as_str(),
             };
-            shadowed_words(alloc, batch, shadowed)
+            shadowed_words(alloc, known, shadowed)
         }
         _ => Ok(None),
     }
@@ -231,12 +238,13 @@ fn looked_up(
 /// `AllocError` where memory was refused.
 pub(crate) fn note(
     alloc: Global,
-    batch: &Batch,
+    known: &Known,
     fault: &DescriptorErrorKind,
 ) -> Result<Text, AllocError>
-    ensures { IfOk result (λ text. text ≡ spec.note batch.now.files.now batch.now.known.now fault.now) }
+    requires { IsTrue (is_of_reference fault.now) → IsTrue known.now.1 }
+    ensures { IfOk result (λ text. text ≡ spec.note known.now.0 fault.now) }
 {
-    match looked_up(alloc, batch, fault)? {
+    match looked_up(alloc, known, fault)? {
         Some(words) => Ok(words),
         None => Text::from_str(alloc, remedy(fault)),
     }

@@ -19,16 +19,23 @@ struct Row<'a> {
     path: &'a [i32],
 }
 
-/// Where the faults of a batch stand whose kinds have no label.
+/// A kind of fault that shows no label.
+#[derive(Clone, Copy)]
+pub(crate) enum Unplaced {
+    /// A name of a file that another has.
+    Name,
+    /// A public or weak index that is no position of its file's imports.
+    Import,
+    /// The oneof index of a field that is no position of its message's oneofs.
+    Oneof,
+}
+
+/// Where the faults of a batch can stand whose kinds have no label, in the order of the walk.
 #[derive(Drop)]
 pub(crate) struct Places {
-    /// The name of each file, in the order of the files.
+    /// The name of each file.
     pub names: Items<Label>,
-    /// Each public or weak index that is no position of its file's imports, in the order of the
-    /// walk.
     pub imports: Items<Label>,
-    /// Each field with a oneof index that is no position of its message's oneofs, in the order of
-    /// the walk.
     pub oneofs: Items<Label>,
 }
 
@@ -79,10 +86,7 @@ fn add_if(
 }
 
 /// The label of the name of each file.
-pub(crate) fn name_places(
-    alloc: Global,
-    files: &[FileDescriptorProto],
-) -> Result<Items<Label>, AllocError>
+fn name_places(alloc: Global, files: &[FileDescriptorProto]) -> Result<Items<Label>, AllocError>
     ensures { IfOk result (λ labels. labels ≡ spec.name_places files.now) }
 {
     let mut labels = Items::new(alloc);
@@ -128,10 +132,7 @@ fn add_imports(
 }
 
 /// The label of each index that is no position of the imports of its file.
-pub(crate) fn import_places(
-    alloc: Global,
-    files: &[FileDescriptorProto],
-) -> Result<Items<Label>, AllocError>
+fn import_places(alloc: Global, files: &[FileDescriptorProto]) -> Result<Items<Label>, AllocError>
     ensures { IfOk result (λ labels. labels ≡ spec.import_places files.now) }
 {
     let mut labels = Items::new(alloc);
@@ -227,10 +228,7 @@ fn add_oneofs(
 }
 
 /// The label of each field with a oneof index that is no position of the oneofs of its message.
-pub(crate) fn oneof_places(
-    alloc: Global,
-    files: &[FileDescriptorProto],
-) -> Result<Items<Label>, AllocError>
+fn oneof_places(alloc: Global, files: &[FileDescriptorProto]) -> Result<Items<Label>, AllocError>
     ensures { IfOk result (λ labels. labels ≡ spec.oneof_places files.now) }
 {
     let mut labels = Items::new(alloc);
@@ -238,4 +236,22 @@ pub(crate) fn oneof_places(
         add_oneofs(alloc, &mut labels, file)?;
     }
     Ok(labels)
+}
+
+/// The places of a kind in files.
+///
+/// # Errors
+/// `AllocError` where memory was refused.
+pub(crate) fn labels_of(
+    alloc: Global,
+    kind: Unplaced,
+    files: &[FileDescriptorProto],
+) -> Result<Items<Label>, AllocError>
+    ensures { IfOk result (λ labels. labels ≡ spec.labels_of kind files.now) }
+{
+    match kind {
+        Unplaced::Name => name_places(alloc, files),
+        Unplaced::Import => import_places(alloc, files),
+        Unplaced::Oneof => oneof_places(alloc, files),
+    }
 }

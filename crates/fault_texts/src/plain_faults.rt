@@ -4,7 +4,7 @@ ghost use Rattle.std.specs.Prelude.{◌≡◌, ◌++◌, IfOk, OnOk, string_byte
 ghost use Rattle.fault_texts.specs.PlainFaults as spec;
 
 use crate::lines::write_line;
-use crate::told::{Position, ToldFault, ToldPlace, ToldSecond};
+use crate::telling::{Position, ToldFault, ToldPlace, ToldSecond};
 use plain_data::Text;
 use std::alloc::{AllocError, Global};
 

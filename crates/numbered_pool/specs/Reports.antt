@@ -1,12 +1,11 @@
 -- What is told of a call that added nothing: lines for people, and an object of JSON.
 use Rattle.std.specs.Prelude.{ℕ, List, [], take}
 use Rattle.pool_faults.specs.declared.fault.DescriptorErrorKind.{DescriptorErrorKind}
-use Rattle.pool_types.specs.declared.contents.file.FileDescriptorInner.{FileDescriptorInner}
 use Rattle.proto_types.specs.declared.file.FileDescriptorProto.{FileDescriptorProto}
 use Rattle.record_walk.specs.declared.counts.CountKind.{CountKind}
 use Rattle.fault_texts.specs.Lines.{line}
-use Rattle.fault_texts.specs.Told.{told_faults}
-use Rattle.fault_texts.specs.declared.told.ToldFault.{ToldFault}
+use Rattle.fault_texts.specs.Telling.{told_faults}
+use Rattle.fault_texts.specs.declared.telling.ToldFault.{ToldFault}
 use Rattle.descriptor_check.specs.Objects.{refused_json, too_many_json, unread_json}
 use Rattle.descriptor_check.specs.Refused.{refused_text, too_many_text}
 use Rattle.numbered_pool.specs.declared.report.Report.{Report}
@@ -20,11 +19,12 @@ abbrev pub told_report : List ToldFault → ℕ → List DescriptorErrorKind →
 told_report told most faults =
     record { lines = refused_text told most faults; json = refused_json told most faults }
 
--- the first faults of new files that break rules, by the files of a pool and the new ones
-abbrev pub refused_report : ℕ → List FileDescriptorInner → List FileDescriptorProto
-    → List DescriptorErrorKind → Report
-refused_report most linked files faults =
-    told_report (told_faults linked files (take most faults)) most faults
+-- the first faults of new files that break rules, by the records of a pool's files and of the new
+-- ones
+abbrev pub refused_report : List FileDescriptorProto → List FileDescriptorProto
+    → List DescriptorErrorKind → ℕ → Report
+refused_report linked new faults most =
+    told_report (told_faults linked new (take most faults)) most faults
 
 -- of what there is too much
 abbrev pub too_many_report : CountKind → Report

@@ -1,12 +1,13 @@
 //! What is told of a call that added nothing.
 
-ghost use Rattle.std.specs.Prelude.{◌≡◌, IfOk, string_bytes};
+ghost use Rattle.std.specs.Prelude.{◌≡◌, IfOk, map, string_bytes};
 ghost use Rattle.numbered_pool.specs.Reports as spec;
 
-use descriptor_check::{refused_json, refused_text, too_many_json, too_many_text, unread_json};
+use descriptor_check::{first_faults, refused_json, refused_text, too_many_json, too_many_text, unread_json};
 use fault_texts::{tell_faults, write_line};
 use plain_data::Text;
 use pool_faults::DescriptorErrorKind;
+use pool_types::FileDescriptorInner;
 use proto_types::FileDescriptorProto;
 use record_walk::CountKind;
 use std::alloc::{AllocError, Global};
@@ -50,8 +51,9 @@ pub(crate) fn refused_report(
     refusal: &Refusal,
     most: usize,
 ) -> Result<Report, AllocError>
-    ensures { IfOk result (λ report. report ≡ spec.refused_report most
-        refusal.now.linked.now refusal.now.files.now refusal.now.faults.now) }
+    ensures { IfOk result (λ report. report ≡ spec.refused_report
+        (map (λ f. f.raw) refusal.now.linked.now) refusal.now.files.now refusal.now.faults.now
+        most) }
 {
     let faults = refusal.faults;
     let told = tell_faults(alloc, refusal.linked, refusal.files, first_faults(faults, most))?;

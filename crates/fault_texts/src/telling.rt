@@ -1,17 +1,21 @@
 //! A fault as it is told, made once of the records of its batch. Lines and JSON are printed of it.
 
-ghost use Rattle.std.specs.Prelude.{◌≡◌, IfOk, map};
+ghost use Rattle.std.specs.Prelude.{◌≡◌, IfOk, IsTrue, map};
+ghost use Rattle.std.specs.List.{list_any};
 ghost use Rattle.std.specs.Option.{option_copied, option_map};
-ghost use Rattle.fault_texts.specs.Placed.{placed};
-ghost use Rattle.fault_texts.specs.Told as spec;
+ghost use Rattle.plain_data.specs.Lists.{flat_map_after};
+ghost use Rattle.fault_texts.specs.FaultKinds.{is_of_reference};
+ghost use Rattle.fault_texts.specs.Telling as spec;
 
 use crate::elements::element_of;
 use crate::kinds::{fault_code, fault_message, related_label, related_words};
-use crate::known::{Batch, Known};
+use crate::known::{Known, records};
 use crate::notes::note;
-use crate::placed::{PlacedFault, place_faults, places_for};
+use crate::placed::{Left, place_among, places_for};
+use crate::places::Places;
 use plain_data::{Items, Text};
 use pool_faults::{DescriptorErrorKind, Label};
+use pool_types::FileDescriptorInner;
 use proto_types::FileDescriptorProto;
 use std::alloc::{AllocError, Global};
 
@@ -78,13 +82,13 @@ fn position_if(span: Option<[i32; 4]>) -> Option<Position>
 }
 
 /// A label as it is told.
-fn told_place(alloc: Global, batch: &Batch, label: &Label) -> Result<ToldPlace, AllocError>
-    ensures { IfOk result (λ place. place ≡ spec.told_place batch.now.files.now batch.now.known.now label.now) }
+fn told_place(alloc: Global, known: &Known, label: &Label) -> Result<ToldPlace, AllocError>
+    ensures { IfOk result (λ place. place ≡ spec.told_place known.now.0 label.now) }
 {
     let file = Text::from_str(alloc, label.file())?;
     let position = position_if(label.span());
     let path = Items::from_slice(alloc, label.path())?;
-    let element = element_of(alloc, batch, label)?;
+    let element = element_of(alloc, known, label)?;
     Ok(ToldPlace {
         file,
         position,
@@ -96,14 +100,14 @@ fn told_place(alloc: Global, batch: &Batch, label: &Label) -> Result<ToldPlace, 
 /// A label as it is told, if there is one.
 fn told_if(
     alloc: Global,
-    batch: &Batch,
+    known: &Known,
     label: Option<&Label>,
 ) -> Result<Option<ToldPlace>, AllocError>
     ensures { IfOk result (λ place. place
-        ≡ option_map (spec.told_place batch.now.files.now batch.now.known.now) (option_copied label.entry)) }
+        ≡ option_map (spec.told_place known.now.0) (option_copied label.entry)) }
 {
     match label {
-        Some(label) => Ok(Some(told_place(alloc, batch, label)?)),
+        Some(label) => Ok(Some(told_place(alloc, known, label)?)),
         None => Ok(None),
     }
 }
@@ -111,43 +115,48 @@ fn told_if(
 /// The second place of a fault, by its label.
 fn second_at(
     alloc: Global,
-    batch: &Batch,
+    known: &Known,
     fault: &DescriptorErrorKind,
     label: &Label,
 ) -> Result<ToldSecond, AllocError>
     ensures { IfOk result (λ second. second
-        ≡ spec.second_at batch.now.files.now batch.now.known.now fault.now label.now) }
+        ≡ spec.second_at known.now.0 fault.now label.now) }
 {
     let words = Text::from_str(alloc, related_words(fault))?;
-    let place = told_place(alloc, batch, label)?;
+    let place = told_place(alloc, known, label)?;
     Ok(ToldSecond { words, place })
 }
 
 /// The second place of a fault, if it has one.
 fn told_second(
     alloc: Global,
-    batch: &Batch,
+    known: &Known,
     fault: &DescriptorErrorKind,
 ) -> Result<Option<ToldSecond>, AllocError>
-    ensures { IfOk result (λ second. second ≡ spec.told_second batch.now.files.now batch.now.known.now fault.now) }
+    ensures { IfOk result (λ second. second ≡ spec.told_second known.now.0 fault.now) }
 {
     match related_label(fault) {
-        Some(label) => Ok(Some(second_at(alloc, batch, fault, label)?)),
+        Some(label) => Ok(Some(second_at(alloc, known, fault, label)?)),
         None => Ok(None),
     }
 }
 
 /// A fault, and where it stands, as it is told.
-fn told_fault(alloc: Global, batch: &Batch, placed: &PlacedFault) -> Result<ToldFault, AllocError>
+fn told_fault(
+    alloc: Global,
+    known: &Known,
+    fault: &DescriptorErrorKind,
+    place: Option<&Label>,
+) -> Result<ToldFault, AllocError>
+    requires { IsTrue (is_of_reference fault.now) → IsTrue known.now.1 }
     ensures { IfOk result (λ told. told
-        ≡ spec.told_fault batch.now.files.now batch.now.known.now placed.now.fault.now (option_copied placed.now.place)) }
+        ≡ spec.told_fault known.now.0 fault.now (option_copied place.entry)) }
 {
-    let fault = placed.fault;
     let code = Text::from_str(alloc, fault_code(fault))?;
     let message = Text::from_string(fault_message(alloc, fault)?);
-    let place = told_if(alloc, batch, placed.place)?;
-    let second = told_second(alloc, batch, fault)?;
-    let note = note(alloc, batch, fault)?;
+    let place = told_if(alloc, known, place)?;
+    let second = told_second(alloc, known, fault)?;
+    let note = note(alloc, known, fault)?;
     Ok(ToldFault {
         code,
         message,
@@ -157,39 +166,48 @@ fn told_fault(alloc: Global, batch: &Batch, placed: &PlacedFault) -> Result<Told
     })
 }
 
-/// Placed faults as they are told.
-fn tell_placed(
+/// Faults from the first on, as they are told. The k-th of a kind without a label stands at the k-th
+/// place of that kind, and one of a name of a file at the first place with that name.
+fn tell_each(
     alloc: Global,
-    batch: &Batch,
-    faults: &[PlacedFault],
+    known: &Known,
+    places: &Places,
+    faults: &[DescriptorErrorKind],
 ) -> Result<Items<ToldFault>, AllocError>
-    ensures { IfOk result (λ told. told ≡ map (spec.told_placed batch.now.files.now batch.now.known.now)
-        (map placed faults.now)) }
+    requires { IsTrue (list_any is_of_reference faults.now) → IsTrue known.now.1 }
+    ensures { IfOk result (λ told. told
+        ≡ flat_map_after (spec.told_after known.now.0 places.now) faults.now) }
 {
+    let names = places.names.as_slice();
+    let mut left = Left {
+        imports: places.imports.as_slice(),
+        oneofs: places.oneofs.as_slice(),
+    };
     let mut told = Items::new(alloc);
     for fault in faults {
-        told.push(told_fault(alloc, batch, fault)?)?;
+        let place = place_among(names, &left, fault);
+        told.push(told_fault(alloc, known, fault, place)?)?;
+        left = left.behind(fault);
     }
     Ok(told)
 }
 
-/// Faults of a batch from the first on, as they are told, by the records of its files.
+/// The first faults of a refused batch, as they are told, by the records of the files of the pool
+/// and by those of the new files. A fault that shows no place stands in a new file.
 ///
 /// # Errors
 /// `AllocError` where memory was refused.
 pub fn tell_faults(
     alloc: Global,
+    linked: &[FileDescriptorInner],
     files: &[FileDescriptorProto],
     faults: &[DescriptorErrorKind],
 ) -> Result<Items<ToldFault>, AllocError>
-    ensures { IfOk result (λ told. told ≡ spec.told_faults files.now faults.now) }
+    ensures { IfOk result (λ told. told
+        ≡ spec.told_faults (map (λ f. f.raw) linked.now) files.now faults.now) }
 {
-    let known = Known::for_faults(alloc, files, faults)?;
-    let batch = Batch {
-        files,
-        known: &known,
-    };
+    let records = records(alloc, linked, files)?;
+    let known = Known::for_faults(alloc, records, faults)?;
     let places = places_for(alloc, files, faults)?;
-    let placed = place_faults(alloc, &places, faults)?;
-    tell_placed(alloc, &batch, placed.as_slice())
+    tell_each(alloc, &known, &places, faults)
 }
