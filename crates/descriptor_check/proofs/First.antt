@@ -14,7 +14,7 @@ use Rattle.plain_data.proofs.Positions.{find-position}
 use Rattle.pool_types.specs.Contents.{ByText}
 use Rattle.proto_types.specs.Readers.{text_of}
 use Rattle.proto_types.specs.declared.file.FileDescriptorProto.{FileDescriptorProto}
-use Rattle.fault_texts.specs.Known.{file_named}
+use Rattle.verdict_texts.specs.Known.{file_named}
 use Rattle.descriptor_check.specs.Batches.{is_equal, joined, joined_unless}
 use Rattle.descriptor_check.specs.First.{AreFirst, has_name}
 

@@ -4,20 +4,19 @@ use Rattle.std.specs.Prelude.{ℕ, List, [], ◌∷◌, ◌++◌, Result, Ok, Er
 use Rattle.std.specs.Option.{option_map}
 use Rattle.std.specs.declared.option.Option.{Option}
 use Rattle.std.specs.declared.option.Option.TheVariants.{None}
-use Rattle.pool_faults.specs.declared.fault.DescriptorErrorKind.{DescriptorErrorKind}
 use Rattle.pool_types.specs.Contents.{Contents, files_of}
 use Rattle.proto_types.specs.declared.file.FileDescriptorProto.{FileDescriptorProto}
 use Rattle.record_walk.specs.Counts.{counts_in}
 use Rattle.record_walk.specs.declared.counts.CountKind.{CountKind}
 use Rattle.descriptor_encoding.specs.Encoding.{set_encoding}
-use Rattle.fault_texts.specs.declared.telling.ToldFault.{ToldFault}
-use Rattle.descriptor_check.specs.Accepted.{accepted_text}
+use Rattle.verdict_texts.specs.declared.refused.ToldRefusal.{ToldRefusal}
+use Rattle.verdict_texts.specs.Accepted.{accepted_text}
 use Rattle.descriptor_check.specs.Batches.{batch_of}
 use Rattle.descriptor_check.specs.Complaints.{complaint, no_answer}
 use Rattle.descriptor_check.specs.Described.{described, unknown_names}
 use Rattle.descriptor_check.specs.Listed.{listed}
-use Rattle.descriptor_check.specs.Objects.{accepted_json, refused_json, too_many_json, unread_json}
-use Rattle.descriptor_check.specs.Refused.{first_told, refused_text, too_many_text}
+use Rattle.verdict_texts.specs.Objects.{accepted_json, refused_json, too_many_json, unread_json}
+use Rattle.verdict_texts.specs.Refused.{refused_text, told_refusal, too_many_text}
 use Rattle.descriptor_check.specs.Unread.{unread_words}
 use Rattle.descriptor_check.specs.Verdicts.{verdict_of}
 use Rattle.descriptor_check.specs.declared.answer.Answer.{Answer}
@@ -72,15 +71,14 @@ accepted_unless w p (c ∷ cs) = no_answer [] (c ∷ cs)
 abbrev pub accepted_answer : Wanted → Contents → Answer
 accepted_answer w p = accepted_unless w p (unknown_names p w.names)
 
--- what is told of a refused one, by the faults that are told
-abbrev pub refused_report : Wanted → List ToldFault → List DescriptorErrorKind → List ℕ
-refused_report w told faults =
-    if w.is_json then refused_json told w.most faults else refused_text told w.most faults
+-- what is told of a refused one
+abbrev pub refused_report : Wanted → ToldRefusal → List ℕ
+refused_report w r = if w.is_json then refused_json r else refused_text r
 
 -- of a refused one
 abbrev pub refused_answer : Wanted → Refusal → Answer
 refused_answer w refusal = told status.Refused
-    (refused_report w (first_told refusal.files w.most refusal.faults) refusal.faults)
+    (refused_report w (told_refusal [] refusal.files refusal.faults w.most))
 
 -- of one that has too much of a kind
 abbrev pub too_many_answer : Wanted → CountKind → Answer

@@ -8,7 +8,7 @@ use Rattle.proto_types.specs.declared.file.FileDescriptorProto.{FileDescriptorPr
 use Rattle.proto_types.specs.declared.file.FileDescriptorSet.{FileDescriptorSet}
 use Rattle.proto_types.specs.contracts.file.FileDescriptorProtoPartialEq.TheImpl as file
 use Rattle.descriptor_decoding.specs.Decoding.{file_set_of}
-use Rattle.fault_texts.specs.Known.{file_named}
+use Rattle.verdict_texts.specs.Known.{file_named}
 use Rattle.descriptor_check.specs.declared.inputs.Input.{Input}
 use Rattle.descriptor_check.specs.declared.batches.Flaw.{Flaw}
 use Rattle.descriptor_check.specs.declared.batches.Flaw.TheVariants.{Bytes, NoFiles}

@@ -1,7 +1,7 @@
 -- What is told where there is no verdict.
 use Rattle.std.specs.Prelude.{ℕ, List, [], ◌++◌, codes}
 use Rattle.std.specs.declared.option.Option.TheVariants.{None}
-use Rattle.fault_texts.specs.Lines.{line}
+use Rattle.verdict_texts.specs.Lines.{line}
 use Rattle.descriptor_check.specs.declared.answer.Answer.{Answer}
 use Rattle.descriptor_check.specs.declared.answer.Status.TheVariants as status
 

@@ -1,11 +1,7 @@
 pub mod First
 pub mod Batches
 pub mod Verdicts
-pub mod Accepted
-pub mod Grouped
-pub mod Refused
 pub mod Unread
-pub mod Objects
 pub mod Complaints
 pub mod Listed
 pub mod Described

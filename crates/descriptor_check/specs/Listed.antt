@@ -1,7 +1,7 @@
 -- The declarations of a pool, a line each.
 use Rattle.std.specs.Prelude.{ℕ, List, ◌++◌, codes, map}
 use Rattle.std.specs.List.{flat_map}
-use Rattle.fault_texts.specs.Lines.{line}
+use Rattle.verdict_texts.specs.Lines.{line}
 use Rattle.pool_types.specs.Contents.{Contents, files_of}
 use Rattle.proto_types.specs.declared.file.FileDescriptorProto.{FileDescriptorProto}
 use Rattle.record_walk.specs.Counts.{no_counts}

@@ -4,24 +4,24 @@ ghost use Rattle.std.specs.Prelude.{◌≡◌, ◌++◌, IfOk, OnOk, string_byte
 ghost use Rattle.descriptor_check.specs.Answers as spec;
 ghost use Rattle.descriptor_check.specs.declared.answer.Status.TheVariants.{Accepted};
 
-use crate::accepted::accepted_text;
 use crate::answer::{Answer, LinkedSet, Status, Wanted};
 use crate::batches::{BatchError, NotASet, read_batch};
 use crate::complaints::{no_answer, write_complaint};
 use crate::described::{unknown_names, write_names};
 use crate::inputs::Input;
 use crate::listed::write_list;
-use crate::objects::{accepted_json, refused_json, too_many_json, unread_json};
-use crate::refused::{first_faults, refused_text, too_many_text};
 use crate::unread::unread_words;
 use crate::verdicts::{Refusal, Verdict, verdict_on};
 use descriptor_encoding::encode;
 use descriptor_pool::DescriptorPool;
-use fault_texts::tell_faults;
 use plain_data::{Items, Text};
 use proto_types::FileDescriptorSet;
 use record_walk::CountKind;
 use std::alloc::{AllocError, Global};
+use verdict_texts::{
+    RefusedBatch, accepted_json, accepted_text, refused_json, refused_text, tell_refusal,
+    too_many_json, too_many_text, unread_json,
+};
 
 /// The verdict on the files of some inputs, linked as one batch, as text and as a status, and what
 /// is wanted of an accepted batch besides. Where a name is to be told that means nothing in it, there
@@ -159,14 +159,16 @@ fn set_for(alloc: Global, name: &Text, pool: &DescriptorPool) -> Result<LinkedSe
 fn tell_refused(alloc: Global, wanted: &Wanted, refusal: &Refusal) -> Result<Answer, AllocError>
     ensures { IfOk result (λ answer. answer ≡ spec.refused_answer wanted.now refusal.now) }
 {
-    let faults = refusal.faults.as_slice();
-    let files = refusal.files.as_slice();
-    let told = tell_faults(alloc, &[], files, first_faults(faults, wanted.most))?;
-    let told = told.as_slice();
+    let batch = RefusedBatch {
+        linked: &[],
+        files: refusal.files.as_slice(),
+        faults: refusal.faults.as_slice(),
+    };
+    let refusal = tell_refusal(alloc, &batch, wanted.most)?;
     let report = if wanted.is_json {
-        refused_json(alloc, told, wanted.most, faults)?
+        refused_json(alloc, &refusal)?
     } else {
-        refused_text(alloc, told, wanted.most, faults)?
+        refused_text(alloc, &refusal)?
     };
     Ok(told_by(alloc, Status::Refused, report))
 }

@@ -4,9 +4,9 @@ ghost use Rattle.std.specs.Prelude.{◌≡◌, ◌++◌, IfOk, OnOk, string_byte
 ghost use Rattle.descriptor_check.specs.Complaints as spec;
 
 use crate::answer::{Answer, Status};
-use fault_texts::write_line;
 use plain_data::Text;
 use std::alloc::{AllocError, Global};
+use verdict_texts::write_line;
 
 /// Writes a line of the program's for the standard error.
 pub(crate) fn write_complaint(

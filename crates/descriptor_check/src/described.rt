@@ -6,10 +6,10 @@ ghost use Rattle.descriptor_check.specs.Described as spec;
 
 use crate::complaints::write_complaint;
 use descriptor_pool::DescriptorPool;
-use fault_texts::write_lines;
 use plain_data::Text;
 use pool_text::describe_name;
 use std::alloc::{AllocError, Global};
+use verdict_texts::write_lines;
 
 /// Writes what names mean in a pool, in order.
 pub(crate) fn write_names(

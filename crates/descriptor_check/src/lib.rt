@@ -1,18 +1,14 @@
 //! The check of descriptor sets: from their bytes to the verdict on their files, as text.
 #![tactic(auto)]
 
-mod accepted;
 mod answer;
 mod arguments;
 mod batches;
 mod checking;
 mod complaints;
 mod described;
-mod grouped;
 mod inputs;
 mod listed;
-mod objects;
-mod refused;
 mod unread;
 mod verdicts;
 
@@ -22,7 +18,10 @@ pub use batches::{BatchError, Flaw, NotASet, read_batch};
 pub use checking::{check, tell};
 pub use complaints::{complain, complain_of_arguments};
 pub use inputs::Input;
+<<<<<<< HEAD
 pub use objects::{refused_json, too_many_json, unread_json};
 pub use refused::{first_faults, refused_text, too_many_text};
 pub use unread::bytes_words;
+=======
+>>>>>>> d104fb8a7d4aef0ea3e48acf2902ea1091f5d015
 pub use verdicts::{Refusal, Verdict, verdict_on};

@@ -7,11 +7,11 @@ ghost use Rattle.record_walk.specs.Fits.{counts_with};
 ghost use Rattle.descriptor_check.specs.Listed as spec;
 
 use descriptor_pool::DescriptorPool;
-use fault_texts::write_line;
 use pool_types::FileDescriptorInner;
 use record_lists::Lister;
 use record_walk::{Counts, Declaration, alone, declared_word, walk};
 use std::alloc::{AllocError, Global};
+use verdict_texts::write_line;
 
 /// Writes each declaration of a pool as a line.
 pub(crate) fn write_list(

@@ -38,7 +38,7 @@ pub record IsRefused (old : Answers) (batch : Batch) (new : Answers) : Type 0 wh
   pub fits : Fits old.pool batch
   pub broken : faults old.pool batch ≢ []
   pub told : IsTold old new (refused_report (files_of old.pool) (new_files old.pool batch)
-    (faults old.pool batch) old.max_faults)
+      (faults old.pool batch) old.max_faults)
 
 -- there is too much of a kind, the first that is past its limit, which is told
 pub record IsTooMany (old : Answers) (batch : Batch) (new : Answers) : Type 0 where

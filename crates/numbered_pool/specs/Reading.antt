@@ -7,7 +7,7 @@ use Rattle.wire_format.specs.declared.fault.WireFault.{WireFault}
 use Rattle.proto_types.specs.declared.file.FileDescriptorProto.{FileDescriptorProto}
 use Rattle.proto_types.specs.declared.file.FileDescriptorSet.{FileDescriptorSet}
 use Rattle.descriptor_decoding.specs.Decoding.{file_of, file_set_of}
-use Rattle.descriptor_check.specs.Unread.{bytes_words}
+use Rattle.verdict_texts.specs.WireWords.{bytes_words}
 use Rattle.link_script.specs.Records.{files_in}
 use Rattle.link_script.specs.Script.Faults.{fault_words}
 use Rattle.link_script.specs.Script.Reading.{script}

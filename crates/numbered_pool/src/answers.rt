@@ -1,12 +1,13 @@
 ghost use Rattle.std.specs.Prelude.{◌≡◌, IfOk};
 
 use crate::reading::{ReadError, Source, read_files};
-use crate::report::{Refusal, Report, fault_report, refused_report, too_many_report};
+use crate::report::{Report, fault_report, refused_report, too_many_report};
 use crate::status::Status;
 use descriptor_pool::{BuildError, DescriptorPool};
 use plain_data::Items;
 use proto_types::FileDescriptorProto;
 use std::alloc::{AllocError, Global};
+use verdict_texts::RefusedBatch;
 
 /// How many faults a report tells at most where nothing is said.
 const MAX_FAULTS: usize = 100;
@@ -105,12 +106,12 @@ impl Answers {
                 self.tell(alloc, report, Status::TooMany)
             }
             Err(BuildError::Descriptor(error)) => {
-                let refusal = Refusal {
+                let refused = RefusedBatch {
                     linked: self.pool.files(),
                     files: &files,
                     faults: error.errors(),
                 };
-                let report = refused_report(alloc, &refusal, self.max_faults);
+                let report = refused_report(alloc, &refused, self.max_faults);
                 self.tell(alloc, report, Status::Refused)
             }
             Err(BuildError::OutOfMemory) => Status::OutOfMemory,

@@ -3,12 +3,12 @@
 ghost use Rattle.std.specs.Prelude.{◌≡◌, IfOk};
 ghost use Rattle.numbered_pool.specs.Reading as spec;
 
-use descriptor_check::bytes_words;
 use descriptor_decoding::{DecodeError, decode, decode_file};
 use link_script::{ScriptError, ScriptFault, files_of};
 use plain_data::{Items, Text};
 use proto_types::FileDescriptorProto;
 use std::alloc::{AllocError, Global};
+use verdict_texts::bytes_words;
 use wire_format::WireFault;
 
 /// As what bytes are read.

@@ -3,14 +3,13 @@
 ghost use Rattle.std.specs.Prelude.{◌≡◌, IfOk, map, string_bytes};
 ghost use Rattle.numbered_pool.specs.Reports as spec;
 
-use descriptor_check::{first_faults, refused_json, refused_text, too_many_json, too_many_text, unread_json};
-use fault_texts::{tell_faults, write_line};
 use plain_data::Text;
-use pool_faults::DescriptorErrorKind;
-use pool_types::FileDescriptorInner;
-use proto_types::FileDescriptorProto;
 use record_walk::CountKind;
 use std::alloc::{AllocError, Global};
+use verdict_texts::{
+    RefusedBatch, refused_json, refused_text, tell_refusal, too_many_json, too_many_text,
+    unread_json, write_line,
+};
 
 /// What the last call that added files tells. Both texts are empty where it told nothing.
 #[derive(PartialEq, Drop)]
@@ -33,33 +32,19 @@ impl Report {
     }
 }
 
-/// New files that break rules.
-#[derive(Clone, Copy)]
-pub(crate) struct Refusal<'a> {
-    /// The files of the pool.
-    pub linked: &'a [FileDescriptorInner],
-    /// The new files, as they were handed in.
-    pub files: &'a [FileDescriptorProto],
-    /// All faults of the first failing pass, in order.
-    pub faults: &'a [DescriptorErrorKind],
-}
-
-/// What is told of new files that break rules: the first faults, as many as are wanted. Both texts
-/// are printed of one list.
+/// What is told of new files that break rules: so many of their faults at most. Both texts are
+/// printed of one list.
 pub(crate) fn refused_report(
     alloc: Global,
-    refusal: &Refusal,
+    batch: &RefusedBatch,
     most: usize,
 ) -> Result<Report, AllocError>
     ensures { IfOk result (λ report. report ≡ spec.refused_report
-        (map (λ f. f.raw) refusal.now.linked.now) refusal.now.files.now refusal.now.faults.now
-        most) }
+        (map (λ f. f.raw) batch.now.linked.now) batch.now.files.now batch.now.faults.now most) }
 {
-    let faults = refusal.faults;
-    let told = tell_faults(alloc, refusal.linked, refusal.files, first_faults(faults, most))?;
-    let told = told.as_slice();
-    let lines = refused_text(alloc, told, most, faults)?;
-    let json = refused_json(alloc, told, most, faults)?;
+    let refusal = tell_refusal(alloc, batch, most)?;
+    let lines = refused_text(alloc, &refusal)?;
+    let json = refused_json(alloc, &refusal)?;
     Ok(as_report(lines, json))
 }
 

@@ -7,7 +7,7 @@ use Rattle.std.specs.declared.option.Option.{Option}
 use Rattle.pool_faults.specs.declared.label.Label.{Label}
 use Rattle.pool_faults.specs.declared.fault.DescriptorErrorKind.{DescriptorErrorKind}
 use Rattle.pool_faults.specs.Fault.{path_text, shown_label, labelled_text}
-use Rattle.fault_texts.specs.FaultKinds.{related_label}
+use Rattle.verdict_texts.specs.FaultKinds.{related_label}
 use Rattle.record_walk.specs.Words.{alone}
 
 -- the four numbers of a span, which count from 0, where it is known

@@ -3,7 +3,7 @@ use Rattle.std.specs.Prelude.{ℕ, pos, List, [], ◌++◌, map, codes, if◌the
 use Rattle.std.specs.Fmt.{decimal, signed_decimal}
 use Rattle.std.specs.Option.{option_map_or}
 use Rattle.std.specs.declared.option.Option.{Option}
-use Rattle.json_strings.specs.JsonStrings.{json_string}
+use Rattle.verdict_texts.specs.JsonStrings.{json_string}
 use Rattle.pool_types.specs.declared.default_value.DefaultValue.{DefaultValue}
 use Rattle.pool_types.specs.declared.default_value.DefaultValue.TheVariants as value
 use Rattle.pool_faults.specs.Fault.{path_text}

@@ -5,7 +5,7 @@ ghost use Rattle.std.specs.Option.{option_copied};
 ghost use Rattle.pool_text.specs.Faults as spec;
 
 use crate::words::path_words;
-use fault_texts::related_label;
+use verdict_texts::related_label;
 use pool_faults::{DescriptorError, DescriptorErrorKind, Label, Labelled};
 use record_walk::alone;
 use std::alloc::{AllocError, Global};

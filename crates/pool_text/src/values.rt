@@ -4,7 +4,7 @@ ghost use Rattle.std.specs.Prelude.{◌≡◌, IfOk, string_bytes};
 ghost use Rattle.std.specs.Option.{option_copied};
 ghost use Rattle.pool_text.specs.Values as spec;
 
-use json_strings::json_string;
+use verdict_texts::json_string;
 use pool_types::DefaultValue;
 use std::alloc::{AllocError, Global};
 

@@ -1,7 +1,7 @@
 use Rattle.std.proofs.Common.{◌≡◌, IfOk, string_bytes, if◌then◌else◌, sym, ap, subst, ◌∙◌}
 use Rattle.record_walk.specs.Counts.{counts_in}
 use Rattle.descriptor_check.specs.Answers.{accepted_lines}
-use Rattle.descriptor_check.specs.Objects.{accepted_json}
+use Rattle.verdict_texts.specs.Objects.{accepted_json}
 use Rattle.descriptor_check.proofs.checking.accepted_report.Goals as goal
 
 -- an object is wanted

@@ -1,5 +1,0 @@
-use Rattle.descriptor_check.proofs.grouped.+grouped.Given as goal
-
--- the number gets smaller
-abbrev pub decreases-grouped : goal.decreases-grouped
-decreases-grouped l = l.number

@@ -1,9 +1,0 @@
-use Rattle.std.proofs.Common.{◌≡◌, ◌∷◌, ◌++◌, string_bytes, take}
-use Rattle.std.specs.List.{flat_map}
-use Rattle.fault_texts.specs.JsonFaults.{json_fault}
-use Rattle.descriptor_check.proofs.refused.write_further.Given as goal
-
--- the faults so far are told
-abbrev pub invariant-loop-fault : goal.invariant-loop-fault
-invariant-loop-fault l =
-    string_bytes l.text ≡ string_bytes l.initial.text ++ flat_map (λ g. 44 ∷ json_fault g) (take l.fault-index l.told)

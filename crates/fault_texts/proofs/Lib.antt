@@ -1,5 +1,0 @@
-pub mod Going
-pub mod OneFeed
-pub mod Looking
-pub mod Placing
-pub mod Entering

@@ -1,9 +1,0 @@
-use Rattle.std.proofs.Common.{◌≡◌, ◌∷◌, ◌++◌, string_bytes, take}
-use Rattle.std.specs.Fmt.{signed_decimal}
-use Rattle.std.specs.List.{flat_map}
-use Rattle.fault_texts.proofs.json_faults.write_json_numbers.Given as goal
-
--- the numbers so far are written
-abbrev pub invariant-loop-number : goal.invariant-loop-number
-invariant-loop-number l =
-    string_bytes l.text ≡ string_bytes l.initial.text ++ flat_map (λ m. 44 ∷ signed_decimal m) (take l.number-index l.rest)

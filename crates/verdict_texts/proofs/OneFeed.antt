@@ -1,0 +1,69 @@
+-- A line has one line feed, its last byte.
+use Rattle.std.proofs.Common.{◌≡◌, ◌≢◌, ℕ, zero, suc, ◌<◌, ◌≤◌, ◌/◌, ◌%◌, Bool, true, false, List, [], ◌∷◌, ◌++◌, length, get_or, inl, inr, refl, sym, subst, arith, append-nil}
+use Rattle.std.proofs.lemmas.Bool.{cases_lt, ne_eqb}
+use Rattle.std.proofs.lemmas.Bool.Decides.{nat_tests}
+use Rattle.std.proofs.lemmas.Str.{encode_ascii, inside_one}
+use Rattle.std.specs.Char.{digit_char}
+use Rattle.std.specs.List.{flat_map}
+use Rattle.std.specs.Str.{chars}
+use lib.Utf8.{encode}
+use Rattle.verdict_texts.specs.Lines.{ends_once, is_hidden, plain_char, line, LinesEndOnce}
+
+-- no byte is a line feed
+abbrev NoFeed : List ℕ → Type 0
+NoFeed [] = Unit {0}
+NoFeed (b ∷ bs) = (b ≢ 10) × NoFeed bs
+
+no-feed-append : (a b : List ℕ) → NoFeed a → NoFeed b → NoFeed (a ++ b)
+no-feed-append [] b ha hb = hb
+no-feed-append (x ∷ a) b ha hb = (ha.0, no-feed-append a b ha.1 hb)
+
+no-feed-high : (bs : List ℕ) → ((k : ℕ) → k < length bs → 128 ≤ get_or bs k 0) → NoFeed bs
+no-feed-high [] h = tt
+no-feed-high (b ∷ bs) h =
+    let high : 128 ≤ b = h 0 (omega arith) in
+    (λ e. omega arith, no-feed-high bs (λ k below. h (suc k) (omega arith)))
+
+no-feed-digit : (d : ℕ) → digit_char d ≢ 10
+no-feed-digit d e = grind (arith, nat_tests, e)
+
+no-feed-encoded : (c : ℕ) → c ≢ 10 → NoFeed (encode c)
+no-feed-encoded c n = elim (cases_lt c 128) [
+  | inl small ↦ subst NoFeed (sym (encode_ascii c small)) (n, tt)
+  | inr big ↦ no-feed-high (encode c) (λ k below. elim (cases_lt (get_or (encode c) k 0) 128) [
+    | inl low ↦ absurd (omega (arith, inside_one c [] (encode c) k (sym (append-nil _)) below low))
+    | inr h ↦ h
+  ])
+]
+
+shown-is : (c : ℕ) → is_hidden c ≡ false → c ≢ 10
+shown-is c shown e = let hidden : is_hidden 10 ≡ false = subst (λ n. is_hidden n ≡ false) e shown in cc
+
+no-feed-char : (c : ℕ) → NoFeed (plain_char c)
+no-feed-char c = go (is_hidden c) refl
+  where
+    go : (b : Bool) → is_hidden c ≡ b → NoFeed (plain_char c)
+    go true hidden = rw hidden (
+      λ e. cc,
+      (
+        λ e. cc,
+        (
+          no-feed-digit (c / 4096 % 16),
+          (no-feed-digit (c / 256 % 16), (no-feed-digit (c / 16 % 16), (no-feed-digit (c % 16), tt))),
+        ),
+      ),
+    )
+    go false shown = rw shown (no-feed-encoded c (shown-is c shown))
+
+no-feed-chars : (cs : List ℕ) → NoFeed (flat_map plain_char cs)
+no-feed-chars [] = tt
+no-feed-chars (c ∷ cs) = no-feed-append (plain_char c) (flat_map plain_char cs) (no-feed-char c) (no-feed-chars cs)
+
+ends : (bs : List ℕ) → NoFeed bs → ends_once (bs ++ 10 ∷ []) ≡ true
+ends [] h = refl
+ends (b ∷ []) h = rw (ne_eqb b 10 h.0) refl
+ends (b ∷ d ∷ bs) h = rw (ne_eqb b 10 h.0) (ends (d ∷ bs) h.1)
+
+pub lines-end-once : LinesEndOnce
+unfolding line
+lines-end-once text = ends (flat_map plain_char (chars text)) (no-feed-chars (chars text))
