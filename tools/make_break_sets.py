@@ -1331,6 +1331,39 @@ file { name: "a.proto" message_type { name: "M"
 """Four defaults that are right, and three that are wrong."""
 
 
+FILES_OF_ONE_NAME = """
+file { name: "a.proto"
+    message_type { name: "A" field { name: "p" number: 1 type: TYPE_BOOL }
+        field { name: "q" number: 2 type: TYPE_BOOL } }
+    message_type { name: "B" } }
+file { name: "a.proto"
+    message_type { name: "B" field { name: "x" number: 1 type: TYPE_BOOL }
+        field { name: "x" number: 2 type: TYPE_BOOL } } }
+"""
+"""Two unequal files of one name, the second of which has names that are there already."""
+
+NAMES_WITH_DOTS = """
+file { name: "d.proto" message_type { name: "a" }
+    message_type { name: "a.b" nested_type { name: "c" } } }
+file { name: "e.proto" message_type { name: "M"
+    field { name: "f" number: 1 type: TYPE_MESSAGE type_name: ".a.b.c" } } }
+"""
+"""A message whose name has a dot, and a name in it that is not imported."""
+
+INDEXES = """
+file { name: "b.proto" public_dependency: 0
+    message_type { name: "B" oneof_decl { name: "p" }
+        field { name: "h" number: 1 type: TYPE_BOOL oneof_index: 0 }
+        field { name: "i" number: 2 type: TYPE_BOOL oneof_index: -1 } } }
+file { name: "a.proto" dependency: "b.proto" public_dependency: 7 public_dependency: 0
+    weak_dependency: 9
+    message_type { name: "A" field { name: "f" number: 1 type: TYPE_BOOL oneof_index: 0 }
+        nested_type { name: "N" oneof_decl { name: "o" }
+            field { name: "g" number: 1 type: TYPE_BOOL oneof_index: 1 } } } }
+"""
+"""Indexes of imports and of oneofs that are no positions, in two files."""
+
+
 def small_set(text: str) -> bytes:
     """A set that is written in protobuf's text format."""
     files = text_format.Parse(text, descriptor_pb2.FileDescriptorSet())
@@ -1359,6 +1392,9 @@ def run_sets() -> dict[str, bytes]:
         "second-pass": small_set(SECOND_PASS),
         "odd-names": small_set(ODD_NAMES),
         "defaults": small_set(DEFAULTS),
+        "files-of-one-name": small_set(FILES_OF_ONE_NAME),
+        "names-with-dots": small_set(NAMES_WITH_DOTS),
+        "indexes": small_set(INDEXES),
         "protobuf": compiled_set([f"google/protobuf/{name}.proto" for name in PROTOBUF]),
     }
 

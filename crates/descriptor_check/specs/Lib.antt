@@ -1,4 +1,3 @@
-pub mod First
 pub mod Batches
 pub mod Verdicts
 pub mod Unread

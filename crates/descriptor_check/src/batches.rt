@@ -3,7 +3,7 @@
 ghost use Rattle.std.specs.Prelude.{◌≡◌, None, [], ◌∷◌, ◌++◌, OnOk, IfOk, fold, length, slice_get};
 ghost use Rattle.std.specs.FinMap as map;
 ghost use Rattle.proto_types.specs.Readers.{text_of};
-ghost use Rattle.descriptor_check.specs.First.{AreFirst};
+ghost use Rattle.verdict_texts.specs.Named.{AreFirst};
 ghost use Rattle.descriptor_check.specs.Batches as spec;
 
 use crate::inputs::Input;

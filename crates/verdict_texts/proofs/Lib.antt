@@ -5,3 +5,6 @@ pub mod Placing
 pub mod ReadStrings
 pub mod Grouping
 pub mod Shown
+pub mod Entering
+pub mod Declared
+pub mod Naming

@@ -4,9 +4,7 @@ use Rattle.std.specs.List.{flat_map}
 use Rattle.proto_types.specs.Names.{join}
 use Rattle.proto_types.specs.Readers.{text_of}
 use Rattle.proto_types.specs.declared.file.FileDescriptorProto.{FileDescriptorProto}
-use Rattle.proto_types.specs.declared.message.DescriptorProto.{DescriptorProto}
-use Rattle.proto_types.specs.declared.message.DescriptorProto.TheOpen.{DescriptorProto-F}
-use Rattle.proto_types.specs.declared.message.DescriptorProto.TheFolds.{fold-DescriptorProto}
+use Rattle.proto_types.specs.declared.message.DescriptorProto.{DescriptorProto, DescriptorProto', Row_of-DescriptorProto, end_of-DescriptorProto, more_of-DescriptorProto}
 use Rattle.proto_types.specs.declared.records.enumeration.EnumDescriptorProto.{EnumDescriptorProto}
 use Rattle.record_walk.specs.Counts.{no_counts}
 use Rattle.record_walk.specs.Declarations.{declarations}
@@ -16,21 +14,24 @@ use Rattle.verdict_texts.specs.Known.{type_names}
 abbrev pub enum_names : List ℕ → List EnumDescriptorProto → List (List ℕ)
 enum_names scope enums = map (λ e. join scope (text_of e.name)) enums
 
--- the full names of a message in a scope and of its enums, and between them those of the messages
--- in it and of theirs, by their scope
-abbrev pub row_types : {A : Type 0} → DescriptorProto-F A → List (List ℕ → List (List ℕ))
-    → List ℕ → List (List ℕ)
-row_types d nested scope = let full = join scope (text_of d.name) in
-    full ∷ (flat_map (λ types. types full) nested ++ enum_names full d.enum_type)
-
 -- the full names of a message in a scope, and of all messages and enums in it
-abbrev pub message_types : DescriptorProto → List ℕ → List (List ℕ)
-message_types =
-    fold-DescriptorProto (List ℕ → List (List ℕ)) (λ d. row_types d d.nested_type)
+abbrev mutual
+  pub message_types : List ℕ → DescriptorProto → List (List ℕ)
+  message_types scope
+      (DescriptorProto' name fields n nested enums ranges extensions options oneofs reserved
+      reserved_names) =
+      let full = join scope (text_of name) in
+      full ∷ (nested_types full nested ++ enum_names full enums)
+
+  -- the same of the nested messages of a message
+  pub nested_types : {n : _} → List ℕ → Row_of-DescriptorProto n → List (List ℕ)
+  nested_types scope end_of-DescriptorProto = []
+  nested_types scope (more_of-DescriptorProto m rest) =
+      message_types scope m ++ nested_types scope rest
 
 -- the same of messages
 abbrev pub messages_types : List ℕ → List DescriptorProto → List (List ℕ)
-messages_types scope messages = flat_map (λ m. message_types m scope) messages
+messages_types scope messages = flat_map (message_types scope) messages
 
 -- the full names of all messages and enums of a file
 abbrev pub file_types : FileDescriptorProto → List (List ℕ)

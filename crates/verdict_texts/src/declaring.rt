@@ -43,7 +43,7 @@ fn enter_message(
     message: &DescriptorProto,
 ) -> Result<(), AllocError>
     ensures { OnOk result (Enters names.old names.new here.now.file
-        (spec.message_types message.now here.now.scope.now)) }
+        (spec.message_types here.now.scope.now message.now)) }
 {
     let full = full_name(here.alloc, here.scope, message.name())?;
     enter(names, full.as_str(), here.file)?;

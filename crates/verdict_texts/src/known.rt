@@ -1,7 +1,7 @@
 //! What is known of files by names: the file of a name, and the file that declares one. No fault is
 //! told by a walk over files.
 
-ghost use Rattle.std.specs.Prelude.{◌≡◌, ◌++◌, ◌+◌, ◌<◌, is_some, length, map, take, IfOk, IfSome, IsTrue, OnOk};
+ghost use Rattle.std.specs.Prelude.{◌≡◌, [], ◌∷◌, ◌++◌, ◌+◌, ◌<◌, is_some, length, map, take, IfOk, IfSome, IsTrue, OnOk};
 ghost use Rattle.std.specs.List.{list_any};
 ghost use Rattle.verdict_texts.specs.FaultKinds.{is_of_reference};
 ghost use Rattle.verdict_texts.specs.Named.{AreDeclaring, AreNamed, Enters};
@@ -27,11 +27,15 @@ pub(crate) struct Known<'a> {
 
 impl<'a> Model for Known<'a> {
     ghost use Rattle.std.specs.Prelude.{Bool, List, is_some, map};
+    ghost use Rattle.std.specs.Coded.{coded×, coded_bool, coded_list};
     ghost use Rattle.std.specs.Option.{IfSome};
+    ghost use Rattle.proto_types.specs.contracts.file.FileDescriptorProto as file;
     ghost use Rattle.proto_types.specs.declared.file.FileDescriptorProto.{FileDescriptorProto};
     ghost use Rattle.verdict_texts.specs.Named.{AreDeclaring, AreNamed};
 
     ghost Value = { List FileDescriptorProto × Bool };
+
+    ghost coded = { coded× (coded_list file.the_row.coded) coded_bool };
 
     ghost view = { λ k. (map (λ f. f.now) k.files.items, is_some k.declaring) };
 

@@ -2,8 +2,9 @@ use Rattle.std.proofs.Common.{rules, ◌≡◌, None, Some, OnOk, slice_get, len
 use Rattle.std.specs.FinMap as map
 use Rattle.proto_types.specs.Readers.{text_of}
 use Rattle.descriptor_check.specs.Batches.{is_equal}
-use Rattle.descriptor_check.specs.First.{AreFirst}
-use Rattle.descriptor_check.proofs.First.{named_is, none_is, stays, goes_on}
+use Rattle.verdict_texts.specs.Named.{AreFirst}
+use Rattle.verdict_texts.proofs.Naming.{first-next}
+use Rattle.descriptor_check.proofs.First.{named_is, none_is, stays}
 use Rattle.descriptor_check.proofs.Results.{on-ok, on-both}
 use Rattle.descriptor_check.proofs.batches.join.Goals as goal
 
@@ -37,5 +38,5 @@ returns-in-None-clause-first c =
     let found : map.get c.args.first.now (text_of c.args.file.name) ≡ None = search rules in
     on-both c.join_new.result
     (λ made is. subst (λ m. AreFirst m c.join_new.new.files.items) (sym made)
-    (subst (AreFirst (map.insert c.args.first.now (text_of c.args.file.name) (length files))) (sym is) (goes_on c.args.first.now files c.args.file c.requires found)))
+    (subst (AreFirst (map.insert c.args.first.now (text_of c.args.file.name) (length files))) (sym is) (first-next c.args.first.now files c.args.file c.requires found)))
     c.join_new.ensures.first c.join_new.ensures.files

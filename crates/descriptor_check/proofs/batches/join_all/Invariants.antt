@@ -1,7 +1,7 @@
 use Rattle.std.proofs.Common.{◌≡◌}
 use Rattle.std.specs.List.{fold}
 use Rattle.descriptor_check.specs.Batches.{joined}
-use Rattle.descriptor_check.specs.First.{AreFirst}
+use Rattle.verdict_texts.specs.Named.{AreFirst}
 use Rattle.descriptor_check.proofs.batches.join_all.Given as goal
 
 -- the files so far are joined

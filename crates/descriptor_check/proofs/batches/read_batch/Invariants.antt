@@ -1,6 +1,6 @@
 use Rattle.std.proofs.Common.{◌≡◌, [], drop}
 use Rattle.descriptor_check.specs.Batches.{batch_behind}
-use Rattle.descriptor_check.specs.First.{AreFirst}
+use Rattle.verdict_texts.specs.Named.{AreFirst}
 use Rattle.descriptor_check.proofs.batches.read_batch.Given as goal
 
 -- the files so far, and those of the inputs that are left
