@@ -3,8 +3,8 @@
 ghost use Rattle.std.specs.Prelude.{◌≡◌, ◌≢◌, IsUtf8, None, slice_get};
 ghost use Rattle.std.specs.Option.{option_map};
 ghost use Rattle.proto_types.specs.Readers.{text_of};
-ghost use Rattle.pool_face.specs.Defaults.{default_bytes};
-ghost use Rattle.pool_face.specs.Items as spec;
+ghost use Rattle.numbered_pool.specs.Defaults.{default_bytes};
+ghost use Rattle.numbered_pool.specs.Items as spec;
 ghost use Rattle.protolink_c.specs.Shown.{pool_of};
 ghost use Rattle.protolink_c.specs.Told.{handed_out_if, written};
 
@@ -12,7 +12,7 @@ use crate::handle::Handle;
 use crate::lent::lend;
 use crate::status::{NO_MEMORY, NOT_FOUND};
 use crate::told::{hand_out, write};
-use pool_face::Item;
+use numbered_pool::Item;
 use std::alloc::Global;
 
 /// Tells the position of the field of a message that has a name.
@@ -32,7 +32,7 @@ pub extern "C" fn protolink_field_by_name(
 {
     let lent = lend(alloc, pool);
     let status = write(lent.answers().field_named(message, name), position);
-    *pool = lent.back();
+    pool.put(alloc, lent.back());
     status
 }
 
@@ -53,7 +53,7 @@ pub extern "C" fn protolink_field_by_json_name(
 {
     let lent = lend(alloc, pool);
     let status = write(lent.answers().field_json_named(message, name), position);
-    *pool = lent.back();
+    pool.put(alloc, lent.back());
     status
 }
 
@@ -73,7 +73,7 @@ pub extern "C" fn protolink_field_by_number(
 {
     let lent = lend(alloc, pool);
     let status = write(lent.answers().field_numbered(message, number), position);
-    *pool = lent.back();
+    pool.put(alloc, lent.back());
     status
 }
 
@@ -94,7 +94,7 @@ pub extern "C" fn protolink_enum_value_by_name(
 {
     let lent = lend(alloc, pool);
     let status = write(lent.answers().value_named(enumeration, name), position);
-    *pool = lent.back();
+    pool.put(alloc, lent.back());
     status
 }
 
@@ -117,7 +117,7 @@ pub extern "C" fn protolink_file_name(
         Some(text) => hand_out(text.as_bytes(), buffer, length),
         None => NOT_FOUND,
     };
-    *pool = lent.back();
+    pool.put(alloc, lent.back());
     status
 }
 
@@ -140,7 +140,7 @@ pub extern "C" fn protolink_file_package(
         Some(text) => hand_out(text.as_bytes(), buffer, length),
         None => NOT_FOUND,
     };
-    *pool = lent.back();
+    pool.put(alloc, lent.back());
     status
 }
 
@@ -163,7 +163,7 @@ pub extern "C" fn protolink_name(
         Some(text) => hand_out(text.as_bytes(), buffer, length),
         None => NOT_FOUND,
     };
-    *pool = lent.back();
+    pool.put(alloc, lent.back());
     status
 }
 
@@ -186,7 +186,7 @@ pub extern "C" fn protolink_full_name(
         Some(text) => hand_out(text.as_bytes(), buffer, length),
         None => NOT_FOUND,
     };
-    *pool = lent.back();
+    pool.put(alloc, lent.back());
     status
 }
 
@@ -209,7 +209,7 @@ pub extern "C" fn protolink_json_name(
         Some(text) => hand_out(text.as_bytes(), buffer, length),
         None => NOT_FOUND,
     };
-    *pool = lent.back();
+    pool.put(alloc, lent.back());
     status
 }
 
@@ -235,6 +235,6 @@ pub extern "C" fn protolink_default(
         Ok(None) => NOT_FOUND,
         Err(_) => NO_MEMORY,
     };
-    *pool = lent.back();
+    pool.put(alloc, lent.back());
     status
 }

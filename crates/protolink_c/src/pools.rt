@@ -3,13 +3,14 @@ ghost use Rattle.std.specs.Prelude.{◌≡◌, ◌≢◌, IsUtf8, None, slice_ge
 ghost use Rattle.std.specs.Option.{option_map};
 ghost use Rattle.descriptor_encoding.specs.Encoding.{file_encoding, set_encoding};
 ghost use Rattle.pool_contents.specs.LookUps.{definition_named};
-ghost use Rattle.pool_face.specs.Numbers as numbers;
-ghost use Rattle.pool_face.specs.Reading.{file_read, script_read, set_read};
+ghost use Rattle.numbered_pool.specs.Added.{unreported};
+ghost use Rattle.numbered_pool.specs.Numbers as numbers;
+ghost use Rattle.numbered_pool.specs.Reading.{file_read, script_read, set_read};
 ghost use Rattle.pool_types.specs.Contents.{files_of};
 ghost use Rattle.pool_types.specs.Extension.{extension_numbered};
 ghost use Rattle.record_walk.specs.Counts.{counts_in};
 ghost use Rattle.protolink_c.specs.Added.{IsAdded};
-ghost use Rattle.protolink_c.specs.Shown.{answers_of, pool_of, report_of, unreported};
+ghost use Rattle.protolink_c.specs.Shown.{answers_of, limited, pool_of, report_of};
 ghost use Rattle.protolink_c.specs.Told.{handed_out, handed_out_if, located, written};
 
 use crate::boxes::{boxed_copy, closed, opened};
@@ -17,9 +18,8 @@ use crate::handle::Handle;
 use crate::lent::lend;
 use crate::status::{DONE, NO_MEMORY, NOT_FOUND};
 use crate::told::{hand_out, locate, write};
-use pool_face::{Item, PoolCounts};
+use numbered_pool::{Item, PoolCounts, Status};
 use std::alloc::Global;
-use std::mem;
 
 /// 0.2.0, as the programs have it.
 const VERSION: u32 = 2000;
@@ -38,39 +38,54 @@ pub extern "C" fn protolink_version() -> u32
 #[unsafe(no_mangle)]
 pub extern "C" fn protolink_pool_add_set(alloc: Global, pool: &mut Handle, bytes: &[u8]) -> u8
     ensures { IsAdded (set_read bytes.now)
-        (pool_of pool.old.shown) (answers_of pool.new.shown) result }
+        (answers_of pool.old.shown) (answers_of pool.new.shown) result }
 {
-    let Some(mut answers) = opened(alloc, mem::replace(pool, Handle::empty())) else {
+    let Some(mut answers) = opened(alloc, pool.take()) else {
         return NO_MEMORY;
     };
     let status = answers.add_set(alloc, bytes);
-    closed(pool, answers, status)
+    closed(alloc, pool, answers, status)
 }
 
 /// The same with one encoded `FileDescriptorProto`.
 #[unsafe(no_mangle)]
 pub extern "C" fn protolink_pool_add_file(alloc: Global, pool: &mut Handle, bytes: &[u8]) -> u8
     ensures { IsAdded (file_read bytes.now)
-        (pool_of pool.old.shown) (answers_of pool.new.shown) result }
+        (answers_of pool.old.shown) (answers_of pool.new.shown) result }
 {
-    let Some(mut answers) = opened(alloc, mem::replace(pool, Handle::empty())) else {
+    let Some(mut answers) = opened(alloc, pool.take()) else {
         return NO_MEMORY;
     };
     let status = answers.add_file(alloc, bytes);
-    closed(pool, answers, status)
+    closed(alloc, pool, answers, status)
 }
 
 /// The same with the files that a script declares. Its commands are passed over.
 #[unsafe(no_mangle)]
 pub extern "C" fn protolink_pool_add_script(alloc: Global, pool: &mut Handle, script: &[u8]) -> u8
     ensures { IsAdded (script_read script.now)
-        (pool_of pool.old.shown) (answers_of pool.new.shown) result }
+        (answers_of pool.old.shown) (answers_of pool.new.shown) result }
 {
-    let Some(mut answers) = opened(alloc, mem::replace(pool, Handle::empty())) else {
+    let Some(mut answers) = opened(alloc, pool.take()) else {
         return NO_MEMORY;
     };
     let status = answers.add_script(alloc, script);
-    closed(pool, answers, status)
+    closed(alloc, pool, answers, status)
+}
+
+/// Sets how many faults the reports tell at most of calls from now on that add files. The pool and
+/// its reports stay.
+#[unsafe(no_mangle)]
+pub extern "C" fn protolink_pool_limit_faults(alloc: Global, pool: &mut Handle, most: usize) -> u8
+    ensures limited { result ≡ 0 →
+        answers_of pool.new.shown ≡ limited most (answers_of pool.old.shown) }
+    ensures no_memory { result ≢ 0 → (result ≡ 3) × (pool.new.shown ≡ pool.old.shown) }
+{
+    let Some(mut answers) = opened(alloc, pool.take()) else {
+        return NO_MEMORY;
+    };
+    answers.max_faults = most;
+    closed(alloc, pool, answers, Status::Done)
 }
 
 /// Hands out the report of the last call that was to add files, in lines.
@@ -91,7 +106,7 @@ pub extern "C" fn protolink_pool_report(
         buffer,
         length,
     );
-    *pool = lent.back();
+    pool.put(alloc, lent.back());
     status
 }
 
@@ -113,7 +128,7 @@ pub extern "C" fn protolink_pool_report_json(
         buffer,
         length,
     );
-    *pool = lent.back();
+    pool.put(alloc, lent.back());
     status
 }
 
@@ -136,7 +151,7 @@ pub extern "C" fn protolink_pool_linked(
         Ok(bytes) => hand_out(bytes.as_slice(), buffer, length),
         Err(_) => NO_MEMORY,
     };
-    *pool = lent.back();
+    pool.put(alloc, lent.back());
     status
 }
 
@@ -162,7 +177,7 @@ pub extern "C" fn protolink_pool_linked_file(
         Ok(None) => NOT_FOUND,
         Err(_) => NO_MEMORY,
     };
-    *pool = lent.back();
+    pool.put(alloc, lent.back());
     status
 }
 
@@ -186,7 +201,7 @@ pub extern "C" fn protolink_pool_find(
 {
     let lent = lend(alloc, pool);
     let status = locate(lent.answers().find(name), item, file);
-    *pool = lent.back();
+    pool.put(alloc, lent.back());
     status
 }
 
@@ -212,7 +227,7 @@ pub extern "C" fn protolink_pool_find_path(
         Some(numbers) => hand_out(numbers, path, length),
         None => NOT_FOUND,
     };
-    *pool = lent.back();
+    pool.put(alloc, lent.back());
     status
 }
 
@@ -224,7 +239,7 @@ pub extern "C" fn protolink_pool_counts(alloc: Global, pool: &mut Handle, counts
 {
     let lent = lend(alloc, pool);
     *counts = lent.answers().counts();
-    *pool = lent.back();
+    pool.put(alloc, lent.back());
 }
 
 /// Tells the index of the extension of a message that has a number.
@@ -246,28 +261,28 @@ pub extern "C" fn protolink_pool_extension(
         lent.answers().extension_numbered(message, number),
         extension,
     );
-    *pool = lent.back();
+    pool.put(alloc, lent.back());
     status
 }
 
-/// Makes `copy` a pool with equal contents and an empty report, which shares nothing with the
-/// first. What it had is freed; where memory was refused, it is empty.
+/// Makes `copy` a pool with equal contents, the same limit of faults and an empty report, which
+/// shares nothing with the first. What it had is freed; where memory was refused, it is empty.
 #[unsafe(no_mangle)]
 pub extern "C" fn protolink_pool_clone(alloc: Global, pool: &mut Handle, copy: &mut Handle) -> u8
     ensures same { pool.new.shown ≡ pool.old.shown }
-    ensures copied { result ≡ 0 → answers_of copy.new.shown ≡ unreported (pool_of pool.old.shown) }
+    ensures copied { result ≡ 0 → answers_of copy.new.shown ≡ unreported (answers_of pool.old.shown) }
     ensures no_memory { result ≢ 0 → (result ≡ 3) × (copy.new.shown ≡ None) }
 {
-    let _freed = mem::replace(copy, Handle::empty()).into_box(alloc);
-    let Some(answers) = mem::replace(pool, Handle::empty()).into_box(alloc) else {
+    copy.put(alloc, Handle::empty());
+    let Some(answers) = pool.take().into_box(alloc) else {
         return DONE;
     };
     let copied = boxed_copy(alloc, &answers);
-    *pool = Handle::of_box(answers);
+    pool.put(alloc, Handle::of_box(answers));
     let Some(copied) = copied else {
         return NO_MEMORY;
     };
-    *copy = Handle::of_box(copied);
+    copy.put(alloc, Handle::of_box(copied));
     DONE
 }
 
@@ -276,5 +291,5 @@ pub extern "C" fn protolink_pool_clone(alloc: Global, pool: &mut Handle, copy: &
 pub extern "C" fn protolink_pool_clear(alloc: Global, pool: &mut Handle)
     ensures { pool.new.shown ≡ None }
 {
-    let _freed = mem::replace(pool, Handle::empty()).into_box(alloc);
+    pool.put(alloc, Handle::empty());
 }
