@@ -14,6 +14,7 @@
 
 mod batches;
 mod checks;
+mod devices;
 mod difference;
 mod files;
 mod items;

@@ -6,6 +6,7 @@ mod accepted;
 mod declaring;
 mod elements;
 mod grouped;
+mod hidden;
 mod json_faults;
 mod kinds;
 mod known;
