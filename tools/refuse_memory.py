@@ -184,10 +184,10 @@ class Result:
             return (self.case.whole, *self.case.refused)
         return self.case.refused
 
-    def add_checked(self, number: int, ending: Ending) -> None:
-        """Takes a run with a refusal under valgrind."""
+    def add_checked(self, number: int, ending: Ending, counts: Optional[Counts]) -> None:
+        """Takes a run with a refusal under valgrind, which must end as without it."""
         self.checked_runs += 1
-        if ending not in (*self.case.refused, self.case.whole):
+        if counts is None or counts.refused == 0 or ending not in self._endings(counts):
             self.faults.append(f"request {number}: {ending.words()}, under valgrind")
 
     def line(self) -> str:
@@ -265,8 +265,7 @@ def result_of(shim: Shim, case: Case, sample: Sample) -> Result:
     number = 0
     while result.add(number, *shim.run(case, asked_for(sample, number))):
         if sample.valgrind and number > 0 and number % sample.valgrind == 0:
-            checked, _ = shim.run(case, asked_for(sample, number), MEMORY_CHECK)
-            result.add_checked(number, checked)
+            result.add_checked(number, *shim.run(case, asked_for(sample, number), MEMORY_CHECK))
         number = sample.behind(number, result.requests)
     return result
 
