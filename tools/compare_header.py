@@ -37,7 +37,8 @@ def sources(crate: str) -> list[Path]:
 
 def crates_of_exports() -> list[str]:
     """The crate of the calls, and the one that it names whose structs C has too."""
-    line = re.search(r"^protolink_c staticlib: (.*)$", (TOP / "crates.txt").read_text(), re.MULTILINE)
+    text = (TOP / "crates.txt").read_text()
+    line = re.search(r"^protolink_c staticlib: (.*)$", text, re.MULTILINE)
     named = line[1].split() if line else []
     has_structs = [any("#[repr(C)]" in it.read_text() for it in sources(name)) for name in named]
     return ["protolink_c", *(name for name, found in zip(named, has_structs) if found)]

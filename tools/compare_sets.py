@@ -216,7 +216,8 @@ def answers(program: str, rows: list[bytes]) -> list[Answer]:
 
 def parsed(row: bytes) -> Optional[Message]:
     """The set that protobuf reads, or none where it refuses the bytes. Its Python package reads
-    what stands before the end of a group that is not open, and warns; protobuf itself refuses it."""
+    what stands before the end of a group that is not open, and warns; protobuf itself refuses
+    it."""
     message = descriptor_pb2.FileDescriptorSet()
     with warnings.catch_warnings(record=True) as told:
         warnings.simplefilter("always")
@@ -406,7 +407,7 @@ def main() -> int:
             print(f"    {found}: {count}")
         differs = held_differs(name, counts) if chosen.seed == 1 else ""
         if differs and google.protobuf.__version__ != HELD_BY:
-            print(f"left out: how many stated differences there are, since protobuf is not {HELD_BY}")
+            print(f"left out: how many differences are stated, since protobuf is not {HELD_BY}")
             left_out += 1
         elif differs:
             print(f"    {differs}")

@@ -126,14 +126,15 @@ def measures() -> Iterator[Measure]:
     for name in ("protolink_c", "check_descriptors"):
         yield Measure(f"crates below {name}", 23, sorted(below(name, named)))
     many = list(functions())
-    yield Measure("functions of more than five parameters", 0, [it for it, count in many if count > 5])
-    yield Measure("functions of more than four", 45, [it for it, count in many if count > 4])
+    five, four = ([it for it, count in many if count > most] for most in (5, 4))
+    yield Measure("functions of more than five parameters", 0, five)
+    yield Measure("functions of more than four", 45, four)
     yield Measure("lines of code and definitions past 100 columns", 0, list(wide_lines()))
     yield Measure("comments that lean on what stands before", 0, list(leaning_comments()))
     edits = sorted(CRATES.glob("*/must-fail/*.edit"))
     yield Measure("edits that must be refused", 220, [str(it.relative_to(TOP)) for it in edits])
-    lines = (TOP / "README.md").read_text().splitlines()
-    yield Measure("lines of README", 200, [f"README.md:{number}" for number in range(1, len(lines) + 1)])
+    count = len((TOP / "README.md").read_text().splitlines())
+    yield Measure("lines of README", 200, [f"README.md:{it}" for it in range(1, count + 1)])
 
 
 def main() -> int:

@@ -20,9 +20,10 @@ having met a refusal. A run may go on, and must then end as without a refusal, i
 the request was for a block that has room enough already, as when it is to shrink; and where the
 program asked once more and was given the room, as the library's `collect` does, so that there was
 one request more than without a refusal. With --first, --every and --last some are left out: all of
-the first and of the last are refused, and of those between them each so many. With --behind a refusal lasts: all requests behind the refused
-one are refused too, up to the mark behind the call. A run is wrong if it is ended by a signal, ends
-otherwise than it must, or leaves a block of memory that it was given.
+the first and of the last are refused, and of those between them each so many. With --behind a
+refusal lasts: all requests behind the refused one are refused too, up to the mark behind the call.
+A run is wrong if it is ended by a signal, ends otherwise than it must, or leaves a block of memory
+that it was given.
 
 The trials whose names begin with `one_pool` go otherwise: such a trial makes its call again and
 again on one pool. In a single run of the program the first request of its first call is refused,
@@ -173,7 +174,8 @@ class Result:
             self.faults.append(f"ended by status {ending.status}, and no count")
             return
         self.requests, self.refused_runs = counts.requests, counts.refused
-        if ending != self.case.whole or counts.refused < max(counts.requests, 1) or counts.left != 0:
+        is_short = counts.refused < max(counts.requests, 1)
+        if ending != self.case.whole or is_short or counts.left != 0:
             self.faults.append(f"{ending.words()}, {counts}")
 
     def _endings(self, counts: Counts) -> tuple[Ending, ...]:
@@ -184,10 +186,10 @@ class Result:
             return (self.case.whole, *self.case.refused)
         return self.case.refused
 
-    def add_checked(self, number: int, ending: Ending) -> None:
-        """Takes a run with a refusal under valgrind."""
+    def add_checked(self, number: int, ending: Ending, counts: Optional[Counts]) -> None:
+        """Takes a run with a refusal under valgrind, which must end as without it."""
         self.checked_runs += 1
-        if ending not in (*self.case.refused, self.case.whole):
+        if counts is None or counts.refused == 0 or ending not in self._endings(counts):
             self.faults.append(f"request {number}: {ending.words()}, under valgrind")
 
     def line(self) -> str:
@@ -265,8 +267,7 @@ def result_of(shim: Shim, case: Case, sample: Sample) -> Result:
     number = 0
     while result.add(number, *shim.run(case, asked_for(sample, number))):
         if sample.valgrind and number > 0 and number % sample.valgrind == 0:
-            checked, _ = shim.run(case, asked_for(sample, number), MEMORY_CHECK)
-            result.add_checked(number, checked)
+            result.add_checked(number, *shim.run(case, asked_for(sample, number), MEMORY_CHECK))
         number = sample.behind(number, result.requests)
     return result
 

@@ -54,3 +54,49 @@ fn messages_are_map_entries(rt: HostRuntime) -> Result<(), Fail> {
     check_entries(&rt, file);
     Ok(())
 }
+
+/// Checks each enum, value, service and method of a file, and answers how many there are.
+fn check_deprecated(rt: &impl Abort, file: &FileDescriptorProto) -> usize {
+    let mut count = 0_usize;
+    for enumeration in file.enum_type.as_slice() {
+        assert!(rt; enumeration.is_deprecated().ok() == Some(true));
+        count = count
+            .saturating_add(1)
+            .saturating_add(enumeration.value.as_slice().len());
+        for value in enumeration.value.as_slice() {
+            assert!(rt; value.is_deprecated().ok() == Some(true));
+        }
+    }
+    count.saturating_add(check_services(rt, file))
+}
+
+fn check_services(rt: &impl Abort, file: &FileDescriptorProto) -> usize {
+    let mut count = 0_usize;
+    for service in file.service.as_slice() {
+        assert!(rt; service.is_deprecated().ok() == Some(true));
+        count = count
+            .saturating_add(1)
+            .saturating_add(service.method.as_slice().len());
+        for method in service.method.as_slice() {
+            assert!(rt; method.is_deprecated().ok() == Some(true));
+        }
+    }
+    count
+}
+
+#[test]
+fn enums_and_services_are_deprecated(rt: HostRuntime) -> Result<(), Fail> {
+    // `file { enum_type { value { .. } options { deprecated: true } } service { method { .. } .. }}`
+    let bytes = [
+        10, 26, 42, 10, 18, 4, 26, 2, 8, 1, 26, 2, 24, 1, 50, 12, 18, 5, 34, 3, 136, 2, 1, 26, 3,
+        136, 2, 1,
+    ];
+    let set = decode(rt.alloc(), &bytes)
+        .ok()
+        .ok_or("the bytes are a set")?;
+    let [file] = set.file.as_slice() else {
+        return Err("the set has one file".into());
+    };
+    assert!(rt; check_deprecated(&rt, file) == 4);
+    Ok(())
+}
