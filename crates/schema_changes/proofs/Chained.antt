@@ -1,11 +1,9 @@
 -- Pools that follow one another, and change nothing.
-use Rattle.std.proofs.Common.{◌≡◌, ℕ, zero, suc, ◌+◌, Bool, true, false, eqb, ◌&&◌, List, [], ◌∷◌, Option, Some, None, option_map, slice_get, inl, inr, refl, ap, sym, subst, ◌∙◌, arith}
-use Rattle.std.proofs.lemmas.Bool.{and_parts, and_from, or_cases, or_left, or_right, false≢true, eq-eqb}
+use Rattle.std.proofs.Common.{◌≡◌, ℕ, zero, suc, ◌+◌, Bool, true, false, ◌&&◌, List, [], ◌∷◌, Option, Some, None, option_map, slice_get, inl, inr, refl, ap, sym, subst, arith}
+use Rattle.std.proofs.lemmas.Bool.{and_parts, and_from, or_cases, or_left, or_right, false≢true}
 use Rattle.std.specs.List.{list_any, enumerate_from}
 use Rattle.pool_types.specs.Contents.{Contents}
-use Rattle.pool_types.specs.declared.contents.message.MessageDescriptorInner.{MessageDescriptorInner}
 use Rattle.message_values.specs.Values.{Numbered}
-use Rattle.message_values.specs.Schema.{Field}
 use Rattle.message_values.specs.Reading.{IsRead}
 use Rattle.message_values.specs.Writing.{IsWritten}
 use Rattle.message_values.specs.Kept.{KeepsAll}

@@ -13,6 +13,7 @@ use Rattle.schema_changes.specs.declared.entries.Entry.{Entry}
 use Rattle.schema_changes.specs.Parts.{Parts, parts}
 use Rattle.schema_changes.specs.Entries.{field_entry, extension_at, entry_numbered}
 use Rattle.schema_changes.specs.Kinds.{keeps_kind, keeps_cardinality, is_required}
+use Rattle.schema_changes.specs.Records.{is_kept_free}
 
 -- an old and a new message that are compared, each with the items of its pool
 pub record Compared : Type 0 where
@@ -42,9 +43,11 @@ abbrev pub unless : Bool → ℕ → WireChangeKind → List WireChange
 unless true number what = []
 unless false number what = record { number = number; kind = what } ∷ []
 
--- what a new entry changes of the old one with its number
+-- what a new entry changes of the old one with its number; where there is none, that the number is
+-- free for another one
 abbrev pub kept_changes : Compared → Entry → Option Entry → List WireChange
-kept_changes c f None = []
+kept_changes c f None =
+    unless (is_kept_free c.new c.after f.number) f.number change.FreeNumber
 kept_changes c f (Some g) =
     unless (keeps_kind c.old f c.new g) f.number change.Kind
     ++ unless (keeps_cardinality f.kind f.cardinality g.cardinality) f.number change.Cardinality

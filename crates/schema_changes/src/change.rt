@@ -9,6 +9,8 @@ pub enum WireChangeKind {
     Oneof,
     /// It is required now, and was not.
     Required,
+    /// It is removed, and its number is neither reserved nor left to extensions.
+    FreeNumber,
 }
 
 /// A change of a message by which bytes are read otherwise, with the number of its field.

@@ -2,9 +2,11 @@
 
 ghost use Rattle.std.specs.Prelude.{◌≡◌, ◌++◌, OnOk};
 ghost use Rattle.std.specs.List.{flat_map};
+ghost use Rattle.schema_changes.specs.declared.change.WireChangeKind.TheVariants as change;
 ghost use Rattle.schema_changes.specs.Parts.{parts};
+ghost use Rattle.schema_changes.specs.Records.{is_kept_free};
 ghost use Rattle.schema_changes.specs.Entries.{field_entry, extension_at};
-ghost use Rattle.schema_changes.specs.Changes.{compared, unless, old_entry, new_entry, entry_changes, extension_changes, was_required, required_changes, required_extension_changes, oneof_changes, message_changes};
+ghost use Rattle.schema_changes.specs.Changes.{compared, unless, old_entry, new_entry, kept_changes, entry_changes, extension_changes, was_required, required_changes, required_extension_changes, oneof_changes, message_changes};
 
 use crate::entries::field_entry;
 use crate::kinds::{keeps_cardinality, keeps_kind};
@@ -61,15 +63,17 @@ impl Compared<'_> {
         self.new.entry_numbered(self.after, number)
     }
 
-    /// Appends what the new entry with its number changes of an old one.
-    fn tell_entry(self, changes: &mut Vec<WireChange>, entry: &Entry) -> Result<(), AllocError>
+    /// Appends what a new entry changes of the old one with its number.
+    fn tell_kept(
+        self,
+        changes: &mut Vec<WireChange>,
+        entry: &Entry,
+        kept: &Entry,
+    ) -> Result<(), AllocError>
         ensures { OnOk result (changes.new.items ≡ changes.old.items
-            ++ entry_changes (compared self.entry) entry.now) }
+            ++ kept_changes (compared self.entry) entry.now (Some kept.now)) }
     {
-        let Some(kept) = self.new_entry(entry.number) else {
-            return Ok(());
-        };
-        let kind = keeps_kind(self.old, entry, self.new, &kept);
+        let kind = keeps_kind(self.old, entry, self.new, kept);
         push_unless(changes, kind, entry.number, WireChangeKind::Kind)?;
         let cardinality = keeps_cardinality(entry.kind, entry.cardinality, kept.cardinality);
         push_unless(
@@ -78,6 +82,27 @@ impl Compared<'_> {
             entry.number,
             WireChangeKind::Cardinality,
         )
+    }
+
+    /// Appends that the number of a removed entry is free for another one.
+    fn tell_removed(self, changes: &mut Vec<WireChange>, number: u32) -> Result<(), AllocError>
+        ensures { OnOk result (changes.new.items ≡ changes.old.items
+            ++ unless (is_kept_free (parts self.entry.new) self.entry.after.now number) number
+            change.FreeNumber) }
+    {
+        let kept_free = self.new.is_kept_free(self.after, number);
+        push_unless(changes, kept_free, number, WireChangeKind::FreeNumber)
+    }
+
+    /// Appends what the new entry with its number changes of an old one.
+    fn tell_entry(self, changes: &mut Vec<WireChange>, entry: &Entry) -> Result<(), AllocError>
+        ensures { OnOk result (changes.new.items ≡ changes.old.items
+            ++ entry_changes (compared self.entry) entry.now) }
+    {
+        match self.new_entry(entry.number) {
+            Some(kept) => self.tell_kept(changes, entry, &kept),
+            None => self.tell_removed(changes, entry.number),
+        }
     }
 
     /// Appends that a new entry is required, where the old one was not.

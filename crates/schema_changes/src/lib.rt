@@ -8,6 +8,7 @@ mod kinds;
 mod laws;
 mod oneofs;
 mod parts;
+mod records;
 
 pub use change::{MessageChange, WireChange, WireChangeKind};
 pub use compared::Compared;

@@ -1,0 +1,265 @@
+-- What is lost of each old schema.
+use Rattle.std.proofs.Common.{◌≡◌, ◌≢◌, ℕ, ◌^◌, ℤ, pos, negsuc, Bool, true, false, cond, eqb, ◌||◌, List, [], ◌∷◌, Option, Some, None, refl, ap, sym, subst, ◌∙◌}
+use Rattle.std.proofs.lemmas.Bool.{eqb-true, or_cases, false≢true}
+use Rattle.std.proofs.lemmas.Bool.Decides.{Decides-int_eq}
+use Rattle.std.specs.List.{AllByRecursion}
+use Rattle.std.specs.Ordering.{int_eq}
+use Rattle.std.specs.Str.{is_utf8}
+use Rattle.message_values.proofs.Lists.{all_of}
+use Rattle.message_values.specs.Values.{Value, Varint, Fixed64, Bytes, Fixed32, Numbered}
+use Rattle.message_values.specs.Schema.{Schema, Kind, Field, Cardinality, Optional, Required, Repeated}
+use Rattle.message_values.specs.Schema as kind
+use Rattle.message_values.specs.Numbers.{form, has_number, number_read, encoded}
+use Rattle.message_values.specs.Fields.{Item, Number, Text, Refused, Items, in_one, taken, counted, value}
+use Rattle.message_values.specs.Reading.{Fact, OfMessages, TakenWith, TooDeep, AreWellFormed, IsComplete, IsRead}
+use Rattle.message_values.specs.Writing.{IsValue, IsValueOf, IsWritten, occurs}
+use Rattle.message_values.specs.Carried.{AreCarried}
+use Rattle.message_values.specs.Lost.{Loses, fields_one_and_two, field_one, two_fields, enum_of, optional, required, repeated, in_oneof, losing}
+
+abbrev at : ℕ → Value → Numbered
+at n v = record { number = n; value = v }
+
+-- ---- written by a schema of one field
+
+only-one : (f g : Field) (n : ℕ) (b c : Bool) → eqb n 1 ≡ b → cond b (Some f) (cond c None None) ≡ Some g → (n ≡ 1) × (f ≡ g)
+only-one f g n true c e h = let same : f ≡ g = cc in (eqb-true n 1 e, same)
+only-one f g n false true e h = absurd cc
+only-one f g n false false e h = absurd cc
+
+written-one : (f : Field) (has : ℤ → Bool) (vs : List Numbered) → (f.cardinality ≢ Required) → ((P : Fact) (xs : List Item) → OfMessages P f.kind xs)
+    → AllByRecursion (λ x. IsValueOf (fields_one_and_two f None has) false ((fields_one_and_two f None has).field 0 x.number) x.value) vs → IsWritten (fields_one_and_two f None has) (λ m k. false) 0 0 vs
+unfolding IsWritten
+written-one f has vs free bare known = record {
+  known = known;
+  oneofs = λ n k g h e e' one a b. (only-one f g n (eqb n 1) (eqb n 2) refl e).0 ∙ sym (only-one f h k (eqb k 1) (eqb k 2) refl e').0;
+  required = λ n g e req. absurd (free (ap (λ (x : Field). x.cardinality) (only-one f g n (eqb n 1) (eqb n 2) refl e).1 ∙ req));
+  within = λ n g e. subst (λ (x : Field). OfMessages TooDeep x.kind (value (fields_one_and_two f None has) 0 n g vs)) (only-one f g n (eqb n 1) (eqb n 2) refl e).1 (bare TooDeep _);
+}
+
+optional-free : Optional ≢ Required
+optional-free h = absurd cc
+
+repeated-free : Repeated ≢ Required
+repeated-free h = absurd cc
+
+-- ---- read otherwise
+
+differ : (s t : Schema) (f g : Field) (vs : List Numbered) → s.field 0 1 ≡ Some f → t.field 0 1 ≡ Some g → value s 0 1 f vs ≢ counted f.cardinality (value t 0 1 g vs) → IsRead t 0 0 vs → AreCarried s t 0 0 0 vs → ⊥
+unfolding AreCarried
+differ s t f g vs e e' apart read carried = apart (carried.same 1 f g e e')
+
+-- an optional field of another kind has another value
+other-value : (k l : Kind) (has : ℤ → Bool) (v : Value) (xs ys : List Item) → ((P : Fact) (zs : List Item) → OfMessages P k zs) → IsValue (fields_one_and_two (optional k) None has) (optional k) v
+    → value (fields_one_and_two (optional k) None has) 0 1 (optional k) (at 1 v ∷ []) ≡ xs → value (field_one (optional l)) 0 1 (optional l) (at 1 v ∷ []) ≡ ys → xs ≢ counted Optional ys
+    → Loses (fields_one_and_two (optional k) None has) (field_one (optional l))
+other-value k l has v xs ys bare is e e' apart = record {
+  values = at 1 v ∷ [];
+  written = written-one (optional k) has (at 1 v ∷ []) optional-free bare (is, tt);
+  lost = differ (fields_one_and_two (optional k) None has) (field_one (optional l)) (optional k) (optional l) (at 1 v ∷ []) refl refl (λ same. apart (sym e ∙ same ∙ ap (counted Optional) e'));
+}
+
+numbers-differ : (x y : ℤ) → int_eq x y ≡ false → Number x ∷ [] ≢ Number y ∷ []
+numbers-differ x y h e = let same : x ≡ y = cc in false≢true (sym h ∙ (Decides-int_eq x y).1 same)
+
+none-there : (x : Item) → x ∷ [] ≢ []
+none-there x e = absurd cc
+
+abbrev none_has : ℤ → Bool
+none_has x = false
+
+-- ---- numbers
+
+long : Loses (field_one (optional kind.Int64)) (field_one (optional kind.Int32))
+unfolding IsValue has_number encoded value taken number_read
+long = other-value kind.Int64 kind.Int32 none_has (Varint 1099511627776) (Number (pos 1099511627776) ∷ []) (Number (pos 0) ∷ []) (λ P. all_of _ (λ x. tt)) (record { number = pos 1099511627776; has = refl; encoding = refl }) refl refl (numbers-differ _ _ refl)
+
+long-unsigned : Loses (field_one (optional kind.Uint64)) (field_one (optional kind.Uint32))
+unfolding IsValue has_number encoded value taken number_read
+long-unsigned = other-value kind.Uint64 kind.Uint32 none_has (Varint 1099511627776) (Number (pos 1099511627776) ∷ []) (Number (pos 0) ∷ []) (λ P. all_of _ (λ x. tt)) (record { number = pos 1099511627776; has = refl; encoding = refl }) refl refl (numbers-differ _ _ refl)
+
+negative : Loses (field_one (optional kind.Int32)) (field_one (optional kind.Uint32))
+unfolding IsValue has_number encoded value taken number_read
+negative = other-value kind.Int32 kind.Uint32 none_has (Varint 18446744073709551615) (Number (negsuc 0) ∷ []) (Number (pos 4294967295) ∷ []) (λ P. all_of _ (λ x. tt)) (record { number = negsuc 0; has = refl; encoding = refl }) refl refl (numbers-differ _ _ refl)
+
+negative-long : Loses (field_one (optional kind.Int32)) (field_one (optional kind.Uint64))
+unfolding IsValue has_number encoded value taken number_read
+negative-long = other-value kind.Int32 kind.Uint64 none_has (Varint 18446744073709551615) (Number (negsuc 0) ∷ []) (Number (pos 18446744073709551615) ∷ []) (λ P. all_of _ (λ x. tt)) (record { number = negsuc 0; has = refl; encoding = refl }) refl refl (numbers-differ _ _ refl)
+
+unsigned : Loses (field_one (optional kind.Uint32)) (field_one (optional kind.Int32))
+unfolding IsValue has_number encoded value taken number_read
+unsigned = other-value kind.Uint32 kind.Int32 none_has (Varint 4294967295) (Number (pos 4294967295) ∷ []) (Number (negsuc 0) ∷ []) (λ P. all_of _ (λ x. tt)) (record { number = pos 4294967295; has = refl; encoding = refl }) refl refl (numbers-differ _ _ refl)
+
+unsigned-long : Loses (field_one (optional kind.Uint64)) (field_one (optional kind.Int64))
+unfolding IsValue has_number encoded value taken number_read
+unsigned-long = other-value kind.Uint64 kind.Int64 none_has (Varint 18446744073709551615) (Number (pos 18446744073709551615) ∷ []) (Number (negsuc 0) ∷ []) (λ P. all_of _ (λ x. tt)) (record { number = pos 18446744073709551615; has = refl; encoding = refl }) refl refl (numbers-differ _ _ refl)
+
+signed-long : Loses (field_one (optional kind.Int64)) (field_one (optional kind.Uint64))
+unfolding IsValue has_number encoded value taken number_read
+signed-long = other-value kind.Int64 kind.Uint64 none_has (Varint 18446744073709551615) (Number (negsuc 0) ∷ []) (Number (pos 18446744073709551615) ∷ []) (λ P. all_of _ (λ x. tt)) (record { number = negsuc 0; has = refl; encoding = refl }) refl refl (numbers-differ _ _ refl)
+
+truth : Loses (field_one (optional kind.Int32)) (field_one (optional kind.Boolean))
+unfolding IsValue has_number encoded value taken number_read
+truth = other-value kind.Int32 kind.Boolean none_has (Varint 2) (Number (pos 2) ∷ []) (Number (pos 1) ∷ []) (λ P. all_of _ (λ x. tt)) (record { number = pos 2; has = refl; encoding = refl }) refl refl (numbers-differ _ _ refl)
+
+by-turns : Loses (field_one (optional kind.Int32)) (field_one (optional kind.Sint32))
+unfolding IsValue has_number encoded value taken number_read
+by-turns = other-value kind.Int32 kind.Sint32 none_has (Varint 1) (Number (pos 1) ∷ []) (Number (negsuc 0) ∷ []) (λ P. all_of _ (λ x. tt)) (record { number = pos 1; has = refl; encoding = refl }) refl refl (numbers-differ _ _ refl)
+
+no-turns : Loses (field_one (optional kind.Sint32)) (field_one (optional kind.Int32))
+unfolding IsValue has_number encoded value taken number_read
+no-turns = other-value kind.Sint32 kind.Int32 none_has (Varint 2) (Number (pos 1) ∷ []) (Number (pos 2) ∷ []) (λ P. all_of _ (λ x. tt)) (record { number = pos 1; has = refl; encoding = refl }) refl refl (numbers-differ _ _ refl)
+
+long-turns : Loses (field_one (optional kind.Sint64)) (field_one (optional kind.Sint32))
+unfolding IsValue has_number encoded value taken number_read
+long-turns = other-value kind.Sint64 kind.Sint32 none_has (Varint 1099511627776) (Number (pos 549755813888) ∷ []) (Number (pos 0) ∷ []) (λ P. all_of _ (λ x. tt)) (record { number = pos 549755813888; has = refl; encoding = refl }) refl refl (numbers-differ _ _ refl)
+
+fixed-signed : Loses (field_one (optional kind.Fixed32)) (field_one (optional kind.Sfixed32))
+unfolding IsValue has_number encoded value taken number_read
+fixed-signed = other-value kind.Fixed32 kind.Sfixed32 none_has (Fixed32 4294967295) (Number (pos 4294967295) ∷ []) (Number (negsuc 0) ∷ []) (λ P. all_of _ (λ x. tt)) (record { number = pos 4294967295; has = refl; encoding = refl }) refl refl (numbers-differ _ _ refl)
+
+fixed-unsigned : Loses (field_one (optional kind.Sfixed32)) (field_one (optional kind.Fixed32))
+unfolding IsValue has_number encoded value taken number_read
+fixed-unsigned = other-value kind.Sfixed32 kind.Fixed32 none_has (Fixed32 4294967295) (Number (negsuc 0) ∷ []) (Number (pos 4294967295) ∷ []) (λ P. all_of _ (λ x. tt)) (record { number = negsuc 0; has = refl; encoding = refl }) refl refl (numbers-differ _ _ refl)
+
+long-fixed-signed : Loses (field_one (optional kind.Fixed64)) (field_one (optional kind.Sfixed64))
+unfolding IsValue has_number encoded value taken number_read
+long-fixed-signed = other-value kind.Fixed64 kind.Sfixed64 none_has (Fixed64 18446744073709551615) (Number (pos 18446744073709551615) ∷ []) (Number (negsuc 0) ∷ []) (λ P. all_of _ (λ x. tt)) (record { number = pos 18446744073709551615; has = refl; encoding = refl }) refl refl (numbers-differ _ _ refl)
+
+long-fixed-unsigned : Loses (field_one (optional kind.Sfixed64)) (field_one (optional kind.Fixed64))
+unfolding IsValue has_number encoded value taken number_read
+long-fixed-unsigned = other-value kind.Sfixed64 kind.Fixed64 none_has (Fixed64 18446744073709551615) (Number (negsuc 0) ∷ []) (Number (pos 18446744073709551615) ∷ []) (λ P. all_of _ (λ x. tt)) (record { number = negsuc 0; has = refl; encoding = refl }) refl refl (numbers-differ _ _ refl)
+
+other-width : Loses (field_one (optional kind.Int32)) (field_one (optional kind.Fixed32))
+unfolding IsValue has_number encoded value taken number_read
+other-width = other-value kind.Int32 kind.Fixed32 none_has (Varint 1) (Number (pos 1) ∷ []) [] (λ P. all_of _ (λ x. tt)) (record { number = pos 1; has = refl; encoding = refl }) refl refl (none-there _)
+
+wider-fixed : Loses (field_one (optional kind.Fixed32)) (field_one (optional kind.Fixed64))
+unfolding IsValue has_number encoded value taken number_read
+wider-fixed = other-value kind.Fixed32 kind.Fixed64 none_has (Fixed32 1) (Number (pos 1) ∷ []) [] (λ P. all_of _ (λ x. tt)) (record { number = pos 1; has = refl; encoding = refl }) refl refl (none-there _)
+
+number-bytes : Loses (field_one (optional kind.Int32)) (field_one (optional kind.Bytes))
+unfolding IsValue has_number encoded value taken number_read
+number-bytes = other-value kind.Int32 kind.Bytes none_has (Varint 1) (Number (pos 1) ∷ []) [] (λ P. all_of _ (λ x. tt)) (record { number = pos 1; has = refl; encoding = refl }) refl refl (none-there _)
+
+bytes-number : Loses (field_one (optional kind.Bytes)) (field_one (optional kind.Int32))
+unfolding IsValue value taken number_read
+bytes-number = other-value kind.Bytes kind.Int32 none_has (Bytes []) (Text [] ∷ []) [] (λ P. all_of _ (λ x. tt)) refl refl refl (none-there _)
+
+to-closed : Loses (field_one (optional kind.Int32)) (field_one (optional (kind.Enum 0)))
+unfolding IsValue has_number encoded value taken number_read
+to-closed = other-value kind.Int32 (kind.Enum 0) none_has (Varint 1) (Number (pos 1) ∷ []) [] (λ P. all_of _ (λ x. tt)) (record { number = pos 1; has = refl; encoding = refl }) refl refl (none-there _)
+
+fewer-values : Loses (enum_of (pos 5)) (field_one (optional (kind.Enum 0)))
+unfolding IsValue has_number encoded value taken number_read
+fewer-values = other-value (kind.Enum 0) (kind.Enum 0) (λ x. int_eq x (pos 5)) (Varint 5) (Number (pos 5) ∷ []) [] (λ P. all_of _ (λ x. tt)) (record { number = pos 5; has = refl; encoding = refl }) refl refl (none-there _)
+
+-- ---- texts, which the new schema refuses
+
+refused-by : (b : Bool) (bytes : List ℕ) → b ≡ false → TakenWith TooDeep (kind.Text true) (cond (false || b) (Items (Text bytes ∷ [])) Refused) → ⊥
+refused-by true bytes e h = absurd (false≢true (sym e))
+refused-by false bytes e h = h
+
+refused : (bytes : List ℕ) → is_utf8 bytes ≡ false → IsRead (field_one (optional (kind.Text true))) 0 0 (at 1 (Bytes bytes) ∷ []) → ⊥
+unfolding AreWellFormed taken
+refused bytes bad read = refused-by (is_utf8 bytes) bytes bad (read.well_formed).0
+
+pub bytes-checked : (bytes : List ℕ) → is_utf8 bytes ≡ false → Loses (field_one (optional kind.Bytes)) (field_one (optional (kind.Text true)))
+unfolding IsValue
+bytes-checked bytes bad = record {
+  values = at 1 (Bytes bytes) ∷ [];
+  written = written-one (optional kind.Bytes) none_has (at 1 (Bytes bytes) ∷ []) optional-free (λ P. all_of _ (λ x. tt)) (refl, tt);
+  lost = λ read carried. refused bytes bad read;
+}
+
+pub text-checked : (bytes : List ℕ) → is_utf8 bytes ≡ false → Loses (field_one (optional (kind.Text false))) (field_one (optional (kind.Text true)))
+unfolding IsValue
+text-checked bytes bad = record {
+  values = at 1 (Bytes bytes) ∷ [];
+  written = written-one (optional (kind.Text false)) none_has (at 1 (Bytes bytes) ∷ []) optional-free (λ P. all_of _ (λ x. tt)) (refl, tt);
+  lost = λ read carried. refused bytes bad read;
+}
+
+-- ---- cardinalities and oneofs
+
+two-of-them : (x y z : Item) → x ∷ y ∷ [] ≢ z ∷ []
+two-of-them x y z e = absurd cc
+
+no-more : Loses (field_one (repeated kind.Int32)) (field_one (optional kind.Int32))
+unfolding IsValue has_number encoded value taken number_read
+no-more = record {
+  values = at 1 (Varint 5) ∷ at 1 (Varint 6) ∷ [];
+  written = written-one (repeated kind.Int32) none_has (at 1 (Varint 5) ∷ at 1 (Varint 6) ∷ []) repeated-free (λ P. all_of _ (λ x. tt))
+      (record { number = pos 5; has = refl; encoding = refl }, (record { number = pos 6; has = refl; encoding = refl }, tt));
+  lost = differ (field_one (repeated kind.Int32)) (field_one (optional kind.Int32)) (repeated kind.Int32) (optional kind.Int32) (at 1 (Varint 5) ∷ at 1 (Varint 6) ∷ []) refl refl (two-of-them (Number (pos 5)) (Number (pos 6)) (Number (pos 6)));
+}
+
+field-of-two : (f g : Field) (b c : Bool) → cond b (Some f) (cond c (Some f) None) ≡ Some g → f ≡ g
+field-of-two f g true c e = cc
+field-of-two f g false true e = cc
+field-of-two f g false false e = absurd cc
+
+nothing-joins : (f g h : Field) → f.oneof ≡ None → f ≡ g → in_one g.oneof h.oneof ≡ true → ⊥
+nothing-joins f g h none same one = false≢true (subst (λ (o : Option ℕ). in_one o h.oneof ≡ true) (ap (λ (x : Field). x.oneof) (sym same) ∙ none) one)
+
+came-together : Loses (two_fields (optional kind.Int32)) (two_fields (in_oneof kind.Int32))
+unfolding IsWritten IsValue has_number encoded value taken number_read
+came-together = record {
+  values = at 1 (Varint 5) ∷ at 2 (Varint 6) ∷ [];
+  written = record {
+    known = (record { number = pos 5; has = refl; encoding = refl }, (record { number = pos 6; has = refl; encoding = refl }, tt));
+    oneofs = λ n k g h e e' one a b. absurd (nothing-joins (optional kind.Int32) g h refl (field-of-two (optional kind.Int32) g (eqb n 1) (eqb n 2) e) one);
+    required = λ n g e req. absurd (optional-free (ap (λ (x : Field). x.cardinality) (field-of-two (optional kind.Int32) g (eqb n 1) (eqb n 2) e) ∙ req));
+    within = λ n g e. subst (λ (x : Field). OfMessages TooDeep x.kind (value (two_fields (optional kind.Int32)) 0 n g (at 1 (Varint 5) ∷ at 2 (Varint 6) ∷ []))) (field-of-two (optional kind.Int32) g (eqb n 1) (eqb n 2) e) (all_of _ (λ x. tt) _);
+  };
+  lost = differ (two_fields (optional kind.Int32)) (two_fields (in_oneof kind.Int32)) (optional kind.Int32) (in_oneof kind.Int32) (at 1 (Varint 5) ∷ at 2 (Varint 6) ∷ []) refl refl (none-there (Number (pos 5)));
+}
+
+wanted : Loses (field_one (optional kind.Int32)) (field_one (required kind.Int32))
+unfolding IsComplete value
+wanted = record {
+  values = [];
+  written = written-one (optional kind.Int32) none_has [] optional-free (λ P. all_of _ (λ x. tt)) tt;
+  lost = λ read carried. (read.complete).required 1 (required kind.Int32) refl refl refl;
+}
+
+pub all-lost : AllByRecursion (λ p. Loses p.0 p.1) losing
+all-lost = (
+  long,
+  (
+    long-unsigned,
+    (
+      negative,
+      (
+        negative-long,
+        (
+          unsigned,
+          (
+            unsigned-long,
+            (
+              signed-long,
+              (
+                truth,
+                (
+                  by-turns,
+                  (
+                    no-turns,
+                    (
+                      long-turns,
+                      (
+                        fixed-signed,
+                        (
+                          fixed-unsigned,
+                          (long-fixed-signed, (long-fixed-unsigned, (other-width, (wider-fixed, (number-bytes, (bytes-number, (to-closed, (fewer-values, (no-more, (came-together, (wanted, tt))))))))))),
+                        ),
+                      ),
+                    ),
+                  ),
+                ),
+              ),
+            ),
+          ),
+        ),
+      ),
+    ),
+  ),
+)

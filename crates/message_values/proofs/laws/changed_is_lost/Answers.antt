@@ -1,0 +1,8 @@
+use Rattle.message_values.proofs.Lost.{all-lost, bytes-checked, text-checked}
+use Rattle.message_values.proofs.laws.changed_is_lost.Goals as goal
+
+pub returns-clause-rows : goal.returns-clause-rows
+returns-clause-rows c = all-lost
+
+pub returns-clause-texts : goal.returns-clause-texts
+returns-clause-texts c = λ bytes bad. (bytes-checked bytes bad, text-checked bytes bad)

@@ -1,0 +1,88 @@
+-- Changes of schemas by which something is lost, each by the least schemas that show it.
+use Rattle.std.specs.Prelude.{◌≡◌, ℕ, ℤ, pos, Bool, true, false, List, [], ◌∷◌, Option, None, Some, ◌==◌, if◌then◌else◌}
+use Rattle.std.specs.Ordering.{int_eq}
+use Rattle.std.specs.Str.{is_utf8}
+use Rattle.message_values.specs.Values.{Numbered}
+use Rattle.message_values.specs.Schema.{Schema, Kind, Field, Optional, Required, Repeated}
+use Rattle.message_values.specs.Schema as kind
+use Rattle.message_values.specs.Reading.{IsRead}
+use Rattle.message_values.specs.Writing.{IsWritten}
+use Rattle.message_values.specs.Carried.{AreCarried}
+
+-- an old schema writes a message that a new one does not read, or reads otherwise
+pub record Loses (old new : Schema) : Type 0 where
+  pub values : List Numbered
+  pub written : IsWritten old (λ _ _. false) 0 0 values
+  pub lost : IsRead new 0 0 values → AreCarried old new 0 0 0 values → ⊥
+
+-- a schema whose messages have a field with the number 1, and maybe one with the number 2; its enums
+-- have the numbers that pass a test
+abbrev pub fields_one_and_two : Field → Option Field → (ℤ → Bool) → Schema
+fields_one_and_two f g has = record {
+  field = λ m n. if n == 1 then Some f else (if n == 2 then g else None);
+  has_value = λ e x. has x;
+}
+
+abbrev pub field_one : Field → Schema
+field_one f = fields_one_and_two f None (λ x. false)
+
+-- a field of a kind that is optional, required, or repeated
+abbrev pub optional : Kind → Field
+optional k = record { kind = k; cardinality = Optional; oneof = None }
+
+abbrev pub required : Kind → Field
+required k = record { kind = k; cardinality = Required; oneof = None }
+
+abbrev pub repeated : Kind → Field
+repeated k = record { kind = k; cardinality = Repeated; oneof = None }
+
+-- a field of a kind that is in the first oneof of its message
+abbrev pub in_oneof : Kind → Field
+in_oneof k = record { kind = k; cardinality = Optional; oneof = Some 0 }
+
+-- a schema with two such fields
+abbrev pub two_fields : Field → Schema
+two_fields f = fields_one_and_two f (Some f) (λ x. false)
+
+-- a schema with a field of an enum that has one number
+abbrev pub enum_of : ℤ → Schema
+enum_of n = fields_one_and_two (optional (kind.Enum 0)) None (λ x. int_eq x n)
+
+-- an optional field of one kind gets another
+abbrev pub kinds : Kind → Kind → Schema × Schema
+kinds k l = (field_one (optional k), field_one (optional l))
+
+-- bytes, or texts that are not checked, become texts that are checked
+abbrev pub LosesTexts : Type 0
+LosesTexts = (bytes : List ℕ) → is_utf8 bytes ≡ false
+    → Loses (field_one (optional kind.Bytes)) (field_one (optional (kind.Text true)))
+    × Loses (field_one (optional (kind.Text false))) (field_one (optional (kind.Text true)))
+
+-- old schemas, each with a new one that loses something of it
+abbrev pub losing : List (Schema × Schema)
+losing =
+    kinds kind.Int64 kind.Int32
+    ∷ kinds kind.Uint64 kind.Uint32
+    ∷ kinds kind.Int32 kind.Uint32
+    ∷ kinds kind.Int32 kind.Uint64
+    ∷ kinds kind.Uint32 kind.Int32
+    ∷ kinds kind.Uint64 kind.Int64
+    ∷ kinds kind.Int64 kind.Uint64
+    ∷ kinds kind.Int32 kind.Boolean
+    ∷ kinds kind.Int32 kind.Sint32
+    ∷ kinds kind.Sint32 kind.Int32
+    ∷ kinds kind.Sint64 kind.Sint32
+    ∷ kinds kind.Fixed32 kind.Sfixed32
+    ∷ kinds kind.Sfixed32 kind.Fixed32
+    ∷ kinds kind.Fixed64 kind.Sfixed64
+    ∷ kinds kind.Sfixed64 kind.Fixed64
+    ∷ kinds kind.Int32 kind.Fixed32
+    ∷ kinds kind.Fixed32 kind.Fixed64
+    ∷ kinds kind.Int32 kind.Bytes
+    ∷ kinds kind.Bytes kind.Int32
+    ∷ kinds kind.Int32 (kind.Enum 0)
+    ∷ (enum_of (pos 5), field_one (optional (kind.Enum 0)))
+    ∷ (field_one (repeated kind.Int32), field_one (optional kind.Int32))
+    ∷ (two_fields (optional kind.Int32), two_fields (in_oneof kind.Int32))
+    ∷ (field_one (optional kind.Int32), field_one (required kind.Int32))
+    ∷ []
