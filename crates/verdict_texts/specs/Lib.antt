@@ -1,5 +1,4 @@
 pub mod FaultKinds
-pub mod Remedies
 pub mod Elements
 pub mod Lines
 pub mod PlainFaults
@@ -17,3 +16,4 @@ pub mod Grouped
 pub mod Refused
 pub mod Objects
 pub mod WireWords
+pub mod Standing
