@@ -186,20 +186,6 @@ pub(crate) fn fault_kind(fault: &DescriptorErrorKind) -> FaultKind<'_>
     }
 }
 
-/// The code of a fault, which is the name of its kind.
-pub fn fault_code(fault: &DescriptorErrorKind) -> &'static str
-    ensures { result.now ≡ (spec.fault_kind fault.now).code }
-{
-    fault_kind(fault).code
-}
-
-/// What to do about a fault, for people.
-pub fn remedy(fault: &DescriptorErrorKind) -> &'static str
-    ensures { result.now ≡ (spec.fault_kind fault.now).remedy }
-{
-    fault_kind(fault).remedy
-}
-
 /// The second place of a fault, if its kind has one: of the first holder, of the range, or of what
 /// a name means.
 pub fn related_label(fault: &DescriptorErrorKind) -> Option<&Label>

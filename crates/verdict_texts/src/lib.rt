@@ -22,7 +22,7 @@ mod telling;
 mod wire_words;
 
 pub use accepted::accepted_text;
-pub use fault_kinds::{fault_code, related_label, remedy};
+pub use fault_kinds::related_label;
 pub use json_faults::write_fault_json;
 pub use lines::{write_line, write_lines};
 pub use objects::{accepted_json, refused_json, too_many_json, unread_json};
