@@ -1,3 +1,2 @@
 pub mod Linked
 pub mod First
-pub mod Results

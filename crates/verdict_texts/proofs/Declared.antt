@@ -125,5 +125,6 @@ pub types-open : (scope : List ℕ) (m : DescriptorProto) → message_types scop
     ++ enum_names (join scope (text_of (out-DescriptorProto m).name)) (out-DescriptorProto m).enum_type)
 unfolding literals
 types-open scope (DescriptorProto' name fields n nested enums ranges extensions options oneofs reserved reserved_names) =
-    let full = join scope (text_of name) in
+    let m = DescriptorProto' name fields n nested enums ranges extensions options oneofs reserved reserved_names in
+    let full = join scope (text_of (out-DescriptorProto m).name) in
     ap (λ names. full ∷ (names ++ enum_names full enums)) (row-types full nested ∙ ap (messages_types full) (sym (items_shown-the_row-DescriptorProto-0 n nested)))

@@ -8,3 +8,5 @@ pub mod Shown
 pub mod Entering
 pub mod Declared
 pub mod Naming
+pub mod Standing
+pub mod Results

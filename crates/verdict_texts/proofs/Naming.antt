@@ -1,8 +1,11 @@
 -- Files by their names, and one more.
-use Rattle.std.proofs.Common.{◌≡◌, ℕ, ◌+◌, Bool, true, false, cond, is_some, List, [], ◌∷◌, ◌++◌, length, Option, None, Some, slice_get, refl, sym, ap, ◌∙◌, append-nil, arith}
+use Rattle.std.proofs.Common.{◌≡◌, ℕ, ◌+◌, ◌<◌, Bor, map as map-each, take, get_or, Bool, true, false, cond, is_some, List, [], ◌∷◌, ◌++◌, length, Option, None, Some, slice_get, refl, sym, ap, ◌∙◌, append-nil, arith}
 use Rattle.std.specs.FinMap as map
+use Rattle.std.specs.Cmp.Lexicographic.{slice_cmp}
 use Rattle.std.specs.List.{filter, find, position_from}
 use Rattle.std.specs.Option.{option_and_then, option_or}
+use Rattle.std.specs.Ordering.{nat_cmp}
+use Rattle.std.proofs.lemmas.List.{length-map, length-take-le, map-append, take_more}
 use Rattle.std.proofs.lemmas.List.Elements.{filter-append}
 use Rattle.std.proofs.lemmas.Slice.Eq.{bytes_eq-Decides}
 use Rattle.plain_data.proofs.Positions.{find-position, position-append}
@@ -138,3 +141,40 @@ declaring-next names new files f are enters name =
     ∙ ap (λ b. option_or (map.get names name) (cond b (Some (length files)) None)) (ap (is_among name) (types-declared f))
     ∙ ap (λ held. option_or held (cond (declares name f) (Some (length files)) None)) (are name)
     ∙ sym (position-last (declares name) files f)
+
+-- tables of no names
+pub no-file : (first several : ByText ℕ) → first ≡ map.empty → several ≡ map.empty → AreNamed (record { first = first; several = several }) []
+no-file first several is other = record {
+  first = λ name. ap (λ m. map.get m name) is ∙ map.get-empty (slice_cmp nat_cmp) name;
+  several = λ name. ap is_some (ap (λ m. map.get m name) other ∙ map.get-empty (slice_cmp nat_cmp) name);
+}
+
+-- files by their names, and one more, whose name one has
+pub named-again : (named : NamedFiles) (new : ByText ℕ) (files : List FileDescriptorProto) (f : FileDescriptorProto) (n : ℕ) → AreNamed named files
+    → is_some (map.get named.first (text_of f.name)) ≡ true → Enters named.several new n (text_of f.name ∷ [])
+    → AreNamed (record { first = named.first; several = new }) (files ++ f ∷ [])
+named-again named new files f n are some enters = go (map.get named.first (text_of f.name)) refl some
+  where
+    go : (r : Option ℕ) → map.get named.first (text_of f.name) ≡ r → is_some r ≡ true → AreNamed (record { first = named.first; several = new }) (files ++ f ∷ [])
+    go None is none = absurd (cc)
+    go (Some k) is held = record {
+      first = first-stays named.first files f k are.first is;
+      several = several-next-file named.first named.several new files f k n are.first are.several is enters;
+    }
+
+-- or none has
+pub named-new : (named : NamedFiles) (files : List FileDescriptorProto) (f : FileDescriptorProto) → AreNamed named files → map.get named.first (text_of f.name) ≡ None
+    → AreNamed (record { first = map.insert named.first (text_of f.name) (length files); several = named.several }) (files ++ f ∷ [])
+named-new named files f are none = record {
+  first = first-next named.first files f are.first none;
+  several = alone-next-file named.first named.several files f are.first are.several none;
+}
+
+-- the records of a list up to a position, and the one there
+pub records-next : (xs : List (Bor FileDescriptorProto)) (i : ℕ) (x : Bor FileDescriptorProto) → i < length xs → x ≡ get_or xs i x
+    → map-each (λ (f : Bor FileDescriptorProto). f.now) (take (i + 1) xs) ≡ map-each (λ (f : Bor FileDescriptorProto). f.now) (take i xs) ++ x.now ∷ []
+records-next xs i x below is =
+    ap (map-each (λ (f : Bor FileDescriptorProto). f.now)) (take_more xs i x below ∙ ap (λ y. take i xs ++ y ∷ []) (sym is)) ∙ map-append (λ (f : Bor FileDescriptorProto). f.now) (take i xs) (x ∷ [])
+
+pub records-length : (xs : List (Bor FileDescriptorProto)) (i : ℕ) → i < length xs → i ≡ length (map-each (λ (f : Bor FileDescriptorProto). f.now) (take i xs))
+records-length xs i below = sym (length-map (take i xs) (λ (f : Bor FileDescriptorProto). f.now) ∙ length-take-le i xs (omega arith))

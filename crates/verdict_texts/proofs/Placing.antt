@@ -1,9 +1,9 @@
 -- Faults and where they stand, one more at a time.
-use Rattle.std.proofs.Common.{◌≡◌, ℕ, zero, suc, ◌+◌, ◌<◌, Bool, true, false, List, [], ◌∷◌, ◌++◌, length, take, drop, get_or, refl, ap, sym, ◌∙◌, arith, append-nil, append_assoc}
+use Rattle.std.proofs.Common.{◌≡◌, ℕ, zero, suc, ◌+◌, ◌<◌, Bool, true, false, ◌||◌, List, [], ◌∷◌, ◌++◌, length, take, drop, get_or, refl, ap, sym, ◌∙◌, arith, append-nil, append_assoc}
 use Rattle.std.proofs.Math.Seq.{drop-nil}
 use Rattle.std.proofs.lemmas.List.{length-append, take_more}
 use Rattle.std.proofs.lemmas.List.Elements.{filter-append}
-use Rattle.std.specs.List.{filter}
+use Rattle.std.specs.List.{filter, list_any}
 use Rattle.plain_data.specs.Lists.{after_each}
 use Rattle.verdict_texts.specs.Placed.{one_if}
 
@@ -37,3 +37,10 @@ pub left-next : {X Y : Type 0} (kind : X → Bool) (ys : List Y) (xs : List X) (
 left-next kind ys xs i x below is =
     drop-both (length (filter kind (take i xs))) (one_if (kind x)) ys
     ∙ ap (λ n. drop n ys) (sym (one-more kind (take i xs) x) ∙ ap (λ zs. length (filter kind zs)) (sym (take_more xs i x below ∙ ap (λ y. take i xs ++ y ∷ []) (sym is))))
+
+-- one of a list passes a test
+pub any-at : {X : Type 0} (p : X → Bool) (xs : List X) (i : ℕ) (x : X) → i < length xs → x ≡ get_or xs i x → p x ≡ true → list_any p xs ≡ true
+any-at p [] i x below is passes = absurd (omega arith)
+any-at p (y ∷ ys) zero x below is passes = ap (λ b. b || list_any p ys) (ap p (sym is) ∙ passes)
+any-at p (y ∷ ys) (suc i) x below is passes =
+    elim (p y) as (λ b. (b || list_any p ys) ≡ true) [ true ↦ refl | false ↦ any-at p ys i x (omega arith) is passes ]

@@ -1,58 +1,127 @@
--- What is told of each kind of fault: its code, and the second place that it has.
-use Rattle.std.specs.Prelude.{ℕ, Bool, false, true, List, codes}
+-- What is told of each kind of fault, a row for each.
+use Rattle.std.specs.Prelude.{ℕ, Bool, false, true, List, codes, if◌then◌else◌}
+use Rattle.std.specs.Option.{option_map}
+use Rattle.std.specs.Str.{bytes_eq}
 use Rattle.std.specs.declared.option.Option.{Option}
 use Rattle.std.specs.declared.option.Option.TheVariants.{None, Some}
 use Rattle.pool_faults.specs.declared.label.Label.{Label}
 use Rattle.pool_faults.specs.declared.fault.DescriptorErrorKind.{DescriptorErrorKind}
 use Rattle.pool_faults.specs.declared.fault.DescriptorErrorKind.TheVariants as fault
+use Rattle.verdict_texts.specs.declared.fault_kinds.FaultKind.{FaultKind}
 
--- the code of a kind, which is its name
-abbrev pub fault_code : DescriptorErrorKind → List ℕ
-fault_code (fault.MissingRequiredField _) = codes "MissingRequiredField"
-fault_code (fault.UnknownSyntax _ _) = codes "UnknownSyntax"
-fault_code (fault.DuplicateFileName _) = codes "DuplicateFileName"
-fault_code (fault.FileNotFound _ _) = codes "FileNotFound"
-fault_code fault.InvalidImportIndex = codes "InvalidImportIndex"
-fault_code fault.InvalidOneofIndex = codes "InvalidOneofIndex"
-fault_code (fault.DuplicateName _ _ _) = codes "DuplicateName"
-fault_code (fault.DuplicateFieldNumber _ _ _) = codes "DuplicateFieldNumber"
-fault_code (fault.DuplicateFieldJsonName _ _ _) = codes "DuplicateFieldJsonName"
-fault_code (fault.DuplicateFieldCamelCaseName _ _ _ _) = codes "DuplicateFieldCamelCaseName"
-fault_code (fault.InvalidFieldNumber _ _) = codes "InvalidFieldNumber"
-fault_code (fault.FieldNumberInReservedRange _ _ _ _ _) = codes "FieldNumberInReservedRange"
-fault_code (fault.FieldNumberInExtensionRange _ _ _ _ _) = codes "FieldNumberInExtensionRange"
-fault_code (fault.ExtensionNumberOutOfRange _ _ _) = codes "ExtensionNumberOutOfRange"
-fault_code (fault.DuplicateExtensionNumber _ _ _ _) = codes "DuplicateExtensionNumber"
-fault_code (fault.NameNotFound _ _) = codes "NameNotFound"
-fault_code (fault.NameShadowed _ _ _) = codes "NameShadowed"
-fault_code (fault.InvalidType _ _ _ _) = codes "InvalidType"
-fault_code (fault.InvalidFieldDefault _ _ _) = codes "InvalidFieldDefault"
-fault_code (fault.EmptyEnum _) = codes "EmptyEnum"
-fault_code (fault.InvalidProto3EnumDefault _) = codes "InvalidProto3EnumDefault"
-fault_code (fault.DuplicateEnumNumber _ _ _) = codes "DuplicateEnumNumber"
-fault_code (fault.EnumNumberInReservedRange _ _ _ _ _) = codes "EnumNumberInReservedRange"
+-- what is told of a kind: its name, the words before its second place and the label of that, if it
+-- has one, and what to do
+pub record ToldKind : Type 0 where
+  pub code : List ℕ
+  pub second : Option (List ℕ × Label)
+  pub remedy : List ℕ
 
--- the second place of a fault: of the first holder, of the range, or of what a name means
+-- the same, as code has it
+abbrev pub told_kind : FaultKind → ToldKind
+told_kind k = record {
+  code = k.code.now;
+  second = option_map (λ s. (s.words.now, s.label.now)) k.second;
+  remedy = k.remedy.now;
+}
+
+-- a kind without a second place
+abbrev pub alone : List ℕ → List ℕ → ToldKind
+alone code remedy = record { code = code; second = None; remedy = remedy }
+
+-- a kind with a second place, and with the words before it
+abbrev pub beside : List ℕ → List ℕ → Label → List ℕ → ToldKind
+beside code words label remedy =
+    record { code = code; second = Some (words, label); remedy = remedy }
+
+-- the words before a first holder, before a range, and before what a name means
+abbrev pub held_words : List ℕ
+held_words = codes "first declared at "
+
+abbrev pub range_words : List ℕ
+range_words = codes "the range is declared at "
+
+abbrev pub meant_words : List ℕ
+meant_words = codes "it is declared at "
+
+-- what to do about an index that is no position, about a number that another has, and about one
+-- that is reserved
+abbrev pub no_such_index : List ℕ
+no_such_index = codes "protoc makes no such index: look for it with `protoc --decode`"
+
+abbrev pub other_number : List ℕ
+other_number = codes "take another number"
+
+abbrev pub not_reserved : List ℕ
+not_reserved = codes "take a number that is not reserved"
+
+-- what to do about a name that is declared twice: in one file, or in two
+abbrev pub rename_remedy : Label → Label → List ℕ
+rename_remedy first second = if bytes_eq first.file second.file
+    then codes "rename one; values of an enum stand beside it, so begin their names with its own"
+    else codes "rename one; where all names of a file clash, it is given under two names"
+
+-- what to do about a name that nothing has
+abbrev pub not_found : List ℕ
+not_found = codes "mend the name, or give and import the file that declares it"
+
+-- what to do about a name that resolves to a full name which isn't defined: to itself, or to one in
+-- a nearer scope
+abbrev pub shadowed_remedy : List ℕ → List ℕ → List ℕ
+shadowed_remedy name shadowed_name = if bytes_eq name shadowed_name then not_found
+    else codes "a nearer scope has its first part: mend it, or write a leading dot and the full name"
+
+-- the kind of a fault
+abbrev pub fault_kind : DescriptorErrorKind → ToldKind
+fault_kind (fault.MissingRequiredField _) = alone (codes "MissingRequiredField")
+    (codes "give the type name: a message, a group or an enum needs one")
+fault_kind (fault.UnknownSyntax _ _) = alone (codes "UnknownSyntax")
+    (codes "proto2 and proto3 are read; of a file of an edition nothing is")
+fault_kind (fault.DuplicateFileName _) = alone (codes "DuplicateFileName")
+    (codes "the sets have unequal files of that name: give one of them")
+fault_kind (fault.FileNotFound _ _) = alone (codes "FileNotFound")
+    (codes "give it too, as `protoc --include_imports` does, or under the name that is imported")
+fault_kind fault.InvalidImportIndex = alone (codes "InvalidImportIndex") no_such_index
+fault_kind fault.InvalidOneofIndex = alone (codes "InvalidOneofIndex") no_such_index
+fault_kind (fault.DuplicateName _ first second) =
+    beside (codes "DuplicateName") held_words first (rename_remedy first second)
+fault_kind (fault.DuplicateFieldNumber _ place _) =
+    beside (codes "DuplicateFieldNumber") held_words place other_number
+fault_kind (fault.DuplicateFieldJsonName _ place _) =
+    beside (codes "DuplicateFieldJsonName") held_words place
+    (codes "set another json_name: protoc gives `user_id` and `userId` the same one")
+fault_kind (fault.DuplicateFieldCamelCaseName _ _ place _) =
+    beside (codes "DuplicateFieldCamelCaseName") held_words place
+    (codes "rename one: in proto3 names differ by more than case and underscores")
+fault_kind (fault.InvalidFieldNumber _ _) = alone (codes "InvalidFieldNumber")
+    (codes "take a number from 1 to 536,870,911, but none from 19,000 to 19,999")
+fault_kind (fault.FieldNumberInReservedRange _ _ _ place _) =
+    beside (codes "FieldNumberInReservedRange") range_words place not_reserved
+fault_kind (fault.FieldNumberInExtensionRange _ _ _ place _) =
+    beside (codes "FieldNumberInExtensionRange") range_words place
+    (codes "take a number that is not left to extensions")
+fault_kind (fault.ExtensionNumberOutOfRange _ _ _) = alone (codes "ExtensionNumberOutOfRange")
+    (codes "take a number of one of the extension ranges of the message")
+fault_kind (fault.DuplicateExtensionNumber _ _ place _) =
+    beside (codes "DuplicateExtensionNumber") held_words place other_number
+fault_kind (fault.NameNotFound _ _) = alone (codes "NameNotFound") not_found
+fault_kind (fault.NameShadowed name shadowed_name _) =
+    alone (codes "NameShadowed") (shadowed_remedy name shadowed_name)
+fault_kind (fault.InvalidType _ _ _ place) = beside (codes "InvalidType") meant_words place
+    (codes "mend it; where a nearer name hides it, write a leading dot and the full name")
+fault_kind (fault.InvalidFieldDefault _ _ _) =
+    alone (codes "InvalidFieldDefault") (codes "write a value of the type")
+fault_kind (fault.EmptyEnum _) = alone (codes "EmptyEnum") (codes "add a value")
+fault_kind (fault.InvalidProto3EnumDefault _) =
+    alone (codes "InvalidProto3EnumDefault") (codes "put the value with the number 0 first")
+fault_kind (fault.DuplicateEnumNumber _ place _) =
+    beside (codes "DuplicateEnumNumber") held_words place
+    (codes "take another number, or set the option allow_alias")
+fault_kind (fault.EnumNumberInReservedRange _ _ _ place _) =
+    beside (codes "EnumNumberInReservedRange") range_words place not_reserved
+
+-- the second place of a fault, if its kind has one
 abbrev pub related_label : DescriptorErrorKind → Option Label
-related_label (fault.DuplicateName _ place _) = Some place
-related_label (fault.DuplicateFieldNumber _ place _) = Some place
-related_label (fault.DuplicateFieldJsonName _ place _) = Some place
-related_label (fault.DuplicateFieldCamelCaseName _ _ place _) = Some place
-related_label (fault.DuplicateExtensionNumber _ _ place _) = Some place
-related_label (fault.DuplicateEnumNumber _ place _) = Some place
-related_label (fault.FieldNumberInReservedRange _ _ _ place _) = Some place
-related_label (fault.FieldNumberInExtensionRange _ _ _ place _) = Some place
-related_label (fault.EnumNumberInReservedRange _ _ _ place _) = Some place
-related_label (fault.InvalidType _ _ _ place) = Some place
-related_label _ = None
-
--- what stands before the second place, for people
-abbrev pub related_words : DescriptorErrorKind → List ℕ
-related_words (fault.FieldNumberInReservedRange _ _ _ _ _) = codes "the range is declared at "
-related_words (fault.FieldNumberInExtensionRange _ _ _ _ _) = codes "the range is declared at "
-related_words (fault.EnumNumberInReservedRange _ _ _ _ _) = codes "the range is declared at "
-related_words (fault.InvalidType _ _ _ _) = codes "it is declared at "
-related_words _ = codes "first declared at "
+related_label f = option_map (λ s. s.1) (fault_kind f).second
 
 -- whether a fault is of a reference
 abbrev pub is_of_reference : DescriptorErrorKind → Bool

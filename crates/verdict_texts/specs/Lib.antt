@@ -1,5 +1,4 @@
 pub mod FaultKinds
-pub mod Remedies
 pub mod Elements
 pub mod Hidden
 pub mod Lines
@@ -18,3 +17,4 @@ pub mod Grouped
 pub mod Refused
 pub mod Objects
 pub mod WireWords
+pub mod Standing

@@ -13,7 +13,7 @@ use Rattle.pool_faults.specs.declared.fault.DescriptorErrorKind.{DescriptorError
 use Rattle.pool_faults.specs.declared.fault.DescriptorErrorKind.TheVariants as fault
 use Rattle.name_resolution.specs.Parents.{outer}
 use Rattle.verdict_texts.specs.Known.{declaring_file, only}
-use Rattle.verdict_texts.specs.Remedies.{remedy}
+use Rattle.verdict_texts.specs.FaultKinds.{fault_kind}
 
 -- the import of a file, if there is one
 abbrev pub import_of : FileDescriptorProto → List ℕ → Option (List ℕ)
@@ -113,4 +113,4 @@ looked_up files _ = None
 
 -- what is told beside a fault
 abbrev pub note : List FileDescriptorProto → DescriptorErrorKind → List ℕ
-note files f = unwrap_or (looked_up files f) (remedy f)
+note files f = unwrap_or (looked_up files f) (fault_kind f).remedy

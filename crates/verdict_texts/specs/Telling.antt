@@ -1,6 +1,6 @@
 -- A fault as it is told: its code, its text, where it stands, its second place, and what is told
 -- beside it.
-use Rattle.std.specs.Prelude.{ℤ, pos, ◌+ℤ◌, List, [], ◌∷◌, ◌++◌, slice_index_or}
+use Rattle.std.specs.Prelude.{ℕ, ℤ, pos, ◌+ℤ◌, List, [], ◌∷◌, ◌++◌, slice_index_or}
 use Rattle.std.specs.Option.{option_map}
 use Rattle.std.specs.declared.option.Option.{Option}
 use Rattle.plain_data.specs.Lists.{flat_map_after}
@@ -9,7 +9,7 @@ use Rattle.pool_faults.specs.Fault.{fault_text}
 use Rattle.pool_faults.specs.declared.label.Label.{Label}
 use Rattle.pool_faults.specs.declared.fault.DescriptorErrorKind.{DescriptorErrorKind}
 use Rattle.verdict_texts.specs.Elements.{element_of}
-use Rattle.verdict_texts.specs.FaultKinds.{fault_code, related_label, related_words}
+use Rattle.verdict_texts.specs.FaultKinds.{fault_kind}
 use Rattle.verdict_texts.specs.Notes.{note}
 use Rattle.verdict_texts.specs.Placed.{place_of, places_for}
 use Rattle.verdict_texts.specs.declared.places.Places.{Places}
@@ -34,23 +34,18 @@ told_place files label = record {
   element = element_of files label;
 }
 
--- the second place of a fault, by its label
-abbrev pub second_at : List FileDescriptorProto → DescriptorErrorKind → Label → ToldSecond
-second_at files fault label =
-    record { words = related_words fault; place = told_place files label }
-
--- the second place of a fault, if it has one
-abbrev pub told_second : List FileDescriptorProto → DescriptorErrorKind → Option ToldSecond
-told_second files fault = option_map (second_at files fault) (related_label fault)
+-- the second place of a fault: the words before it, and its label
+abbrev pub second_at : List FileDescriptorProto → List ℕ × Label → ToldSecond
+second_at files second = record { words = second.0; place = told_place files second.1 }
 
 -- a fault that stands at a place, if one is shown
 abbrev pub told_fault : List FileDescriptorProto → DescriptorErrorKind → Option Label
     → ToldFault
 told_fault files fault place = record {
-  code = fault_code fault;
+  code = (fault_kind fault).code;
   message = fault_text fault;
   place = option_map (told_place files) place;
-  second = told_second files fault;
+  second = option_map (second_at files) (fault_kind fault).second;
   note = note files fault;
 }
 

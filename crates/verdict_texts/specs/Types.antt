@@ -4,7 +4,7 @@ use Rattle.std.specs.List.{flat_map}
 use Rattle.proto_types.specs.Names.{join}
 use Rattle.proto_types.specs.Readers.{text_of}
 use Rattle.proto_types.specs.declared.file.FileDescriptorProto.{FileDescriptorProto}
-use Rattle.proto_types.specs.declared.message.DescriptorProto.{DescriptorProto, DescriptorProto', Row_of-DescriptorProto, end_of-DescriptorProto, more_of-DescriptorProto}
+use Rattle.proto_types.specs.declared.message.DescriptorProto.{DescriptorProto, DescriptorProto', out-DescriptorProto, Row_of-DescriptorProto, end_of-DescriptorProto, more_of-DescriptorProto}
 use Rattle.proto_types.specs.declared.records.enumeration.EnumDescriptorProto.{EnumDescriptorProto}
 use Rattle.record_walk.specs.Counts.{no_counts}
 use Rattle.record_walk.specs.Declarations.{declarations}
@@ -20,7 +20,9 @@ abbrev mutual
   message_types scope
       (DescriptorProto' name fields n nested enums ranges extensions options oneofs reserved
       reserved_names) =
-      let full = join scope (text_of name) in
+      let m = DescriptorProto' name fields n nested enums ranges extensions options oneofs reserved
+      reserved_names in
+      let full = join scope (text_of (out-DescriptorProto m).name) in
       full ∷ (nested_types full nested ++ enum_names full enums)
 
   -- the same of the nested messages of a message

@@ -1,13 +1,15 @@
 //! What is known of files by names: the file of a name, and the file that declares one. No fault is
 //! told by a walk over files.
 
-ghost use Rattle.std.specs.Prelude.{◌≡◌, [], ◌∷◌, ◌++◌, ◌+◌, ◌<◌, is_some, length, map, take, IfOk, IfSome, IsTrue, OnOk};
+ghost use Rattle.std.specs.Prelude.{◌≡◌, [], ◌∷◌, ◌++◌, ◌+◌, ◌<◌, is_some, length, map, slice_get, take, IfOk, IfSome, IsTrue, OnOk};
 ghost use Rattle.std.specs.List.{list_any};
+ghost use Rattle.std.specs.Option.{option_and_then, option_copied};
 ghost use Rattle.verdict_texts.specs.FaultKinds.{is_of_reference};
+ghost use Rattle.verdict_texts.specs.Known as spec;
 ghost use Rattle.verdict_texts.specs.Named.{AreDeclaring, AreNamed, Enters};
 
 use crate::declaring::enter_types;
-use crate::kinds::is_of_reference;
+use crate::fault_kinds::is_of_reference;
 use name_tables::FileNames;
 use pool_faults::DescriptorErrorKind;
 use pool_types::FileDescriptorInner;
@@ -44,9 +46,6 @@ impl<'a> Model for Known<'a> {
 }
 
 impl<'a> Known<'a> {
-    ghost use Rattle.std.specs.Option.{option_copied};
-    ghost use Rattle.verdict_texts.specs.Known as spec;
-
     /// What some faults ask of files: the names that they declare are known where one of the faults
     /// is of a reference.
     ///
@@ -74,11 +73,7 @@ impl<'a> Known<'a> {
     pub fn only(&self, name: &str) -> Option<&'a FileDescriptorProto>
         ensures { option_copied result ≡ spec.only self.now.0 name.now }
     {
-        if self.named.several.get(name).is_some() {
-            return None;
-        }
-        let at = self.named.first.get(name)?;
-        self.files.get(at as usize).copied()
+        only_of(&self.named, self.files.as_slice(), name)
     }
 
     /// The first file that declares a message or an enum of a full name.
@@ -86,8 +81,10 @@ impl<'a> Known<'a> {
         requires { IsTrue self.now.1 }
         ensures { option_copied result ≡ spec.declaring_file self.now.0 name.now }
     {
-        let at = self.declaring.as_ref()?.get(name)?;
-        self.files.get(at as usize).copied()
+        match &self.declaring {
+            Some(names) => declaring_of(names, self.files.as_slice(), name),
+            None => None,
+        }
     }
 }
 
@@ -131,6 +128,48 @@ fn linked_records(
         records.push(&file.raw)?;
     }
     Ok(records)
+}
+
+/// The file with a position, if there is one.
+fn file_at<'a>(
+    files: &[&'a FileDescriptorProto],
+    at: Option<u32>,
+) -> Option<&'a FileDescriptorProto>
+    ensures { option_copied result
+        ≡ option_and_then (slice_get (map (λ f. f.now) files.now)) at }
+{
+    match at {
+        Some(at) => files.get(at as usize).copied(),
+        None => None,
+    }
+}
+
+/// The only file with a name.
+fn only_of<'a>(
+    named: &NamedFiles,
+    files: &[&'a FileDescriptorProto],
+    name: &str,
+) -> Option<&'a FileDescriptorProto>
+    requires { AreNamed named.now (map (λ f. f.now) files.now) }
+    ensures { option_copied result ≡ spec.only (map (λ f. f.now) files.now) name.now }
+{
+    if named.several.get(name).is_some() {
+        return None;
+    }
+    file_at(files, named.first.get(name))
+}
+
+/// The first file that declares a name.
+fn declaring_of<'a>(
+    names: &FileNames,
+    files: &[&'a FileDescriptorProto],
+    name: &str,
+) -> Option<&'a FileDescriptorProto>
+    requires { AreDeclaring names.now (map (λ f. f.now) files.now) }
+    ensures { option_copied result
+        ≡ spec.declaring_file (map (λ f. f.now) files.now) name.now }
+{
+    file_at(files, names.get(name))
 }
 
 /// The number of a position.
@@ -198,7 +237,14 @@ fn declaring_files(alloc: Global, files: &[&FileDescriptorProto]) -> Result<File
     Ok(names)
 }
 
-/// The same, where one of some faults is of a reference.
+/// Whether one of some faults is of a reference.
+fn has_references(faults: &[DescriptorErrorKind]) -> bool
+    ensures { result ≡ list_any is_of_reference faults.now }
+{
+    faults.iter().any(|fault| is_of_reference(fault))
+}
+
+/// The names that files declare, where one of some faults is of a reference.
 fn declaring_for(
     alloc: Global,
     files: &[&FileDescriptorProto],
@@ -208,7 +254,7 @@ fn declaring_for(
     ensures names { IfOk result (λ names. IfSome names
         (λ names. AreDeclaring names (map (λ f. f.now) files.now))) }
 {
-    if faults.iter().any(|fault| is_of_reference(fault)) {
+    if has_references(faults) {
         return Ok(Some(declaring_files(alloc, files)?));
     }
     Ok(None)

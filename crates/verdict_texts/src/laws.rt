@@ -2,6 +2,7 @@
 
 ghost use Rattle.verdict_texts.specs.JsonStrings.{StringsReadBack};
 ghost use Rattle.verdict_texts.specs.Lines.{LinesEndOnce};
+ghost use Rattle.verdict_texts.specs.Standing.{ElementsAreDeclared};
 ghost use Rattle.verdict_texts.specs.Types.{TypesAreDeclared};
 
 /// A line has one line feed, its last byte.
@@ -17,4 +18,10 @@ pub fn types_are_declared()
 /// The string of JSON that is written for a text is read as that text.
 pub fn strings_read_back()
     ensures { StringsReadBack }
+{}
+
+/// An element that is told at a label is the name of a declaration which stands in the only file of
+/// the label, at its path or around it.
+pub fn elements_are_declared()
+    ensures { ElementsAreDeclared }
 {}

@@ -7,8 +7,8 @@ ghost use Rattle.verdict_texts.specs.FaultKinds.{is_of_reference};
 ghost use Rattle.verdict_texts.specs.Notes as spec;
 
 use crate::elements::full_name;
+use crate::fault_kinds::fault_kind;
 use crate::known::Known;
-use crate::remedies::remedy;
 use name_resolution::CandidateParents;
 use plain_data::Text;
 use pool_faults::DescriptorErrorKind;
@@ -246,6 +246,6 @@ pub(crate) fn note(
 {
     match looked_up(alloc, known, fault)? {
         Some(words) => Ok(words),
-        None => Text::from_str(alloc, remedy(fault)),
+        None => Text::from_str(alloc, fault_kind(fault).remedy),
     }
 }

@@ -4,11 +4,11 @@ ghost use Rattle.std.specs.Prelude.{◌≡◌, IfOk, IsTrue, map};
 ghost use Rattle.std.specs.List.{list_any};
 ghost use Rattle.std.specs.Option.{option_copied, option_map};
 ghost use Rattle.plain_data.specs.Lists.{flat_map_after};
-ghost use Rattle.verdict_texts.specs.FaultKinds.{is_of_reference};
+ghost use Rattle.verdict_texts.specs.FaultKinds.{is_of_reference, told_kind};
 ghost use Rattle.verdict_texts.specs.Telling as spec;
 
 use crate::elements::element_of;
-use crate::kinds::{fault_code, fault_message, related_label, related_words};
+use crate::fault_kinds::{FaultKind, fault_kind, fault_message};
 use crate::known::{Known, records};
 use crate::notes::note;
 use crate::placed::{Left, place_among, places_for};
@@ -112,33 +112,21 @@ fn told_if(
     }
 }
 
-/// The second place of a fault, by its label.
-fn second_at(
-    alloc: Global,
-    known: &Known,
-    fault: &DescriptorErrorKind,
-    label: &Label,
-) -> Result<ToldSecond, AllocError>
-    ensures { IfOk result (λ second. second
-        ≡ spec.second_at known.now.0 fault.now label.now) }
-{
-    let words = Text::from_str(alloc, related_words(fault))?;
-    let place = told_place(alloc, known, label)?;
-    Ok(ToldSecond { words, place })
-}
-
-/// The second place of a fault, if it has one.
+/// The second place of a kind, if it has one.
 fn told_second(
     alloc: Global,
     known: &Known,
-    fault: &DescriptorErrorKind,
+    kind: FaultKind,
 ) -> Result<Option<ToldSecond>, AllocError>
-    ensures { IfOk result (λ second. second ≡ spec.told_second known.now.0 fault.now) }
+    ensures { IfOk result (λ second. second
+        ≡ option_map (spec.second_at known.now.0) (told_kind kind.entry).second) }
 {
-    match related_label(fault) {
-        Some(label) => Ok(Some(second_at(alloc, known, fault, label)?)),
-        None => Ok(None),
-    }
+    let Some(second) = kind.second else {
+        return Ok(None);
+    };
+    let words = Text::from_str(alloc, second.words)?;
+    let place = told_place(alloc, known, second.label)?;
+    Ok(Some(ToldSecond { words, place }))
 }
 
 /// A fault, and where it stands, as it is told.
@@ -152,10 +140,11 @@ fn told_fault(
     ensures { IfOk result (λ told. told
         ≡ spec.told_fault known.now.0 fault.now (option_copied place.entry)) }
 {
-    let code = Text::from_str(alloc, fault_code(fault))?;
+    let kind = fault_kind(fault);
+    let code = Text::from_str(alloc, kind.code)?;
     let message = Text::from_string(fault_message(alloc, fault)?);
     let place = told_if(alloc, known, place)?;
-    let second = told_second(alloc, known, fault)?;
+    let second = told_second(alloc, known, kind)?;
     let note = note(alloc, known, fault)?;
     Ok(ToldFault {
         code,
@@ -186,7 +175,8 @@ fn tell_each(
     let mut told = Items::new(alloc);
     for fault in faults {
         let place = place_among(names, &left, fault);
-        told.push(told_fault(alloc, known, fault, place)?)?;
+        let next = told_fault(alloc, known, fault, place)?;
+        told.push(next)?;
         left = left.behind(fault);
     }
     Ok(told)

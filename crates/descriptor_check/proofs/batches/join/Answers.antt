@@ -5,7 +5,7 @@ use Rattle.descriptor_check.specs.Batches.{is_equal}
 use Rattle.verdict_texts.specs.Named.{AreFirst}
 use Rattle.verdict_texts.proofs.Naming.{first-next}
 use Rattle.descriptor_check.proofs.First.{named_is, none_is, stays}
-use Rattle.descriptor_check.proofs.Results.{on-ok, on-both}
+use Rattle.verdict_texts.proofs.Results.{on-ok, on-both}
 use Rattle.descriptor_check.proofs.batches.join.Goals as goal
 
 -- no file has the name

@@ -5,7 +5,7 @@ use Rattle.descriptor_pool.specs.GivenBack.{GivesBack}
 use Rattle.descriptor_pool.specs.Outcome.{IsLinked, Outcome}
 use Rattle.descriptor_pool.specs.Pool.{new_files}
 use Rattle.descriptor_check.proofs.Linked.{accepted_is, told_is}
-use Rattle.descriptor_check.proofs.Results.{if-ok}
+use Rattle.verdict_texts.proofs.Results.{if-ok}
 use Rattle.descriptor_check.proofs.verdicts.verdict_on.Goals as goal
 
 -- the batch is linked

@@ -10,5 +10,5 @@ abbrev pub invariant-loop-parent : goal.invariant-loop-parent
 invariant-loop-parent l =
     (goal.iterator-loop-parent).can_next l.parent-iterator
     × (goal.iterator-loop-parent).is_finite l.parent-iterator
-    × (find (λ n. is_some (declaring_file l.batch.files.now l.batch.known.now n)) (map (λ s. join s l.name) l.parent-iterator)
-    ≡ meant l.batch.files.now l.batch.known.now l.scope l.name)
+    × (find (λ n. is_some (declaring_file l.known.0 n)) (map (λ s. join s l.name) l.parent-iterator)
+    ≡ meant l.known.0 l.scope l.name)
