@@ -32,11 +32,12 @@ impl DeclaringVisitor {
 impl Visitor for DeclaringVisitor {
     ghost use Rattle.std.specs.List.{fold};
     ghost use Rattle.pool_types.specs.Contents.{no_contents};
+    ghost use Rattle.record_walk.specs.Telling.{untold};
     ghost use Rattle.fault_texts.specs.Known.{with_declared};
 
     ghost after = { λ v ds. record {
       contents = record no_contents { file_names = fold with_declared v.names ds };
-      faults = [];
+      faults = untold;
       listed = [];
     } };
 
