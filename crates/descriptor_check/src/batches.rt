@@ -177,6 +177,10 @@ fn join_new(
             files.push(file)?;
             Ok(())
         }
-        Err(_) => Err(AllocError),
+        Err(_) => {
+            // No number is left for the file, so this asks for more room than can be granted.
+            files.reserve(usize::MAX)?;
+            Err(AllocError)
+        }
     }
 }

@@ -1,7 +1,10 @@
 -- New files that are linked stage by stage: their records are put behind a pool's, their names are entered, their items made,
 -- and their extensions put into the lists of messages.
-use Rattle.std.proofs.Common.{◌≡◌, ◌<◌, ◌+◌, ◌^◌, List, [], ◌∷◌, ◌++◌, IsOk, Result, length, map, drop, refl, ap, subst, sym, ◌∙◌, arith}
+use Rattle.std.proofs.Common.{◌≡◌, ◌<◌, ◌+◌, ◌^◌, ℕ, Option, None, Some, List, [], ◌∷◌, ◌++◌, IsOk, Result, length, map, drop, refl, ap, subst, sym, ◌∙◌, arith}
+use Rattle.std.specs.Prelude.{max}
+use Rattle.std.proofs.Math.Seq.{take-nil}
 use Rattle.std.proofs.lemmas.List.{length-append, length-map, map-append}
+use Rattle.record_walk.specs.Telling.{first_of}
 use Rattle.std.specs.List.{AllByRecursion}
 use Rattle.name_tables.specs.Entries.{names_with}
 use Rattle.name_tables.specs.NameTables.{FileNamesBefore}
@@ -43,16 +46,21 @@ raws-unlinked : (new : List FileDescriptorProto) → map (λ f. f.raw) (map unli
 raws-unlinked [] = refl
 raws-unlinked (f ∷ fs) = ap (λ rest. f ∷ rest) (raws-unlinked fs)
 
+-- of no faults none is the first
+none-first : (most : Option ℕ) → first_of most [] ≡ []
+none-first None = refl
+none-first (Some most) = take-nil (max 1 most)
+
 -- an error tells at least one fault
-pub told-first : (error : BuildError) (first second : Faults) → TellsFaults error first → TellsFaults error (first_of_both first second)
-told-first (TooMany kind) first second told = absurd told
-told-first (Descriptor error) [] second told = absurd (error.some told)
-told-first (Descriptor error) (f ∷ fs) second told = told
-told-first OutOfMemory first second told = tt
+pub told-first : (most : Option ℕ) (error : BuildError) (first second : Faults) → TellsFaults most error first → TellsFaults most error (first_of_both first second)
+told-first most (TooMany kind) first second told = absurd told
+told-first most (Descriptor error) [] second told = absurd (error.some (told.0 ∙ none-first most))
+told-first most (Descriptor error) (f ∷ fs) second told = told
+told-first most OutOfMemory first second told = tt
 
 -- where the first pass found nothing, the second tells
-pub told-second : {U : Type 0} (r : Result U BuildError) (first second : Faults) → first ≡ [] → TellsAll r second → TellsAll r (first_of_both first second)
-told-second r first second none told = subst (λ fs. TellsAll r (first_of_both fs second)) (sym none) told
+pub told-second : {U : Type 0} (most : Option ℕ) (r : Result U BuildError) (first second : Faults) → first ≡ [] → TellsAll most r second → TellsAll most r (first_of_both first second)
+told-second most r first second none told = subst (λ fs. TellsAll most r (first_of_both fs second)) (sym none) told
 
 module _ (p q : Contents) (base : Counts) (new : List FileDescriptorProto) (base_is : base ≡ counts_in p)
     (rest : q ≡ record p { files = q.files }) (files : files_of q ≡ files_of p ++ new) where

@@ -4,6 +4,7 @@ pub mod GivenBack
 pub mod Invariant
 pub mod Build
 pub mod Outcome
+pub mod Within
 pub mod Extensions
 pub mod References
 pub mod Items

@@ -6,6 +6,7 @@ ghost use Rattle.pool_types.specs.Contents.{files_of};
 ghost use Rattle.record_walk.specs.Counts.{counts_in};
 ghost use Rattle.record_walk.specs.Fits.{counts_with};
 ghost use Rattle.record_walk.specs.Declarations.{declarations};
+ghost use Rattle.record_walk.specs.Faults.{told_in};
 ghost use Rattle.reference_pass.specs.SecondPass.{second_pass};
 ghost use Rattle.reference_pass.specs.NamesBegin.{AllNamesBegin, NamesBegin};
 ghost use Rattle.record_walk.specs.Short.{ShortFiles};
@@ -18,7 +19,7 @@ ghost use Rattle.name_tables.specs.NameTables.{file_names_before, without_files_
 ghost use Rattle.name_pass.specs.Steps.{name_step, state_at};
 ghost use Rattle.descriptor_pool.specs.Items.{HasImports, HasItems, LinksNew, with_new_items};
 ghost use Rattle.pool_contents.specs.Inner.{contents_in, NamesLieIn};
-ghost use Rattle.descriptor_pool.specs.Error.{TellsAll, TellsFaults};
+ghost use Rattle.descriptor_pool.specs.Error.{TellsAll, TellsFirst};
 ghost use Rattle.descriptor_pool.specs.GivenBack.{GivesBack, breaks_rules};
 ghost use Rattle.descriptor_pool.specs.Against.{setting_against};
 ghost use Rattle.reference_pass.specs.Linking.{ItemsAre, lists_in};
@@ -35,10 +36,18 @@ use reference_pass::{Linker, NewItems, NextItems, PoolExtensions, Reading, Resol
 use std::alloc::{AllocError, Global};
 use std::mem;
 
+/// What linking is asked with: where memory comes from, and how many faults are told at most, where
+/// there is a limit.
+#[derive(Clone, Copy)]
+pub(crate) struct Terms {
+    pub alloc: Global,
+    pub most: Option<usize>,
+}
+
 /// Links new files behind those of a pool, in the pool itself. A refusal is rolled back, and new
 /// files that break rules get their records back.
 pub(crate) fn link(
-    alloc: Global,
+    terms: Terms,
     base: Counts,
     pool: &mut DescriptorPoolInner,
     new: &mut [FileDescriptorProto],
@@ -53,14 +62,14 @@ pub(crate) fn link(
     requires short { ShortFiles (files_of (contents_in pool.old) ++ new.old) }
     ensures ok { OnOk result (contents_in pool.new
         ≡ with_batch (contents_in pool.old) new.old) }
-    ensures faults { TellsAll result (batch_faults (contents_in pool.old) new.old) }
+    ensures faults { TellsAll terms.most result (batch_faults (contents_in pool.old) new.old) }
     ensures err { OnErr result (contents_in pool.new ≡ contents_in pool.old) }
     ensures names { AllNamesBegin (contents_in pool.new) }
     ensures back { GivesBack result new.old new.new }
 {
-    let before = mem::replace(pool, DescriptorPoolInner::new(alloc));
+    let before = mem::replace(pool, DescriptorPoolInner::new(terms.alloc));
     let mut growing = GrowingPool::new(base, before);
-    let linked = link_new(alloc, &mut growing, new);
+    let linked = link_new(terms, &mut growing, new);
     if linked.is_err() {
         take_back(&mut growing, new, &linked);
     }
@@ -97,7 +106,7 @@ fn breaks_rules(linked: &Result<(), BuildError>) -> bool
 /// Links new files behind those of a pool, to which nothing came yet. A refusal may leave anything
 /// behind them; but the records of files that break rules are there as they were.
 fn link_new(
-    alloc: Global,
+    terms: Terms,
     pool: &mut GrowingPool,
     new: &mut [FileDescriptorProto],
 ) -> Result<(), BuildError>
@@ -111,40 +120,41 @@ fn link_new(
     requires short { ShortFiles (files_of (contents_in pool.old.inner) ++ new.old) }
     ensures ok { OnOk result (contents_in pool.new.inner
         ≡ with_batch (contents_in pool.old.inner) new.old) }
-    ensures faults { TellsAll result (batch_faults (contents_in pool.old.inner) new.old) }
+    ensures faults { TellsAll terms.most result
+        (batch_faults (contents_in pool.old.inner) new.old) }
     ensures kept { OnErr result (rolled_back pool.new ≡ rolled_back pool.old) }
     ensures names { OnOk result (AllNamesBegin (contents_in pool.new.inner)) }
     ensures there { GivesBack result new.old (new_records pool.new) }
 {
-    pool.add_files(alloc, new)?;
-    enter_names(alloc, pool)?;
-    pool.see_files(alloc)?;
-    make_items(alloc, pool)
+    pool.add_files(terms.alloc, new)?;
+    enter_names(terms, pool)?;
+    pool.see_files(terms.alloc)?;
+    make_items(terms, pool)
 }
 
 /// The first pass: it enters the names of new files, or tells all faults of names, and of what a
 /// file, a message or an enum shows by itself. The pool has the new files as they are.
-fn enter_names(alloc: Global, pool: &mut GrowingPool) -> Result<(), BuildError>
+fn enter_names(terms: Terms, pool: &mut GrowingPool) -> Result<(), BuildError>
     requires counts { IsOk (counts_with pool.old.base (new_records pool.old)) }
     requires short { ShortFiles (files_of (contents_in pool.old.inner)) }
     ensures entered { OnOk result (contents_in pool.new.inner
         ≡ with_names (contents_in pool.old.inner)
         (declarations pool.old.base (new_records pool.old))) }
-    ensures faults { TellsAll result
+    ensures faults { TellsAll terms.most result
         (first_pass (files_of (contents_in pool.old.inner)) (contents_in pool.old.inner)
         (declarations pool.old.base (new_records pool.old))) }
     ensures kept { rolled_back pool.new ≡ rolled_back pool.old }
     ensures there { new_records pool.new ≡ new_records pool.old }
 {
-    let mut faults = Faults::new(alloc, &pool.inner.files);
+    let mut faults = Faults::new(terms.alloc, &pool.inner.files, terms.most);
     show_names(
         pool.base,
         &mut pool.inner.names,
         &mut pool.inner.file_names,
         &mut faults,
     )?;
-    let Faults { found, .. } = faults;
-    refuse(found)
+    let Faults { first, rest, .. } = faults;
+    refuse(first, rest)
 }
 
 /// Shows the new files of a pool, which are those that labels name from the base's count on, to the
@@ -157,9 +167,9 @@ fn show_names(
 ) -> Result<(), AllocError>
     requires here { base.files ≤ length faults.old.labels }
     requires counts { IsOk (counts_with base (records_from base.files faults.old.labels)) }
-    ensures ok { OnOk result (state_at names.new file_names.new faults.new.found.items
+    ensures ok { OnOk result (state_at names.new file_names.new (told_in faults.new)
         ≡ fold (name_step (map (λ f. f.raw) faults.old.labels))
-        (state_at names.old file_names.old faults.old.found.items)
+        (state_at names.old file_names.old (told_in faults.old))
         (declarations base (records_from base.files faults.old.labels))) }
     ensures names { without_files_from base.files names.new
         ≡ without_files_from base.files names.old }
@@ -182,9 +192,9 @@ fn show_scoped(
 ) -> Result<(), AllocError>
     requires here { base.files ≤ length faults.old.labels }
     requires counts { IsOk (counts_with base (records_from base.files faults.old.labels)) }
-    ensures ok { OnOk result (state_at names.new.0 file_names.new faults.new.found.items
+    ensures ok { OnOk result (state_at names.new.0 file_names.new (told_in faults.new)
         ≡ fold (name_step (map (λ f. f.raw) faults.old.labels))
-        (state_at names.old.0 file_names.old faults.old.found.items)
+        (state_at names.old.0 file_names.old (told_in faults.old))
         (declarations base (records_from base.files faults.old.labels))) }
     ensures names { without_files_from base.files names.new.0
         ≡ without_files_from base.files names.old.0 }
@@ -206,7 +216,7 @@ fn show_scoped(
 /// The second pass: it makes the items of new files and puts them into the pool, which has their
 /// records and names, and their extensions into the lists of messages, or tells all faults of
 /// imports, numbers and references.
-fn make_items(alloc: Global, pool: &mut GrowingPool) -> Result<(), BuildError>
+fn make_items(terms: Terms, pool: &mut GrowingPool) -> Result<(), BuildError>
     requires counts { IsOk (counts_with pool.old.base (new_records pool.old)) }
     requires before { pool.old.base ≡ counts_in (before_items pool.old) }
     requires numbers { NumbersLead pool.old.inner.extensions.items pool.old.inner.messages.items }
@@ -222,27 +232,27 @@ fn make_items(alloc: Global, pool: &mut GrowingPool) -> Result<(), BuildError>
         ≡ with_extended (first_extension pool.old)
         (with_items (before_items pool.old) (setting_against pool.old.inner)
         (declarations pool.old.base (new_records pool.old)))) }
-    ensures faults { TellsAll result (second_pass (setting_against pool.old.inner)
+    ensures faults { TellsAll terms.most result (second_pass (setting_against pool.old.inner)
         pool.old.inner.extensions.items (declarations pool.old.base (new_records pool.old))) }
     ensures kept { OnErr result (rolled_back pool.new ≡ rolled_back pool.old) }
     ensures names { OnOk result (AllNamesBegin (contents_in pool.new.inner)) }
     ensures there { GivesBack result (new_records pool.old) (new_records pool.new) }
 {
-    let items = read_items(alloc, pool)?;
+    let items = read_items(terms, pool)?;
     put_items(pool, items)?;
-    link_files(alloc, pool)?;
+    link_files(terms.alloc, pool)?;
     pool.extend_messages()?;
     Ok(())
 }
 
 /// The items of what the new files of a pool declare, or all faults of the second pass.
-fn read_items(alloc: Global, pool: &GrowingPool) -> Result<NewItems, BuildError>
+fn read_items(terms: Terms, pool: &GrowingPool) -> Result<NewItems, BuildError>
     requires counts { IsOk (counts_with pool.now.base (new_records pool.now)) }
     requires numbers { NumbersLead pool.now.inner.extensions.items pool.now.inner.messages.items }
     requires short { ShortFiles (files_of (contents_in pool.now.inner)) }
     ensures items { IfOk result (λ items. HasItems items (setting_against pool.now.inner)
         (declarations pool.now.base (new_records pool.now))) }
-    ensures faults { TellsAll result (second_pass (setting_against pool.now.inner)
+    ensures faults { TellsAll terms.most result (second_pass (setting_against pool.now.inner)
         pool.now.inner.extensions.items (declarations pool.now.base (new_records pool.now))) }
     ensures names { IfOk result (λ items. NamesBegin items.messages.items items.enums.items
         items.services.items items.extensions.items) }
@@ -250,6 +260,7 @@ fn read_items(alloc: Global, pool: &GrowingPool) -> Result<NewItems, BuildError>
     let base = pool.base;
     let inner = &pool.inner;
     let files = &inner.files[base.files as usize..];
+    let alloc = terms.alloc;
     let items = NewItems::for_files(alloc, files)?;
     let mut visitor = ResolveVisitor {
         pool: PoolExtensions {
@@ -258,7 +269,7 @@ fn read_items(alloc: Global, pool: &GrowingPool) -> Result<NewItems, BuildError>
         },
         items,
         reading: Reading {
-            faults: Faults::new(alloc, &inner.files),
+            faults: Faults::new(alloc, &inner.files, terms.most),
             names: &inner.names,
             file_names: &inner.file_names,
         },
@@ -266,8 +277,8 @@ fn read_items(alloc: Global, pool: &GrowingPool) -> Result<NewItems, BuildError>
     walk(alloc, base, files, &mut visitor)?;
     let ResolveVisitor { reading, items, .. } = visitor;
     let Reading { faults, .. } = reading;
-    let Faults { found, .. } = faults;
-    refuse(found)?;
+    let Faults { first, rest, .. } = faults;
+    refuse(first, rest)?;
     Ok(items)
 }
 
@@ -325,13 +336,13 @@ fn link_files(alloc: Global, pool: &mut GrowingPool) -> Result<(), AllocError>
     linker.link_files(&mut next, files)
 }
 
-/// A pass is refused with its faults, if there are any.
-fn refuse(faults: Vec<DescriptorErrorKind>) -> Result<(), BuildError>
+/// A pass is refused with its first faults, if there are any, and the number of the others.
+fn refuse(faults: Vec<DescriptorErrorKind>, rest: usize) -> Result<(), BuildError>
     ensures ok { OnOk result (faults.items ≡ []) }
-    ensures err { IfErr result (λ error. TellsFaults error faults.items) }
+    ensures err { IfErr result (λ error. TellsFirst error faults.items rest) }
 {
     if faults.is_empty() {
         return Ok(());
     }
-    Err(BuildError::Descriptor(DescriptorError::new(faults)))
+    Err(BuildError::Descriptor(DescriptorError::new(faults, rest)))
 }

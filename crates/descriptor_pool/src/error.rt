@@ -7,7 +7,8 @@ use std::alloc::AllocError;
 pub enum BuildError {
     /// The new files, or their sum with the pool, have too much of a kind.
     TooMany(CountKind),
-    /// The new files break rules: all faults of the first failing pass, in order.
+    /// The new files break rules: all faults of the first failing pass, in order, or the first of
+    /// them where no more were asked for.
     Descriptor(DescriptorError),
     /// Memory was refused.
     OutOfMemory,

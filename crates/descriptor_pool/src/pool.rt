@@ -5,7 +5,7 @@ ghost use Rattle.std.specs.Option.{option_copied, option_map};
 mod members;
 mod parts;
 
-use crate::build::link;
+use crate::build::{Terms, link};
 use crate::error::BuildError;
 use pool_contents::DescriptorPoolInner;
 use pool_types::{
@@ -55,6 +55,7 @@ impl DescriptorPool {
     ghost use Rattle.descriptor_pool.specs.Outcome.{Outcome};
     ghost use Rattle.descriptor_pool.specs.Pool.{new_files};
     ghost use Rattle.descriptor_pool.specs.References.{AllNamed, AllResolved};
+    ghost use Rattle.descriptor_pool.specs.Within.{OutcomeWithin};
 
     /// A pool without files, which takes no memory.
     pub fn new(alloc: Global) -> DescriptorPool
@@ -224,7 +225,7 @@ impl DescriptorPool {
         ensures outcome { Outcome self.old files.items result self.new }
         ensures nothing_new { new_files self.old files.items ≡ [] → IsOk result }
     {
-        self.link_or_give_back(&mut files)
+        self.link_within(&mut files, None)
     }
 
     /// Links the files of a batch as `build_files` does. Where it is refused, but for memory, the
@@ -241,6 +242,25 @@ impl DescriptorPool {
         ensures nothing_new { new_files self.old files.old.items ≡ [] → IsOk result }
         ensures back { GivesBack result (new_files self.old files.old.items) files.new.items }
     {
+        self.link_within(files, None)
+    }
+
+    /// Links the files of a batch as `link_or_give_back` does, where the first `most` of its faults
+    /// are wanted, or all. At least one is told whatever is wanted. The others are counted and not
+    /// kept.
+    ///
+    /// # Errors
+    /// Those of `build_files`, at the same batches, but for the number of faults: `Descriptor` has
+    /// the first, in order, and how many more there are.
+    pub fn link_within(
+        &mut self,
+        files: &mut Vec<FileDescriptorProto>,
+        most: Option<usize>,
+    ) -> Result<(), BuildError>
+        ensures outcome { OutcomeWithin most self.old files.old.items result self.new }
+        ensures nothing_new { new_files self.old files.old.items ≡ [] → IsOk result }
+        ensures back { GivesBack result (new_files self.old files.old.items) files.new.items }
+    {
         self.inner.retain_new(files);
         if files.is_empty() {
             return Ok(());
@@ -249,7 +269,11 @@ impl DescriptorPool {
         if let Err(kind) = base.with_files(files) {
             return Err(BuildError::TooMany(kind));
         }
-        link(self.alloc, base, &mut self.inner, files)
+        let terms = Terms {
+            alloc: self.alloc,
+            most,
+        };
+        link(terms, base, &mut self.inner, files)
     }
 }
 

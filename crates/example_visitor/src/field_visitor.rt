@@ -52,9 +52,10 @@ impl FieldVisitor {
 
 impl Visitor for FieldVisitor {
     ghost use Rattle.pool_types.specs.Contents.{no_contents};
+    ghost use Rattle.record_walk.specs.Telling.{untold};
 
     ghost after = { λ v ds.
-        record { contents = no_contents; faults = []; listed = v ++ fields_in ds } };
+        record { contents = no_contents; faults = untold; listed = v ++ fields_in ds } };
 
     ghost ready = { λ _ _. Unit {0} };
 

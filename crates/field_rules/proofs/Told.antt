@@ -13,7 +13,7 @@ use Rattle.field_rules.specs.EnumRanges.{reserves}
 use Rattle.field_rules.specs.EnumValues.{number_label, reserved_fault}
 
 module _ (files : List FileDescriptorProto) (owner : Shown) (position : ℕ) (n : ℤ) where
-  abbrev fault_of : ℕ → EnumReservedRange → DescriptorErrorKind
+  abbrev pub fault_of : ℕ → EnumReservedRange → DescriptorErrorKind
   fault_of i range = fault.EnumNumberInReservedRange n (number_of range.start) (number_of range.«end»)
       (entry_label files owner.file owner.path enumeration.RESERVED_RANGE i) (number_label files owner position)
 

@@ -1,4 +1,4 @@
-ghost use Rattle.std.specs.Prelude.{◌≡◌, ◌<◌, ◌^◌, true, IfOk, OnOk};
+ghost use Rattle.std.specs.Prelude.{◌≡◌, ◌<◌, ◌^◌, ◌∷◌, [], true, OnOk};
 ghost use Rattle.pool_faults.specs.declared.fault.DescriptorErrorKind.TheVariants.{EnumNumberInReservedRange};
 ghost use Rattle.proto_types.specs.declared.tag.enum_.TheConstants.{VALUE, RESERVED_RANGE};
 ghost use Rattle.proto_types.specs.declared.tag.enum_value.TheConstants.{NUMBER};
@@ -32,8 +32,7 @@ pub(crate) fn check_reserved(
 {
     for (index, range) in enumeration.reserved_range.as_slice().iter().enumerate() {
         if reserves(range, number) {
-            let fault = reserved_fault(faults, place, position, number, (index, range))?;
-            faults.push(fault)?;
+            tell_reserved(faults, place, position, number, (index, range))?;
         }
     }
     Ok(())
@@ -46,32 +45,35 @@ fn reserves(range: &EnumReservedRange, number: i32) -> bool
     range.start() <= number && number <= range.end()
 }
 
-/// The fault of the number of the value with a position, and of a reserved range, given with its
-/// own.
-fn reserved_fault(
+/// Appends to `faults` that a reserved range, given with its position, holds the number of the
+/// value with a position. Where no further fault is kept, none is made.
+fn tell_reserved(
     faults: &mut Faults,
     place: Place,
     position: usize,
     number: i32,
     entry: (usize, &EnumReservedRange),
-) -> Result<DescriptorErrorKind, AllocError>
+) -> Result<(), AllocError>
     requires position { position < 2 ^ 31 }
     requires index { entry.0 < 2 ^ 31 }
-    ensures fault { IfOk result (λ fault. fault ≡ EnumNumberInReservedRange number
+    ensures { OnOk result (Tells faults.old faults.new (EnumNumberInReservedRange number
         (number_of entry.entry.1.now.start) (number_of entry.entry.1.now.«end»)
         (entry_label (named_files faults.old) place.entry.file place.entry.path.now
         RESERVED_RANGE entry.entry.0)
         (entry_part_label (named_files faults.old) place.entry.file place.entry.path.now
-        VALUE position NUMBER)) }
-    ensures stays { faults.new ≡ faults.old }
+        VALUE position NUMBER) ∷ [])) }
 {
+    if faults.is_full() {
+        return faults.leave_out();
+    }
     let (index, range) = entry;
     let (values, part) = (tag::enum_::VALUE, tag::enum_value::NUMBER);
-    Ok(DescriptorErrorKind::EnumNumberInReservedRange {
+    let fault = DescriptorErrorKind::EnumNumberInReservedRange {
         number,
         start: range.start(),
         end: range.end(),
         defined: faults.entry_label(place, tag::enum_::RESERVED_RANGE, index)?,
         found: faults.entry_part_label(place, values, position, part)?,
-    })
+    };
+    faults.push(fault)
 }

@@ -1,7 +1,9 @@
 ghost use Rattle.std.specs.Prelude.{◌≡◌, ◌<◌, ◌^◌, ◌∷◌, [], true, OnOk};
-ghost use Rattle.pool_faults.specs.Labels.{part_label};
-ghost use Rattle.pool_faults.specs.declared.fault.DescriptorErrorKind.TheVariants.{InvalidFieldNumber};
+ghost use Rattle.pool_faults.specs.Labels.{entry_label, part_label};
+ghost use Rattle.pool_faults.specs.declared.fault.DescriptorErrorKind.TheVariants.{FieldNumberInReservedRange, InvalidFieldNumber};
 ghost use Rattle.proto_types.specs.declared.tag.field.TheConstants.{NUMBER};
+ghost use Rattle.proto_types.specs.declared.tag.message.TheConstants.{RESERVED_RANGE};
+ghost use Rattle.proto_types.specs.Readers.{number_of};
 ghost use Rattle.proto_types.specs.declared.message.DescriptorProto.{out-DescriptorProto};
 ghost use Rattle.record_walk.specs.Counts.{fits_list};
 ghost use Rattle.record_walk.specs.Faults.{Tells, named_files};
@@ -101,16 +103,39 @@ fn check_reserved_range(
         (reserved_fault (named_files faults.old) place.entry.file place.entry.path.now number
         (inside_of owner.entry) entry.entry.0 entry.entry.1.now)) }
 {
-    let (position, range) = entry;
+    let (_, range) = entry;
     if holds((range.start(), range.end()), number) {
-        let fault = DescriptorErrorKind::FieldNumberInReservedRange {
-            number,
-            start: range.start(),
-            end: range.end(),
-            defined: faults.entry_label(owner, tag::message::RESERVED_RANGE, position)?,
-            found: faults.part_label(place, tag::field::NUMBER)?,
-        };
-        faults.push(fault)?;
+        tell_reserved(faults, owner, entry, place, number)?;
     }
     Ok(())
+}
+
+/// Appends to `faults` that a reserved range of a message, given with its position, holds a number.
+/// Where no further fault is kept, none is made.
+fn tell_reserved(
+    faults: &mut Faults,
+    owner: Place,
+    entry: (usize, &ReservedRange),
+    place: Place,
+    number: i32,
+) -> Result<(), AllocError>
+    requires { entry.0 < 2 ^ 31 }
+    ensures { OnOk result (Tells faults.old faults.new (FieldNumberInReservedRange number
+        (number_of entry.entry.1.now.start) (number_of entry.entry.1.now.«end»)
+        (entry_label (named_files faults.old) owner.entry.file owner.entry.path.now
+        RESERVED_RANGE entry.entry.0)
+        (part_label (named_files faults.old) place.entry.file place.entry.path.now NUMBER) ∷ [])) }
+{
+    if faults.is_full() {
+        return faults.leave_out();
+    }
+    let (position, range) = entry;
+    let fault = DescriptorErrorKind::FieldNumberInReservedRange {
+        number,
+        start: range.start(),
+        end: range.end(),
+        defined: faults.entry_label(owner, tag::message::RESERVED_RANGE, position)?,
+        found: faults.part_label(place, tag::field::NUMBER)?,
+    };
+    faults.push(fault)
 }

@@ -10,6 +10,8 @@ use Rattle.name_tables.specs.Entries.{Entry, names_with}
 use Rattle.name_tables.proofs.Entries.{get-with, with-more}
 use Rattle.record_walk.specs.Protos.{of_file}
 use Rattle.record_walk.specs.Shown.{Shown}
+use Rattle.record_walk.specs.Telling.{with_faults}
+use Rattle.record_walk.proofs.Telling.{told-two}
 use Rattle.name_pass.specs.Syntax.{syntax_faults}
 use Rattle.name_pass.specs.Names.{entries_of, entries, file_entries_of, file_entries}
 use Rattle.name_pass.specs.FirstPass.{clashes, file_faults, file_name_faults, first_faults, holder, holder_faults, shape_faults}
@@ -57,5 +59,5 @@ module _ (files : List FileDescriptorProto) where
       let own = clashes-behind state.names es [] (e ∷ []) ∙ append-nil (fault (es ++ []) e) ∙ ap (λ before. fault before e) (append-nil es) in
       λ i. record state {
         names = with-more state.names es (e ∷ []) i;
-        faults = (append_assoc state.faults before next ∙ ap (λ more. state.faults ++ more) (ap (λ last. before ++ last) own ∙ sym (after-append fault [] es e))) i;
+        faults = (told-two state.faults before next ∙ ap (with_faults state.faults) (ap (λ last. before ++ last) own ∙ sym (after-append fault [] es e))) i;
       }

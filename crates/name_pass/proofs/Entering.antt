@@ -11,7 +11,7 @@ use Rattle.std.proofs.lemmas.Bool.{true≢false}
 use Rattle.pool_types.specs.Definition.{is_package}
 use Rattle.std.proofs.lemmas.Result.{on_ok_weaker}
 use Rattle.pool_faults.specs.declared.fault.DescriptorErrorKind.TheVariants.{DuplicateFileName}
-use Rattle.pool_faults.specs.declared.fault.DescriptorErrorKind.{DescriptorErrorKind}
+use Rattle.record_walk.specs.Telling.{Telling, with_faults}
 use Rattle.name_pass.specs.FirstPass.{holder_faults}
 use Rattle.name_pass.specs.Steps.{NameState, entered, file_named}
 
@@ -26,8 +26,8 @@ module _ (files : List FileDescriptorProto) (state : NameState) (e : Entry) wher
   new-name names absent is = simp (with-absent state.names e.0 e.1 absent, absent, append-nil) (λ i. record state { names = is i })
 
   -- which has a holder
-  pub held-name : (holder : Definition) (faults : List DescriptorErrorKind) → finite.get state.names e.0 ≡ Some holder
-      → faults ≡ state.faults ++ holder_faults files (Some holder) e → record state { faults = faults } ≡ entered files state (e ∷ [])
+  pub held-name : (holder : Definition) (faults : Telling) → finite.get state.names e.0 ≡ Some holder
+      → faults ≡ with_faults state.faults (holder_faults files (Some holder) e) → record state { faults = faults } ≡ entered files state (e ∷ [])
   held-name holder faults present told = simp (told, with-present state.names e.0 e.1 holder present, present, append-nil)
 
   -- which is a package that is entered again
@@ -43,6 +43,6 @@ module _ (state : NameState) (name : List ℕ) (index : ℕ) where
   new-file-name r file_names absent inserted = on_ok_weaker r (λ is. simp (with-absent state.file_names name index absent, absent, append-nil) (λ i. record state { file_names = is i })) inserted
 
   -- which a file has
-  pub held-file-name : (held : ℕ) (faults : List DescriptorErrorKind) → finite.get state.file_names name ≡ Some held → faults ≡ state.faults ++ DuplicateFileName name ∷ []
+  pub held-file-name : (held : ℕ) (faults : Telling) → finite.get state.file_names name ≡ Some held → faults ≡ with_faults state.faults (DuplicateFileName name ∷ [])
       → record state { faults = faults } ≡ file_named state name index
   held-file-name held faults present told = simp (told, with-present state.file_names name index held present, present)

@@ -1,5 +1,5 @@
 -- One more declaration is shown to the first pass.
-use Rattle.std.proofs.Common.{◌≡◌, Result, Ok, Err, OnOk, ℕ, suc, List, [], ◌∷◌, ◌++◌, length, map, take, refl, ap, subst, sym, ◌∙◌, append_assoc, append-nil}
+use Rattle.std.proofs.Common.{◌≡◌, Result, Ok, Err, OnOk, ℕ, suc, List, [], ◌∷◌, ◌++◌, length, map, take, refl, ap, subst, sym, ◌∙◌}
 use Rattle.std.specs.List.{fold}
 use Rattle.pool_faults.specs.declared.fault.DescriptorErrorKind.{DescriptorErrorKind}
 use Rattle.record_walk.specs.declared.faults.Faults.{Faults}
@@ -7,7 +7,10 @@ use Rattle.pool_types.specs.Contents.{ByText, Contents, no_contents}
 use Rattle.pool_types.specs.declared.contents.file.FileDescriptorInner.{FileDescriptorInner}
 use Rattle.name_tables.specs.NameTables.{file_names_before, without_files_from}
 use Rattle.pool_types.specs.declared.contents.definition.Definition.{Definition}
+use Rattle.record_walk.specs.Faults.{told_in}
+use Rattle.record_walk.specs.Telling.{with_faults}
 use Rattle.record_walk.specs.Visitor.{HasSeen}
+use Rattle.record_walk.proofs.Telling.{told-two}
 use Rattle.proto_types.specs.declared.file.FileDescriptorProto.{FileDescriptorProto}
 use Rattle.name_tables.specs.Entries.{names_with}
 use Rattle.name_tables.proofs.Entries.{with-nothing}
@@ -81,7 +84,7 @@ abbrev BreaksOwn : NameVisitor → Shown → List DescriptorErrorKind → Type 0
 BreaksOwn v d own = let state = state_of v in name_step (records_of v) state d ≡ record {
   names = names_with state.names (own_entry d ∷ []);
   file_names = names_with state.file_names [];
-  faults = state.faults ++ (clashes (records_of v) state.names [] (own_entry d ∷ []) ++ own);
+  faults = with_faults state.faults (clashes (records_of v) state.names [] (own_entry d ∷ []) ++ own);
 }
 
 -- the scopes behind a declaration other than a file
@@ -104,7 +107,7 @@ module _ (old here : NameVisitor) (d : Shown) (stays : Stays old here) (can : Is
 
   -- its name is entered, and then comes what it breaks by itself
   pub shown-own : (faults : Faults) (own : List FileDescriptorProto → List DescriptorErrorKind) → BreaksOwn old d (own (records_of old))
-      → IsEntered → IsOpened → faults.found.items ≡ here.faults.now.found.items ++ own (records_of here)
+      → IsEntered → IsOpened → told_in faults ≡ with_faults (told_in here.faults.now) (own (records_of here))
       → faults.labels ≡ here.faults.now.labels → HasBeenShown old (record here { faults = re_v faults here.faults }) d
   shown-own faults own is-own entering opening told same =
       let state = state_of old in
@@ -114,10 +117,10 @@ module _ (old here : NameVisitor) (d : Shown) (stays : Stays old here) (can : Is
       shown old (record here { faults = re_v faults here.faults }) d (stays-on stays (stays-told here faults same)) can scopes ((λ i. record {
         names = (named i).names;
         file_names = (ap (λ (s : NameState). s.file_names) named ∙ sym (with-nothing state.file_names)) i;
-        faults = (told ∙ (λ j. (named j).faults ++ own (map (λ f. f.raw) (stays.files j))) ∙ append_assoc state.faults clash (own (records_of old))) i;
+        faults = (told ∙ (λ j. with_faults (named j).faults (own (map (λ f. f.raw) (stays.files j)))) ∙ told-two state.faults clash (own (records_of old))) i;
       }) ∙ sym is-own)
 
   -- its name is entered, and it breaks nothing by itself
   pub shown-named : {U E : Type 0} (r : Result U E) → BreaksOwn old d [] → OnOk r IsEntered → OnOk r IsOpened → OnOk r (HasBeenShown old here d)
   shown-named r is-own entering opening =
-      both-ok r (λ named opened. shown-own here.faults.now (λ files. []) is-own named opened (sym (append-nil here.faults.now.found.items)) refl) entering opening
+      both-ok r (λ named opened. shown-own here.faults.now (λ files. []) is-own named opened refl refl) entering opening

@@ -6,6 +6,7 @@ use Rattle.proto_types.specs.declared.file.FileDescriptorProto.{FileDescriptorPr
 use Rattle.proto_types.specs.Names.{join}
 use Rattle.name_pass.specs.declared.names.NameInScope.{NameInScope}
 use Rattle.name_pass.specs.declared.names.NameVisitor.{NameVisitor}
+use Rattle.record_walk.specs.Faults.{told_in}
 use Rattle.record_walk.specs.Shown.{Shown}
 use Rattle.name_pass.specs.Scopes.{FollowScopes, front-follows}
 use Rattle.name_pass.specs.Steps.{CanBeEntered, NameState, front-entered}
@@ -15,7 +16,7 @@ abbrev pub state_of : NameVisitor → NameState
 state_of v = record {
   names = v.names.now.0;
   file_names = v.file_names.now;
-  faults = v.faults.now.found.items;
+  faults = told_in v.faults.now;
 }
 
 -- the scopes that are open

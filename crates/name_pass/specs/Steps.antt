@@ -2,25 +2,25 @@
 -- behind what is known by then.
 use Rattle.std.specs.Prelude.{◌≡◌, ◌≤◌, ℕ, true, List, [], ◌∷◌, ◌++◌}
 use Rattle.std.specs.List.{AllByRecursion}
-use Rattle.pool_faults.specs.declared.fault.DescriptorErrorKind.{DescriptorErrorKind}
 use Rattle.pool_types.specs.Contents.{ByText, Contents, no_contents}
 use Rattle.pool_types.specs.declared.contents.definition.Definition.{Definition}
 use Rattle.proto_types.specs.declared.file.FileDescriptorProto.{FileDescriptorProto}
 use Rattle.record_walk.specs.Visitor.{Progress}
 use Rattle.record_walk.specs.Shown.{Shown}
+use Rattle.record_walk.specs.Telling.{Telling, with_faults}
 use Rattle.name_tables.specs.Entries.{Entry, names_with}
 use Rattle.record_walk.specs.Counts.{lists_fit}
 use Rattle.name_pass.specs.Names.{entries_of, file_entries_of}
 use Rattle.name_pass.specs.FirstPass.{clashes, file_name_faults, first_faults, holder}
 
--- the state of the first pass: what names and names of files mean by now, and the faults so far
+-- the state of the first pass: what names and names of files mean by now, and what is told so far
 pub record NameState : Type 0 where
   pub names : ByText Definition
   pub file_names : ByText ℕ
-  pub faults : List DescriptorErrorKind
+  pub faults : Telling
 
--- the state of the first pass with these names and these faults
-abbrev pub state_at : ByText Definition → ByText ℕ → List DescriptorErrorKind → NameState
+-- the state of the first pass with these names, where this is told
+abbrev pub state_at : ByText Definition → ByText ℕ → Telling → NameState
 state_at names file_names faults = record {
   names = names;
   file_names = file_names;
@@ -35,14 +35,14 @@ known state = record no_contents { names = state.names; file_names = state.file_
 abbrev pub entered : List FileDescriptorProto → NameState → List Entry → NameState
 entered files state es = record state {
   names = names_with state.names es;
-  faults = state.faults ++ clashes files state.names [] es;
+  faults = with_faults state.faults (clashes files state.names [] es);
 }
 
 -- the state after the name of one more file
 abbrev pub file_named : NameState → List ℕ → ℕ → NameState
 file_named state name index = record state {
   file_names = names_with state.file_names ((name, index) ∷ []);
-  faults = state.faults ++ file_name_faults (holder state.file_names [] name) name;
+  faults = with_faults state.faults (file_name_faults (holder state.file_names [] name) name);
 }
 
 -- the state after one more declaration: the names that it enters are known, and what it breaks
@@ -51,7 +51,7 @@ abbrev pub name_step : List FileDescriptorProto → NameState → Shown → Name
 name_step files state d = record {
   names = names_with state.names (entries_of d);
   file_names = names_with state.file_names (file_entries_of d);
-  faults = state.faults ++ first_faults files (known state) [] d;
+  faults = with_faults state.faults (first_faults files (known state) [] d);
 }
 
 -- declarations lie in files from an index on, and no list of these is too long; the first pass is

@@ -10,25 +10,29 @@ use plain_data::Items;
 use std::error::Error;
 use std::fmt;
 
-/// The faults of a batch, of which there is at least one.
+/// The faults of a batch that are told, of which there is at least one, and how many more it has.
 #[derive(Drop)]
 pub struct DescriptorError {
     pub errors: Items<DescriptorErrorKind>,
+    /// How many faults the batch has behind those that are told.
+    pub rest: usize,
     ghost some: { errors ≢ [] },
 }
 
 impl DescriptorError {
-    /// Faults in their order, which must be some.
-    pub fn new(errors: Vec<DescriptorErrorKind>) -> DescriptorError
+    /// Faults in their order, which must be some, and how many more there are.
+    pub fn new(errors: Vec<DescriptorErrorKind>, rest: usize) -> DescriptorError
         requires { errors.items ≢ [] }
-        ensures { result.errors ≡ errors.items }
+        ensures errors { result.errors ≡ errors.items }
+        ensures rest { result.rest ≡ rest }
     {
         DescriptorError {
             errors: Items::from_vec(errors),
+            rest,
         }
     }
 
-    /// All faults, in order.
+    /// The faults that are told, in order.
     pub fn errors(&self) -> &[DescriptorErrorKind]
         ensures { result.now ≡ self.now.errors }
     {
@@ -107,7 +111,8 @@ impl fmt::Debug for DescriptorError {
 
 impl Error for DescriptorError {}
 
-/// All faults of a batch, in order, each as `Labelled` tells it, with a line feed between each two.
+/// The faults of a batch that are told, in order, each as `Labelled` tells it, with a line feed
+/// between each two.
 #[derive(Clone, Copy)]
 pub struct AllFaults<'a>(pub &'a DescriptorError);
 

@@ -73,12 +73,13 @@ impl Lister {
 }
 
 impl Visitor for Lister {
-    ghost use Rattle.std.specs.Prelude.{[], ◌++◌, map};
+    ghost use Rattle.std.specs.Prelude.{◌++◌, map};
     ghost use Rattle.pool_types.specs.Contents.{no_contents};
     ghost use Rattle.record_walk.specs.Declaration.{declaration_of};
+    ghost use Rattle.record_walk.specs.Telling.{untold};
 
     ghost after = { λ l ds.
-        record { contents = no_contents; faults = []; listed = l ++ map declaration_of ds } };
+        record { contents = no_contents; faults = untold; listed = l ++ map declaration_of ds } };
 
     ghost ready = { λ _ _. Unit {0} };
 

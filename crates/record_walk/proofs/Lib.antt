@@ -18,4 +18,5 @@ pub mod Reached
 pub mod Rests
 pub mod Cursors
 pub mod Passing
+pub mod Telling
 pub mod Tells

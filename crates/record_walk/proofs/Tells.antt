@@ -1,12 +1,14 @@
 -- What checks find, one after another.
-use Rattle.std.proofs.Common.{◌≡◌, List, [], ◌++◌, map, refl, ap, subst, sym, ◌∙◌, append_assoc, append-nil}
+use Rattle.std.proofs.Common.{◌≡◌, List, [], ◌++◌, map, refl, ap, subst, ◌∙◌}
 use Rattle.std.proofs.Math.Bool.{Bool-set}
 use Rattle.std.proofs.Math.Path.{to_path_p}
 use Rattle.pool_types.specs.declared.contents.file.FileDescriptorInner.{FileDescriptorInner}
 use Rattle.pool_faults.specs.declared.fault.DescriptorErrorKind.{DescriptorErrorKind}
 use Rattle.record_walk.specs.declared.faults.Faults.{Faults}
 use Rattle.record_walk.specs.Short.{ShortFiles}
-use Rattle.record_walk.specs.Faults.{Tells, named_files}
+use Rattle.record_walk.specs.Faults.{Tells, named_files, told_in}
+use Rattle.record_walk.specs.Telling.{with_faults}
+use Rattle.record_walk.proofs.Telling.{told-two}
 
 -- labels of the same files
 pub same-labels : (faults : Faults) (labels : List FileDescriptorInner) (short : ShortFiles (map (λ f. f.raw) labels)) → labels ≡ faults.labels
@@ -18,7 +20,7 @@ same-labels faults labels short is = λ i. record faults {
 
 -- no fault
 pub tells-none : (found : Faults) → Tells found found []
-tells-none found = record { told = sym (append-nil found.found.items); files = refl }
+tells-none found = record { told = refl; files = refl }
 
 -- labels name the same files
 pub same-files : {a b : Faults} {fs : List DescriptorErrorKind} → Tells a b fs → named_files b ≡ named_files a
@@ -35,7 +37,7 @@ tells-from {c = c} {fs = fs} same tells = subst (λ found. Tells found c fs) sam
 -- two checks
 pub tells-two : {a b c : Faults} {fs gs : List DescriptorErrorKind} → Tells a b fs → Tells b c gs → Tells a c (fs ++ gs)
 tells-two {a} {b} {c} {fs} {gs} first second = record {
-  told = second.told ∙ ap (λ xs. xs ++ gs) first.told ∙ append_assoc a.found.items fs gs;
+  told = second.told ∙ ap (λ told. with_faults told gs) first.told ∙ told-two (told_in a) fs gs;
   files = second.files ∙ first.files;
 }
 

@@ -15,6 +15,7 @@ pub mod Declaration
 pub mod Cursor
 pub mod Parts
 pub mod Short
+pub mod Telling
 pub mod Faults
 pub mod Place
 pub mod Words

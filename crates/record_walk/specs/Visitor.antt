@@ -1,15 +1,15 @@
 -- What a visitor has made of the declarations that it was shown.
 use Rattle.std.specs.Prelude.{◌≡◌, ◌↔◌, ℕ, zero, suc, List, [], ◌∷◌, ◌++◌}
 use Rattle.record_walk.specs.declared.declaration.Declaration.{Declaration}
-use Rattle.pool_faults.specs.declared.fault.DescriptorErrorKind.{DescriptorErrorKind}
 use Rattle.pool_types.specs.Contents.{Contents}
 use Rattle.record_walk.specs.Shown.{Shown}
+use Rattle.record_walk.specs.Telling.{Telling}
 
--- what a visitor has made so far: the contents of a pool, the faults, and the declarations that are
--- listed
+-- what a visitor has made so far: the contents of a pool, the faults that are told, and the
+-- declarations that are listed
 pub record Progress : Type 0 where
   pub contents : Contents
-  pub faults : List DescriptorErrorKind
+  pub faults : Telling
   pub listed : List Declaration
 
 -- a visitor has been shown a list: after a further one it shows what it would have shown after

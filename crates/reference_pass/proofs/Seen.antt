@@ -3,11 +3,13 @@ use Rattle.std.proofs.Common.{◌≡◌, ◌↔◌, true, List, [], ◌∷◌, �
 use Rattle.std.specs.List.{fold}
 use Rattle.pool_types.specs.declared.contents.extension.ExtensionDescriptorInner.{ExtensionDescriptorInner}
 use Rattle.record_walk.specs.declared.faults.Faults.{Faults as PassFaults}
+use Rattle.record_walk.specs.Faults.{told_in}
 use Rattle.record_walk.specs.FullNames.{CanBeRead}
 use Rattle.record_walk.specs.Parts.{is_part}
 use Rattle.record_walk.specs.Protos.{Proto, of_file, of_message, of_field, of_oneof, of_service, of_method, of_enum, of_value, of_extension}
 use Rattle.record_walk.specs.Visitor.{HasSeen, Progress}
 use Rattle.record_walk.specs.Shown.{Shown}
+use Rattle.record_walk.specs.Telling.{with_faults}
 use Rattle.reference_pass.specs.SecondPass.{owner_faults}
 use Rattle.reference_pass.specs.Setting.{Setting}
 use Rattle.reference_pass.specs.declared.items.NewItems.{NewItems}
@@ -29,7 +31,7 @@ held old items faults = record {
   enums = items.enums.items;
   services = items.services.items;
   extensions = old ++ items.extensions.items;
-  faults = faults.found.items;
+  faults = told_in faults;
 }
 
 -- what is held then is what the declaration makes of what was held
@@ -43,14 +45,14 @@ shown s t a b d same can is = record {
 -- the same, where what the declaration breaks is told behind what was told
 pub seen : (v : ResolveVisitor) (items : NewItems) (reading : Reading) (d : Shown) → setting_of reading ≡ setting_of v.reading → CanBeRead (d ∷ [])
     → held v.pool.extensions.now items reading.faults
-    ≡ record (reference_step (setting_of v.reading) (state_of v) d) { faults = v.reading.faults.found.items ++ owner_faults (setting_of v.reading) (state_of v).extensions d }
+    ≡ record (reference_step (setting_of v.reading) (state_of v) d) { faults = with_faults (told_in v.reading.faults) (owner_faults (setting_of v.reading) (state_of v).extensions d) }
     → HasSeen (after (setting_of v.reading) (state_of v)) CanBeRead (after (setting_of reading) (held v.pool.extensions.now items reading.faults)) CanBeRead (d ∷ [])
 seen v items reading d same can is =
     let s = setting_of v.reading in
     let step = reference_step s (state_of v) d in
     let told = sym (append-nil (owner_faults s (state_of v).extensions d)) in
     shown s (setting_of reading) (state_of v) (held v.pool.extensions.now items reading.faults) d same can
-    (is ∙ (λ i. record step { faults = v.reading.faults.found.items ++ told i }))
+    (is ∙ (λ i. record step { faults = with_faults (told_in v.reading.faults) (told i) }))
 
 -- where no item of a kind is made, what there was is all
 pub none : {X : Type 0} {xs ys : List X} → ys ≡ xs → ys ≡ xs ++ []

@@ -6,6 +6,8 @@ use Rattle.std.specs.Option.{option_map}
 use Rattle.pool_types.specs.declared.contents.extension.ExtensionDescriptorInner.{ExtensionDescriptorInner}
 use Rattle.record_walk.specs.Protos.{Proto, as_message, as_enum, as_service, as_extension}
 use Rattle.record_walk.specs.Shown.{Shown, of_kind}
+use Rattle.record_walk.specs.Telling.{with_faults}
+use Rattle.record_walk.proofs.Telling.{told-two}
 use Rattle.field_rules.specs.EnumItems.{enum_item}
 use Rattle.reference_pass.specs.Items.{made_of, message_item, service_item, extension_item, extension_items}
 use Rattle.reference_pass.specs.SecondPass.{owner_faults, owners_faults}
@@ -42,7 +44,7 @@ module _ (s : Setting) (r : ReferenceState) where
     enums = append-nil r.enums i;
     services = append-nil r.services i;
     extensions = append-nil r.extensions i;
-    faults = append-nil r.faults i;
+    faults = r.faults;
   }
 
   pub with-more : (ds es : List Shown) → with_declarations s (with_declarations s r ds) es ≡ with_declarations s r (ds ++ es)
@@ -53,6 +55,6 @@ module _ (s : Setting) (r : ReferenceState) where
         enums = made-behind as_enum enum_item r.enums ds es i;
         services = made-behind as_service (service_item s) r.services ds es i;
         extensions = made-behind as_extension (extension_item s) r.extensions ds es i;
-        faults = (append_assoc r.faults (told r.extensions ds) (told (r.extensions ++ extension_items s ds) es)
-            ∙ ap (λ fs. r.faults ++ fs) (sym (owners-append s r.extensions ds es))) i;
+        faults = (told-two r.faults (told r.extensions ds) (told (r.extensions ++ extension_items s ds) es)
+            ∙ ap (with_faults r.faults) (sym (owners-append s r.extensions ds es))) i;
       }

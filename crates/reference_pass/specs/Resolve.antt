@@ -7,18 +7,19 @@ use Rattle.pool_types.specs.declared.contents.service.ServiceDescriptorInner.{Se
 use Rattle.pool_types.specs.Contents.{no_contents}
 use Rattle.record_walk.specs.Visitor.{Progress}
 use Rattle.record_walk.specs.Shown.{Shown}
-use Rattle.reference_pass.specs.SecondPass.{Faults, owners_faults}
+use Rattle.record_walk.specs.Telling.{Telling, with_faults}
+use Rattle.reference_pass.specs.SecondPass.{owners_faults}
 use Rattle.reference_pass.specs.Items.{message_items, enum_items, service_items, extension_items}
 use Rattle.reference_pass.specs.Setting.{Setting}
 
--- the state of the second pass: the new items, the extensions of the pool and the new ones, and the
--- faults so far
+-- the state of the second pass: the new items, the extensions of the pool and the new ones, and
+-- what is told so far
 pub record ReferenceState : Type 0 where
   pub messages : List MessageDescriptorInner
   pub enums : List EnumDescriptorInner
   pub services : List ServiceDescriptorInner
   pub extensions : List ExtensionDescriptorInner
-  pub faults : Faults
+  pub faults : Telling
 
 -- the state with the items of further declarations and what these break
 abbrev pub with_declarations : Setting → ReferenceState → List Shown → ReferenceState
@@ -27,7 +28,7 @@ with_declarations s state ds = record {
   enums = state.enums ++ enum_items ds;
   services = state.services ++ service_items s ds;
   extensions = state.extensions ++ extension_items s ds;
-  faults = state.faults ++ owners_faults s state.extensions ds;
+  faults = with_faults state.faults (owners_faults s state.extensions ds);
 }
 
 -- the state after one more declaration

@@ -1,5 +1,6 @@
 -- What the second pass holds, as its definitions have it.
 use Rattle.std.specs.Prelude.{◌++◌}
+use Rattle.record_walk.specs.Faults.{told_in}
 use Rattle.reference_pass.specs.declared.resolve.ResolveVisitor.{ResolveVisitor}
 use Rattle.reference_pass.specs.Resolve.{ReferenceState}
 
@@ -10,5 +11,5 @@ state_of v = record {
   enums = v.items.enums.items;
   services = v.items.services.items;
   extensions = v.pool.extensions.now ++ v.items.extensions.items;
-  faults = v.reading.faults.found.items;
+  faults = told_in v.reading.faults;
 }

@@ -24,7 +24,7 @@ fn reserved_error(alloc: Global, end: i32) -> Result<DescriptorError, AllocError
         defined,
         found,
     };
-    Ok(DescriptorError::new(vec![in alloc; fault]?))
+    Ok(DescriptorError::new(vec![in alloc; fault]?, 0))
 }
 
 fn error_report(alloc: Global, error: &DescriptorError) -> Result<String, AllocError> {

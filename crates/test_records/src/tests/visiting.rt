@@ -3,6 +3,7 @@
 ghost use Rattle.std.specs.Prelude.{List, [], IfOk};
 ghost use Rattle.pool_types.specs.Contents.{no_contents};
 ghost use Rattle.record_walk.specs.Shown.{Shown};
+ghost use Rattle.record_walk.specs.Telling.{untold};
 
 use super::counting::{EVERY_KIND, NONE};
 use super::files_of;
@@ -36,7 +37,7 @@ impl Limited {
 }
 
 impl Visitor for Limited {
-    ghost after = { λ _ _. record { contents = no_contents; faults = []; listed = [] } };
+    ghost after = { λ _ _. record { contents = no_contents; faults = untold; listed = [] } };
 
     ghost ready = { λ _ _. Unit {0} };
 

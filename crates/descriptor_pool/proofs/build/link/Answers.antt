@@ -13,7 +13,7 @@ use Rattle.descriptor_pool.proofs.build.link.Goals.{then-is_err, else-is_err}
 
 pub returns-clause-faults : goal.returns-clause-faults
 returns-clause-faults c =
-    let Tells : DescriptorPoolInner → Type 0 = λ q. TellsAll c.link_new-linked.result (batch_faults (contents_in q) c.args.new.now) in
+    let Tells : DescriptorPoolInner → Type 0 = λ q. TellsAll c.args.terms.most c.link_new-linked.result (batch_faults (contents_in q) c.args.new.now) in
     subst Tells (c.new-growing.ensures.inner ∙ c.replace-before.ensures.value) c.link_new-linked.ensures.faults
 
 pub returns-clause-names : goal.returns-clause-names

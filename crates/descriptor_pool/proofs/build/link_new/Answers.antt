@@ -24,8 +24,8 @@ returns-in_err-enter_names-clause-faults c =
     let new = c.args.new.now in
     let e = c.in_err-enter_names.field-0.0 in
     let told = names-told old c.add_files.new.self c.enter_names.new.pool new c.requires.base c.requires.whole c.in_ok-add_files.ensures.ok c.add_files.ensures.kept in
-    tells-err _ e _ (search rules)
-    (told-first e (name_faults (contents_in old.inner) new) (reference_faults (contents_in old.inner) new) (subst (TellsFaults e) told c.in_err-enter_names.ensures.faults))
+    tells-err c.args.terms.most _ e _ (search rules)
+    (told-first c.args.terms.most e (name_faults (contents_in old.inner) new) (reference_faults (contents_in old.inner) new) (subst (TellsFaults c.args.terms.most e) told c.in_err-enter_names.ensures.faults))
 
 -- there are no more files than fit
 pub see_files-requires-clause-few : goal.see_files-requires-clause-few
@@ -94,8 +94,8 @@ returns-clause-faults c =
     let first = names-told c.args.pool.now c.add_files.new.self c.enter_names.new.pool c.args.new.now c.requires.base c.requires.whole c.in_ok-add_files.ensures.ok c.add_files.ensures.kept in
     let second = references-told c.args.pool.now c.add_files.new.self c.enter_names.new.pool c.args.new.now c.requires.base c.requires.whole c.in_ok-add_files.ensures.ok c.add_files.ensures.kept
     c.in_ok-enter_names.ensures.entered c.enter_names.ensures.kept c.see_files.new.self c.in_ok-see_files.ensures.ok c.see_files.ensures.kept in
-    told-second c.make_items.result (name_faults p new) (reference_faults p new) (sym first ∙ c.in_ok-enter_names.ensures.faults)
-    (subst (TellsAll c.make_items.result) second c.make_items.ensures.faults)
+    told-second c.args.terms.most c.make_items.result (name_faults p new) (reference_faults p new) (sym first ∙ c.in_ok-enter_names.ensures.faults)
+    (subst (TellsAll c.args.terms.most c.make_items.result) second c.make_items.ensures.faults)
 
 -- the records are there, whichever pass tells faults
 pub returns-in_err-enter_names-clause-there : goal.returns-in_err-enter_names-clause-there

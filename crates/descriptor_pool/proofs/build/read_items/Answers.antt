@@ -1,9 +1,11 @@
-use Rattle.std.proofs.Common.{◌≡◌, ◌-◌, List, [], length, map, take, drop, rules, ap, sym, subst, ◌∙◌}
+use Rattle.std.proofs.Common.{◌≡◌, ◌-◌, List, [], length, map, take, drop, Ok, Err, rules, ap, sym, subst, ◌∙◌}
 use Rattle.pool_types.specs.Contents.{Contents}
 use Rattle.pool_types.specs.declared.contents.file.FileDescriptorInner.{FileDescriptorInner}
 use Rattle.proto_types.specs.declared.file.FileDescriptorProto.{FileDescriptorProto}
 use Rattle.record_walk.specs.declared.counts.Counts.{Counts}
 use Rattle.record_walk.specs.Declarations.{declarations}
+use Rattle.record_walk.specs.Faults.{told_in}
+use Rattle.record_walk.specs.Telling.{nothing_told, with_faults}
 use Rattle.record_walk.specs.FullNames.{CanBeRead}
 use Rattle.record_walk.proofs.FullNames.{declarations-read}
 use Rattle.reference_pass.specs.Setting.{Setting}
@@ -13,9 +15,8 @@ use Rattle.descriptor_pool.specs.Against.{setting_against}
 use Rattle.reference_pass.proofs.Seen.{held}
 use Rattle.pool_contents.specs.Growing.{new_records}
 use Rattle.descriptor_pool.specs.Items.{HasItems}
-use Rattle.descriptor_pool.specs.Error.{TellsFaults}
 use Rattle.descriptor_pool.proofs.Bases.{rest-records}
-use Rattle.descriptor_pool.proofs.Passed.{no_items, nothing-held, references-end, tells-err}
+use Rattle.descriptor_pool.proofs.Passed.{no_items, nothing-held, references-end, refuse-tells, tells-err}
 use Rattle.descriptor_pool.proofs.build.read_items.Goals as goal
 
 -- the files that are shown
@@ -42,10 +43,11 @@ returns-clause-items c =
     let began = held c.deref-3.result.now c.in_ok-items.items c.new.result in
     let is = ap (λ files. setting_at files p.inner) (c.new.ensures.labels ∙ c.deref-4.ensures.value) in
     let old = p.inner.extensions.items in
-    let none : began ≡ no_items old = nothing-held c.deref-3.result.now c.in_ok-items.items c.new.result c.in_ok-items.ensures.messages c.in_ok-items.ensures.enums c.in_ok-items.ensures.services c.in_ok-items.ensures.extensions c.new.ensures.found
-    ∙ ap no_items c.deref-3.ensures.value in
+    let start = nothing_told c.args.terms.most in
+    let none : began ≡ no_items start old = nothing-held c.deref-3.result.now c.in_ok-items.items c.new.result start c.in_ok-items.ensures.messages c.in_ok-items.ensures.enums c.in_ok-items.ensures.services c.in_ok-items.ensures.extensions c.new.ensures.told
+    ∙ ap (no_items start) c.deref-3.ensures.value in
     let kept = ap (λ (x : Contents). x.extensions) c.walk.ensures.kept ∙ c.deref-3.ensures.value in
-    let has = (references-end (setting_at c.new.result.labels p.inner) v old began p.base fs none kept (c.in_ok-walk.ensures.ok.after_is [])).0 in
+    let has = (references-end (setting_at c.new.result.labels p.inner) v old began start p.base fs none kept (c.in_ok-walk.ensures.ok.after_is [])).0 in
     subst (λ (gs : List FileDescriptorProto). HasItems v.items (setting_against p.inner) (declarations p.base gs)) rest
     (subst (λ (s : Setting). HasItems v.items s (declarations p.base fs)) is has)
 
@@ -59,11 +61,13 @@ returns-clause-faults c =
     let began = held c.deref-3.result.now c.in_ok-items.items c.new.result in
     let is = ap (λ files. setting_at files p.inner) (c.new.ensures.labels ∙ c.deref-4.ensures.value) in
     let old = p.inner.extensions.items in
-    let none : began ≡ no_items old = nothing-held c.deref-3.result.now c.in_ok-items.items c.new.result c.in_ok-items.ensures.messages c.in_ok-items.ensures.enums c.in_ok-items.ensures.services c.in_ok-items.ensures.extensions c.new.ensures.found
-    ∙ ap no_items c.deref-3.ensures.value in
+    let start = nothing_told c.args.terms.most in
+    let none : began ≡ no_items start old = nothing-held c.deref-3.result.now c.in_ok-items.items c.new.result start c.in_ok-items.ensures.messages c.in_ok-items.ensures.enums c.in_ok-items.ensures.services c.in_ok-items.ensures.extensions c.new.ensures.told
+    ∙ ap (no_items start) c.deref-3.ensures.value in
     let kept = ap (λ (x : Contents). x.extensions) c.walk.ensures.kept ∙ c.deref-3.ensures.value in
-    let told = (references-end (setting_at c.new.result.labels p.inner) v old began p.base fs none kept (c.in_ok-walk.ensures.ok.after_is [])).1 in
-    sym (told ∙ (λ i. second_pass (is i) old (declarations p.base (rest i)))) ∙ c.in_ok-refuse.ensures.ok
+    let told = (references-end (setting_at c.new.result.labels p.inner) v old began start p.base fs none kept (c.in_ok-walk.ensures.ok.after_is [])).1 in
+    let all = told ∙ (λ i. with_faults start (second_pass (is i) old (declarations p.base (rest i)))) in
+    refuse-tells {U = Unit {0}} c.args.terms.most (Ok tt) (told_in v.reading.faults) _ c.in_ok-refuse.ensures.ok tt all
 
 -- or all of them are told
 pub returns-in_err-refuse-clause-faults : goal.returns-in_err-refuse-clause-faults
@@ -75,9 +79,10 @@ returns-in_err-refuse-clause-faults c =
     let began = held c.deref-3.result.now c.in_ok-items.items c.new.result in
     let is = ap (λ files. setting_at files p.inner) (c.new.ensures.labels ∙ c.deref-4.ensures.value) in
     let old = p.inner.extensions.items in
-    let none : began ≡ no_items old = nothing-held c.deref-3.result.now c.in_ok-items.items c.new.result c.in_ok-items.ensures.messages c.in_ok-items.ensures.enums c.in_ok-items.ensures.services c.in_ok-items.ensures.extensions c.new.ensures.found
-    ∙ ap no_items c.deref-3.ensures.value in
+    let start = nothing_told c.args.terms.most in
+    let none : began ≡ no_items start old = nothing-held c.deref-3.result.now c.in_ok-items.items c.new.result start c.in_ok-items.ensures.messages c.in_ok-items.ensures.enums c.in_ok-items.ensures.services c.in_ok-items.ensures.extensions c.new.ensures.told
+    ∙ ap (no_items start) c.deref-3.ensures.value in
     let kept = ap (λ (x : Contents). x.extensions) c.walk.ensures.kept ∙ c.deref-3.ensures.value in
-    let told = (references-end (setting_at c.new.result.labels p.inner) v old began p.base fs none kept (c.in_ok-walk.ensures.ok.after_is [])).1 in
-    let all = told ∙ (λ i. second_pass (is i) old (declarations p.base (rest i))) in
-    tells-err _ c.in_err-refuse.field-0.0 _ (search rules) (subst (TellsFaults c.in_err-refuse.field-0.0) all c.in_err-refuse.ensures.err)
+    let told = (references-end (setting_at c.new.result.labels p.inner) v old began start p.base fs none kept (c.in_ok-walk.ensures.ok.after_is [])).1 in
+    let all = told ∙ (λ i. with_faults start (second_pass (is i) old (declarations p.base (rest i)))) in
+    tells-err c.args.terms.most _ c.in_err-refuse.field-0.0 _ (search rules) (refuse-tells {U = Unit {0}} c.args.terms.most (Err c.in_err-refuse.field-0.0) (told_in v.reading.faults) _ tt c.in_err-refuse.ensures.err all)

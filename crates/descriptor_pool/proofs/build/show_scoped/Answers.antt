@@ -4,6 +4,7 @@ use Rattle.std.proofs.lemmas.Result.{on_ok_weaker}
 use Rattle.std.specs.List.{fold}
 use Rattle.proto_types.specs.declared.file.FileDescriptorProto.{FileDescriptorProto}
 use Rattle.record_walk.specs.Declarations.{declarations}
+use Rattle.record_walk.specs.Faults.{told_in}
 use Rattle.name_pass.specs.Steps.{CanBeEntered, name_step, state_at}
 use Rattle.name_pass.proofs.Following.{declarations-follow}
 use Rattle.pool_contents.specs.Growing.{records_from}
@@ -18,7 +19,7 @@ returns-clause-ok c =
     let files = a.faults.now.labels in
     let shown = c.files-files.result.now in
     let fs = map (λ f. f.raw) (take (length shown - a.base.files) (drop a.base.files shown)) in
-    let state = state_at a.names.now.0 a.file_names.now a.faults.now.found.items in
+    let state = state_at a.names.now.0 a.file_names.now (told_in a.faults.now) in
     let rest = rest-records a.base.files shown files c.files-files.ensures in
     let end = names-end c.walk.new.visitor c.walk.ensures.borrows c.names-1.given.0 c.names-1.given.1 c.file_names-1.given.0 c.file_names-1.given.1 c.faults-1.given.0 c.faults-1.given.1
     c.walk.result (map (λ f. f.raw) files) state (declarations a.base fs) _ _ _ refl c.walk.ensures.ok in

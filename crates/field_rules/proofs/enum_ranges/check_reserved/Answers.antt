@@ -1,5 +1,5 @@
 use Rattle.std.proofs.lemmas.Grind.{common_steps}
-use Rattle.std.proofs.Common.{◌≡◌, ◌+◌, ◌∷◌, [], List, take, get_or, None, to_z, of_z, w32, ap, sym, arith}
+use Rattle.std.proofs.Common.{◌≡◌, ◌+◌, ◌∷◌, [], List, take, get_or, None, to_z, of_z, w32, refl, ap, sym, arith}
 use Rattle.std.proofs.lemmas.List.{get_or_default}
 use Rattle.proto_types.specs.declared.records.enumeration.EnumReservedRange.{EnumReservedRange}
 use Rattle.pool_faults.specs.declared.fault.DescriptorErrorKind.{DescriptorErrorKind}
@@ -7,11 +7,11 @@ use Rattle.record_walk.specs.declared.faults.Faults.{Faults}
 use Rattle.record_walk.specs.Place.{enum_at}
 use Rattle.record_walk.specs.Faults.{Tells, named_files}
 use Rattle.field_rules.proofs.Tells.{tells-next}
-use Rattle.record_walk.proofs.Tells.{tells-as, tells-from, tells-none}
+use Rattle.record_walk.proofs.Tells.{tells-as, tells-none}
 use Rattle.field_rules.specs.EnumValues.{reserved_fault, reserved_faults}
-use Rattle.field_rules.proofs.Told.{told-held, told-free}
+use Rattle.field_rules.proofs.Told.{fault_of, told-held, told-free}
 use Rattle.field_rules.proofs.enum_ranges.check_reserved.Goals as goal
-use Rattle.field_rules.proofs.enum_ranges.check_reserved.Goals.{then-reserves+in_ok-fault+in_ok-push, else-reserves}
+use Rattle.field_rules.proofs.enum_ranges.check_reserved.Goals.{then-reserves+in_ok-tell_reserved, else-reserves}
 
 -- one more range is checked
 pub loop-index-preserved : goal.loop-index-preserved
@@ -31,10 +31,10 @@ loop-index-preserved c =
     (tells-next (λ files. reserved_fault files owner c.args.position n) ranges i range c.loop-index-test.true
     (get_or_default ranges i none range c.loop-index-test.true) so_far is tells) in
     elim c.if-reserves.branch [
-      | then-reserves+in_ok-fault+in_ok-push w ↦
-          next _ (w.in_ok-fault.fault ∷ [])
-          (told-held (named_files b) owner c.args.position n i range c.reserves.result w.in_ok-fault.fault c.reserves.ensures w.if-reserves.true w.in_ok-fault.ensures.fault)
-          (rw w.faults-is (tells-from w.in_ok-fault.ensures.stays w.in_ok-push.ensures.told))
+      | then-reserves+in_ok-tell_reserved w ↦
+          next _ (fault_of (named_files b) owner c.args.position n i range ∷ [])
+          (told-held (named_files b) owner c.args.position n i range c.reserves.result _ c.reserves.ensures w.if-reserves.true refl)
+          (rw w.faults-is w.in_ok-tell_reserved.ensures)
       | else-reserves w ↦
           next _ []
           (told-free (named_files b) owner c.args.position n i range c.reserves.result c.reserves.ensures w.if-reserves.false)

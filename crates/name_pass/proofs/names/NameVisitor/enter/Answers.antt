@@ -9,6 +9,8 @@ use Rattle.pool_types.specs.declared.contents.definition.Definition.{Definition}
 use Rattle.pool_types.specs.declared.contents.definition.DefinitionKind.{DefinitionKind}
 use Rattle.name_tables.specs.NameTables.{kept_before}
 use Rattle.name_tables.proofs.Earlier.{later-goes}
+use Rattle.record_walk.specs.Faults.{told_in}
+use Rattle.record_walk.specs.Telling.{with_faults}
 use Rattle.name_pass.specs.FirstPass.{holder_faults}
 use Rattle.name_pass.specs.Names.{definition_at, naming_field}
 use Rattle.name_pass.specs.State.{first_new, kept_of, records_of, state_of}
@@ -63,11 +65,11 @@ returns-clause-ok c =
     let n = c.args.name in
     let name = n.full_name.now in
     let holder = c.in-Some.holder.now in
-    let faults = c.check_clash.new.faults.found.items in
+    let faults = told_in c.check_clash.new.faults in
     let path = c.in_ok-path.ensures ∙ ap (λ tag. c.args.path.now ++ to_z w32 (of_z w32 tag) ∷ []) c.naming_field.ensures ∙ ap (λ tag. c.args.path.now ++ tag ∷ []) (as-number c.args.kind) in
     let held = sym (named-means v n c.requires.stands c.open.new.self c.open.ensures.names c.in_ok-open.ensures.scopes) ∙ sym c.holder-2.ensures ∙ ap option_copied c.in-Some.is in
     on_ok_weaker c.check_clash.result (λ told.
     (λ i. record (state_of v) { names = c.open.ensures.names i; faults = faults })
     ∙ held-name (records_of v) (state_of v) (name, definition_at c.args.file c.args.path.now c.args.kind) holder faults held
-    (told.told ∙ (λ i. v.faults.now.found.items ++ holder_faults (records_of v) (Some holder) (name, record { file = c.args.file; path = path i; kind = c.args.kind }))))
+    (told.told ∙ (λ i. with_faults (told_in v.faults.now) (holder_faults (records_of v) (Some holder) (name, record { file = c.args.file; path = path i; kind = c.args.kind })))))
     c.check_clash.ensures.told

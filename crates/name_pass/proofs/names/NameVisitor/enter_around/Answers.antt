@@ -1,4 +1,4 @@
-use Rattle.std.proofs.Common.{◌≡◌, true, false, [], ◌∷◌, ◌++◌, suc, ◌+◌, ◌-◌, get_or, length, take, arith, rules, refl, ap, sym, subst, ◌∙◌, append-nil}
+use Rattle.std.proofs.Common.{◌≡◌, true, false, [], ◌∷◌, ◌++◌, suc, ◌+◌, ◌-◌, get_or, length, take, arith, rules, refl, ap, sym, subst, ◌∙◌}
 use Rattle.std.proofs.lemmas.Bool.Decides.{nat_tests}
 use Rattle.std.proofs.lemmas.Str.{IsCharBoundary-after_ascii, IsCharBoundary-start}
 use Rattle.proto_types.specs.Names.{is_dot}
@@ -16,7 +16,7 @@ loop-end-init c =
     let v = c.args.self.now in
     let bytes = c.as_bytes-bytes.result.now in
     record {
-      state = λ i. record (state_of v) { names = sym (with-nothing v.names.now.0) i; faults = sym (append-nil v.faults.now.found.items) i };
+      state = λ i. record (state_of v) { names = sym (with-nothing v.names.now.0) i };
       stays = record { files = refl; kept = refl; borrows = refl };
       within = omega arith;
       cut = IsCharBoundary-start bytes c.as_bytes-bytes.ensures.utf8;

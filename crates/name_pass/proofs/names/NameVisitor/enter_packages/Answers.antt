@@ -1,4 +1,4 @@
-use Rattle.std.proofs.Common.{◌≡◌, [], ◌∷◌, map, length, arith, ap, sym, ◌∙◌, append-nil}
+use Rattle.std.proofs.Common.{◌≡◌, [], ◌∷◌, map, length, arith, ap, sym, ◌∙◌}
 use Rattle.std.proofs.lemmas.Bool.Decides.{nat_tests}
 use Rattle.std.proofs.lemmas.List.{nil_from_length}
 use Rattle.proto_types.specs.Names.{fronts}
@@ -14,10 +14,7 @@ pub returns-then-is_empty-clause-ok : goal.returns-then-is_empty-clause-ok
 returns-then-is_empty-clause-ok c =
     let v = c.args.self.now in
     let none : c.args.name.now ≡ [] = nil_from_length c.args.name.now (grind (arith, nat_tests, c.is_empty.ensures, c.if-is_empty.ensures)) in
-    (λ i. record (state_of v) {
-      names = (c.in_ok-open_outermost.ensures.names ∙ sym (with-nothing v.names.now.0)) i;
-      faults = sym (append-nil v.faults.now.found.items) i;
-    })
+    (λ i. record (state_of v) { names = (c.in_ok-open_outermost.ensures.names ∙ sym (with-nothing v.names.now.0)) i })
     ∙ ap (λ name. entered (records_of v) (state_of v) (map (package_entry c.args.file) (packages name))) (sym none)
 
 -- the last is the whole name

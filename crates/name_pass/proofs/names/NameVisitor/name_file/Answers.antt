@@ -1,5 +1,7 @@
 use Rattle.std.proofs.Common.{is_some, ◌++◌, ◌∷◌, [], refl, ap, sym, ◌∙◌}
 use Rattle.pool_faults.specs.declared.fault.DescriptorErrorKind.TheVariants.{DuplicateFileName}
+use Rattle.record_walk.specs.Faults.{told_in}
+use Rattle.record_walk.specs.Telling.{with_faults}
 use Rattle.name_pass.specs.State.{first_new, kept_of, state_of}
 use Rattle.std.specs.FinMap as finite
 use Rattle.name_tables.proofs.Inserted.{found-none, found-some}
@@ -27,8 +29,8 @@ pub returns-clause-ok : goal.returns-clause-ok
 returns-clause-ok c =
     let state = state_of c.args.self.now in
     let held = found-some (finite.get state.file_names c.args.name.now) (ap is_some (sym c.get.ensures) ∙ c.if-is_none.ensures) in
-    on_ok_weaker c.push.result (λ told. held-file-name state c.args.name.now c.args.file held.0 c.push.new.self.found.items held.1
-    (told.told ∙ ap (λ name. state.faults ++ DuplicateFileName name ∷ []) c.in_ok-name.ensures)) c.push.ensures.told
+    on_ok_weaker c.push.result (λ told. held-file-name state c.args.name.now c.args.file held.0 (told_in c.push.new.self) held.1
+    (told.told ∙ ap (λ name. with_faults state.faults (DuplicateFileName name ∷ [])) c.in_ok-name.ensures)) c.push.ensures.told
 
 pub returns-clause-stays : goal.returns-clause-stays
 returns-clause-stays c = stays-told c.args.self.now c.push.new.self c.push.ensures.labels

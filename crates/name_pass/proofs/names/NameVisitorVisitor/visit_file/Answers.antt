@@ -1,5 +1,6 @@
 use Rattle.std.proofs.Common.{[], ◌∷◌, map, ap, ◌∙◌, append_assoc, append-nil}
 use Rattle.proto_types.specs.Readers.{text_of}
+use Rattle.record_walk.proofs.Telling.{told-two}
 use Rattle.name_pass.specs.Names.{package_entry, packages}
 use Rattle.name_pass.specs.State.{records_of, state_of}
 use Rattle.name_pass.specs.Steps.{entered, file_named}
@@ -15,4 +16,4 @@ returns-clause-ok c =
     ∙ (λ i. entered (map (λ f. f.raw) (stays.files i)) (c.in_ok-name_file.ensures.ok i) (map (package_entry c.args.index) (packages (c.package.ensures i))))
     ∙ (λ i. entered (records_of v) (file_named (record (state_of v) { faults = c.in_ok-check_syntax.ensures.told.told i }) (c.name.ensures i) c.args.index)
     (map (package_entry c.args.index) (packages (text_of c.args.file.now.«package»))))
-    ∙ simp (append_assoc, append-nil))) c.enter_packages.ensures.ok c.enter_packages.ensures.scopes
+    ∙ simp (told-two, append_assoc, append-nil))) c.enter_packages.ensures.ok c.enter_packages.ensures.scopes
