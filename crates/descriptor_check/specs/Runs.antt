@@ -1,5 +1,5 @@
 -- A run of the check: what is answered to the arguments, and how the run ends.
-use Rattle.std.specs.Prelude.{◌≡◌, ◌⊎◌, ℕ, List, [], ◌∷◌, ◌++◌, All, Contains, codes, map}
+use Rattle.std.specs.Prelude.{◌≡◌, ◌⊎◌, ℕ, List, ◌++◌, All, Contains, codes, map}
 use Rattle.std.specs.declared.option.Option.{Option}
 use Rattle.std.specs.declared.option.Option.TheVariants.{None, Some}
 use Rattle.descriptor_check.specs.Answers.{answer, told}
@@ -19,37 +19,43 @@ use Rattle.descriptor_check.specs.declared.devices.DeviceError.TheVariants.{OutO
 use Rattle.descriptor_check.specs.declared.inputs.Input.{Input}
 
 -- an input has a name, and the bytes that are told of the file with it
-abbrev pub IsRead : (List ℕ → Option (List ℕ)) → List ℕ → Input → Type 0
-IsRead bytes_of name input = (input.name ≡ name) × IsTold (bytes_of name) input.bytes
+abbrev pub IsInputOf : (List ℕ → Option (List ℕ)) → List ℕ → Input → Type 0
+IsInputOf bytes_of name input = (input.name ≡ name) × IsTold (bytes_of name) input.bytes
 
 -- inputs have some names, in their order, all of them, and the bytes that are told of these files
-abbrev pub AreRead : (List ℕ → Option (List ℕ)) → List (List ℕ) → List Input → Type 0
-AreRead bytes_of names inputs = (map (λ i. i.name) inputs ≡ names)
+abbrev pub AreInputsOf : (List ℕ → Option (List ℕ)) → List (List ℕ) → List Input → Type 0
+AreInputsOf bytes_of names inputs = (map (λ i. i.name) inputs ≡ names)
     × All (λ i. IsTold (bytes_of i.name) i.bytes) inputs
 
 -- what could not be read, and why
-abbrev pub unread_words : List ℕ → List ℕ → List ℕ
-unread_words name why = name ++ (codes ": " ++ why)
+abbrev pub failure_words : List ℕ → List ℕ → List ℕ
+failure_words name why = name ++ (codes ": " ++ why)
 
--- an error tells that what has a name could not be read, or is want of memory
-abbrev pub Tells : List ℕ → DeviceError → Type 0
-Tells name OutOfMemory = Unit {0}
-Tells name (Failed words) = (why : List ℕ) × (words ≡ unread_words name why)
+-- an error is want of memory, or tells that what has a name could not be read, which is not told
+abbrev pub TellsFailure : {A : Type 0} → Option A → List ℕ → DeviceError → Type 0
+TellsFailure told name OutOfMemory = Unit {0}
+TellsFailure told name (Failed words) =
+    (told ≡ None) × ((why : List ℕ) × (words ≡ failure_words name why))
 
--- an error tells which of some files could not be read, or is want of memory
-abbrev pub TellsOneOf : List (List ℕ) → DeviceError → Type 0
-TellsOneOf names error = (name : List ℕ) × Contains names name × Tells name error
+-- an error is want of memory, or tells which of some files could not be read
+abbrev pub TellsOneOf : (List ℕ → Option (List ℕ)) → List (List ℕ) → DeviceError → Type 0
+TellsOneOf bytes_of names error =
+    (name : List ℕ) × Contains names name × TellsFailure (bytes_of name) name error
 
--- no verdict, since what has a name could not be read
-abbrev pub IsUnread : List ℕ → Answer → Type 0
-IsUnread name a = (why : List ℕ) × (a ≡ no_verdict (unread_words name why))
+-- no verdict, with what could not be read
+abbrev pub TellsUnread : List ℕ → Answer → Type 0
+TellsUnread name a = (why : List ℕ) × (a ≡ no_verdict (failure_words name why))
+
+-- no verdict, since what has a name could not be read, which is not told
+abbrev pub CouldNotRead : {A : Type 0} → Option A → List ℕ → Answer → Type 0
+CouldNotRead told name a = (told ≡ None) × TellsUnread name a
 
 -- the answer to a job: that of inputs that have the names of its files, in their order, all of
 -- them, or that one of them could not be read
 abbrev pub Checks : (List ℕ → Option (List ℕ)) → Job → Answer → Type 0
 Checks bytes_of job a =
-    ((inputs : List Input) × AreRead bytes_of job.files inputs × (a ≡ answer job.wanted inputs))
-    ⊎ ((name : List ℕ) × Contains job.files name × IsUnread name a)
+    ((inputs : List Input) × AreInputsOf bytes_of job.files inputs × (a ≡ answer job.wanted inputs))
+    ⊎ ((name : List ℕ) × Contains job.files name × CouldNotRead (bytes_of name) name a)
 
 -- the answer to what some words ask
 abbrev pub Asked : (List ℕ → Option (List ℕ)) → Request → Answer → Type 0
@@ -59,10 +65,10 @@ Asked bytes_of Version a = a ≡ told status.Accepted VERSION.now
 Asked bytes_of (Wrong words) a = a ≡ wrong_arguments words
 
 -- the answer to the arguments that are told, or that they could not be read
-abbrev pub IsAnswer : Devices → Answer → Type 0
-IsAnswer d a =
+abbrev pub IsAnswerTo : Devices → Answer → Type 0
+IsAnswerTo d a =
     ((words : List (List ℕ)) × IsTold d.words words × Asked d.bytes_of (request_of words) a)
-    ⊎ IsUnread (codes "the arguments") a
+    ⊎ CouldNotRead d.words (codes "the arguments") a
 
 -- both texts of an answer written
 abbrev pub with_texts : Answer → Devices → Devices
@@ -89,6 +95,6 @@ EndsAs old new a st = EndsIn (with_wanted a.linked (with_texts a old)) old new a
 
 -- a run ends as an answer to its arguments says, once its texts and its set are written, or before
 abbrev pub Ends : Devices → Devices → Status → Type 0
-Ends old new st = ((a : Answer) × IsAnswer old a × (st ≡ a.status)
+Ends old new st = ((a : Answer) × IsAnswerTo old a × (st ≡ a.status)
     × (new ≡ with_wanted a.linked (with_texts a old)))
     ⊎ EndsShort old new st

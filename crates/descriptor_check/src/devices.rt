@@ -1,6 +1,6 @@
 //! What a run of the check reads from and writes to.
 
-ghost use Rattle.std.specs.Prelude.{◌≡◌, IfOk, OnOk, OnErr};
+ghost use Rattle.std.specs.Prelude.{◌≡◌, IfOk, IfErr, OnOk, OnErr};
 ghost use Rattle.descriptor_check.specs.Devices as spec;
 
 use crate::answer::LinkedSet;
@@ -44,16 +44,20 @@ pub trait CheckDevices {
     /// The arguments, without the name of the program.
     ///
     /// # Errors
-    /// `Failed` where they could not be read, `OutOfMemory` where memory was refused.
+    /// `Failed` where they could not be read, which those that are told can be; `OutOfMemory` where
+    /// memory was refused.
     fn arguments(&self, alloc: Global) -> Result<Items<Text>, DeviceError>
-        ensures { IfOk result (spec.IsTold (told self.now).words) };
+        ensures ok { IfOk result (spec.IsTold (told self.now).words) }
+        ensures err { IfErr result (spec.FailsUntold (told self.now).words) };
 
     /// The bytes of the file with a name, or of the standard input for `-`.
     ///
     /// # Errors
-    /// `Failed` where they could not be read, `OutOfMemory` where memory was refused.
+    /// `Failed` where they could not be read, which those that are told can be; `OutOfMemory` where
+    /// memory was refused.
     fn read(&self, alloc: Global, name: &str) -> Result<Items<u8>, DeviceError>
-        ensures { IfOk result (spec.IsTold ((told self.now).bytes_of name.now)) };
+        ensures ok { IfOk result (spec.IsTold ((told self.now).bytes_of name.now)) }
+        ensures err { IfErr result (spec.FailsUntold ((told self.now).bytes_of name.now)) };
 
     /// Writes to the standard output.
     ///

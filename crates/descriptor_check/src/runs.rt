@@ -30,7 +30,7 @@ pub fn run<D: CheckDevices>(alloc: Global, devices: &mut D) -> Status
 
 /// What the arguments ask, answered.
 fn answer<D: CheckDevices>(alloc: Global, devices: &D) -> Result<Answer, AllocError>
-    ensures { IfOk result (spec.IsAnswer (D.told devices.now)) }
+    ensures { IfOk result (spec.IsAnswerTo (D.told devices.now)) }
 {
     match devices.arguments(alloc) {
         Ok(words) => answer_words(alloc, devices, words.as_slice()),
@@ -41,9 +41,9 @@ fn answer<D: CheckDevices>(alloc: Global, devices: &D) -> Result<Answer, AllocEr
 
 /// The answer where what has a name could not be read, and why.
 fn no_verdict(alloc: Global, name: &str, why: &Text) -> Result<Answer, AllocError>
-    ensures { IfOk result (spec.IsUnread name.now) }
+    ensures { IfOk result (spec.TellsUnread name.now) }
 {
-    let words = unread(alloc, name, why)?;
+    let words = failure_words(alloc, name, why)?;
     complain(alloc, words.as_str())
 }
 
@@ -80,8 +80,8 @@ fn read_inputs<D: CheckDevices>(
     devices: &D,
     names: &[Text],
 ) -> Result<Items<Input>, DeviceError>
-    ensures ok { IfOk result (spec.AreRead (D.told devices.now).bytes_of names.now) }
-    ensures err { IfErr result (spec.TellsOneOf names.now) }
+    ensures ok { IfOk result (spec.AreInputsOf (D.told devices.now).bytes_of names.now) }
+    ensures err { IfErr result (spec.TellsOneOf (D.told devices.now).bytes_of names.now) }
 {
     let mut inputs = Items::new(alloc);
     for name in names {
@@ -96,8 +96,8 @@ fn read_input<D: CheckDevices>(
     devices: &D,
     name: &Text,
 ) -> Result<Input, DeviceError>
-    ensures ok { IfOk result (spec.IsRead (D.told devices.now).bytes_of name.now) }
-    ensures err { IfErr result (spec.Tells name.now) }
+    ensures ok { IfOk result (spec.IsInputOf (D.told devices.now).bytes_of name.now) }
+    ensures err { IfErr result (spec.TellsFailure ((D.told devices.now).bytes_of name.now) name.now) }
 {
     match devices.read(alloc, name.as_str()) {
         Ok(bytes) => {
@@ -105,7 +105,7 @@ fn read_input<D: CheckDevices>(
             Ok(Input { name, bytes })
         }
         Err(DeviceError::Failed(why)) => {
-            let words = unread(alloc, name.as_str(), &why)?;
+            let words = failure_words(alloc, name.as_str(), &why)?;
             Err(DeviceError::Failed(Text::from_string(words)))
         }
         Err(DeviceError::OutOfMemory) => Err(DeviceError::OutOfMemory),
@@ -113,8 +113,8 @@ fn read_input<D: CheckDevices>(
 }
 
 /// What could not be read, and why.
-fn unread(alloc: Global, name: &str, why: &Text) -> Result<String, AllocError>
-    ensures { IfOk result (λ s. string_bytes s ≡ spec.unread_words name.now why.now) }
+fn failure_words(alloc: Global, name: &str, why: &Text) -> Result<String, AllocError>
+    ensures { IfOk result (λ s. string_bytes s ≡ spec.failure_words name.now why.now) }
 {
     let why = why.as_str();
     format!(in alloc; "{name}: {why}")
