@@ -1,2 +1,4 @@
+mod BoxBounds
+mod BoxWord
 pub mod Fields
 pub mod PoolSends

@@ -5,7 +5,7 @@ ghost use Rattle.pool_face.specs.declared.answers.Answers.{Answers};
 ghost use Rattle.pool_face.specs.contracts.answers.Answers.{the_row};
 ghost use Rattle.protolink_c.specs.Held.{held};
 
-use loose_box::{BoxPointer, from_pointer, into_pointer};
+use crate::box_pointer::{BoxPointer, from_pointer, into_pointer};
 use pool_face::Answers;
 use std::alloc::Global;
 use std::marker::{Model, Send};

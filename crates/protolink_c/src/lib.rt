@@ -7,6 +7,7 @@
 //! leaves the pool as it was.
 #![tactic(auto)]
 
+mod box_pointer;
 mod boxes;
 mod handle;
 mod items;

@@ -41,7 +41,7 @@ use Rattle.std_alloc.specs.Box.Ownership.{box_owns}
 use Rattle.pool_face.specs.declared.answers.Answers.{Answers}
 use Rattle.pool_face.specs.contracts.answers.Answers as answers
 use Rattle.protolink_c.specs.Held.{held}
-use Rattle.loose_box.proofs.Word as pointer
+use Rattle.protolink_c.proofs.BoxWord as pointer
 use Rattle.protolink_c.proofs.Fields.{word, word_good, pointer_good, Data, told}
 use Rattle.protolink_c.specs.contracts.handle.Handle as handle
 use Rattle.protolink_c.specs.contracts.handle.Handle.into_pointer.{ended, clauses}

@@ -22,7 +22,7 @@ use Rattle.std.proofs.alloc.Global.TheLaws as heap_laws
 use Rattle.std.specs.contracts.impls.GlobalAllocator.TheImpl.{ghosts}
 use Rattle.pool_face.specs.declared.answers.Answers.{Answers}
 use Rattle.pool_face.specs.contracts.answers.Answers as answers
-use Rattle.loose_box.proofs.Word as pointer
+use Rattle.protolink_c.proofs.BoxWord as pointer
 use Rattle.protolink_c.proofs.Fields.{word, pointer_good, word_good, Data, made, held_some}
 use Rattle.protolink_c.specs.Held.{held}
 use Rattle.protolink_c.specs.contracts.handle.Handle.of_pointer.{ended, clauses}

@@ -39,12 +39,12 @@ use Rattle.std.proofs.raw_atomic.Walks.{proved_at, leaves}
 use Rattle.std_alloc.specs.contracts.boxed.Box.from_raw as from_raw
 use Rattle.std_alloc.proofs.boxed.Box.from_raw.Symbol.{name as #from_raw}
 use Rattle.std_alloc.proofs.boxed.Box.from_raw.Met as from_raw_met
-use Rattle.loose_box.proofs.Bounds.{Bounds, R, A, A-laws, B, B-laws, passed}
-use Rattle.loose_box.proofs.Word.{pointer_typed, word, word_typed, Pointer, opened}
-use Rattle.loose_box.specs.contracts.from_pointer as from_pointer
-use Rattle.loose_box.specs.contracts.from_pointer.Key.{name as #self}
-use Rattle.loose_box.proofs.from_pointer.Statement.{statement}
-use Rattle.loose_box.proofs.from_pointer.Code as code
+use Rattle.protolink_c.proofs.BoxBounds.{Bounds, R, A, A-laws, B, B-laws, passed}
+use Rattle.protolink_c.proofs.BoxWord.{pointer_typed, word, word_typed, Pointer, opened}
+use Rattle.protolink_c.specs.contracts.box_pointer.from_pointer as from_pointer
+use Rattle.protolink_c.specs.contracts.box_pointer.from_pointer.Key.{name as #self}
+use Rattle.protolink_c.proofs.box_pointer.from_pointer.Statement.{statement}
+use Rattle.protolink_c.proofs.box_pointer.from_pointer.Code as code
 
 module _ (E : Bounds) where
   open E use {Y, Z, g, d, drops, frees}

@@ -35,12 +35,12 @@ use Rattle.std_alloc.specs.Box.Ownership.{box_owns}
 use Rattle.std_alloc.specs.contracts.boxed.Box.into_raw_with_allocator as into_raw
 use Rattle.std_alloc.proofs.boxed.Box.into_raw_with_allocator.Met as into_raw_met
 use Rattle.std_alloc.proofs.boxed.Box.into_raw_with_allocator.Symbol.{name as #into_raw}
-use Rattle.loose_box.proofs.Bounds.{Bounds, R, A, A-laws, B, B-laws, passed}
-use Rattle.loose_box.proofs.Word.{Typed_as, lone_value, pointer_typed, word, word_typed, Pair, pair_opened, closed}
-use Rattle.loose_box.specs.contracts.into_pointer as into_pointer
-use Rattle.loose_box.specs.contracts.into_pointer.Key.{name as #self}
-use Rattle.loose_box.proofs.into_pointer.Statement.{statement}
-use Rattle.loose_box.proofs.into_pointer.Code as code
+use Rattle.protolink_c.proofs.BoxBounds.{Bounds, R, A, A-laws, B, B-laws, passed}
+use Rattle.protolink_c.proofs.BoxWord.{Typed_as, lone_value, pointer_typed, word, word_typed, Pair, pair_opened, closed}
+use Rattle.protolink_c.specs.contracts.box_pointer.into_pointer as into_pointer
+use Rattle.protolink_c.specs.contracts.box_pointer.into_pointer.Key.{name as #self}
+use Rattle.protolink_c.proofs.box_pointer.into_pointer.Statement.{statement}
+use Rattle.protolink_c.proofs.box_pointer.into_pointer.Code as code
 
 module _ (E : Bounds) where
   open E use {Y, Z, g, d, drops, frees}

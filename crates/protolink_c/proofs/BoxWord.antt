@@ -21,7 +21,7 @@ use denote.Struct.Struct.{as_fields, within}
 use denote.Struct.Tuple.{Tuple}
 use Rattle.std.specs.declared.alloc.Allocator.{Ghosts}
 use Rattle.std_alloc.specs.Box.Ownership.{box_owns}
-use Rattle.loose_box.specs.contracts.BoxPointer as pointer
+use Rattle.protolink_c.specs.contracts.box_pointer.BoxPointer as pointer
 
 abbrev pub Typed_as : Ty → Val → Type 0
 Typed_as τ v = T (has_ty τ v) × WT v

@@ -1,6 +1,4 @@
 //! A box as its pointer, and the box again: for what keeps a box where no box may stand.
-#![tactic(auto)]
-
 ghost use Rattle.std.specs.Prelude.{◌≡◌};
 ghost use Rattle.std_alloc.specs.Box.Ownership.{box_owns};
 
@@ -8,7 +6,7 @@ use std::alloc::Allocator;
 use std::marker::Model;
 
 /// The address of a box beside its allocator. It owns the box's memory and the content there, and
-/// letting it go frees neither: [`from_pointer`] gives the box that does.
+/// can't be let go: [`from_pointer`] gives the box that frees both.
 pub struct BoxPointer<T, A: Allocator> {
     pub address: *mut T,
     pub allocator: A,
