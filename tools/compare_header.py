@@ -29,7 +29,8 @@ HEADER = TOP / "include/protolink.h"
 RUST = TOP / "bindings/rust/src/ffi.rs"
 DESCRIPTORS = TOP / "bindings/rust/src/descriptors.rs"
 PYTHON = TOP / "bindings/python/protolink.py"
-EXPORTS = tuple(TOP / "crates" / name / "src" for name in ("protolink_c", "pool_face", "pool_text"))
+EXPORTS = tuple(TOP / "crates" / name / "src" for name in ("protolink_c", "numbered_pool"))
+KINDS = TOP / "crates/pool_types/src/kinds.rt"
 
 Members = list[tuple[str, str]]
 """The members of a struct: names and types."""
@@ -170,6 +171,8 @@ def exports() -> Declared:
     """What the library exports."""
     files = sorted(path for folder in EXPORTS for path in folder.rglob("*.rt"))
     text = "\n".join(re.sub(r"//.*", "", path.read_text()) for path in files)
+    ((numbered,),) = matching(r"fn type_number\((.*?)^    \}", KINDS.read_text())
+    text += numbered
     types = dict(RATTLE_TYPES)
 
     def plain(words: str) -> str:

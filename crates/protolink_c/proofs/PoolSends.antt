@@ -29,7 +29,7 @@ use Rattle.pool_types.proofs.contents.extension.ExtensionDescriptorInner.TheSend
 use Rattle.pool_types.proofs.contents.message.MessageDescriptorInner.TheSendSync as item_messages
 use Rattle.pool_types.proofs.contents.service.ServiceDescriptorInner.TheSendSync as item_services
 use Rattle.pool_types.proofs.kinds.Syntax.TheSendSync as syntax
-use Rattle.pool_face.specs.contracts.answers.Answers as answers
+use Rattle.numbered_pool.specs.contracts.answers.Answers as answers
 
 number_send : IsSend u32
 number_send = search sendable

@@ -1,11 +1,11 @@
 -- What a call that adds files answers.
 use Rattle.std.specs.Prelude.{◌≡◌, ℕ}
 use Rattle.pool_types.specs.Contents.{Contents}
-use Rattle.pool_face.specs.Added.{AddedAs}
-use Rattle.pool_face.specs.Reading.{Read}
-use Rattle.pool_face.specs.Statuses.{status_number}
-use Rattle.pool_face.specs.declared.answers.Answers.{Answers}
-use Rattle.pool_face.specs.declared.status.Status.{Status}
+use Rattle.numbered_pool.specs.Added.{AddedAs}
+use Rattle.numbered_pool.specs.Reading.{Read}
+use Rattle.numbered_pool.specs.Statuses.{status_number}
+use Rattle.numbered_pool.specs.declared.answers.Answers.{Answers}
+use Rattle.numbered_pool.specs.declared.status.Status.{Status}
 
 -- it ended as its number says, by what its bytes say
 pub record IsAdded (read : Read) (old : Contents) (new : Answers) (number : ℕ) : Type 0 where

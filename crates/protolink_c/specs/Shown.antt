@@ -2,9 +2,9 @@
 use Rattle.std.specs.declared.option.Option.{Option}
 use Rattle.std.specs.declared.option.Option.TheVariants.{None, Some}
 use Rattle.pool_types.specs.Contents.{Contents, no_contents}
-use Rattle.pool_face.specs.Reports.{no_report}
-use Rattle.pool_face.specs.declared.answers.Answers.{Answers}
-use Rattle.pool_face.specs.declared.report.Report.{Report}
+use Rattle.numbered_pool.specs.Reports.{no_report}
+use Rattle.numbered_pool.specs.declared.answers.Answers.{Answers}
+use Rattle.numbered_pool.specs.declared.report.Report.{Report}
 use Rattle.protolink_c.specs.declared.lent.Lent.{Lent}
 use Rattle.protolink_c.specs.declared.lent.Lent.TheVariants.{Boxed, Empty}
 

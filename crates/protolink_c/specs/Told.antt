@@ -2,8 +2,8 @@
 use Rattle.std.specs.Prelude.{ℕ, List, ◌++◌, length, drop, nat_le, if◌then◌else◌}
 use Rattle.std.specs.declared.option.Option.{Option}
 use Rattle.std.specs.declared.option.Option.TheVariants.{None, Some}
-use Rattle.pool_face.specs.declared.numbers.Found.{Found}
-use Rattle.pool_face.specs.declared.numbers.Item.{Item}
+use Rattle.numbered_pool.specs.declared.numbers.Found.{Found}
+use Rattle.numbered_pool.specs.declared.numbers.Item.{Item}
 
 -- what was found; without it the place stays
 abbrev pub written : {A : Type 0} → Option A → A → A × ℕ

@@ -1,10 +1,10 @@
 //! The boxes of pools.
 ghost use Rattle.std.specs.Prelude.{◌≡◌, IfSome, MatchOption, None, Some};
-ghost use Rattle.pool_face.specs.Statuses.{status_number};
+ghost use Rattle.numbered_pool.specs.Statuses.{status_number};
 ghost use Rattle.protolink_c.specs.Shown.{pool_of, unreported};
 
 use crate::handle::Handle;
-use pool_face::{Answers, Status};
+use numbered_pool::{Answers, Status};
 use std::alloc::Global;
 
 /// The pool of a handle, or a new one where it owns none; nothing where memory was refused for it.

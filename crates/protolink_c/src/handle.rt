@@ -1,12 +1,12 @@
 //! The handle that C holds: the one struct that owns, and what is proved of it by hand.
 ghost use Rattle.std.specs.Prelude.{◌≡◌, MatchOption, Option, Some, None};
 ghost use Rattle.std.specs.Coded.{coded_option};
-ghost use Rattle.pool_face.specs.declared.answers.Answers.{Answers};
-ghost use Rattle.pool_face.specs.contracts.answers.Answers.{the_row};
+ghost use Rattle.numbered_pool.specs.declared.answers.Answers.{Answers};
+ghost use Rattle.numbered_pool.specs.contracts.answers.Answers.{the_row};
 ghost use Rattle.protolink_c.specs.Held.{held};
 
 use crate::box_pointer::{BoxPointer, from_pointer, into_pointer};
-use pool_face::Answers;
+use numbered_pool::Answers;
 use std::alloc::Global;
 use std::marker::{Model, Send};
 

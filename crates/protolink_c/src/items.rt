@@ -2,15 +2,15 @@
 //! where the pool has no such thing, and then writes nothing.
 ghost use Rattle.std.specs.Prelude.{◌≡◌, slice_get};
 ghost use Rattle.std.specs.Option.{option_map};
-ghost use Rattle.pool_face.specs.Items as spec;
-ghost use Rattle.pool_face.specs.Numbers as numbers;
+ghost use Rattle.numbered_pool.specs.Items as spec;
+ghost use Rattle.numbered_pool.specs.Numbers as numbers;
 ghost use Rattle.protolink_c.specs.Shown.{pool_of};
 ghost use Rattle.protolink_c.specs.Told.{written};
 
 use crate::handle::Handle;
 use crate::lent::lend;
 use crate::told::write;
-use pool_face::{
+use numbered_pool::{
     EnumItem, ExtensionItem, FieldItem, FileItem, MessageItem, MethodItem, OneofItem, ServiceItem,
     ValueItem,
 };

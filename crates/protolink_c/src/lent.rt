@@ -3,7 +3,7 @@ ghost use Rattle.std.specs.Prelude.{◌≡◌};
 ghost use Rattle.protolink_c.specs.Shown.{answers_of, lent_answers, lent_shown};
 
 use crate::handle::Handle;
-use pool_face::Answers;
+use numbered_pool::Answers;
 use std::alloc::Global;
 use std::mem;
 

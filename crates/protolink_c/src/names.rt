@@ -3,8 +3,8 @@
 ghost use Rattle.std.specs.Prelude.{◌≡◌, ◌≢◌, IsUtf8, None, slice_get};
 ghost use Rattle.std.specs.Option.{option_map};
 ghost use Rattle.proto_types.specs.Readers.{text_of};
-ghost use Rattle.pool_face.specs.Defaults.{default_bytes};
-ghost use Rattle.pool_face.specs.Items as spec;
+ghost use Rattle.numbered_pool.specs.Defaults.{default_bytes};
+ghost use Rattle.numbered_pool.specs.Items as spec;
 ghost use Rattle.protolink_c.specs.Shown.{pool_of};
 ghost use Rattle.protolink_c.specs.Told.{handed_out_if, written};
 
@@ -12,7 +12,7 @@ use crate::handle::Handle;
 use crate::lent::lend;
 use crate::status::{NO_MEMORY, NOT_FOUND};
 use crate::told::{hand_out, write};
-use pool_face::Item;
+use numbered_pool::Item;
 use std::alloc::Global;
 
 /// Tells the position of the field of a message that has a name.

@@ -3,8 +3,8 @@ ghost use Rattle.std.specs.Prelude.{◌≡◌, ◌≢◌, IsUtf8, None, slice_ge
 ghost use Rattle.std.specs.Option.{option_map};
 ghost use Rattle.descriptor_encoding.specs.Encoding.{file_encoding, set_encoding};
 ghost use Rattle.pool_contents.specs.LookUps.{definition_named};
-ghost use Rattle.pool_face.specs.Numbers as numbers;
-ghost use Rattle.pool_face.specs.Reading.{file_read, script_read, set_read};
+ghost use Rattle.numbered_pool.specs.Numbers as numbers;
+ghost use Rattle.numbered_pool.specs.Reading.{file_read, script_read, set_read};
 ghost use Rattle.pool_types.specs.Contents.{files_of};
 ghost use Rattle.pool_types.specs.Extension.{extension_numbered};
 ghost use Rattle.record_walk.specs.Counts.{counts_in};
@@ -17,7 +17,7 @@ use crate::handle::Handle;
 use crate::lent::lend;
 use crate::status::{DONE, NO_MEMORY, NOT_FOUND};
 use crate::told::{hand_out, locate, write};
-use pool_face::{Item, PoolCounts};
+use numbered_pool::{Item, PoolCounts};
 use std::alloc::Global;
 use std::mem;
 

@@ -8,7 +8,7 @@ use crate::pools::{
     protolink_pool_counts, protolink_pool_find, protolink_pool_linked, protolink_pool_report,
 };
 use crate::status::{DONE, NOT_FOUND, SHORT};
-use pool_face::{Item, MessageItem, PoolCounts};
+use numbered_pool::{Item, MessageItem, PoolCounts};
 use std::test::*;
 
 /// Rules are broken.

@@ -3,7 +3,7 @@ ghost use Rattle.std.specs.Prelude.{◌≡◌};
 ghost use Rattle.protolink_c.specs.Told.{handed_out, located, written};
 
 use crate::status::{DONE, NOT_FOUND, SHORT};
-use pool_face::{Found, Item};
+use numbered_pool::{Found, Item};
 
 /// Writes what was found.
 pub fn write<T: Copy>(found: Option<T>, place: &mut T) -> u8

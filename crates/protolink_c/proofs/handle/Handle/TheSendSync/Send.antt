@@ -11,8 +11,8 @@ use Rattle.std.specs.Prelude.{Option, Some, None}
 use Rattle.std.specs.contracts.impls.GlobalAllocator.TheImpl.{ghosts}
 use Rattle.std.below.std_heap.proofs.GlobalAllocator.TheSendSync as heap_sends
 use Rattle.std_alloc.proofs.SendSync.{quiet, lies}
-use Rattle.pool_face.specs.declared.answers.Answers.{Answers}
-use Rattle.pool_face.specs.contracts.answers.Answers as answers
+use Rattle.numbered_pool.specs.declared.answers.Answers.{Answers}
+use Rattle.numbered_pool.specs.contracts.answers.Answers as answers
 use Rattle.protolink_c.specs.Held.{held, heap}
 use Rattle.protolink_c.proofs.PoolSends.{answers_send}
 use Rattle.protolink_c.specs.contracts.handle.Handle.{the_row, the_type}

@@ -15,7 +15,7 @@ use denote.Steps.{nothing}
 use denote.Triple.Entry.{alive}
 use denote.Triple.Walked.{walk_of}
 use Rattle.std.proofs.raw_atomic.Walks.{proved, leaves}
-use Rattle.pool_face.specs.declared.answers.Answers.{Answers}
+use Rattle.numbered_pool.specs.declared.answers.Answers.{Answers}
 use Rattle.protolink_c.proofs.Fields.{word, Data, made}
 use Rattle.protolink_c.specs.contracts.handle.Handle.empty.{ended, clauses}
 use Rattle.protolink_c.specs.contracts.handle.Handle.empty.Key.{name as #self}

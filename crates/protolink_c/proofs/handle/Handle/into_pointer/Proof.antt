@@ -38,8 +38,8 @@ use Rattle.std.specs.contracts.alloc.Global as heap
 use Rattle.std.proofs.alloc.Global.TheLaws as heap_laws
 use Rattle.std.specs.contracts.impls.GlobalAllocator.TheImpl as global
 use Rattle.std_alloc.specs.Box.Ownership.{box_owns}
-use Rattle.pool_face.specs.declared.answers.Answers.{Answers}
-use Rattle.pool_face.specs.contracts.answers.Answers as answers
+use Rattle.numbered_pool.specs.declared.answers.Answers.{Answers}
+use Rattle.numbered_pool.specs.contracts.answers.Answers as answers
 use Rattle.protolink_c.specs.Held.{held}
 use Rattle.protolink_c.proofs.BoxWord as pointer
 use Rattle.protolink_c.proofs.Fields.{word, word_good, pointer_good, Data, told}

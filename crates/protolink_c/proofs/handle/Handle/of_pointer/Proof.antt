@@ -20,8 +20,8 @@ use Rattle.std.proofs.raw_atomic.Walks.{proved_at, leaves}
 use Rattle.std.specs.contracts.alloc.Global as heap
 use Rattle.std.proofs.alloc.Global.TheLaws as heap_laws
 use Rattle.std.specs.contracts.impls.GlobalAllocator.TheImpl.{ghosts}
-use Rattle.pool_face.specs.declared.answers.Answers.{Answers}
-use Rattle.pool_face.specs.contracts.answers.Answers as answers
+use Rattle.numbered_pool.specs.declared.answers.Answers.{Answers}
+use Rattle.numbered_pool.specs.contracts.answers.Answers as answers
 use Rattle.protolink_c.proofs.BoxWord as pointer
 use Rattle.protolink_c.proofs.Fields.{word, pointer_good, word_good, Data, made, held_some}
 use Rattle.protolink_c.specs.Held.{held}

@@ -7,7 +7,7 @@ use Rattle.verdict_texts.specs.Lines.{line}
 use Rattle.verdict_texts.specs.Objects.{refused_json, too_many_json, unread_json}
 use Rattle.verdict_texts.specs.Refused.{refused_text, told_refusal, too_many_text}
 use Rattle.verdict_texts.specs.declared.refused.ToldRefusal.{ToldRefusal}
-use Rattle.pool_face.specs.declared.report.Report.{Report}
+use Rattle.numbered_pool.specs.declared.report.Report.{Report}
 
 -- nothing told
 abbrev pub no_report : Report

@@ -5,12 +5,12 @@ use Rattle.pool_types.specs.Contents.{Contents}
 use Rattle.record_walk.specs.declared.counts.CountKind.{CountKind}
 use Rattle.descriptor_pool.specs.Outcome.{IsLinked}
 use Rattle.descriptor_pool.specs.Pool.{Batch, Fits, counts_after, faults}
-use Rattle.pool_face.specs.Reading.{Read}
-use Rattle.pool_face.specs.Reports.{no_report, refused_report, too_many_report, fault_report}
-use Rattle.pool_face.specs.declared.answers.Answers.{Answers}
-use Rattle.pool_face.specs.declared.report.Report.{Report}
-use Rattle.pool_face.specs.declared.status.Status.{Status}
-use Rattle.pool_face.specs.declared.status.Status.TheVariants.{Done, Refused, Fault, OutOfMemory, TooMany}
+use Rattle.numbered_pool.specs.Reading.{Read}
+use Rattle.numbered_pool.specs.Reports.{no_report, refused_report, too_many_report, fault_report}
+use Rattle.numbered_pool.specs.declared.answers.Answers.{Answers}
+use Rattle.numbered_pool.specs.declared.report.Report.{Report}
+use Rattle.numbered_pool.specs.declared.status.Status.{Status}
+use Rattle.numbered_pool.specs.declared.status.Status.TheVariants.{Done, Refused, Fault, OutOfMemory, TooMany}
 
 -- the pool is as it was, and a report is told
 pub record IsTold (old : Contents) (new : Answers) (report : Report) : Type 0 where

@@ -4,6 +4,7 @@ use Rattle.std.specs.Option.{option_and_then}
 use Rattle.std.specs.declared.option.Option.{Option}
 use Rattle.record_walk.specs.declared.counts.Counts.{Counts}
 use Rattle.pool_faults.specs.Labels.{non_negative}
+use Rattle.pool_types.specs.Kinds.{type_number}
 use Rattle.pool_types.specs.declared.contents.definition.Definition.{Definition}
 use Rattle.pool_types.specs.declared.contents.definition.DefinitionKind.{DefinitionKind}
 use Rattle.pool_types.specs.declared.contents.definition.DefinitionKind.TheVariants as definition
@@ -22,18 +23,18 @@ use Rattle.pool_types.specs.declared.kinds.KindIndex.{KindIndex}
 use Rattle.pool_types.specs.declared.kinds.KindIndex.TheVariants as kind
 use Rattle.pool_types.specs.declared.kinds.Syntax.{Syntax}
 use Rattle.pool_types.specs.declared.kinds.Syntax.TheVariants.{Proto2, Proto3}
-use Rattle.pool_face.specs.declared.numbers.EnumItem.{EnumItem}
-use Rattle.pool_face.specs.declared.numbers.ExtensionItem.{ExtensionItem}
-use Rattle.pool_face.specs.declared.numbers.FieldItem.{FieldItem}
-use Rattle.pool_face.specs.declared.numbers.FileItem.{FileItem}
-use Rattle.pool_face.specs.declared.numbers.Found.{Found}
-use Rattle.pool_face.specs.declared.numbers.Item.{Item}
-use Rattle.pool_face.specs.declared.numbers.MessageItem.{MessageItem}
-use Rattle.pool_face.specs.declared.numbers.MethodItem.{MethodItem}
-use Rattle.pool_face.specs.declared.numbers.OneofItem.{OneofItem}
-use Rattle.pool_face.specs.declared.numbers.PoolCounts.{PoolCounts}
-use Rattle.pool_face.specs.declared.numbers.ServiceItem.{ServiceItem}
-use Rattle.pool_face.specs.declared.numbers.ValueItem.{ValueItem}
+use Rattle.numbered_pool.specs.declared.numbers.EnumItem.{EnumItem}
+use Rattle.numbered_pool.specs.declared.numbers.ExtensionItem.{ExtensionItem}
+use Rattle.numbered_pool.specs.declared.numbers.FieldItem.{FieldItem}
+use Rattle.numbered_pool.specs.declared.numbers.FileItem.{FileItem}
+use Rattle.numbered_pool.specs.declared.numbers.Found.{Found}
+use Rattle.numbered_pool.specs.declared.numbers.Item.{Item}
+use Rattle.numbered_pool.specs.declared.numbers.MessageItem.{MessageItem}
+use Rattle.numbered_pool.specs.declared.numbers.MethodItem.{MethodItem}
+use Rattle.numbered_pool.specs.declared.numbers.OneofItem.{OneofItem}
+use Rattle.numbered_pool.specs.declared.numbers.PoolCounts.{PoolCounts}
+use Rattle.numbered_pool.specs.declared.numbers.ServiceItem.{ServiceItem}
+use Rattle.numbered_pool.specs.declared.numbers.ValueItem.{ValueItem}
 
 -- the number that stands where there is none
 abbrev pub none : ℕ

@@ -1,7 +1,7 @@
 //! What is told of a call that added nothing.
 
 ghost use Rattle.std.specs.Prelude.{◌≡◌, IfOk, string_bytes};
-ghost use Rattle.pool_face.specs.Reports as spec;
+ghost use Rattle.numbered_pool.specs.Reports as spec;
 
 use plain_data::Text;
 use pool_faults::DescriptorErrorKind;

@@ -2,7 +2,7 @@
 //! there is none. A flag is 0 or 1.
 
 ghost use Rattle.std.specs.Prelude.{◌≡◌};
-ghost use Rattle.pool_face.specs.Numbers as spec;
+ghost use Rattle.numbered_pool.specs.Numbers as spec;
 
 use pool_types::{
     Cardinality, Definition, DefinitionKind, EnumDescriptorInner, EnumValueDescriptorInner,

@@ -1,9 +1,9 @@
 use Rattle.std.proofs.Common.{rules, ◌≡◌, IfOk, subst}
 use Rattle.descriptor_pool.specs.Outcome.{IsLinked, IsRefused}
-use Rattle.pool_face.specs.Reading.{files_read}
-use Rattle.pool_face.specs.Reports.{refused_report}
-use Rattle.pool_face.proofs.Told.{done-told, refused-told}
-use Rattle.pool_face.proofs.answers.Answers.add.Goals as goal
+use Rattle.numbered_pool.specs.Reading.{files_read}
+use Rattle.numbered_pool.specs.Reports.{refused_report}
+use Rattle.numbered_pool.proofs.Told.{done-told, refused-told}
+use Rattle.numbered_pool.proofs.answers.Answers.add.Goals as goal
 
 -- the files are linked
 pub returns-in-Ok-build_files : goal.returns-in-Ok-build_files

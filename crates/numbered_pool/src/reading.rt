@@ -1,7 +1,7 @@
 //! Files from their bytes.
 
 ghost use Rattle.std.specs.Prelude.{◌≡◌, IfOk};
-ghost use Rattle.pool_face.specs.Reading as spec;
+ghost use Rattle.numbered_pool.specs.Reading as spec;
 
 use descriptor_decoding::{DecodeError, decode, decode_file};
 use link_script::{ScriptError, ScriptFault, files_of};
@@ -33,7 +33,7 @@ pub(crate) enum ReadError {
 
 impl From<AllocError> for ReadError {
     ghost use Rattle.std.specs.Prelude.{◌≡◌};
-    ghost use Rattle.pool_face.specs.declared.reading.ReadError.TheVariants.{OutOfMemory};
+    ghost use Rattle.numbered_pool.specs.declared.reading.ReadError.TheVariants.{OutOfMemory};
 
     ghost from_gives = { λ _ error. error ≡ OutOfMemory };
 

@@ -1,7 +1,7 @@
 -- The numbers of statuses.
 use Rattle.std.specs.Prelude.{ℕ}
-use Rattle.pool_face.specs.declared.status.Status.{Status}
-use Rattle.pool_face.specs.declared.status.Status.TheVariants as status
+use Rattle.numbered_pool.specs.declared.status.Status.{Status}
+use Rattle.numbered_pool.specs.declared.status.Status.TheVariants as status
 
 -- the number of a status; 4 is the program's alone
 abbrev pub status_number : Status → ℕ

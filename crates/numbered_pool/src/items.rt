@@ -3,8 +3,8 @@
 ghost use Rattle.std.specs.Prelude.{◌≡◌, IfSome, slice_get};
 ghost use Rattle.std.specs.Option.{option_copied, option_map};
 ghost use Rattle.field_rules.specs.NamesBegin.{BeginsAtBoundary};
-ghost use Rattle.pool_face.specs.Items as spec;
-ghost use Rattle.pool_face.specs.Numbers as numbers;
+ghost use Rattle.numbered_pool.specs.Items as spec;
+ghost use Rattle.numbered_pool.specs.Numbers as numbers;
 
 use crate::answers::Answers;
 use crate::numbers::{

@@ -13,10 +13,10 @@ use Rattle.link_script.specs.Script.Faults.{fault_words}
 use Rattle.link_script.specs.Script.Reading.{script}
 use Rattle.link_script.specs.declared.script.statement.Script.{Script}
 use Rattle.link_script.specs.declared.script.statement.ScriptFault.{ScriptFault}
-use Rattle.pool_face.specs.declared.reading.ReadError.{ReadError}
-use Rattle.pool_face.specs.declared.reading.ReadError.TheVariants as error
-use Rattle.pool_face.specs.declared.reading.Source.{Source}
-use Rattle.pool_face.specs.declared.reading.Source.TheVariants.{Set, File, Script as Statements}
+use Rattle.numbered_pool.specs.declared.reading.ReadError.{ReadError}
+use Rattle.numbered_pool.specs.declared.reading.ReadError.TheVariants as error
+use Rattle.numbered_pool.specs.declared.reading.Source.{Source}
+use Rattle.numbered_pool.specs.declared.reading.Source.TheVariants.{Set, File, Script as Statements}
 
 -- what is read: files in order, or the first fault in words
 abbrev pub Read : Type 0

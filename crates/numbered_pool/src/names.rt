@@ -4,8 +4,8 @@ ghost use Rattle.std.specs.Prelude.{◌≡◌, IfOk, IfSome, slice_get};
 ghost use Rattle.std.specs.Option.{option_and_then, option_copied, option_map};
 ghost use Rattle.proto_types.specs.Readers.{text_of};
 ghost use Rattle.field_rules.specs.NamesBegin.{BeginsAtBoundary};
-ghost use Rattle.pool_face.specs.Defaults.{default_bytes};
-ghost use Rattle.pool_face.specs.Items as spec;
+ghost use Rattle.numbered_pool.specs.Defaults.{default_bytes};
+ghost use Rattle.numbered_pool.specs.Items as spec;
 
 use crate::answers::Answers;
 use crate::items::{field_at, method_at, oneof_at, value_at};

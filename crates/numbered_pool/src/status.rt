@@ -1,5 +1,5 @@
 ghost use Rattle.std.specs.Prelude.{◌≡◌};
-ghost use Rattle.pool_face.specs.Statuses.{status_number};
+ghost use Rattle.numbered_pool.specs.Statuses.{status_number};
 
 /// How a call that adds files ended. After any status but `Done` the pool is as it was.
 #[derive(Clone, Copy, PartialEq, Debug)]

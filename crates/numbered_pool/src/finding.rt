@@ -5,8 +5,8 @@ ghost use Rattle.std.specs.Option.{option_copied, option_map};
 ghost use Rattle.pool_types.specs.Extension.{extension_numbered};
 ghost use Rattle.pool_contents.specs.LookUps.{definition_named};
 ghost use Rattle.record_walk.specs.Counts.{counts_in};
-ghost use Rattle.pool_face.specs.Items as spec;
-ghost use Rattle.pool_face.specs.Numbers as numbers;
+ghost use Rattle.numbered_pool.specs.Items as spec;
+ghost use Rattle.numbered_pool.specs.Numbers as numbers;
 
 use crate::answers::Answers;
 use crate::numbers::{Found, PoolCounts, found_item, pool_counts};

@@ -13,8 +13,8 @@ use Rattle.pool_types.specs.declared.contents.field.FieldDescriptorInner.{FieldD
 use Rattle.pool_types.specs.declared.contents.oneof.OneofDescriptorInner.{OneofDescriptorInner}
 use Rattle.pool_types.specs.declared.contents.service.MethodDescriptorInner.{MethodDescriptorInner}
 use Rattle.pool_types.specs.declared.default_value.DefaultValue.{DefaultValue}
-use Rattle.pool_face.specs.Numbers.{definition_kind}
-use Rattle.pool_face.specs.declared.numbers.Item.{Item}
+use Rattle.numbered_pool.specs.Numbers.{definition_kind}
+use Rattle.numbered_pool.specs.declared.numbers.Item.{Item}
 
 -- a part, by its position, of what stands at an index
 abbrev pub part_at : {A B : Type 0} → (A → List B) → List A → ℕ → ℕ → Option B

@@ -15,9 +15,9 @@ pub struct Answers {
 
 impl Answers {
     ghost use Rattle.pool_types.specs.Contents.{no_contents};
-    ghost use Rattle.pool_face.specs.Added.{AddedAs, ToldAs};
-    ghost use Rattle.pool_face.specs.Reading.{file_read, files_read, script_read, set_read};
-    ghost use Rattle.pool_face.specs.Reports.{no_report};
+    ghost use Rattle.numbered_pool.specs.Added.{AddedAs, ToldAs};
+    ghost use Rattle.numbered_pool.specs.Reading.{file_read, files_read, script_read, set_read};
+    ghost use Rattle.numbered_pool.specs.Reports.{no_report};
 
     /// A pool without files and an empty report, which takes no memory.
     pub fn new(alloc: Global) -> Answers

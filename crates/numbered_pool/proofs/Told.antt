@@ -6,13 +6,13 @@ use Rattle.pool_types.specs.Contents.{Contents}
 use Rattle.pool_faults.specs.declared.error.DescriptorError.{DescriptorError}
 use Rattle.descriptor_pool.specs.Outcome.{IsLinked, IsRefused}
 use Rattle.descriptor_pool.specs.Pool.{Batch}
-use Rattle.pool_face.specs.Added.{AddedAs, LinkedAs, ToldAs}
-use Rattle.pool_face.specs.Reading.{Read}
-use Rattle.pool_face.specs.Reports.{no_report, refused_report}
-use Rattle.pool_face.specs.declared.answers.Answers.{Answers}
-use Rattle.pool_face.specs.declared.report.Report.{Report}
-use Rattle.pool_face.specs.declared.status.Status.{Status}
-use Rattle.pool_face.specs.declared.status.Status.TheVariants.{Done, Refused}
+use Rattle.numbered_pool.specs.Added.{AddedAs, LinkedAs, ToldAs}
+use Rattle.numbered_pool.specs.Reading.{Read}
+use Rattle.numbered_pool.specs.Reports.{no_report, refused_report}
+use Rattle.numbered_pool.specs.declared.answers.Answers.{Answers}
+use Rattle.numbered_pool.specs.declared.report.Report.{Report}
+use Rattle.numbered_pool.specs.declared.status.Status.{Status}
+use Rattle.numbered_pool.specs.declared.status.Status.TheVariants.{Done, Refused}
 
 -- the files are linked
 pub done-told : (read : Read) (old : Contents) (batch : Batch) (new : Answers)

@@ -1,5 +1,5 @@
 use Rattle.std.proofs.Common.{rules}
-use Rattle.pool_face.proofs.answers.Answers.field_numbered.Goals as goal
+use Rattle.numbered_pool.proofs.answers.Answers.field_numbered.Goals as goal
 
 pub returns : goal.returns
 returns c = search rules
