@@ -18,11 +18,11 @@ pub fn opened(alloc: Global, pool: Handle) -> Option<Box<Answers>>
 }
 
 /// Puts a pool into its handle, and answers the number of how a call ended.
-pub fn closed(pool: &mut Handle, answers: Box<Answers>, status: Status) -> u8
+pub fn closed(alloc: Global, pool: &mut Handle, answers: Box<Answers>, status: Status) -> u8
     ensures shown { pool.new.shown ≡ Some answers.value }
     ensures number { result ≡ status_number status }
 {
-    *pool = Handle::of_box(answers);
+    pool.put(alloc, Handle::of_box(answers));
     status.number()
 }
 

@@ -9,11 +9,11 @@ use crate::box_pointer::{BoxPointer, from_pointer, into_pointer};
 use numbered_pool::Answers;
 use std::alloc::Global;
 use std::marker::{Model, Send};
+use std::mem;
 
-/// A pool behind a pointer, or an empty pool where the pointer is null. Letting a handle go frees
-/// nothing, so it is let go only where it owns nothing: `into_box` gives what is to be freed.
+/// A pool behind a pointer, or an empty pool where the pointer is null. A handle can't be let go,
+/// since that would free nothing: `into_box` gives what it owns, and `put` frees it.
 #[repr(C)]
-#[derive(Drop)]
 pub struct Handle {
     at: *mut (),
     pub ghost shown: { Option Answers } by { coded_option the_row.coded },
@@ -78,5 +78,20 @@ impl Handle {
         ensures { result.shown ≡ Some answers.value }
     {
         Handle::of_pointer(into_pointer(answers))
+    }
+
+    /// Takes a handle from its place, where one stays that owns nothing.
+    pub fn take(&mut self) -> Handle
+        ensures taken { result.shown ≡ self.old.shown }
+        ensures left { self.new.shown ≡ None }
+    {
+        mem::replace(self, Handle::empty())
+    }
+
+    /// Puts a handle in the place of another, and frees what that owned.
+    pub fn put(&mut self, alloc: Global, handle: Handle)
+        ensures { self.new.shown ≡ handle.shown }
+    {
+        let _freed = mem::replace(self, handle).into_box(alloc);
     }
 }

@@ -31,7 +31,7 @@ pub extern "C" fn protolink_file(
 {
     let lent = lend(alloc, pool);
     let status = write(lent.answers().file(file), info);
-    *pool = lent.back();
+    pool.put(alloc, lent.back());
     status
 }
 
@@ -50,7 +50,7 @@ pub extern "C" fn protolink_message(
 {
     let lent = lend(alloc, pool);
     let status = write(lent.answers().message(message), info);
-    *pool = lent.back();
+    pool.put(alloc, lent.back());
     status
 }
 
@@ -70,7 +70,7 @@ pub extern "C" fn protolink_field(
 {
     let lent = lend(alloc, pool);
     let status = write(lent.answers().field(message, position), info);
-    *pool = lent.back();
+    pool.put(alloc, lent.back());
     status
 }
 
@@ -90,7 +90,7 @@ pub extern "C" fn protolink_oneof(
 {
     let lent = lend(alloc, pool);
     let status = write(lent.answers().oneof(message, position), info);
-    *pool = lent.back();
+    pool.put(alloc, lent.back());
     status
 }
 
@@ -109,7 +109,7 @@ pub extern "C" fn protolink_enum(
 {
     let lent = lend(alloc, pool);
     let status = write(lent.answers().enumeration(enumeration), info);
-    *pool = lent.back();
+    pool.put(alloc, lent.back());
     status
 }
 
@@ -129,7 +129,7 @@ pub extern "C" fn protolink_enum_value(
 {
     let lent = lend(alloc, pool);
     let status = write(lent.answers().value(enumeration, position), info);
-    *pool = lent.back();
+    pool.put(alloc, lent.back());
     status
 }
 
@@ -148,7 +148,7 @@ pub extern "C" fn protolink_service(
 {
     let lent = lend(alloc, pool);
     let status = write(lent.answers().service(service), info);
-    *pool = lent.back();
+    pool.put(alloc, lent.back());
     status
 }
 
@@ -168,7 +168,7 @@ pub extern "C" fn protolink_method(
 {
     let lent = lend(alloc, pool);
     let status = write(lent.answers().method(service, position), info);
-    *pool = lent.back();
+    pool.put(alloc, lent.back());
     status
 }
 
@@ -187,7 +187,7 @@ pub extern "C" fn protolink_extension(
 {
     let lent = lend(alloc, pool);
     let status = write(lent.answers().extension(extension), info);
-    *pool = lent.back();
+    pool.put(alloc, lent.back());
     status
 }
 
@@ -206,7 +206,7 @@ pub extern "C" fn protolink_file_import(
 {
     let lent = lend(alloc, pool);
     let status = write(lent.answers().import(file, position), imported);
-    *pool = lent.back();
+    pool.put(alloc, lent.back());
     status
 }
 
@@ -229,7 +229,7 @@ pub extern "C" fn protolink_message_extension(
         lent.answers().message_extension(message, position),
         extension,
     );
-    *pool = lent.back();
+    pool.put(alloc, lent.back());
     status
 }
 
@@ -250,6 +250,6 @@ pub extern "C" fn protolink_oneof_field(
 {
     let lent = lend(alloc, pool);
     let status = write(lent.answers().oneof_field(message, oneof, position), field);
-    *pool = lent.back();
+    pool.put(alloc, lent.back());
     status
 }

@@ -5,7 +5,6 @@ ghost use Rattle.protolink_c.specs.Shown.{answers_of, lent_answers, lent_shown};
 use crate::handle::Handle;
 use numbered_pool::Answers;
 use std::alloc::Global;
-use std::mem;
 
 /// The pool of a handle, which is to be put back; or an empty one, where the handle owns none.
 #[derive(Drop)]
@@ -19,7 +18,7 @@ pub fn lend(alloc: Global, pool: &mut Handle) -> Lent
     ensures answers { lent_answers result ≡ answers_of pool.old.shown }
     ensures shown { lent_shown result ≡ pool.old.shown }
 {
-    match mem::replace(pool, Handle::empty()).into_box(alloc) {
+    match pool.take().into_box(alloc) {
         Some(answers) => Lent::Boxed(answers),
         None => Lent::Empty(Answers::new(alloc)),
     }

@@ -32,7 +32,7 @@ pub extern "C" fn protolink_field_by_name(
 {
     let lent = lend(alloc, pool);
     let status = write(lent.answers().field_named(message, name), position);
-    *pool = lent.back();
+    pool.put(alloc, lent.back());
     status
 }
 
@@ -53,7 +53,7 @@ pub extern "C" fn protolink_field_by_json_name(
 {
     let lent = lend(alloc, pool);
     let status = write(lent.answers().field_json_named(message, name), position);
-    *pool = lent.back();
+    pool.put(alloc, lent.back());
     status
 }
 
@@ -73,7 +73,7 @@ pub extern "C" fn protolink_field_by_number(
 {
     let lent = lend(alloc, pool);
     let status = write(lent.answers().field_numbered(message, number), position);
-    *pool = lent.back();
+    pool.put(alloc, lent.back());
     status
 }
 
@@ -94,7 +94,7 @@ pub extern "C" fn protolink_enum_value_by_name(
 {
     let lent = lend(alloc, pool);
     let status = write(lent.answers().value_named(enumeration, name), position);
-    *pool = lent.back();
+    pool.put(alloc, lent.back());
     status
 }
 
@@ -117,7 +117,7 @@ pub extern "C" fn protolink_file_name(
         Some(text) => hand_out(text.as_bytes(), buffer, length),
         None => NOT_FOUND,
     };
-    *pool = lent.back();
+    pool.put(alloc, lent.back());
     status
 }
 
@@ -140,7 +140,7 @@ pub extern "C" fn protolink_file_package(
         Some(text) => hand_out(text.as_bytes(), buffer, length),
         None => NOT_FOUND,
     };
-    *pool = lent.back();
+    pool.put(alloc, lent.back());
     status
 }
 
@@ -163,7 +163,7 @@ pub extern "C" fn protolink_name(
         Some(text) => hand_out(text.as_bytes(), buffer, length),
         None => NOT_FOUND,
     };
-    *pool = lent.back();
+    pool.put(alloc, lent.back());
     status
 }
 
@@ -186,7 +186,7 @@ pub extern "C" fn protolink_full_name(
         Some(text) => hand_out(text.as_bytes(), buffer, length),
         None => NOT_FOUND,
     };
-    *pool = lent.back();
+    pool.put(alloc, lent.back());
     status
 }
 
@@ -209,7 +209,7 @@ pub extern "C" fn protolink_json_name(
         Some(text) => hand_out(text.as_bytes(), buffer, length),
         None => NOT_FOUND,
     };
-    *pool = lent.back();
+    pool.put(alloc, lent.back());
     status
 }
 
@@ -235,6 +235,6 @@ pub extern "C" fn protolink_default(
         Ok(None) => NOT_FOUND,
         Err(_) => NO_MEMORY,
     };
-    *pool = lent.back();
+    pool.put(alloc, lent.back());
     status
 }

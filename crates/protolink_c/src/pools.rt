@@ -19,7 +19,6 @@ use crate::status::{DONE, NO_MEMORY, NOT_FOUND};
 use crate::told::{hand_out, locate, write};
 use numbered_pool::{Item, PoolCounts};
 use std::alloc::Global;
-use std::mem;
 
 /// 0.1.0
 const VERSION: u32 = 1000;
@@ -40,11 +39,11 @@ pub extern "C" fn protolink_pool_add_set(alloc: Global, pool: &mut Handle, bytes
     ensures { IsAdded (set_read bytes.now)
         (pool_of pool.old.shown) (answers_of pool.new.shown) result }
 {
-    let Some(mut answers) = opened(alloc, mem::replace(pool, Handle::empty())) else {
+    let Some(mut answers) = opened(alloc, pool.take()) else {
         return NO_MEMORY;
     };
     let status = answers.add_set(alloc, bytes);
-    closed(pool, answers, status)
+    closed(alloc, pool, answers, status)
 }
 
 /// The same with one encoded `FileDescriptorProto`.
@@ -53,11 +52,11 @@ pub extern "C" fn protolink_pool_add_file(alloc: Global, pool: &mut Handle, byte
     ensures { IsAdded (file_read bytes.now)
         (pool_of pool.old.shown) (answers_of pool.new.shown) result }
 {
-    let Some(mut answers) = opened(alloc, mem::replace(pool, Handle::empty())) else {
+    let Some(mut answers) = opened(alloc, pool.take()) else {
         return NO_MEMORY;
     };
     let status = answers.add_file(alloc, bytes);
-    closed(pool, answers, status)
+    closed(alloc, pool, answers, status)
 }
 
 /// The same with the files that a script declares. Its commands are passed over.
@@ -66,11 +65,11 @@ pub extern "C" fn protolink_pool_add_script(alloc: Global, pool: &mut Handle, sc
     ensures { IsAdded (script_read script.now)
         (pool_of pool.old.shown) (answers_of pool.new.shown) result }
 {
-    let Some(mut answers) = opened(alloc, mem::replace(pool, Handle::empty())) else {
+    let Some(mut answers) = opened(alloc, pool.take()) else {
         return NO_MEMORY;
     };
     let status = answers.add_script(alloc, script);
-    closed(pool, answers, status)
+    closed(alloc, pool, answers, status)
 }
 
 /// Hands out the report of the last call that was to add files, in lines.
@@ -91,7 +90,7 @@ pub extern "C" fn protolink_pool_report(
         buffer,
         length,
     );
-    *pool = lent.back();
+    pool.put(alloc, lent.back());
     status
 }
 
@@ -113,7 +112,7 @@ pub extern "C" fn protolink_pool_report_json(
         buffer,
         length,
     );
-    *pool = lent.back();
+    pool.put(alloc, lent.back());
     status
 }
 
@@ -136,7 +135,7 @@ pub extern "C" fn protolink_pool_linked(
         Ok(bytes) => hand_out(bytes.as_slice(), buffer, length),
         Err(_) => NO_MEMORY,
     };
-    *pool = lent.back();
+    pool.put(alloc, lent.back());
     status
 }
 
@@ -162,7 +161,7 @@ pub extern "C" fn protolink_pool_linked_file(
         Ok(None) => NOT_FOUND,
         Err(_) => NO_MEMORY,
     };
-    *pool = lent.back();
+    pool.put(alloc, lent.back());
     status
 }
 
@@ -186,7 +185,7 @@ pub extern "C" fn protolink_pool_find(
 {
     let lent = lend(alloc, pool);
     let status = locate(lent.answers().find(name), item, file);
-    *pool = lent.back();
+    pool.put(alloc, lent.back());
     status
 }
 
@@ -212,7 +211,7 @@ pub extern "C" fn protolink_pool_find_path(
         Some(numbers) => hand_out(numbers, path, length),
         None => NOT_FOUND,
     };
-    *pool = lent.back();
+    pool.put(alloc, lent.back());
     status
 }
 
@@ -224,7 +223,7 @@ pub extern "C" fn protolink_pool_counts(alloc: Global, pool: &mut Handle, counts
 {
     let lent = lend(alloc, pool);
     *counts = lent.answers().counts();
-    *pool = lent.back();
+    pool.put(alloc, lent.back());
 }
 
 /// Tells the index of the extension of a message that has a number.
@@ -246,7 +245,7 @@ pub extern "C" fn protolink_pool_extension(
         lent.answers().extension_numbered(message, number),
         extension,
     );
-    *pool = lent.back();
+    pool.put(alloc, lent.back());
     status
 }
 
@@ -258,16 +257,16 @@ pub extern "C" fn protolink_pool_clone(alloc: Global, pool: &mut Handle, copy: &
     ensures copied { result ≡ 0 → answers_of copy.new.shown ≡ unreported (pool_of pool.old.shown) }
     ensures no_memory { result ≢ 0 → (result ≡ 3) × (copy.new.shown ≡ None) }
 {
-    let _freed = mem::replace(copy, Handle::empty()).into_box(alloc);
-    let Some(answers) = mem::replace(pool, Handle::empty()).into_box(alloc) else {
+    copy.put(alloc, Handle::empty());
+    let Some(answers) = pool.take().into_box(alloc) else {
         return DONE;
     };
     let copied = boxed_copy(alloc, &answers);
-    *pool = Handle::of_box(answers);
+    pool.put(alloc, Handle::of_box(answers));
     let Some(copied) = copied else {
         return NO_MEMORY;
     };
-    *copy = Handle::of_box(copied);
+    copy.put(alloc, Handle::of_box(copied));
     DONE
 }
 
@@ -276,5 +275,5 @@ pub extern "C" fn protolink_pool_clone(alloc: Global, pool: &mut Handle, copy: &
 pub extern "C" fn protolink_pool_clear(alloc: Global, pool: &mut Handle)
     ensures { pool.new.shown ≡ None }
 {
-    let _freed = mem::replace(pool, Handle::empty()).into_box(alloc);
+    pool.put(alloc, Handle::empty());
 }

@@ -9,6 +9,8 @@ use crate::pools::{
 };
 use crate::status::{DONE, NOT_FOUND, SHORT};
 use numbered_pool::{Item, MessageItem, PoolCounts};
+use std::alloc::Global;
+use std::process::Abort;
 use std::test::*;
 
 /// Rules are broken.
@@ -31,6 +33,12 @@ const NOTHING: Item = Item {
     position: 0,
 };
 
+/// Clears a pool, which owns nothing then.
+fn end(rt: &impl Abort, alloc: Global, mut pool: Handle) {
+    protolink_pool_clear(alloc, &mut pool);
+    assert!(rt; pool.into_box(alloc).is_none());
+}
+
 #[test]
 fn a_field_is_found(rt: HostRuntime) -> Result<(), Fail> {
     let alloc = rt.alloc();
@@ -45,7 +53,7 @@ fn a_field_is_found(rt: HostRuntime) -> Result<(), Fail> {
     let mut length = 0;
     let status = protolink_default(alloc, &mut pool, &item, &mut text, &mut length);
     assert_eq!(rt; (status, length, text), (DONE, 2, [b'4', b'2', 0, 0]));
-    protolink_pool_clear(alloc, &mut pool);
+    end(&rt, alloc, pool);
     Ok(())
 }
 
@@ -63,7 +71,7 @@ fn a_short_buffer_stays(rt: HostRuntime) -> Result<(), Fail> {
     let mut length = 0;
     let status = protolink_full_name(alloc, &mut pool, &order, &mut text, &mut length);
     assert_eq!(rt; (status, length, text), (SHORT, 10, [1; 9]));
-    protolink_pool_clear(alloc, &mut pool);
+    end(&rt, alloc, pool);
     Ok(())
 }
 
@@ -89,7 +97,7 @@ fn a_refusal_is_told(rt: HostRuntime) -> Result<(), Fail> {
     };
     protolink_pool_counts(alloc, &mut pool, &mut counts);
     assert_eq!(rt; counts.files, 0);
-    protolink_pool_clear(alloc, &mut pool);
+    end(&rt, alloc, pool);
     Ok(())
 }
 
@@ -103,12 +111,12 @@ fn linked_files_are_a_set(rt: HostRuntime) -> Result<(), Fail> {
     let status = protolink_pool_linked(alloc, &mut pool, &mut set, &mut length);
     assert_eq!(rt; status, DONE);
     protolink_pool_clear(alloc, &mut pool);
-    let set = set.get(..length).ok_or("it fits")?;
+    let set = set.get(..length).expect(&rt, "it fits");
     assert_eq!(rt; protolink_pool_add_set(alloc, &mut pool, set), DONE);
     let mut position = 9;
     let status = protolink_field_by_name(alloc, &mut pool, 0, b"count", &mut position);
     assert_eq!(rt; (status, position), (DONE, 0));
-    protolink_pool_clear(alloc, &mut pool);
+    end(&rt, alloc, pool);
     Ok(())
 }
 
@@ -132,6 +140,7 @@ fn a_copy_stands_alone(rt: HostRuntime) -> Result<(), Fail> {
     assert_eq!(rt; (status, info.fields), (NOT_FOUND, 9));
     let status = protolink_message(alloc, &mut copy, 0, &mut info);
     assert_eq!(rt; (status, info.fields), (DONE, 1));
-    protolink_pool_clear(alloc, &mut copy);
+    end(&rt, alloc, pool);
+    end(&rt, alloc, copy);
     Ok(())
 }
