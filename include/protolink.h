@@ -271,9 +271,11 @@ protolink_status protolink_pool_add_script(protolink_pool *pool, const uint8_t *
  * THE REPORT of the last call that was to link files, in lines for people as docs/CHECK.md has
  * them, each ended by a line feed:
  *
- *   behind PROTOLINK_REFUSED   each fault, never none, in order, `FILE:LINE:COLUMN: TEXT` where its
- *                              place is known, with lines of notes behind it. Lines and columns
- *                              count from 1. The last line tells how many faults there are.
+ *   behind PROTOLINK_REFUSED   the first faults, in order, at most as many as
+ *                              protolink_pool_limit_faults has set: `FILE:LINE:COLUMN: TEXT` where
+ *                              a place is known, with lines of notes behind it. Lines and columns
+ *                              count from 1. A line tells how many more faults there are, if any,
+ *                              and the last line how many in all.
  *   behind PROTOLINK_FAULT     one line: the byte, or the line of the script, and what is wrong.
  *   behind PROTOLINK_TOO_MANY  one line, which names the kind.
  *
@@ -286,13 +288,23 @@ protolink_status protolink_pool_report(
 
 /*
  * THE SAME REPORT AS AN OBJECT OF JSON, on one line, with all members that docs/CHECK.md lists:
- * the verdict, all faults as data, what there is too much of, why bytes could not be read. It is
- * empty where the report is empty. The call takes no memory.
+ * the verdict, the same faults as data and how many more there are, what there is too much of, why
+ * bytes could not be read. It is empty where the report is empty. The call takes no memory.
  *
  *   PROTOLINK_DONE, PROTOLINK_SHORT  as said under TEXTS.
  */
 protolink_status protolink_pool_report_json(
     protolink_pool *pool, uint8_t *buffer, size_t room, size_t *length);
+
+/*
+ * HOW MANY FAULTS ARE TOLD at most by the reports of the calls from now on that link files: 100
+ * where this was never called. The reports that the pool has stay as they are. The limit is the
+ * pool's: a copy of the pool has it too, and a pool that is cleared has 100 again.
+ *
+ *   PROTOLINK_DONE       it is set.
+ *   PROTOLINK_NO_MEMORY  the pool was empty, and memory was refused. It is empty still.
+ */
+protolink_status protolink_pool_limit_faults(protolink_pool *pool, size_t most);
 
 /*
  * ALL LINKED FILES, as the canonical encoding of one FileDescriptorSet, in the order of linking. In
@@ -353,8 +365,8 @@ protolink_status protolink_pool_extension(
     protolink_pool *pool, uint32_t message, uint32_t number, uint32_t *extension);
 
 /*
- * A COPY. `copy` becomes a pool with equal contents and empty reports, which shares nothing with
- * `pool`. What it had is freed first. The two are not one.
+ * A COPY. `copy` becomes a pool with equal contents, the same limit of faults and empty reports,
+ * which shares nothing with `pool`. What it had is freed first. The two are not one.
  *
  *   PROTOLINK_DONE       it is copied.
  *   PROTOLINK_NO_MEMORY  memory was refused. `copy` is an empty pool.

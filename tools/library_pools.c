@@ -18,6 +18,12 @@ static const char first[] =
 static const char second[] = "file b.proto\nimport a.proto\nend\n";
 static const char refused[] = "file c.proto\nmessage N\nend\nmessage N\nend\nend\n";
 
+/* Behind the first file: another one of its name, and a file whose faults its own records place. */
+static const char unread[] =
+    "file a.proto\npackage p.q\npublic 7\nmessage X\nend\nmessage M\nend\nend\n";
+static const char bad_index[] = "file d.proto\npublic 5\nend\n";
+static const char second_holder[] = "file e.proto\npackage p.q\nmessage M\nend\nend\n";
+
 static const uint8_t *bytes(const char *text)
 {
     return (const uint8_t *)text;
@@ -75,6 +81,52 @@ static int hand_over(protolink_pool *pool)
     return status;
 }
 
+/* Whether the report of the last call, as an object of JSON, has a part. */
+static int is_told(protolink_pool *pool, const char *part)
+{
+    static char text[16384];
+    uint8_t *front = (uint8_t *)text;
+    size_t length;
+    if (protolink_pool_report_json(pool, front, sizeof text - 1, &length) != PROTOLINK_DONE)
+        return 0;
+    text[length] = 0;
+    return strstr(text, part) != NULL;
+}
+
+/* A file whose name the pool has is passed over: no fault is told by its record. */
+static int tell_of_new_files(protolink_pool *pool)
+{
+    char both[512];
+    strcat(strcpy(both, unread), bad_index);
+    WANT(add(pool, both) == PROTOLINK_REFUSED);
+    WANT(is_told(pool, "\"code\":\"InvalidImportIndex\""));
+    WANT(is_told(pool, "\"file\":\"d.proto\",\"line\":null,\"column\":null,\"path\":[10,0]"));
+    WANT(!is_told(pool, "a.proto"));
+    strcat(strcpy(both, unread), second_holder);
+    WANT(add(pool, both) == PROTOLINK_REFUSED);
+    WANT(is_told(pool, "\"code\":\"DuplicateName\""));
+    WANT(is_told(pool, "\"path\":[4,0,1],\"element\":\"p.q.M\",\"related\":[{\"file\":\"a.proto\","
+                       "\"line\":null,\"column\":null,\"path\":[4,0,1],\"element\":\"p.q.M\""));
+    return 0;
+}
+
+/* At most so many faults are told, of a copy too; the others are counted. */
+static int limit_faults(protolink_pool *pool)
+{
+    protolink_pool copy = PROTOLINK_POOL_EMPTY;
+    WANT(protolink_pool_limit_faults(pool, 0) == PROTOLINK_DONE);
+    WANT(add(pool, refused) == PROTOLINK_REFUSED && is_told(pool, "\"faults\":[],\"more\":1,"));
+    WANT(protolink_pool_clone(pool, &copy) == PROTOLINK_DONE);
+    WANT(add(&copy, refused) == PROTOLINK_REFUSED && is_told(&copy, "\"faults\":[],\"more\":1,"));
+    protolink_pool_clear(&copy);
+    WANT(add(&copy, refused) == PROTOLINK_REFUSED && is_told(&copy, "\"more\":0,"));
+    /* What a copy is made into is freed first. */
+    WANT(protolink_pool_clone(pool, &copy) == PROTOLINK_DONE);
+    protolink_pool_clear(&copy);
+    WANT(protolink_pool_limit_faults(pool, 100) == PROTOLINK_DONE);
+    return 0;
+}
+
 /* One pool from its first call to its last. */
 static int one_pool(void)
 {
@@ -86,6 +138,11 @@ static int one_pool(void)
     WANT(add(&pool, refused) == PROTOLINK_REFUSED);
     WANT(protolink_pool_report(&pool, text, sizeof text, &length) == PROTOLINK_DONE && length > 0);
     WANT(protolink_pool_report_json(&pool, text, sizeof text, &length) == PROTOLINK_DONE);
+    status = tell_of_new_files(&pool);
+    if (status == 0)
+        status = limit_faults(&pool);
+    if (status != 0)
+        return status;
     WANT(add(&pool, "nonsense\n") == PROTOLINK_FAULT);
     WANT(protolink_pool_clone(&pool, &copy) == PROTOLINK_DONE);
     protolink_pool_clear(&pool);

@@ -127,13 +127,43 @@ static int has(protolink_pool *pool, const char *name)
         == PROTOLINK_DONE;
 }
 
-/* A copy must be empty where memory was refused, and else have what the pool has. */
+/* Whether what a copy is made into is right: empty where memory was refused, and else with what the
+   pool has. */
+static int clone_into(protolink_pool *pool, protolink_pool *copy)
+{
+    int status = protolink_pool_clone(pool, copy);
+    int is_right = status == PROTOLINK_DONE ? has(copy, "p.q.M") : copy->at == NULL;
+    protolink_pool_clear(copy);
+    return is_right ? status : -1;
+}
+
 static int clone(protolink_pool *pool)
 {
     protolink_pool copy = PROTOLINK_POOL_EMPTY;
-    int status = protolink_pool_clone(pool, &copy);
-    int is_right = status == PROTOLINK_DONE ? has(&copy, "p.q.M") : copy.at == NULL;
-    protolink_pool_clear(&copy);
+    return clone_into(pool, &copy);
+}
+
+/* A copy made into a pool that has files, for which no request is refused. */
+static int clone_into_a_full_one(protolink_pool *pool)
+{
+    protolink_pool copy = PROTOLINK_POOL_EMPTY;
+    long request = wanted, made = requests;
+    wanted = 0;
+    if (add(&copy, first) != PROTOLINK_DONE)
+        return -1;
+    wanted = request;
+    requests = made;
+    return clone_into(pool, &copy);
+}
+
+/* The limit of faults of a new pool, for which memory is wanted. */
+static int limit_faults(protolink_pool *pool)
+{
+    protolink_pool limited = PROTOLINK_POOL_EMPTY;
+    int status = protolink_pool_limit_faults(&limited, 1);
+    int is_right = (status == PROTOLINK_DONE) == (limited.at != NULL);
+    protolink_pool_clear(&limited);
+    (void)pool;
     return is_right ? status : -1;
 }
 
@@ -154,6 +184,8 @@ static const struct trial {
     { "linked_file", linked_file, PROTOLINK_DONE, 0 },
     { "default", default_value, PROTOLINK_DONE, 0 },
     { "clone", clone, PROTOLINK_DONE, 0 },
+    { "clone into a full pool", clone_into_a_full_one, PROTOLINK_DONE, 0 },
+    { "limit_faults", limit_faults, PROTOLINK_DONE, 0 },
 };
 
 /* Whether a pool has what it must: the first file, and the second where that is linked. */

@@ -100,11 +100,14 @@ class Fault(NamedTuple):
 
 
 class Refused(Error):
-    """Files break rules: `faults` are all of the first pass that finds any, in order."""
+    """Files break rules: `faults` are those of the first pass that finds any, in order, a hundred
+    of them or as many as `Pool.limit_faults` has set, and `more` is how many more there are."""
 
-    def __init__(self, faults: list[Fault]) -> None:
-        super().__init__("\n".join(map(str, faults)))
+    def __init__(self, faults: list[Fault], more: int = 0) -> None:
+        lines = [*map(str, faults), *([f"and {more} more"] if more else [])]
+        super().__init__("\n".join(lines))
         self.faults = faults
+        self.more = more
 
 
 class Counts(NamedTuple):
@@ -161,6 +164,7 @@ _CALLS = {
     "protolink_pool_add_set": (ctypes.c_uint8, (_POOL, *_BYTES)),
     "protolink_pool_add_file": (ctypes.c_uint8, (_POOL, *_BYTES)),
     "protolink_pool_add_script": (ctypes.c_uint8, (_POOL, *_BYTES)),
+    "protolink_pool_limit_faults": (ctypes.c_uint8, (_POOL, ctypes.c_size_t)),
     "protolink_pool_report": (ctypes.c_uint8, (_POOL, *_BUFFER)),
     "protolink_pool_report_json": (ctypes.c_uint8, (_POOL, *_BUFFER)),
     "protolink_pool_linked": (ctypes.c_uint8, (_POOL, *_BUFFER)),
@@ -257,10 +261,19 @@ class Pool:
                 raise MemoryError
             told = json.loads(self.report_json())
         if status == REFUSED:
-            raise Refused([_fault(fault) for fault in told["faults"]])
+            raise Refused([_fault(fault) for fault in told["faults"]], told["more"])
         if status == TOO_MANY:
             raise TooMany(f"too many {told['too_many']}")
         raise Unreadable(told["error"])
+
+    def limit_faults(self, most: int) -> None:
+        """Sets how many faults are told at most where files break rules, from the next call on: a
+        hundred where this was never called. A copy has the same limit."""
+        if most < 0:
+            raise ValueError("a number of faults is not below 0")
+        with self._lock:
+            if _lib.protolink_pool_limit_faults(self._pool, min(most, _MOST)) != DONE:
+                raise MemoryError
 
     def report(self) -> str:
         """What the last call tells that was to link files, in lines for people; empty where it
@@ -273,7 +286,8 @@ class Pool:
 
     @property
     def faults(self) -> list[Fault]:
-        """The faults of the last call that was to link files, or none where it linked them."""
+        """The faults that the last call tells that was to link files, or none where it linked
+        them."""
         text = self.report_json()
         return [_fault(fault) for fault in json.loads(text)["faults"]] if text else []
 
@@ -380,6 +394,10 @@ class Pool:
             if status == NOT_FOUND:
                 raise IndexError("the pool does not have it")
             room = length.value
+
+
+_MOST = ctypes.c_size_t(-1).value
+"""The largest number of a size."""
 
 
 def _index(number: int) -> int:

@@ -97,6 +97,26 @@ class Pools(unittest.TestCase):
         pool.add_set(before)
         self.assertEqual((pool.faults, pool.report()), ([], ""))
 
+    def test_a_hundred_faults_are_told_or_as_many_as_are_wanted(self) -> None:
+        fields = "".join(f"field f{n} {n} optional message .p.N ~\n" for n in range(1, 251))
+        script = f"file a.proto\nmessage M\n{fields}end\nend\n".encode()
+        pool = protolink.Pool()
+
+        def told_and_more(pool: protolink.Pool) -> tuple[int, int]:
+            with self.assertRaises(protolink.Refused) as refused:
+                pool.add_script(script)
+            self.assertEqual(pool.faults, refused.exception.faults)
+            return len(pool.faults), refused.exception.more
+
+        self.assertEqual(told_and_more(pool), (100, 150))
+        self.assertIn("and 150 more in 1 file\n", pool.report())
+        for most, told in ((0, (0, 250)), (3, (3, 247)), (250, (250, 0)), (2**70, (250, 0))):
+            pool.limit_faults(most)
+            self.assertEqual(told_and_more(pool), told)
+            self.assertEqual(told_and_more(pool.clone()), told)
+        with self.assertRaises(ValueError):
+            pool.limit_faults(-1)
+
     def test_what_cannot_be_read_is_told(self) -> None:
         with self.assertRaisesRegex(protolink.Unreadable, "byte 2"):
             shop().add_set(b"\x0a\x05")

@@ -3,6 +3,8 @@
 use crate::json::{parse, Value};
 use std::error::Error;
 use std::fmt;
+use std::ops::Deref;
+use std::{slice, vec};
 
 /// Memory was refused.
 #[derive(Debug, Clone, Copy, PartialEq, Eq)]
@@ -20,14 +22,22 @@ impl Error for OutOfMemory {}
 #[derive(Debug, Clone, PartialEq, Eq)]
 #[non_exhaustive]
 pub enum DescriptorError {
-    /// The files break rules: all faults of the first pass that finds any, in order, never none.
-    Refused(Vec<Fault>),
+    /// The files break rules: the faults of the first pass that finds any, in order.
+    Refused(Faults),
     /// The bytes are no such set or file, or the script has a fault: where, and what is wrong.
     Unreadable(String),
     /// There is too much of a kind, which is named.
     TooMany(String),
     /// Memory was refused.
     OutOfMemory,
+}
+
+/// Faults in order: the first hundred, or as many as
+/// [`limit_faults`](crate::DescriptorPool::limit_faults) has set, and how many more there are.
+#[derive(Debug, Clone, PartialEq, Eq)]
+pub struct Faults {
+    told: Vec<Fault>,
+    more: u64,
 }
 
 /// A rule that files break, and where.
@@ -119,23 +129,67 @@ fn path(value: &Value) -> Option<Vec<i32>> {
     }
 }
 
+impl Faults {
+    /// The faults of a report of JSON, or none where it is not what was expected.
+    fn read(json: &str) -> Option<Faults> {
+        let report = parse(json)?;
+        let told = report.member("faults")?.items();
+        let more = report.member("more")?.as_number()?;
+        Some(Faults {
+            told: told.iter().map(Fault::new).collect(),
+            more: u64::try_from(more).ok()?,
+        })
+    }
+
+    /// A text as the one fault.
+    fn of_text(text: &str) -> Faults {
+        let fault = Fault {
+            message: text.trim_end().to_owned(),
+            ..Fault::default()
+        };
+        Faults {
+            told: vec![fault],
+            more: 0,
+        }
+    }
+
+    /// How many more faults there are than these.
+    #[must_use]
+    pub fn more(&self) -> u64 {
+        self.more
+    }
+}
+
+impl Deref for Faults {
+    type Target = [Fault];
+
+    fn deref(&self) -> &[Fault] {
+        &self.told
+    }
+}
+
+impl IntoIterator for Faults {
+    type Item = Fault;
+    type IntoIter = vec::IntoIter<Fault>;
+
+    fn into_iter(self) -> vec::IntoIter<Fault> {
+        self.told.into_iter()
+    }
+}
+
+impl<'f> IntoIterator for &'f Faults {
+    type Item = &'f Fault;
+    type IntoIter = slice::Iter<'f, Fault>;
+
+    fn into_iter(self) -> slice::Iter<'f, Fault> {
+        self.told.iter()
+    }
+}
+
 impl DescriptorError {
     /// The faults of a report of JSON. Where it is not what was expected, its text is a fault.
     pub(crate) fn refused(json: &str) -> DescriptorError {
-        let told = parse(json);
-        let faults = told.as_ref().and_then(|told| told.member("faults"));
-        let mut faults: Vec<Fault> = faults
-            .map_or(&[][..], Value::items)
-            .iter()
-            .map(Fault::new)
-            .collect();
-        if faults.is_empty() {
-            faults.push(Fault {
-                message: json.trim_end().to_owned(),
-                ..Fault::default()
-            });
-        }
-        DescriptorError::Refused(faults)
+        DescriptorError::Refused(Faults::read(json).unwrap_or_else(|| Faults::of_text(json)))
     }
 
     pub(crate) fn unreadable(json: &str) -> DescriptorError {
@@ -146,7 +200,8 @@ impl DescriptorError {
         DescriptorError::TooMany(member_or_all(json, "too_many"))
     }
 
-    /// The faults of files that break rules, or none where it is another error.
+    /// The faults of files that break rules, as `Refused` has them, or none where it is another
+    /// error.
     #[must_use]
     pub fn faults(&self) -> &[Fault] {
         match self {
@@ -183,8 +238,10 @@ impl fmt::Display for DescriptorError {
         match self {
             DescriptorError::Refused(faults) => match &faults[..] {
                 [] => f.write_str("the files break rules"),
-                [fault] => write!(f, "{fault}"),
-                [first, ..] => write!(f, "{first} (and {} more)", faults.len() - 1),
+                [fault] if faults.more == 0 => write!(f, "{fault}"),
+                [first, rest @ ..] => {
+                    write!(f, "{first} (and {} more)", rest.len() as u64 + faults.more)
+                }
             },
             DescriptorError::Unreadable(words) => f.write_str(words),
             DescriptorError::TooMany(kind) => write!(f, "too many {kind}"),

@@ -139,6 +139,7 @@ extern "C" {
     pub fn protolink_pool_add_set(pool: *mut Pool, bytes: *const u8, len: usize) -> u8;
     pub fn protolink_pool_add_file(pool: *mut Pool, bytes: *const u8, len: usize) -> u8;
     pub fn protolink_pool_add_script(pool: *mut Pool, script: *const u8, len: usize) -> u8;
+    pub fn protolink_pool_limit_faults(pool: *mut Pool, most: usize) -> u8;
     pub fn protolink_pool_report(
         pool: *mut Pool,
         buffer: *mut u8,

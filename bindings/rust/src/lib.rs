@@ -2,7 +2,7 @@
 //!
 //! A [`DescriptorPool`] takes in descriptor sets, as `protoc --include_imports -o FILE` writes
 //! them, gives every declaration a full name and an index, finds what each type name means, and
-//! refuses what breaks the rules of the language, with all faults as data. After a refusal the pool
+//! refuses what breaks the rules of the language, with the faults as data. After a refusal the pool
 //! is what it was. Names of calls are those of `prost-reflect` where they do the same.
 //!
 //! ```
@@ -46,5 +46,5 @@ pub use descriptors::{
     FieldDescriptor, FileDescriptor, Kind, MessageDescriptor, MethodDescriptor, OneofDescriptor,
     ServiceDescriptor, Syntax,
 };
-pub use faults::{DescriptorError, Fault, OutOfMemory, Place};
+pub use faults::{DescriptorError, Fault, Faults, OutOfMemory, Place};
 pub use pool::{Counts, Definition, DescriptorPool, Found};

@@ -186,6 +186,15 @@ impl DescriptorPool {
         }
     }
 
+    /// Sets how many faults are told at most where files break rules, from the next call on: a
+    /// hundred where this was never called. A copy of the pool has the same limit.
+    ///
+    /// # Errors
+    /// Where memory was refused, as it can be for a pool without files. The limit stays then.
+    pub fn limit_faults(&mut self, most: usize) -> Result<(), OutOfMemory> {
+        self.raw.limit_faults(most)
+    }
+
     /// What the last call tells that was to link files, in lines for people, with notes; empty
     /// where it linked them, or memory was refused.
     #[must_use]

@@ -66,6 +66,13 @@ impl RawPool {
         added(unsafe { ffi::protolink_pool_add_script(pool, script.as_ptr(), script.len()) })
     }
 
+    pub fn limit_faults(&mut self, most: usize) -> Result<(), OutOfMemory> {
+        match unsafe { ffi::protolink_pool_limit_faults(self.pool.get_mut(), most) } {
+            ffi::DONE => Ok(()),
+            _ => Err(OutOfMemory),
+        }
+    }
+
     pub fn try_clone(&self) -> Result<RawPool, OutOfMemory> {
         let mut copy = RawPool::new();
         match unsafe { ffi::protolink_pool_clone(self.pool.get(), copy.pool.get_mut()) } {

@@ -224,7 +224,7 @@ fn names_mean_definitions() {
 }
 
 #[test]
-fn a_refusal_tells_all_faults_and_changes_nothing() {
+fn a_refusal_tells_faults_and_changes_nothing() {
     let mut pool = shop();
     let before = pool.encode_to_vec();
     let error = pool.add_script(FAULTY).unwrap_err();
@@ -259,6 +259,46 @@ fn a_second_place_is_told() {
     assert_eq!(fault.path.as_deref(), Some(&[4, 1, 1][..]));
     assert_eq!(fault.related[0].path.as_deref(), Some(&[4, 0, 1][..]));
     assert_eq!(fault.related[0].element.as_deref(), Some("A"));
+}
+
+/// A file with as many faults as it has fields.
+fn with_faults(count: u32) -> String {
+    let fields: String = (1..=count)
+        .map(|number| format!("field f{number} {number} optional message .p.None ~\n"))
+        .collect();
+    format!("file a.proto\nmessage M\n{fields}end\nend\n")
+}
+
+/// How many faults are told, and how many more there are.
+fn told_and_more(error: &DescriptorError) -> (usize, u64) {
+    match error {
+        DescriptorError::Refused(faults) => (faults.len(), faults.more()),
+        other => panic!("{other}"),
+    }
+}
+
+#[test]
+fn a_hundred_faults_are_told_or_as_many_as_are_wanted() {
+    let mut pool = DescriptorPool::new();
+    let script = with_faults(250);
+    let error = pool.add_script(&script).unwrap_err();
+    assert_eq!(told_and_more(&error), (100, 150));
+    assert!(error.to_string().ends_with("(and 249 more)"), "{error}");
+    assert!(pool.report().contains("and 150 more in 1 file\n"));
+    for (most, told) in [
+        (0, (0, 250)),
+        (3, (3, 247)),
+        (250, (250, 0)),
+        (usize::MAX, (250, 0)),
+    ] {
+        pool.limit_faults(most).unwrap();
+        let mut copy = pool.clone();
+        for pool in [&mut pool, &mut copy] {
+            let error = pool.add_script(&script).unwrap_err();
+            assert_eq!(told_and_more(&error), told);
+            assert_eq!(error.faults().len(), told.0);
+        }
+    }
 }
 
 #[test]

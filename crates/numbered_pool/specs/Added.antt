@@ -1,10 +1,10 @@
 -- What a call that adds files ends in.
 use Rattle.std.specs.Prelude.{◌≡◌, ◌≢◌, ℕ, List, [], Result, Ok, Err}
 use Rattle.std.specs.declared.alloc.AllocError.{AllocError}
-use Rattle.pool_types.specs.Contents.{Contents}
+use Rattle.pool_types.specs.Contents.{files_of, no_contents}
 use Rattle.record_walk.specs.declared.counts.CountKind.{CountKind}
 use Rattle.descriptor_pool.specs.Outcome.{IsLinked}
-use Rattle.descriptor_pool.specs.Pool.{Batch, Fits, counts_after, faults}
+use Rattle.descriptor_pool.specs.Pool.{Batch, Fits, counts_after, faults, new_files}
 use Rattle.numbered_pool.specs.Reading.{Read}
 use Rattle.numbered_pool.specs.Reports.{no_report, refused_report, too_many_report, fault_report}
 use Rattle.numbered_pool.specs.declared.answers.Answers.{Answers}
@@ -12,30 +12,42 @@ use Rattle.numbered_pool.specs.declared.report.Report.{Report}
 use Rattle.numbered_pool.specs.declared.status.Status.{Status}
 use Rattle.numbered_pool.specs.declared.status.Status.TheVariants.{Done, Refused, Fault, OutOfMemory, TooMany}
 
--- the pool is as it was, and a report is told
-pub record IsTold (old : Contents) (new : Answers) (report : Report) : Type 0 where
-  pub unchanged : new.pool ≡ old
+-- a pool without files and what is told of it: nothing, and a hundred faults at most from now on
+abbrev pub no_answers : Answers
+no_answers = record { pool = no_contents; report = no_report; max_faults = 100 }
+
+-- the same pool with the same limit of faults, of which nothing is told
+abbrev pub unreported : Answers → Answers
+unreported answers = record answers { report = no_report }
+
+-- the pool is as it was, with its limit of faults, and a report is told
+pub record IsTold (old new : Answers) (report : Report) : Type 0 where
+  pub unchanged : new.pool ≡ old.pool
+  pub limit : new.max_faults ≡ old.max_faults
   pub told : new.report ≡ report
 
 -- the batch is linked, and nothing is told
-pub record IsDone (old : Contents) (batch : Batch) (new : Answers) : Type 0 where
-  pub linked : IsLinked old batch new.pool
+pub record IsDone (old : Answers) (batch : Batch) (new : Answers) : Type 0 where
+  pub linked : IsLinked old.pool batch new.pool
+  pub limit : new.max_faults ≡ old.max_faults
   pub silent : new.report ≡ no_report
 
--- the batch fits and breaks rules: all faults of the first pass that finds any are told
-pub record IsRefused (old : Contents) (batch : Batch) (new : Answers) : Type 0 where
-  pub fits : Fits old batch
-  pub broken : faults old batch ≢ []
-  pub told : IsTold old new (refused_report batch (faults old batch))
+-- the batch fits and breaks rules: the first faults of the first pass that finds any are told, by
+-- the pool's files and the new ones alone
+pub record IsRefused (old : Answers) (batch : Batch) (new : Answers) : Type 0 where
+  pub fits : Fits old.pool batch
+  pub broken : faults old.pool batch ≢ []
+  pub told : IsTold old new (refused_report (files_of old.pool) (new_files old.pool batch)
+      (faults old.pool batch) old.max_faults)
 
 -- there is too much of a kind, the first that is past its limit, which is told
-pub record IsTooMany (old : Contents) (batch : Batch) (new : Answers) : Type 0 where
+pub record IsTooMany (old : Answers) (batch : Batch) (new : Answers) : Type 0 where
   pub kind : CountKind
-  pub first : counts_after old batch ≡ Err kind
+  pub first : counts_after old.pool batch ≡ Err kind
   pub told : IsTold old new (too_many_report kind)
 
 -- what a call with some files ends in, by its status
-abbrev pub LinkedAs : Contents → Batch → Answers → Status → Type 0
+abbrev pub LinkedAs : Answers → Batch → Answers → Status → Type 0
 LinkedAs old batch new Done = IsDone old batch new
 LinkedAs old batch new Refused = IsRefused old batch new
 LinkedAs old batch new Fault = ⊥
@@ -43,7 +55,7 @@ LinkedAs old batch new OutOfMemory = IsTold old new no_report
 LinkedAs old batch new TooMany = IsTooMany old batch new
 
 -- what a call with bytes that are no files ends in: their fault is told, unless memory was refused
-abbrev pub NotReadAs : Contents → List ℕ → Answers → Status → Type 0
+abbrev pub NotReadAs : Answers → List ℕ → Answers → Status → Type 0
 NotReadAs old words new Done = ⊥
 NotReadAs old words new Refused = ⊥
 NotReadAs old words new Fault = IsTold old new (fault_report words)
@@ -51,7 +63,7 @@ NotReadAs old words new OutOfMemory = IsTold old new no_report
 NotReadAs old words new TooMany = ⊥
 
 -- what a call that adds files ends in, by what its bytes say
-abbrev pub AddedAs : Read → Contents → Answers → Status → Type 0
+abbrev pub AddedAs : Read → Answers → Answers → Status → Type 0
 AddedAs (Ok batch) old new status = LinkedAs old batch new status
 AddedAs (Err words) old new status = NotReadAs old words new status
 

@@ -1,5 +1,5 @@
 -- What is told of a call that added nothing: lines for people, and an object of JSON.
-use Rattle.std.specs.Prelude.{ℕ, List, [], length}
+use Rattle.std.specs.Prelude.{ℕ, List, []}
 use Rattle.pool_faults.specs.declared.fault.DescriptorErrorKind.{DescriptorErrorKind}
 use Rattle.proto_types.specs.declared.file.FileDescriptorProto.{FileDescriptorProto}
 use Rattle.record_walk.specs.declared.counts.CountKind.{CountKind}
@@ -13,13 +13,15 @@ use Rattle.numbered_pool.specs.declared.report.Report.{Report}
 abbrev pub no_report : Report
 no_report = record { lines = []; json = [] }
 
--- a refused batch as it is told
+-- a refused batch as it is told, by one list of faults in both texts
 abbrev pub told_report : ToldRefusal → Report
 told_report r = record { lines = refused_text r; json = refused_json r }
 
--- all faults of files that break rules
-abbrev pub refused_report : List FileDescriptorProto → List DescriptorErrorKind → Report
-refused_report files faults = told_report (told_refusal [] files faults (length faults))
+-- so many faults at most of new files that break rules, by the records of a pool's files and of the
+-- new ones
+abbrev pub refused_report : List FileDescriptorProto → List FileDescriptorProto
+    → List DescriptorErrorKind → ℕ → Report
+refused_report linked new faults most = told_report (told_refusal linked new faults most)
 
 -- of what there is too much
 abbrev pub too_many_report : CountKind → Report

@@ -4,97 +4,116 @@ use crate::reading::{ReadError, Source, read_files};
 use crate::report::{Report, fault_report, refused_report, too_many_report};
 use crate::status::Status;
 use descriptor_pool::{BuildError, DescriptorPool};
+use plain_data::Items;
+use proto_types::FileDescriptorProto;
 use std::alloc::{AllocError, Global};
+use verdict_texts::RefusedBatch;
+
+/// How many faults a report tells at most where nothing is said.
+const MAX_FAULTS: usize = 100;
 
 /// A pool, and what the last call that added files tells.
 #[derive(Drop)]
 pub struct Answers {
     pub pool: DescriptorPool,
     pub report: Report,
+    /// How many faults a report tells at most, of calls from now on.
+    pub max_faults: usize,
 }
 
 impl Answers {
-    ghost use Rattle.pool_types.specs.Contents.{no_contents};
-    ghost use Rattle.numbered_pool.specs.Added.{AddedAs, ToldAs};
+    ghost use Rattle.numbered_pool.specs.Added.{AddedAs, LinkedAs, ToldAs, no_answers, unreported};
     ghost use Rattle.numbered_pool.specs.Reading.{file_read, files_read, script_read, set_read};
     ghost use Rattle.numbered_pool.specs.Reports.{no_report};
 
-    /// A pool without files and an empty report, which takes no memory.
+    /// A pool without files and an empty report, which takes no memory. It tells a hundred faults at
+    /// most.
     pub fn new(alloc: Global) -> Answers
-        ensures pool { result.pool ≡ no_contents }
-        ensures report { result.report ≡ no_report }
+        ensures { result ≡ no_answers }
     {
         Answers {
             pool: DescriptorPool::new(alloc),
             report: Report::new(alloc),
+            max_faults: MAX_FAULTS,
         }
     }
 
-    /// A pool with equal contents, and an empty report. The two share nothing.
+    /// A pool with equal contents and the same limit of faults, and an empty report. The two share
+    /// nothing.
     ///
     /// # Errors
     /// `AllocError` where memory was refused.
     pub fn clone(&self, alloc: Global) -> Result<Answers, AllocError>
-        ensures pool { IfOk result (λ copy. copy.pool ≡ self.now.pool) }
-        ensures report { IfOk result (λ copy. copy.report ≡ no_report) }
+        ensures { IfOk result (λ copy. copy ≡ unreported self.now) }
     {
         let pool = self.pool.clone()?;
         Ok(Answers {
             pool,
             report: Report::new(alloc),
+            max_faults: self.max_faults,
         })
     }
 
     /// Links the files of an encoded `FileDescriptorSet`, in one batch. Files whose names the pool
-    /// has are passed over unread. After any status but `Done` the pool is as it was. What there is
-    /// to tell is in the report, which is empty after `Done` and `OutOfMemory`.
+    /// has are passed over unread, and no report looks at them. After any status but `Done` the pool
+    /// is as it was. What there is to tell is in the report, which is empty after `Done` and
+    /// `OutOfMemory`.
     pub fn add_set(&mut self, alloc: Global, bytes: &[u8]) -> Status
-        ensures { AddedAs (set_read bytes.now) self.old.pool self.new result }
+        ensures { AddedAs (set_read bytes.now) self.old self.new result }
     {
         self.add(alloc, Source::Set, bytes)
     }
 
-    /// The same with one encoded `FileDescriptorProto`.
+    /// Links the file of an encoded `FileDescriptorProto` as `add_set` does.
     pub fn add_file(&mut self, alloc: Global, bytes: &[u8]) -> Status
-        ensures { AddedAs (file_read bytes.now) self.old.pool self.new result }
+        ensures { AddedAs (file_read bytes.now) self.old self.new result }
     {
         self.add(alloc, Source::File, bytes)
     }
 
-    /// The same with the files that a script declares. Its commands are passed over.
+    /// Links the files that a script declares as `add_set` does. Its commands are passed over.
     pub fn add_script(&mut self, alloc: Global, bytes: &[u8]) -> Status
-        ensures { AddedAs (script_read bytes.now) self.old.pool self.new result }
+        ensures { AddedAs (script_read bytes.now) self.old self.new result }
     {
         self.add(alloc, Source::Script, bytes)
     }
 
-    /// Links the files that bytes say. Those of a refused batch are read again for its report,
-    /// since linking uses them up.
+    /// Links the files that bytes say.
     fn add(&mut self, alloc: Global, source: Source, bytes: &[u8]) -> Status
-        ensures { AddedAs (files_read source bytes.now) self.old.pool self.new result }
+        ensures { AddedAs (files_read source bytes.now) self.old self.new result }
     {
         self.report = Report::new(alloc);
-        let files = match read_files(alloc, source, bytes) {
-            Ok(files) => files,
+        match read_files(alloc, source, bytes) {
+            Ok(files) => self.link(alloc, files),
             Err(ReadError::Fault(words)) => {
                 let report = fault_report(alloc, words.as_str());
-                return self.tell(alloc, report, Status::Fault);
+                self.tell(alloc, report, Status::Fault)
             }
-            Err(ReadError::OutOfMemory) => return Status::OutOfMemory,
-        };
-        match self.pool.build_files(files.into_vec()) {
+            Err(ReadError::OutOfMemory) => Status::OutOfMemory,
+        }
+    }
+
+    /// Links files into a pool with an empty report.
+    fn link(&mut self, alloc: Global, batch: Items<FileDescriptorProto>) -> Status
+        requires { self.old.report ≡ no_report }
+        ensures { LinkedAs self.old batch self.new result }
+    {
+        let mut files = batch.into_vec();
+        match self.pool.link_or_give_back(&mut files) {
             Ok(()) => Status::Done,
             Err(BuildError::TooMany(kind)) => {
                 let report = too_many_report(alloc, kind);
                 self.tell(alloc, report, Status::TooMany)
             }
-            Err(BuildError::Descriptor(error)) => match read_files(alloc, source, bytes) {
-                Ok(files) => {
-                    let report = refused_report(alloc, files.as_slice(), error.errors());
-                    self.tell(alloc, report, Status::Refused)
-                }
-                Err(_) => Status::OutOfMemory,
-            },
+            Err(BuildError::Descriptor(error)) => {
+                let refused = RefusedBatch {
+                    linked: self.pool.files(),
+                    files: &files,
+                    faults: error.errors(),
+                };
+                let report = refused_report(alloc, &refused, self.max_faults);
+                self.tell(alloc, report, Status::Refused)
+            }
             Err(BuildError::OutOfMemory) => Status::OutOfMemory,
         }
     }
@@ -102,6 +121,7 @@ impl Answers {
     /// Keeps a report, and answers its status; where memory was refused for it, keeps none.
     fn tell(&mut self, alloc: Global, report: Result<Report, AllocError>, status: Status) -> Status
         ensures pool { self.new.pool ≡ self.old.pool }
+        ensures max_faults { self.new.max_faults ≡ self.old.max_faults }
         ensures told { ToldAs report status self.new.report result }
     {
         match report {

@@ -1,11 +1,9 @@
 //! What is told of a call that added nothing.
 
-ghost use Rattle.std.specs.Prelude.{◌≡◌, IfOk, string_bytes};
+ghost use Rattle.std.specs.Prelude.{◌≡◌, IfOk, map, string_bytes};
 ghost use Rattle.numbered_pool.specs.Reports as spec;
 
 use plain_data::Text;
-use pool_faults::DescriptorErrorKind;
-use proto_types::FileDescriptorProto;
 use record_walk::CountKind;
 use std::alloc::{AllocError, Global};
 use verdict_texts::{
@@ -34,20 +32,17 @@ impl Report {
     }
 }
 
-/// What is told of files that break rules: all faults, by the records of the files.
+/// What is told of new files that break rules: so many of their faults at most. Both texts are
+/// printed of one list.
 pub(crate) fn refused_report(
     alloc: Global,
-    files: &[FileDescriptorProto],
-    faults: &[DescriptorErrorKind],
+    batch: &RefusedBatch,
+    most: usize,
 ) -> Result<Report, AllocError>
-    ensures { IfOk result (λ report. report ≡ spec.refused_report files.now faults.now) }
+    ensures { IfOk result (λ report. report ≡ spec.refused_report
+        (map (λ f. f.raw) batch.now.linked.now) batch.now.files.now batch.now.faults.now most) }
 {
-    let batch = RefusedBatch {
-        linked: &[],
-        files,
-        faults,
-    };
-    let refusal = tell_refusal(alloc, &batch, faults.len())?;
+    let refusal = tell_refusal(alloc, batch, most)?;
     let lines = refused_text(alloc, &refusal)?;
     let json = refused_json(alloc, &refusal)?;
     Ok(as_report(lines, json))

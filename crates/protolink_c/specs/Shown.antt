@@ -1,20 +1,21 @@
 -- What a handle shows.
+use Rattle.std.specs.Prelude.{ℕ}
 use Rattle.std.specs.declared.option.Option.{Option}
 use Rattle.std.specs.declared.option.Option.TheVariants.{None, Some}
-use Rattle.pool_types.specs.Contents.{Contents, no_contents}
-use Rattle.numbered_pool.specs.Reports.{no_report}
+use Rattle.pool_types.specs.Contents.{Contents}
+use Rattle.numbered_pool.specs.Added.{no_answers}
 use Rattle.numbered_pool.specs.declared.answers.Answers.{Answers}
 use Rattle.numbered_pool.specs.declared.report.Report.{Report}
 use Rattle.protolink_c.specs.declared.lent.Lent.{Lent}
 use Rattle.protolink_c.specs.declared.lent.Lent.TheVariants.{Boxed, Empty}
 
--- a pool of which nothing is told
-abbrev pub unreported : Contents → Answers
-unreported p = record { pool = p; report = no_report }
+-- the same pool and its report, with another limit of faults
+abbrev pub limited : ℕ → Answers → Answers
+limited most answers = record answers { max_faults = most }
 
 -- the pool of a handle with its report; a handle that owns nothing shows an empty pool
 abbrev pub answers_of : Option Answers → Answers
-answers_of None = unreported no_contents
+answers_of None = no_answers
 answers_of (Some answers) = answers
 
 -- the pool of a handle

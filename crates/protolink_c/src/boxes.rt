@@ -1,7 +1,8 @@
 //! The boxes of pools.
 ghost use Rattle.std.specs.Prelude.{◌≡◌, IfSome, MatchOption, None, Some};
+ghost use Rattle.numbered_pool.specs.Added.{unreported};
 ghost use Rattle.numbered_pool.specs.Statuses.{status_number};
-ghost use Rattle.protolink_c.specs.Shown.{pool_of, unreported};
+ghost use Rattle.protolink_c.specs.Shown.{answers_of};
 
 use crate::handle::Handle;
 use numbered_pool::{Answers, Status};
@@ -9,7 +10,7 @@ use std::alloc::Global;
 
 /// The pool of a handle, or a new one where it owns none; nothing where memory was refused for it.
 pub fn opened(alloc: Global, pool: Handle) -> Option<Box<Answers>>
-    ensures { MatchOption result (pool.shown ≡ None) (λ b. b.value.pool ≡ pool_of pool.shown) }
+    ensures { MatchOption result (pool.shown ≡ None) (λ b. b.value ≡ answers_of pool.shown) }
 {
     match pool.into_box(alloc) {
         Some(answers) => Some(answers),
@@ -26,9 +27,9 @@ pub fn closed(alloc: Global, pool: &mut Handle, answers: Box<Answers>, status: S
     status.number()
 }
 
-/// A pool with equal contents and an empty report; nothing where memory was refused.
+/// A pool with equal contents and an empty report, or nothing where memory was refused.
 pub fn boxed_copy(alloc: Global, answers: &Answers) -> Option<Box<Answers>>
-    ensures { IfSome result (λ b. b.value ≡ unreported answers.now.pool) }
+    ensures { IfSome result (λ b. b.value ≡ unreported answers.now) }
 {
     let copy = answers.clone(alloc).ok()?;
     Box::new(alloc, copy).ok()

@@ -3,13 +3,14 @@ ghost use Rattle.std.specs.Prelude.{◌≡◌, ◌≢◌, IsUtf8, None, slice_ge
 ghost use Rattle.std.specs.Option.{option_map};
 ghost use Rattle.descriptor_encoding.specs.Encoding.{file_encoding, set_encoding};
 ghost use Rattle.pool_contents.specs.LookUps.{definition_named};
+ghost use Rattle.numbered_pool.specs.Added.{unreported};
 ghost use Rattle.numbered_pool.specs.Numbers as numbers;
 ghost use Rattle.numbered_pool.specs.Reading.{file_read, script_read, set_read};
 ghost use Rattle.pool_types.specs.Contents.{files_of};
 ghost use Rattle.pool_types.specs.Extension.{extension_numbered};
 ghost use Rattle.record_walk.specs.Counts.{counts_in};
 ghost use Rattle.protolink_c.specs.Added.{IsAdded};
-ghost use Rattle.protolink_c.specs.Shown.{answers_of, pool_of, report_of, unreported};
+ghost use Rattle.protolink_c.specs.Shown.{answers_of, limited, pool_of, report_of};
 ghost use Rattle.protolink_c.specs.Told.{handed_out, handed_out_if, located, written};
 
 use crate::boxes::{boxed_copy, closed, opened};
@@ -17,7 +18,7 @@ use crate::handle::Handle;
 use crate::lent::lend;
 use crate::status::{DONE, NO_MEMORY, NOT_FOUND};
 use crate::told::{hand_out, locate, write};
-use numbered_pool::{Item, PoolCounts};
+use numbered_pool::{Item, PoolCounts, Status};
 use std::alloc::Global;
 
 /// 0.1.0
@@ -37,7 +38,7 @@ pub extern "C" fn protolink_version() -> u32
 #[unsafe(no_mangle)]
 pub extern "C" fn protolink_pool_add_set(alloc: Global, pool: &mut Handle, bytes: &[u8]) -> u8
     ensures { IsAdded (set_read bytes.now)
-        (pool_of pool.old.shown) (answers_of pool.new.shown) result }
+        (answers_of pool.old.shown) (answers_of pool.new.shown) result }
 {
     let Some(mut answers) = opened(alloc, pool.take()) else {
         return NO_MEMORY;
@@ -50,7 +51,7 @@ pub extern "C" fn protolink_pool_add_set(alloc: Global, pool: &mut Handle, bytes
 #[unsafe(no_mangle)]
 pub extern "C" fn protolink_pool_add_file(alloc: Global, pool: &mut Handle, bytes: &[u8]) -> u8
     ensures { IsAdded (file_read bytes.now)
-        (pool_of pool.old.shown) (answers_of pool.new.shown) result }
+        (answers_of pool.old.shown) (answers_of pool.new.shown) result }
 {
     let Some(mut answers) = opened(alloc, pool.take()) else {
         return NO_MEMORY;
@@ -63,13 +64,28 @@ pub extern "C" fn protolink_pool_add_file(alloc: Global, pool: &mut Handle, byte
 #[unsafe(no_mangle)]
 pub extern "C" fn protolink_pool_add_script(alloc: Global, pool: &mut Handle, script: &[u8]) -> u8
     ensures { IsAdded (script_read script.now)
-        (pool_of pool.old.shown) (answers_of pool.new.shown) result }
+        (answers_of pool.old.shown) (answers_of pool.new.shown) result }
 {
     let Some(mut answers) = opened(alloc, pool.take()) else {
         return NO_MEMORY;
     };
     let status = answers.add_script(alloc, script);
     closed(alloc, pool, answers, status)
+}
+
+/// Sets how many faults the reports tell at most of calls from now on that add files. The pool and
+/// its reports stay.
+#[unsafe(no_mangle)]
+pub extern "C" fn protolink_pool_limit_faults(alloc: Global, pool: &mut Handle, most: usize) -> u8
+    ensures limited { result ≡ 0 →
+        answers_of pool.new.shown ≡ limited most (answers_of pool.old.shown) }
+    ensures no_memory { result ≢ 0 → (result ≡ 3) × (pool.new.shown ≡ pool.old.shown) }
+{
+    let Some(mut answers) = opened(alloc, pool.take()) else {
+        return NO_MEMORY;
+    };
+    answers.max_faults = most;
+    closed(alloc, pool, answers, Status::Done)
 }
 
 /// Hands out the report of the last call that was to add files, in lines.
@@ -249,12 +265,12 @@ pub extern "C" fn protolink_pool_extension(
     status
 }
 
-/// Makes `copy` a pool with equal contents and an empty report, which shares nothing with the
-/// first. What it had is freed; where memory was refused, it is empty.
+/// Makes `copy` a pool with equal contents, the same limit of faults and an empty report, which
+/// shares nothing with the first. What it had is freed; where memory was refused, it is empty.
 #[unsafe(no_mangle)]
 pub extern "C" fn protolink_pool_clone(alloc: Global, pool: &mut Handle, copy: &mut Handle) -> u8
     ensures same { pool.new.shown ≡ pool.old.shown }
-    ensures copied { result ≡ 0 → answers_of copy.new.shown ≡ unreported (pool_of pool.old.shown) }
+    ensures copied { result ≡ 0 → answers_of copy.new.shown ≡ unreported (answers_of pool.old.shown) }
     ensures no_memory { result ≢ 0 → (result ≡ 3) × (copy.new.shown ≡ None) }
 {
     copy.put(alloc, Handle::empty());

@@ -101,6 +101,32 @@ fn a_refusal_is_told(rt: HostRuntime) -> Result<(), Fail> {
     Ok(())
 }
 
+/// Whether a script is refused, and what is told of it in lines begins with a text.
+fn is_refused(alloc: Global, pool: &mut Handle, script: &[u8], lines: &[u8]) -> bool {
+    let status = protolink_pool_add_script(alloc, pool, script);
+    let mut text = [0; 500];
+    let mut length = 0;
+    let told = protolink_pool_report(alloc, pool, &mut text, &mut length);
+    status == REFUSED && told == DONE && text.starts_with(lines)
+}
+
+#[test]
+fn a_file_that_was_passed_over_is_not_told(rt: HostRuntime) -> Result<(), Fail> {
+    let alloc = rt.alloc();
+    let mut pool = Handle::empty();
+    assert_eq!(rt; protolink_pool_add_script(alloc, &mut pool, SCRIPT), DONE);
+    let script = b"file shop.proto\npublic 7\nend\nfile b.proto\npublic 5\nend\n";
+    let lines = b"b.proto: invalid import index\n";
+    assert!(rt; is_refused(alloc, &mut pool, script, lines));
+    let script = b"file shop.proto\nmessage A\nend\nend\n\
+        file b.proto\npackage shop\nmessage Order\nend\nend\n";
+    let lines = b"b.proto: shop.Order: name 'shop.Order' is already defined in file 'shop.proto'\n\
+        \x20 note: first declared at shop.proto: shop.Order\n";
+    assert!(rt; is_refused(alloc, &mut pool, script, lines));
+    end(&rt, alloc, pool);
+    Ok(())
+}
+
 #[test]
 fn linked_files_are_a_set(rt: HostRuntime) -> Result<(), Fail> {
     let alloc = rt.alloc();
