@@ -1,5 +1,5 @@
 -- A line has one line feed, its last byte.
-use Rattle.std.proofs.Common.{◌≡◌, ◌≢◌, ℕ, zero, suc, ◌<◌, ◌≤◌, ◌/◌, ◌%◌, Bool, true, false, List, [], ◌∷◌, ◌++◌, length, get_or, inl, inr, refl, sym, subst, arith, append-nil}
+use Rattle.std.proofs.Common.{◌≡◌, ◌≢◌, ℕ, suc, ◌<◌, ◌≤◌, ◌/◌, ◌%◌, Bool, true, false, List, [], ◌∷◌, ◌++◌, length, get_or, codes, nat_lt, if◌then◌else◌, inl, inr, refl, sym, subst, arith, append-nil}
 use Rattle.std.proofs.lemmas.Bool.{cases_lt, ne_eqb}
 use Rattle.std.proofs.lemmas.Bool.Decides.{nat_tests}
 use Rattle.std.proofs.lemmas.Str.{encode_ascii, inside_one}
@@ -7,7 +7,8 @@ use Rattle.std.specs.Char.{digit_char}
 use Rattle.std.specs.List.{flat_map}
 use Rattle.std.specs.Str.{chars}
 use lib.Utf8.{encode}
-use Rattle.fault_texts.specs.Lines.{ends_once, is_hidden, plain_char, line, LinesEndOnce}
+use Rattle.fault_texts.specs.Hidden.{is_hidden}
+use Rattle.fault_texts.specs.Lines.{ends_once, escape_of, four_digits, plain_char, line, LinesEndOnce}
 
 -- no byte is a line feed
 abbrev NoFeed : List ℕ → Type 0
@@ -39,20 +40,26 @@ no-feed-encoded c n = elim (cases_lt c 128) [
 shown-is : (c : ℕ) → is_hidden c ≡ false → c ≢ 10
 shown-is c shown e = let hidden : is_hidden 10 ≡ false = subst (λ n. is_hidden n ≡ false) e shown in cc
 
+no-feed-four : (n : ℕ) → NoFeed (four_digits n)
+no-feed-four n = (
+  no-feed-digit (n / 4096 % 16),
+  (no-feed-digit (n / 256 % 16), (no-feed-digit (n / 16 % 16), (no-feed-digit (n % 16), tt))),
+)
+
+no-feed-escape : (c : ℕ) → NoFeed (escape_of c)
+no-feed-escape c =
+    let low = four_digits c in
+    let high = four_digits (c / 65536) in
+    elim (nat_lt c 65536) as (λ b. NoFeed (if b then codes "\\u" ++ low else codes "\\U" ++ (high ++ low))) [
+      | true ↦ no-feed-append (codes "\\u") low (λ e. cc, (λ e. cc, tt)) (no-feed-four c)
+      | false ↦ no-feed-append (codes "\\U") (high ++ low) (λ e. cc, (λ e. cc, tt)) (no-feed-append high low (no-feed-four (c / 65536)) (no-feed-four c))
+    ]
+
 no-feed-char : (c : ℕ) → NoFeed (plain_char c)
 no-feed-char c = go (is_hidden c) refl
   where
     go : (b : Bool) → is_hidden c ≡ b → NoFeed (plain_char c)
-    go true hidden = rw hidden (
-      λ e. cc,
-      (
-        λ e. cc,
-        (
-          no-feed-digit (c / 4096 % 16),
-          (no-feed-digit (c / 256 % 16), (no-feed-digit (c / 16 % 16), (no-feed-digit (c % 16), tt))),
-        ),
-      ),
-    )
+    go true hidden = rw hidden (no-feed-escape c)
     go false shown = rw shown (no-feed-encoded c (shown-is c shown))
 
 no-feed-chars : (cs : List ℕ) → NoFeed (flat_map plain_char cs)

@@ -1,6 +1,7 @@
 pub mod FaultKinds
 pub mod Remedies
 pub mod Elements
+pub mod Hidden
 pub mod Lines
 pub mod PlainFaults
 pub mod JsonFaults

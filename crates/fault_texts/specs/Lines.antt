@@ -1,27 +1,23 @@
 -- Lines for people: a text without characters that a terminal would obey or hide.
-use Rattle.std.specs.Prelude.{◌≡◌, ℕ, ◌/◌, ◌%◌, Bool, true, false, not, ◌==◌, ◌&&◌, ◌||◌, nat_le, List, [], ◌∷◌, ◌++◌, codes, if◌then◌else◌}
+use Rattle.std.specs.Prelude.{◌≡◌, ℕ, ◌/◌, ◌%◌, Bool, true, false, not, ◌==◌, ◌&&◌, nat_lt, List, [], ◌∷◌, ◌++◌, codes, if◌then◌else◌}
 use Rattle.std.specs.Char.{digit_char, encode_utf8}
 use Rattle.std.specs.List.{flat_map}
 use Rattle.std.specs.Str.{chars}
+use Rattle.fault_texts.specs.Hidden.{is_hidden}
 
--- whether a character is one of a range
-abbrev pub is_in : ℕ → ℕ → ℕ → Bool
-is_in first last c = nat_le first c && nat_le c last
+-- the last four hexadecimal digits of a number
+abbrev pub four_digits : ℕ → List ℕ
+four_digits n = digit_char (n / 4096 % 16) ∷ digit_char (n / 256 % 16) ∷ digit_char (n / 16 % 16)
+    ∷ digit_char (n % 16) ∷ []
 
--- whether a terminal would obey a character, or hide it: control characters, marks of direction,
--- separators of lines, and characters of no width
-abbrev pub is_hidden : ℕ → Bool
-is_hidden c = nat_le c 0x1f || is_in 0x7f 0x9f c || is_in 0x200b 0x200f c || is_in 0x2028 0x202e c
-    || is_in 0x2060 0x206f c || c == 0xfeff
-
--- `\uXXXX`
-abbrev pub unit_escape : ℕ → List ℕ
-unit_escape c = codes "\\u" ++ (digit_char (c / 4096 % 16) ∷ digit_char (c / 256 % 16)
-    ∷ digit_char (c / 16 % 16) ∷ digit_char (c % 16) ∷ [])
+-- `\uXXXX`, and past U+FFFF `\UXXXXXXXX`
+abbrev pub escape_of : ℕ → List ℕ
+escape_of c = if nat_lt c 65536 then codes "\\u" ++ four_digits c
+    else codes "\\U" ++ (four_digits (c / 65536) ++ four_digits c)
 
 -- what is printed for a character
 abbrev pub plain_char : ℕ → List ℕ
-plain_char c = if is_hidden c then unit_escape c else encode_utf8 c
+plain_char c = if is_hidden c then escape_of c else encode_utf8 c
 
 -- a text as a line, with its end
 unfoldable pub line : List ℕ → List ℕ

@@ -3,6 +3,7 @@
 
 mod declaring;
 mod elements;
+mod hidden;
 mod json_faults;
 mod kinds;
 mod known;

@@ -4,6 +4,7 @@ ghost use Rattle.std.specs.Prelude.{◌≡◌, ◌%◌, ◌++◌, OnOk, string_b
 ghost use Rattle.std.specs.Char.{digit_char};
 ghost use Rattle.fault_texts.specs.Lines as spec;
 
+use crate::hidden::is_hidden;
 use std::alloc::AllocError;
 
 /// Writes a text as a line, with its end. What a terminal would obey or hide is written as an
@@ -45,21 +46,6 @@ fn write_char_of_lines(text: &mut String, c: char) -> Result<(), AllocError>
     }
 }
 
-/// Whether a terminal would obey a character, or hide it.
-fn is_hidden(c: char) -> bool
-    ensures { result ≡ spec.is_hidden c }
-{
-    matches!(
-        c,
-        '\0'..='\u{1f}'
-            | '\u{7f}'..='\u{9f}'
-            | '\u{200b}'..='\u{200f}'
-            | '\u{2028}'..='\u{202e}'
-            | '\u{2060}'..='\u{206f}'
-            | '\u{feff}'
-    )
-}
-
 /// Writes a character of a line: as it is, or as an escape.
 fn write_plain_char(text: &mut String, c: char) -> Result<(), AllocError>
     ensures { OnOk result (string_bytes text.new ≡ string_bytes text.old ++ spec.plain_char c) }
@@ -73,12 +59,25 @@ fn write_plain_char(text: &mut String, c: char) -> Result<(), AllocError>
 
 /// Writes the escape of a character by its number.
 fn write_escape(text: &mut String, code: u32) -> Result<(), AllocError>
-    ensures { OnOk result (string_bytes text.new ≡ string_bytes text.old
-        ++ spec.unit_escape code) }
+    ensures { OnOk result (string_bytes text.new ≡ string_bytes text.old ++ spec.escape_of code) }
 {
-    let (first, second) = (hex_digit(code / 4096), hex_digit(code / 256));
-    let (third, fourth) = (hex_digit(code / 16), hex_digit(code));
-    write!(text, "\\u{first}{second}{third}{fourth}")
+    if code < 0x1_0000 {
+        text.push_str("\\u")?;
+        return write_four_digits(text, code);
+    }
+    text.push_str("\\U")?;
+    write_four_digits(text, code / 0x1_0000)?;
+    write_four_digits(text, code)
+}
+
+/// Writes the last four hexadecimal digits of a number.
+fn write_four_digits(text: &mut String, number: u32) -> Result<(), AllocError>
+    ensures { OnOk result (string_bytes text.new ≡ string_bytes text.old
+        ++ spec.four_digits number) }
+{
+    let (first, second) = (hex_digit(number / 4096), hex_digit(number / 256));
+    let (third, fourth) = (hex_digit(number / 16), hex_digit(number));
+    write!(text, "{first}{second}{third}{fourth}")
 }
 
 /// The last hexadecimal digit of a number.
