@@ -51,11 +51,11 @@ impl Trial for Row {
         runs.push(Run {
             wanted: read(rt, name, "text")?,
             status,
-            told: Told::of(rt, folder, words.as_slice())?,
+            told: Told::of(rt, folder, words.as_slice()),
         })?;
         if let Some(wanted) = read_if_there(rt, name, "json")? {
             words.push(Text::from_str(rt.alloc(), "--json")?)?;
-            let told = Told::of(rt, folder, words.as_slice())?;
+            let told = Told::of(rt, folder, words.as_slice());
             runs.push(Run {
                 wanted,
                 status,

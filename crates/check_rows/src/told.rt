@@ -1,8 +1,6 @@
-use descriptor_check::{
-    Answer, HELP, Input, Job, Request, VERSION, check, complain_of_arguments, read_arguments, tell,
-};
+use descriptor_check::{CheckDevices, DeviceError, LinkedSet, Part, run};
 use plain_data::{Items, Text};
-use std::alloc::{AllocError, Global};
+use std::alloc::Global;
 use std::{fs, io};
 
 /// What a run of the check tells.
@@ -15,41 +13,87 @@ pub(super) struct Told {
 
 impl Told {
     /// What the check tells for some arguments, whose files stand in a folder.
-    pub(super) fn of(rt: &HostRuntime, folder: &str, words: &[Text]) -> io::Result<Told> {
+    pub(super) fn of(rt: &HostRuntime, folder: &str, words: &[Text]) -> Told {
         let alloc = rt.alloc();
-        let answer = match read_arguments(alloc, words)? {
-            Request::Check(job) => check_files(rt, folder, &job)?,
-            Request::Help => tell(alloc, HELP)?,
-            Request::Version => tell(alloc, VERSION)?,
-            Request::Wrong(words) => complain_of_arguments(alloc, words.as_str())?,
+        let text = String::new(alloc);
+        let mut devices = RowDevices {
+            rt,
+            folder,
+            words,
+            text,
         };
-        Ok(both_outputs(alloc, &answer)?)
+        let status = run(alloc, &mut devices).number();
+        let RowDevices {
+            rt: _rt,
+            folder: _folder,
+            words: _words,
+            text,
+        } = devices;
+        Told { text, status }
     }
 }
 
-/// What an answer writes to the two outputs, and its status.
-fn both_outputs(alloc: Global, answer: &Answer) -> Result<Told, AllocError> {
-    let (report, complaint) = (answer.report.as_str(), answer.complaint.as_str());
-    let text = format!(in alloc; "{report}{complaint}")?;
-    let status = answer.status.number();
-    Ok(Told { text, status })
+/// What the run of a row reads from and writes to: files of a folder, and a text. A set of linked
+/// files goes nowhere.
+struct RowDevices<'a> {
+    rt: &'a HostRuntime,
+    folder: &'a str,
+    words: &'a [Text],
+    text: String,
 }
 
-/// The answer for the files that a job names.
-fn check_files(rt: &HostRuntime, folder: &str, job: &Job) -> io::Result<Answer> {
-    let alloc = rt.alloc();
-    let mut inputs = Vec::new(alloc);
-    for name in job.files.as_slice() {
-        inputs.push(input(rt, folder, name.as_str())?)?;
+impl<'a> CheckDevices for RowDevices<'a> {
+    ghost use Rattle.descriptor_check.specs.Devices.{untold};
+
+    ghost told = { λ _. untold };
+
+    fn arguments(&self, alloc: Global) -> Result<Items<Text>, DeviceError> {
+        let mut words = Items::new(alloc);
+        for word in self.words {
+            words.push(word.clone(alloc)?)?;
+        }
+        Ok(words)
     }
-    Ok(check(alloc, &job.wanted, inputs.as_slice())?)
-}
 
-/// A file of a folder.
-fn input(rt: &HostRuntime, folder: &str, name: &str) -> io::Result<Input> {
-    let alloc = rt.alloc();
-    let path = format!(in alloc; "{folder}/{name}")?;
-    let bytes = Items::from_vec(fs::read(rt, path.as_str())?);
-    let name = Text::from_str(alloc, name)?;
-    Ok(Input { name, bytes })
+    fn read(&self, alloc: Global, name: &str) -> Result<Items<u8>, DeviceError> {
+        let folder = self.folder;
+        let path = format!(in alloc; "{folder}/{name}")?;
+        match fs::read(self.rt, path.as_str()) {
+            Ok(bytes) => Ok(Items::from_vec(bytes)),
+            Err(error) => Err(DeviceError::Failed(Text::from_string(error.to_string(alloc)?))),
+        }
+    }
+
+    fn print(&mut self, text: &str) -> io::Result<()> {
+        self.text.push_str(text)?;
+        Ok(())
+    }
+
+    fn complain(&mut self, text: &str) -> io::Result<()> {
+        self.text.push_str(text)?;
+        Ok(())
+    }
+
+    fn write_part(&mut self, alloc: Global, set: &LinkedSet) -> Result<Part, DeviceError> {
+        let name = set.name.clone(alloc)?;
+        let place = set.name.clone(alloc)?;
+        Ok(Part { name, place })
+    }
+
+    fn put_in_place(
+        &mut self,
+        _alloc: Global,
+        part: Part,
+        _set: &LinkedSet,
+    ) -> Result<(), DeviceError> {
+        self.give_up(part);
+        Ok(())
+    }
+
+    fn give_up(&mut self, part: Part) {
+        let Part {
+            name: _name,
+            place: _place,
+        } = part;
+    }
 }

@@ -12,3 +12,5 @@ pub mod Described
 pub mod Answers
 pub mod Arguments
 pub mod Statuses
+pub mod Devices
+pub mod Runs

@@ -197,10 +197,7 @@ fn tell_unread(alloc: Global, wanted: &Wanted, input: &NotASet) -> Result<Answer
 }
 
 /// The answer that tells a text, whatever the inputs.
-///
-/// # Errors
-/// `AllocError` where memory was refused.
-pub fn tell(alloc: Global, words: &str) -> Result<Answer, AllocError>
+pub(crate) fn tell(alloc: Global, words: &str) -> Result<Answer, AllocError>
     ensures { IfOk result (λ answer. answer ≡ spec.told Accepted words.now) }
 {
     Ok(told_by(alloc, Status::Accepted, String::from_str(alloc, words)?))

@@ -34,10 +34,7 @@ pub(crate) fn no_answer(report: String, complaint: String) -> Answer
 }
 
 /// The answer where there is no verdict, and why.
-///
-/// # Errors
-/// `AllocError` where memory was refused.
-pub fn complain(alloc: Global, words: &str) -> Result<Answer, AllocError>
+pub(crate) fn complain(alloc: Global, words: &str) -> Result<Answer, AllocError>
     ensures { IfOk result (λ answer. answer ≡ spec.no_verdict words.now) }
 {
     let mut complaint = String::new(alloc);
@@ -46,10 +43,7 @@ pub fn complain(alloc: Global, words: &str) -> Result<Answer, AllocError>
 }
 
 /// The answer to wrong arguments: why they are, and those that there are.
-///
-/// # Errors
-/// `AllocError` where memory was refused.
-pub fn complain_of_arguments(alloc: Global, words: &str) -> Result<Answer, AllocError>
+pub(crate) fn complain_of_arguments(alloc: Global, words: &str) -> Result<Answer, AllocError>
     ensures { IfOk result (λ answer. answer ≡ spec.wrong_arguments words.now) }
 {
     let mut complaint = String::new(alloc);
