@@ -1,6 +1,6 @@
 -- What is lost of each old schema.
-use Rattle.std.proofs.Common.{◌≡◌, ◌≢◌, ℕ, ◌^◌, ℤ, pos, negsuc, Bool, true, false, cond, eqb, ◌||◌, List, [], ◌∷◌, Option, Some, None, refl, ap, sym, subst, ◌∙◌}
-use Rattle.std.proofs.lemmas.Bool.{eqb-true, or_cases, false≢true}
+use Rattle.std.proofs.Common.{◌≡◌, ◌≢◌, ℕ, ℤ, pos, negsuc, Bool, true, false, cond, eqb, ◌||◌, List, [], ◌∷◌, Option, Some, None, refl, ap, sym, subst, ◌∙◌}
+use Rattle.std.proofs.lemmas.Bool.{eqb-true, false≢true}
 use Rattle.std.proofs.lemmas.Bool.Decides.{Decides-int_eq}
 use Rattle.std.specs.List.{AllByRecursion}
 use Rattle.std.specs.Ordering.{int_eq}
@@ -9,10 +9,10 @@ use Rattle.message_values.proofs.Lists.{all_of}
 use Rattle.message_values.specs.Values.{Value, Varint, Fixed64, Bytes, Fixed32, Numbered}
 use Rattle.message_values.specs.Schema.{Schema, Kind, Field, Cardinality, Optional, Required, Repeated}
 use Rattle.message_values.specs.Schema as kind
-use Rattle.message_values.specs.Numbers.{form, has_number, number_read, encoded}
+use Rattle.message_values.specs.Numbers.{has_number, number_read, encoded}
 use Rattle.message_values.specs.Fields.{Item, Number, Text, Refused, Items, in_one, taken, counted, value}
 use Rattle.message_values.specs.Reading.{Fact, OfMessages, TakenWith, TooDeep, AreWellFormed, IsComplete, IsRead}
-use Rattle.message_values.specs.Writing.{IsValue, IsValueOf, IsWritten, occurs}
+use Rattle.message_values.specs.Writing.{IsValue, IsValueOf, IsWritten}
 use Rattle.message_values.specs.Carried.{AreCarried}
 use Rattle.message_values.specs.Lost.{Loses, fields_one_and_two, field_one, two_fields, enum_of, optional, required, repeated, in_oneof, losing}
 

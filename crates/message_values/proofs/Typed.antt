@@ -1,7 +1,7 @@
 -- Each item of a field is written by a value.
-use Rattle.std.proofs.Common.{◌≡◌, ℕ, ℤ, true, List, [], ◌∷◌, Option, Some, option_map, refl, ap, sym, subst, ◌∙◌, cond}
-use Rattle.message_values.specs.Values.{Value, Varint, Fixed64, Bytes, Group, Fixed32, values}
-use Rattle.message_values.specs.Schema.{Schema, Kind, Field}
+use Rattle.std.proofs.Common.{◌≡◌, ℕ, [], ◌∷◌, Option, Some, option_map, refl, ap, sym, subst, ◌∙◌, cond}
+use Rattle.message_values.specs.Values.{Value, Varint, Fixed64, Bytes, Group, Fixed32}
+use Rattle.message_values.specs.Schema.{Schema, Field}
 use Rattle.message_values.specs.Numbers.{Coding, Plain, ZigZag, Four, Eight, FloatBits, DoubleBits, Form, form, has_number, encoded, number_read, raw}
 use Rattle.message_values.specs.Numbers as form
 use Rattle.message_values.specs.Fields.{Item, Number, Text, Message, Refused, Items, number_taken, one_taken, numbers_taken, message_taken, taken_as, taken}

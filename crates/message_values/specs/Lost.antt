@@ -15,8 +15,8 @@ pub record Loses (old new : Schema) : Type 0 where
   pub written : IsWritten old (λ _ _. false) 0 0 values
   pub lost : IsRead new 0 0 values → AreCarried old new 0 0 0 values → ⊥
 
--- a schema whose messages have a field with the number 1, and maybe one with the number 2; its enums
--- have the numbers that pass a test
+-- a schema whose messages have a field with the number 1, and maybe one with the number 2; its
+-- enums have the numbers that pass a test
 abbrev pub fields_one_and_two : Field → Option Field → (ℤ → Bool) → Schema
 fields_one_and_two f g has = record {
   field = λ m n. if n == 1 then Some f else (if n == 2 then g else None);

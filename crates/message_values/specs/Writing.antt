@@ -58,8 +58,8 @@ occurs n vs = list_any (λ x. x.number == n) vs
 
 -- The numbered values are a message of a schema as it is written: each is one of a field, or of a
 -- number besides; of the fields of a oneof one occurs at most, and no required field is missing.
-pub record IsWrittenOver (inner : Fact) (s : Schema) (besides : Besides) (m : ℕ) (vs : List Numbered)
-    : Type 0 where
+pub record IsWrittenOver (inner : Fact) (s : Schema) (besides : Besides) (m : ℕ)
+    (vs : List Numbered) : Type 0 where
   pub known : AllByRecursion (λ x. IsValueOf s (besides m x.number) (s.field m x.number) x.value) vs
   pub oneofs : (n k : ℕ) (f g : Field) → s.field m n ≡ Some f → s.field m k ≡ Some g
       → in_one f.oneof g.oneof ≡ true → occurs n vs ≡ true → occurs k vs ≡ true → n ≡ k

@@ -70,8 +70,8 @@ joined_changes f None = []
 joined_changes f (Some g) =
     unless (f.number == g.number || in_one f.oneof g.oneof) g.number change.Oneof
 
--- what changes of the old entries with the numbers of new fields that are in one oneof, the first of
--- which is known
+-- what changes of the old entries with the numbers of new fields that are in one oneof, of which
+-- the first is known
 abbrev pub members_changes : Compared → Option Entry → List ℕ → List WireChange
 members_changes c None positions = []
 members_changes c (Some f) positions = flat_map (λ i. joined_changes f (old_member c i)) positions
@@ -99,8 +99,8 @@ abbrev pub required_extension_changes : Compared → Option Entry → List WireC
 required_extension_changes c None = []
 required_extension_changes c (Some g) = required_changes c g
 
--- the changes of a message: of each old field and each old extension, of each new oneof, and then of
--- each new field and each new extension
+-- the changes of a message: of each old field and each old extension, of each new oneof, and then
+-- of each new field and each new extension
 abbrev pub message_changes : Compared → List WireChange
 message_changes c =
     flat_map (λ f. entry_changes c (field_entry f)) c.before.fields

@@ -37,8 +37,8 @@ pub fn no_change_is_read()
 {}
 
 /// Where each pool of a chain changes nothing of the one before, and each number whose field or
-/// extension is removed stays without one, what is written of a message by the first schema is read by
-/// the last one, if each pool between has a message with its name.
+/// extension is removed stays without one, what is written of a message by the first schema is
+/// read by the last one, if each pool between has a message with its name.
 pub fn chains()
     ensures { (first : Contents) (later : List Contents)
         → AllLookUp first later → NoneChanges first later → AllStayFree first later
