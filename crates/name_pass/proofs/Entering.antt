@@ -1,5 +1,5 @@
 -- One more name comes to the first pass.
-use Rattle.std.proofs.Common.{◌≡◌, ℕ, true, false, List, [], ◌∷◌, ◌++◌, Option, Some, None, Result, Ok, Err, OnOk, OnErr, sym, append-nil}
+use Rattle.std.proofs.Common.{◌≡◌, ℕ, true, false, List, [], ◌∷◌, Option, Some, None, Result, Ok, Err, OnOk, OnErr, sym, append-nil}
 use Rattle.std.specs.FinMap as finite
 use Rattle.pool_types.specs.Contents.{ByText}
 use Rattle.proto_types.specs.declared.file.FileDescriptorProto.{FileDescriptorProto}

@@ -1,4 +1,4 @@
-use Rattle.std.proofs.Common.{is_some, ◌++◌, ◌∷◌, [], refl, ap, sym, ◌∙◌}
+use Rattle.std.proofs.Common.{is_some, ◌∷◌, [], refl, ap, sym, ◌∙◌}
 use Rattle.pool_faults.specs.declared.fault.DescriptorErrorKind.TheVariants.{DuplicateFileName}
 use Rattle.record_walk.specs.Faults.{told_in}
 use Rattle.record_walk.specs.Telling.{with_faults}

@@ -1,4 +1,4 @@
-use Rattle.std.proofs.Common.{◌≡◌, ℕ, suc, refl, ◌∙◌, arith}
+use Rattle.std.proofs.Common.{◌≡◌, suc, refl, ◌∙◌, arith}
 use Rattle.record_walk.specs.Faults.{told_in}
 use Rattle.record_walk.proofs.Telling.{told-counted}
 use Rattle.record_walk.proofs.faults.Faults.leave_out.Goals as goal
