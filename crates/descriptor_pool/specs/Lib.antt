@@ -9,3 +9,5 @@ pub mod References
 pub mod Items
 pub mod Against
 pub mod Readers
+pub mod Maps
+pub mod FullNames
