@@ -419,8 +419,9 @@ protolink_status protolink_oneof_field(
 
 /*
  * A FIELD OF A MESSAGE by its name, by its JSON name, by its number, and a VALUE OF AN ENUM by its
- * name. Of two with one it is the later. By the JSON name those fields are found to which one was
- * given, as protoc gives it to all. Names are those that are declared, without a scope.
+ * name. No two have one, as a batch in which two have it is refused. By the JSON name those fields
+ * are found to which one was given, as protoc gives it to all. Names are those that are declared,
+ * without a scope.
  *
  *   PROTOLINK_DONE       *position is the position in the message or the enum.
  *   PROTOLINK_NOT_FOUND  the pool has no such message or enum, which has no such part, or the bytes

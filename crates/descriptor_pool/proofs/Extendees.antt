@@ -44,6 +44,7 @@ use Rattle.descriptor_pool.specs.Extensions.{ExtendeesLieIn, ListsAreWhole, Numb
 use Rattle.descriptor_pool.specs.Invariant.{IsPool}
 use Rattle.descriptor_pool.specs.Pool.{Made, empty, linked_to, new_files}
 use Rattle.descriptor_pool.proofs.Indexed.{MeansBefore, messages-lie}
+use Rattle.descriptor_pool.proofs.Keyed.{taken-at}
 use Rattle.descriptor_pool.proofs.Sound.{Known, link-known, made-sound}
 use Rattle.descriptor_pool.proofs.Wanted.{message-wanted}
 
@@ -217,7 +218,7 @@ message-made f at (m ∷ ms) (suc n) =
     let there : suc at + n ≡ at + suc n = omega arith in
     message-made f (suc at) ms n ∙ ap (λ i. option_map (f i) (slice_get ms n)) there
 
-past-end : {X : Type 0} (xs : List X) (n : ℕ) → slice_get xs n ≡ None → length xs ≤ n
+pub past-end : {X : Type 0} (xs : List X) (n : ℕ) → slice_get xs n ≡ None → length xs ≤ n
 past-end [] n none = omega arith
 past-end (x ∷ xs) zero none = absurd (cc)
 past-end (x ∷ xs) (suc n) none = let rest = past-end xs n none in omega (arith, rest)
@@ -266,12 +267,6 @@ new-at : (earlier xs : List ExtensionDescriptorInner) (j : ℕ) (y : ExtensionDe
 new-at earlier [] j y all there = absurd (cc)
 new-at earlier (x ∷ xs) zero y all there = let same : x ≡ y = cc in subst (IsNew (earlier ++ [])) same (subst (λ es. IsNew es x) (sym (append-nil earlier)) all.0)
 new-at earlier (x ∷ xs) (suc n) y all there = subst (λ es. IsNew es y) (append_assoc earlier (x ∷ []) (take n xs)) (new-at (earlier ++ x ∷ []) xs n y all.1 there)
-
-taken-at : {X : Type 0} (xs : List X) (i j : ℕ) → i < j → slice_get (take j xs) i ≡ slice_get xs i
-taken-at xs i zero before = absurd (omega (arith, before))
-taken-at [] i (suc m) before = refl
-taken-at (x ∷ xs) zero (suc m) before = refl
-taken-at (x ∷ xs) (suc n) (suc m) before = taken-at xs n m (omega (arith, before))
 
 -- no later extension has the message and the number of an earlier one
 later-differs : (xs : List ExtensionDescriptorInner) (i j : ℕ) (x y : ExtensionDescriptorInner) → AllNew [] xs → slice_get xs i ≡ Some x → slice_get xs j ≡ Some y → i < j

@@ -12,6 +12,7 @@ pub mod Seeing
 pub mod Listed
 pub mod Wanted
 pub mod Indexed
+pub mod Keyed
 pub mod Extendees
 pub mod NamedItems
 pub mod Definitions
@@ -19,3 +20,9 @@ pub mod OwnNames
 pub mod LinkedFiles
 pub mod MadeItems
 pub mod Bases
+pub mod Owned
+pub mod Meant
+pub mod Apart
+pub mod MapsLead
+pub mod ValuesLead
+pub mod Leading

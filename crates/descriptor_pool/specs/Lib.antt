@@ -10,3 +10,5 @@ pub mod References
 pub mod Items
 pub mod Against
 pub mod Readers
+pub mod Maps
+pub mod FullNames

@@ -47,7 +47,9 @@ impl DescriptorPool {
     ghost use Rattle.record_walk.specs.Fits.{counts_with};
     ghost use Rattle.descriptor_pool.specs.Extensions.{ExtendeesLieIn, ListsAreWhole, NumbersAreUnique};
     ghost use Rattle.pool_types.specs.Extension.{extension_numbered};
+    ghost use Rattle.descriptor_pool.specs.FullNames.{FullNamesMean};
     ghost use Rattle.descriptor_pool.specs.Invariant.{IsPool};
+    ghost use Rattle.descriptor_pool.specs.Maps.{MapsLead, ValuesLead};
     ghost use Rattle.pool_contents.specs.LookUps.{definition_named};
     ghost use Rattle.field_rules.specs.NamesBegin.{EnumNamesBegin};
     ghost use Rattle.reference_pass.specs.NamesBegin.{ExtensionNameBegins, MessageNamesBegin, ServiceNamesBegin};
@@ -82,9 +84,12 @@ impl DescriptorPool {
         })
     }
 
-    /// What the pool has under a full name, which may have one leading dot.
+    /// What the pool has under a full name, which may have one leading dot. Under that of a message or
+    /// of an enum of the pool it has this one, so no two of these have one full name.
+    #[tactic(auto, using(crate::proofs::Apart::full_names_mean))]
     pub fn get_by_name(&self, name: &str) -> Option<&Definition>
-        ensures { option_copied result ≡ definition_named self.now name.now }
+        ensures found { option_copied result ≡ definition_named self.now name.now }
+        ensures full_names { FullNamesMean self.now }
     {
         self.inner.get_by_name(name)
     }
@@ -106,21 +111,26 @@ impl DescriptorPool {
 
     /// The message with an index, or none past the end. Its name, and that of each of its fields
     /// and oneofs, begins in the full name where a character begins. It lists the indexes of all
-    /// extensions of the pool that extend it, in rising order.
+    /// extensions of the pool that extend it, in rising order. Its maps lead from a number, a name and
+    /// a given JSON name to the one field that has it, and its oneofs list the fields in them.
     #[tactic(auto, using(crate::proofs::Extendees::lists_are_whole))]
     pub fn message(&self, message: MessageDescriptor) -> Option<&MessageDescriptorInner>
         ensures item { option_copied result ≡ slice_get self.now.messages message.index }
         ensures names { IfSome result (λ m. MessageNamesBegin m.now) }
         ensures lists { ListsAreWhole self.now }
+        ensures maps { IfSome result (λ m. MapsLead m.now) }
     {
         self.inner.message(message)
     }
 
     /// The enum with an index, or none past the end. Its name, and that of each of its values,
-    /// begins in the full name where a character begins.
+    /// begins in the full name where a character begins. Its map leads from a name to the one value
+    /// that has it, its table has the number of each value, and without aliases no two values have one
+    /// number.
     pub fn enum_(&self, enumeration: EnumDescriptor) -> Option<&EnumDescriptorInner>
         ensures item { option_copied result ≡ slice_get self.now.enums enumeration.index }
         ensures names { IfSome result (λ e. EnumNamesBegin e.now) }
+        ensures values { IfSome result (λ e. ValuesLead e.now) }
     {
         self.inner.enum_(enumeration)
     }

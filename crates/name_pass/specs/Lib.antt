@@ -7,3 +7,4 @@ pub mod FirstPass
 pub mod Scopes
 pub mod Steps
 pub mod State
+pub mod Laws
