@@ -11,6 +11,7 @@ use Rattle.message_values.specs.Fields.{Item, Message, counted, value}
 abbrev pub FactOfBoth : Type 1
 FactOfBoth = ℕ → ℕ → List Numbered → Type 0
 
+-- a fact of an item that is a message in both schemas
 abbrev pub OfBoth : FactOfBoth → Form → Form → Item → Type 0
 OfBoth P (form.Message m) (form.Message n) (Message vs) = P m n vs
 OfBoth P (form.Group m) (form.Group n) (Message vs) = P m n vs
@@ -28,6 +29,7 @@ pub record Carries (inner : FactOfBoth) (old new : Schema) (m n : ℕ) (vs : Lis
   pub missing : (k : ℕ) (g : Field) → old.field m k ≡ None → new.field n k ≡ Some g
       → value new n k g vs ≡ []
 
+-- no fact holds where no level is left
 abbrev pub NoLevel : FactOfBoth
 NoLevel m n vs = ⊥
 

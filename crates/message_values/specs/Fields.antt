@@ -20,6 +20,7 @@ pub data Taken : Type 0 where
   Unknown : Taken
   Items : List Item → Taken
 
+-- whether a field may stand in a message more than once
 abbrev pub is_repeated : Cardinality → Bool
 is_repeated Repeated = true
 is_repeated _ = false
@@ -33,6 +34,7 @@ has_text _ bytes = true
 abbrev pub number_taken : Schema → Kind → ℕ → Option Item
 number_taken s k n = option_map Number (number_read s k n)
 
+-- one item, or nothing known
 abbrev pub one_taken : Option Item → Taken
 one_taken (Some x) = Items (x ∷ [])
 one_taken None = Unknown
@@ -48,14 +50,17 @@ other_taken s f c (Bytes bytes) =
     if is_repeated f.cardinality then packed_taken s f.kind (packed c bytes) else Unknown
 other_taken s f c _ = Unknown
 
+-- what a field of numbers takes of a value: the number that it is, or packed ones
 abbrev pub numbers_taken : Schema → Field → Coding → Value → Option ℕ → Taken
 numbers_taken s f c v (Some n) = one_taken (number_taken s f.kind n)
 numbers_taken s f c v None = other_taken s f c v
 
+-- a message by its values; bytes that are none refuse all
 abbrev pub message_taken : Option (List Numbered) → Taken
 message_taken None = Refused
 message_taken (Some vs) = Items (Message vs ∷ [])
 
+-- what a field takes of a value, by the form of its kind
 abbrev pub taken_as : Schema → Field → Form → Value → Taken
 taken_as s f (form.Number c) v = numbers_taken s f c v (raw c v)
 taken_as s f form.Text (Bytes bytes) =
@@ -70,10 +75,12 @@ taken_as s f (form.Group m) _ = Unknown
 unfoldable pub taken : Schema → Field → Value → Taken
 taken s f v = taken_as s f (form f.kind) v
 
+-- the items that a field takes
 abbrev pub items_in : Taken → List Item
 items_in (Items xs) = xs
 items_in _ = []
 
+-- whether a field takes a value at all
 abbrev pub is_known : Taken → Bool
 is_known (Items xs) = true
 is_known _ = false
@@ -94,6 +101,7 @@ item_step s m n f items x =
     if x.number == n then items ++ items_in (taken s f x.value)
     else (if clears s f (s.field m x.number) x.value then [] else items)
 
+-- the items of a field behind those before, of further values in turn
 abbrev pub items_from : Schema → ℕ → ℕ → Field → List Item → List Numbered → List Item
 items_from s m n f items [] = items
 items_from s m n f items (x ∷ xs) = items_from s m n f (item_step s m n f items x) xs
@@ -103,6 +111,7 @@ abbrev pub merge : Item → Item → Item
 merge (Message vs) (Message ws) = Message (vs ++ ws)
 merge x y = y
 
+-- an item with those behind it
 abbrev pub merge_all : Item → List Item → Item
 merge_all x [] = x
 merge_all x (y ∷ ys) = merge_all (merge x y) ys

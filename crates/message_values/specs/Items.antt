@@ -15,6 +15,7 @@ IsItemAs s k (form.Message m) (Message vs) = (bytes : List ℕ) × (values bytes
 IsItemAs s k (form.Group m) (Message vs) = (ws : Values) × (listed ws ≡ vs)
 IsItemAs s k _ _ = ⊥
 
+-- an item is one that a field may have
 abbrev pub IsItem : Schema → Field → Item → Type 0
 IsItem s f x = IsItemAs s f.kind (form f.kind) x
 

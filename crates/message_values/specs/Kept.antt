@@ -29,6 +29,8 @@ KeepsCardinality (form.Message m) c d = is_repeated c ≡ is_repeated d
 KeepsCardinality (form.Group m) c d = is_repeated c ≡ is_repeated d
 KeepsCardinality _ c d = is_repeated c ≡ true → is_repeated d ≡ true
 
+-- A new field keeps an old one where each value of the old kind is one of the new kind, and no
+-- item is lost by how often the field may stand.
 pub record KeepsField (pairs : Pairs) (old new : Schema) (f g : Field) : Type 0 where
   pub kind : KeepsForm pairs old f.kind (form f.kind) new g.kind (form g.kind)
   pub cardinality : KeepsCardinality (form f.kind) f.cardinality g.cardinality

@@ -23,16 +23,19 @@ fields_one_and_two f g has = record {
   has_value = λ e x. has x;
 }
 
+-- a schema whose messages have one field, with number 1
 abbrev pub field_one : Field → Schema
 field_one f = fields_one_and_two f None (λ x. false)
 
--- a field of a kind that is optional, required, or repeated
+-- an optional field of a kind
 abbrev pub optional : Kind → Field
 optional k = record { kind = k; cardinality = Optional; oneof = None }
 
+-- a required field of a kind
 abbrev pub required : Kind → Field
 required k = record { kind = k; cardinality = Required; oneof = None }
 
+-- a repeated field of a kind
 abbrev pub repeated : Kind → Field
 repeated k = record { kind = k; cardinality = Repeated; oneof = None }
 

@@ -26,6 +26,7 @@ pub data Form : Type 0 where
   Message : ℕ → Form
   Group : ℕ → Form
 
+-- how values of a kind are written: as numbers of a coding, as texts, as messages, or as groups
 abbrev pub form : Kind → Form
 form kind.Double = Number DoubleBits
 form kind.Float = Number FloatBits
@@ -51,6 +52,7 @@ abbrev pub is_signed : ℕ → ℤ → Bool
 is_signed n (pos x) = nat_lt x (2 ^ n)
 is_signed n (negsuc x) = nat_lt x (2 ^ n)
 
+-- whether a number fits into so many bits without a sign
 abbrev pub is_unsigned : ℕ → ℤ → Bool
 is_unsigned n (pos x) = nat_lt x (2 ^ n)
 is_unsigned n (negsuc x) = false
@@ -83,6 +85,7 @@ abbrev pub zigzag : ℤ → ℕ
 zigzag (pos x) = 2 * x
 zigzag (negsuc x) = 2 * x + 1
 
+-- the number that a zigzag encoding stands for
 abbrev pub from_zigzag : ℕ → ℤ
 from_zigzag n = if n % 2 == 0 then pos (n / 2) else negsuc (n / 2)
 
@@ -139,6 +142,7 @@ packed_result Eight bytes = first_fixed (length bytes) w64 bytes
 packed_result FloatBits bytes = first_fixed (length bytes) w32 bytes
 packed_result DoubleBits bytes = first_fixed (length bytes) w64 bytes
 
+-- what a step over bytes gave, unless they break off
 abbrev pub if_ok : {X : Type 0} → Result X WireFault → Option X
 if_ok (Ok x) = Some x
 if_ok (Err f) = None

@@ -21,10 +21,12 @@ pub record ArePacked (s : Schema) (k : Kind) (c : Coding) (bytes : List ℕ) : T
   pub are : packed c bytes ≡ Some numbers
   pub each : AllByRecursion (IsNumber s k c) numbers
 
+-- a value that is no number of a field is its packed numbers, where it is repeated
 abbrev pub IsOther : Schema → Field → Coding → Value → Type 0
 IsOther s f c (Bytes bytes) = (is_repeated f.cardinality ≡ true) × ArePacked s f.kind c bytes
 IsOther s f c _ = ⊥
 
+-- a value of a field of numbers, by the number that it is, if it is one
 abbrev pub IsNumberValue : Schema → Field → Coding → Value → Option ℕ → Type 0
 IsNumberValue s f c v (Some n) = IsNumber s f.kind c n
 IsNumberValue s f c v None = IsOther s f c v

@@ -35,6 +35,7 @@ compared c = record {
 abbrev pub old_entry : Compared → ℕ → Option Entry
 old_entry c n = entry_numbered c.old c.before n
 
+-- the new entry with a number
 abbrev pub new_entry : Compared → ℕ → Option Entry
 new_entry c n = entry_numbered c.new c.after n
 
@@ -52,6 +53,7 @@ kept_changes c f (Some g) =
     unless (keeps_kind c.old f c.new g) f.number change.Kind
     ++ unless (keeps_cardinality f.kind f.cardinality g.cardinality) f.number change.Cardinality
 
+-- what the new message changes of an old entry
 abbrev pub entry_changes : Compared → Entry → List WireChange
 entry_changes c f = kept_changes c f (new_entry c f.number)
 
@@ -76,6 +78,7 @@ abbrev pub members_changes : Compared → Option Entry → List ℕ → List Wir
 members_changes c None positions = []
 members_changes c (Some f) positions = flat_map (λ i. joined_changes f (old_member c i)) positions
 
+-- what a new oneof changes: of old entries that come into it, all must have been in one
 abbrev pub oneof_changes : Compared → OneofDescriptorInner → List WireChange
 oneof_changes c o = members_changes c (first_some (old_member c) o.fields) o.fields
 
@@ -84,6 +87,7 @@ abbrev pub was_required : Option Entry → Bool
 was_required None = false
 was_required (Some f) = is_required f.cardinality
 
+-- what a new entry changes that is required and was not
 abbrev pub required_changes : Compared → Entry → List WireChange
 required_changes c g =
     unless (not (is_required g.cardinality) || was_required (old_entry c g.number)) g.number

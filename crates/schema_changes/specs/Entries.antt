@@ -71,6 +71,7 @@ kind_seen proto3 (index.Message m) = kind.Message m
 kind_seen proto3 (index.Enum e) = kind.Enum e
 kind_seen proto3 (index.Group m) = kind.Group m
 
+-- how often a field may stand in a message, as a schema has it
 abbrev pub cardinality_seen : Cardinality → kind.Cardinality
 cardinality_seen cardinality.Optional = kind.Optional
 cardinality_seen cardinality.Required = kind.Required

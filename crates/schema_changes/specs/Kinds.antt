@@ -10,10 +10,12 @@ use Rattle.pool_types.specs.declared.kinds.KindIndex.TheVariants as index
 use Rattle.schema_changes.specs.declared.entries.Entry.{Entry}
 use Rattle.schema_changes.specs.Parts.{Parts, in_proto3, is_open, has_value, values_of, one_name}
 
+-- whether a number is not negative
 abbrev pub is_natural : ℤ → Bool
 is_natural (pos x) = true
 is_natural (negsuc x) = false
 
+-- whether a number is 0 or 1
 abbrev pub is_bit : ℤ → Bool
 is_bit (pos x) = nat_lt x 2
 is_bit (negsuc x) = false
@@ -101,10 +103,12 @@ keeps_kind old f new g =
     || keeps_check (entry_check old f) (entry_check new g)
     || keeps_message old f.kind new g.kind
 
+-- whether a field is repeated
 abbrev pub is_repeated : Cardinality → Bool
 is_repeated cardinality.Repeated = true
 is_repeated _ = false
 
+-- whether a field is required
 abbrev pub is_required : Cardinality → Bool
 is_required cardinality.Required = true
 is_required _ = false

@@ -38,6 +38,7 @@ parts_of p = record {
   extensions = p.extensions;
 }
 
+-- whether a syntax is that of proto3
 abbrev pub is_proto3 : Syntax → Bool
 is_proto3 Proto2 = false
 is_proto3 Proto3 = true

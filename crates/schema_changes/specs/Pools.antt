@@ -19,6 +19,7 @@ message_meant p _ = None
 unfoldable pub message_named : Contents → List ℕ → Option MessageDescriptorInner
 message_named p name = option_and_then (λ d. message_meant p d.kind) (finite.get p.names name)
 
+-- a change of the message with an index
 abbrev pub of_message : ℕ → WireChange → MessageChange
 of_message m c = record { message = m; change = c }
 

@@ -37,20 +37,23 @@ beside code words label remedy =
 abbrev pub held_words : List ℕ
 held_words = codes "first declared at "
 
+-- the words before the place of a range
 abbrev pub range_words : List ℕ
 range_words = codes "the range is declared at "
 
+-- the words before the place of what a name means
 abbrev pub meant_words : List ℕ
 meant_words = codes "it is declared at "
 
--- what to do about an index that is no position, about a number that another has, and about one
--- that is reserved
+-- what to do about an index that is no position
 abbrev pub no_such_index : List ℕ
 no_such_index = codes "protoc makes no such index: look for it with `protoc --decode`"
 
+-- what to do about a number that another part has
 abbrev pub other_number : List ℕ
 other_number = codes "take another number"
 
+-- what to do about a number that is reserved
 abbrev pub not_reserved : List ℕ
 not_reserved = codes "take a number that is not reserved"
 
