@@ -33,7 +33,7 @@ abbrev pub beside : List ℕ → List ℕ → Label → List ℕ → ToldKind
 beside code words label remedy =
     record { code = code; second = Some (words, label); remedy = remedy }
 
--- the words before a first holder, before a range, and before what a name means
+-- the words before the place of a first holder
 abbrev pub held_words : List ℕ
 held_words = codes "first declared at "
 
