@@ -3,3 +3,4 @@ mod Found
 mod Changed
 mod Linked
 mod Refused
+mod Again

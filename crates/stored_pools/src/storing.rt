@@ -1,11 +1,12 @@
 ghost use Rattle.std.specs.Prelude.{◌≡◌, IfOk};
 ghost use Rattle.pool_types.specs.Contents.{files_of};
-ghost use Rattle.stored_pools.specs.Loaded.{AreLinked, Loads};
+ghost use Rattle.stored_pools.specs.Loaded.{AreLinked, Loads, LoadsAgain};
 ghost use Rattle.stored_pools.specs.Stored.{AreWhole, MakesPool, stored};
 
 use crate::laws::stored_is_loaded;
 use descriptor_decoding::{DecodeError, decode};
 use descriptor_encoding::encode;
+use descriptor_laws::written_is_read;
 use descriptor_pool::{BuildError, DescriptorPool};
 use plain_data::Items;
 use proto_types::FileDescriptorSet;
@@ -34,13 +35,23 @@ pub fn store(alloc: Global, pool: &DescriptorPool) -> Result<Vec<u8>, AllocError
     encode(alloc, &FileDescriptorSet { file })
 }
 
-/// The pool of the files of a set, linked at once.
+/// The pool of the files of a set, linked at once. Of the bytes that `store` wrote it is the pool that
+/// was stored, where its linked files are whole, unless memory was refused.
 ///
 /// # Errors
 /// `Decode` with the first fault of the bytes, or where memory was refused; `Build` where their files
 /// are too many, or break rules, with all faults of the first failing pass, or where memory was
 /// refused.
 pub fn load(alloc: Global, bytes: &[u8]) -> Result<DescriptorPool, LoadError>
+    ensures loads { Loads bytes.now result }
+    ensures again { LoadsAgain bytes.now result }
+{
+    written_is_read();
+    link_decoded(alloc, bytes)
+}
+
+/// The pool of the files of the set that bytes are.
+fn link_decoded(alloc: Global, bytes: &[u8]) -> Result<DescriptorPool, LoadError>
     ensures { Loads bytes.now result }
 {
     match decode(alloc, bytes) {
