@@ -109,7 +109,7 @@ class Pools(unittest.TestCase):
             return len(pool.faults), refused.exception.more
 
         self.assertEqual(told_and_more(pool), (100, 150))
-        self.assertIn("and 150 more in 1 file\n", pool.report())
+        self.assertIn("and 150 more\n", pool.report())
         for most, told in ((0, (0, 250)), (3, (3, 247)), (250, (250, 0)), (2**70, (250, 0))):
             pool.limit_faults(most)
             self.assertEqual(told_and_more(pool), told)

@@ -284,7 +284,7 @@ fn a_hundred_faults_are_told_or_as_many_as_are_wanted() {
     let error = pool.add_script(&script).unwrap_err();
     assert_eq!(told_and_more(&error), (100, 150));
     assert!(error.to_string().ends_with("(and 249 more)"), "{error}");
-    assert!(pool.report().contains("and 150 more in 1 file\n"));
+    assert!(pool.report().contains("and 150 more\n"));
     for (most, told) in [
         (0, (0, 250)),
         (3, (3, 247)),

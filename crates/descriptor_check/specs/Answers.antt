@@ -78,7 +78,7 @@ refused_report w r = if w.is_json then refused_json r else refused_text r
 -- of a refused one
 abbrev pub refused_answer : Wanted → Refusal → Answer
 refused_answer w refusal = told status.Refused
-    (refused_report w (told_refusal [] refusal.files refusal.faults w.most))
+    (refused_report w (told_refusal [] refusal.files refusal.faults refusal.rest w.most))
 
 -- of one that has too much of a kind
 abbrev pub too_many_answer : Wanted → CountKind → Answer
@@ -98,7 +98,7 @@ verdict_answer w (TooMany kind) = too_many_answer w kind
 
 -- the answer for a batch, or for an input that is no set
 abbrev pub answer_for : Wanted → Result (List FileDescriptorProto) NotASet → Answer
-answer_for w (Ok batch) = verdict_answer w (verdict_of batch)
+answer_for w (Ok batch) = verdict_answer w (verdict_of w.most batch)
 answer_for w (Err n) = unread_answer w n
 
 -- the answer for some inputs

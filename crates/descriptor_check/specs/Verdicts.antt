@@ -1,36 +1,47 @@
 -- The verdict on a batch, linked into a pool without files.
-use Rattle.std.specs.Prelude.{List, [], ◌∷◌, Result, Ok, Err}
+use Rattle.std.specs.Prelude.{ℕ, List, [], ◌∷◌, Result, Ok, Err}
 use Rattle.std.specs.declared.option.Option.{Option}
 use Rattle.std.specs.declared.option.Option.TheVariants.{None, Some}
 use Rattle.pool_faults.specs.declared.fault.DescriptorErrorKind.{DescriptorErrorKind}
 use Rattle.pool_types.specs.Contents.{no_contents}
 use Rattle.record_walk.specs.declared.counts.Counts.{Counts}
 use Rattle.record_walk.specs.declared.counts.CountKind.{CountKind}
+use Rattle.record_walk.specs.Telling.{first_of, rest_of}
 use Rattle.descriptor_pool.specs.Pool.{Batch, counts_after, faults, link}
 use Rattle.descriptor_pool.specs.declared.error.BuildError.{BuildError}
 use Rattle.descriptor_pool.specs.declared.error.BuildError.TheVariants as build
 use Rattle.proto_types.specs.declared.file.FileDescriptorProto.{FileDescriptorProto}
+use Rattle.descriptor_check.specs.declared.verdicts.Refusal.{Refusal}
 use Rattle.descriptor_check.specs.declared.verdicts.Verdict.{Verdict}
 use Rattle.descriptor_check.specs.declared.verdicts.Verdict.TheVariants.{Accepted, Refused, TooMany}
 
+-- a batch that breaks rules, by all its faults: so many are kept, and the others counted
+abbrev pub refusal : ℕ → Batch → List DescriptorErrorKind → Refusal
+refusal most batch fs = record {
+  files = batch;
+  faults = first_of (Some most) fs;
+  rest = rest_of (Some most) fs;
+}
+
 -- the verdict on a batch that fits, by its faults: where it has none, the pool of its files
-abbrev pub by_faults : Batch → List DescriptorErrorKind → Verdict
-by_faults batch [] = Accepted (link no_contents batch)
-by_faults batch (f ∷ fs) = Refused (record { files = batch; faults = f ∷ fs })
+abbrev pub by_faults : ℕ → Batch → List DescriptorErrorKind → Verdict
+by_faults most batch [] = Accepted (link no_contents batch)
+by_faults most batch (f ∷ fs) = Refused (refusal most batch (f ∷ fs))
 
 -- the verdict on a batch, by its counts
-abbrev pub by_counts : Batch → Result Counts CountKind → Verdict
-by_counts batch (Ok _) = by_faults batch (faults no_contents batch)
-by_counts batch (Err kind) = TooMany kind
+abbrev pub by_counts : ℕ → Batch → Result Counts CountKind → Verdict
+by_counts most batch (Ok _) = by_faults most batch (faults no_contents batch)
+by_counts most batch (Err kind) = TooMany kind
 
--- the verdict on a batch: of too much of a kind, or of its faults, or else that it is accepted
-unfoldable pub verdict_of : Batch → Verdict
-verdict_of batch = by_counts batch (counts_after no_contents batch)
+-- the verdict on a batch: of too much of a kind, or of its faults, of which so many are wanted, or
+-- else that it is accepted
+unfoldable pub verdict_of : ℕ → Batch → Verdict
+verdict_of most batch = by_counts most batch (counts_after no_contents batch)
 
 -- the verdict that an error of linking tells, by the files that came back; none where memory was
 -- refused
 abbrev pub verdict_told : List FileDescriptorProto → BuildError → Option Verdict
 verdict_told files (build.TooMany kind) = Some (TooMany kind)
 verdict_told files (build.Descriptor error) =
-    Some (Refused (record { files = files; faults = error.errors }))
+    Some (Refused (record { files = files; faults = error.errors; rest = error.rest }))
 verdict_told files build.OutOfMemory = None

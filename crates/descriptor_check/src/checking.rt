@@ -34,7 +34,7 @@ pub fn check(alloc: Global, wanted: &Wanted, inputs: &[Input]) -> Result<Answer,
 {
     match read_batch(alloc, inputs) {
         Ok(batch) => {
-            let verdict = verdict_on(alloc, batch)?;
+            let verdict = verdict_on(alloc, batch, wanted.most)?;
             tell_verdict(alloc, wanted, &verdict)
         }
         Err(BatchError::NotASet(input)) => tell_unread(alloc, wanted, &input),
@@ -163,6 +163,7 @@ fn tell_refused(alloc: Global, wanted: &Wanted, refusal: &Refusal) -> Result<Ans
         linked: &[],
         files: refusal.files.as_slice(),
         faults: refusal.faults.as_slice(),
+        rest: refusal.rest,
     };
     let refusal = tell_refusal(alloc, &batch, wanted.most)?;
     let report = if wanted.is_json {

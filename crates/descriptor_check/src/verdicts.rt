@@ -26,20 +26,27 @@ pub enum Verdict {
 pub struct Refusal {
     /// Its files, as they were.
     pub files: Items<FileDescriptorProto>,
-    /// All faults of the first failing pass, in order.
+    /// The first faults of the first failing pass, in order.
     pub faults: Items<DescriptorErrorKind>,
+    /// How many more this pass finds.
+    pub rest: usize,
 }
 
-/// The verdict on a batch, linked into a pool without files.
+/// The verdict on a batch, linked into a pool without files. Of the faults of a batch that breaks
+/// rules the first `most` are wanted; at least one is kept.
 ///
 /// # Errors
 /// `AllocError` where memory was refused.
-pub fn verdict_on(alloc: Global, batch: Items<FileDescriptorProto>) -> Result<Verdict, AllocError>
-    ensures { IfOk result (λ verdict. verdict ≡ spec.verdict_of batch) }
+pub fn verdict_on(
+    alloc: Global,
+    batch: Items<FileDescriptorProto>,
+    most: usize,
+) -> Result<Verdict, AllocError>
+    ensures { IfOk result (λ verdict. verdict ≡ spec.verdict_of most batch) }
 {
     let mut pool = DescriptorPool::new(alloc);
     let mut files = batch.into_vec();
-    match pool.link_or_give_back(&mut files) {
+    match pool.link_within(&mut files, Some(most)) {
         Ok(()) => Ok(Verdict::Accepted(pool)),
         Err(error) => by_error(Items::from_vec(files), error),
     }
@@ -52,10 +59,11 @@ fn by_error(files: Items<FileDescriptorProto>, error: BuildError) -> Result<Verd
     match error {
         BuildError::TooMany(kind) => Ok(Verdict::TooMany(kind)),
         BuildError::Descriptor(error) => {
-            let DescriptorError { errors, .. } = error;
+            let DescriptorError { errors, rest, .. } = error;
             Ok(Verdict::Refused(Refusal {
                 files,
                 faults: errors,
+                rest,
             }))
         }
         BuildError::OutOfMemory => Err(AllocError),

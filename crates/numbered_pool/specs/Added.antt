@@ -1,8 +1,10 @@
 -- What a call that adds files ends in.
 use Rattle.std.specs.Prelude.{◌≡◌, ◌≢◌, ℕ, List, [], Result, Ok, Err}
 use Rattle.std.specs.declared.alloc.AllocError.{AllocError}
+use Rattle.std.specs.declared.option.Option.TheVariants.{Some}
 use Rattle.pool_types.specs.Contents.{files_of, no_contents}
 use Rattle.record_walk.specs.declared.counts.CountKind.{CountKind}
+use Rattle.record_walk.specs.Telling.{first_of, rest_of}
 use Rattle.descriptor_pool.specs.Outcome.{IsLinked}
 use Rattle.descriptor_pool.specs.Pool.{Batch, Fits, counts_after, faults, new_files}
 use Rattle.numbered_pool.specs.Reading.{Read}
@@ -38,7 +40,8 @@ pub record IsRefused (old : Answers) (batch : Batch) (new : Answers) : Type 0 wh
   pub fits : Fits old.pool batch
   pub broken : faults old.pool batch ≢ []
   pub told : IsTold old new (refused_report (files_of old.pool) (new_files old.pool batch)
-      (faults old.pool batch) old.max_faults)
+      (first_of (Some old.max_faults) (faults old.pool batch))
+      (rest_of (Some old.max_faults) (faults old.pool batch)) old.max_faults)
 
 -- there is too much of a kind, the first that is past its limit, which is told
 pub record IsTooMany (old : Answers) (batch : Batch) (new : Answers) : Type 0 where

@@ -18,10 +18,10 @@ abbrev pub told_report : ToldRefusal → Report
 told_report r = record { lines = refused_text r; json = refused_json r }
 
 -- so many faults at most of new files that break rules, by the records of a pool's files and of the
--- new ones
+-- new ones, by some of the faults and how many more there are
 abbrev pub refused_report : List FileDescriptorProto → List FileDescriptorProto
-    → List DescriptorErrorKind → ℕ → Report
-refused_report linked new faults most = told_report (told_refusal linked new faults most)
+    → List DescriptorErrorKind → ℕ → ℕ → Report
+refused_report linked new faults rest most = told_report (told_refusal linked new faults rest most)
 
 -- of what there is too much
 abbrev pub too_many_report : CountKind → Report

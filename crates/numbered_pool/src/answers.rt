@@ -99,7 +99,7 @@ impl Answers {
         ensures { LinkedAs self.old batch self.new result }
     {
         let mut files = batch.into_vec();
-        match self.pool.link_or_give_back(&mut files) {
+        match self.pool.link_within(&mut files, Some(self.max_faults)) {
             Ok(()) => Status::Done,
             Err(BuildError::TooMany(kind)) => {
                 let report = too_many_report(alloc, kind);
@@ -110,6 +110,7 @@ impl Answers {
                     linked: self.pool.files(),
                     files: &files,
                     faults: error.errors(),
+                    rest: error.rest,
                 };
                 let report = refused_report(alloc, &refused, self.max_faults);
                 self.tell(alloc, report, Status::Refused)

@@ -40,7 +40,7 @@ pub(crate) fn refused_report(
     most: usize,
 ) -> Result<Report, AllocError>
     ensures { IfOk result (λ report. report ≡ spec.refused_report
-        (map (λ f. f.raw) batch.now.linked.now) batch.now.files.now batch.now.faults.now most) }
+        (map (λ f. f.raw) batch.now.linked.now) batch.now.files.now batch.now.faults.now batch.now.rest most) }
 {
     let refusal = tell_refusal(alloc, batch, most)?;
     let lines = refused_text(alloc, &refusal)?;

@@ -4,7 +4,6 @@ pub mod Looking
 pub mod Placing
 pub mod ReadStrings
 pub mod Grouping
-pub mod Shown
 pub mod Entering
 pub mod Declared
 pub mod Naming

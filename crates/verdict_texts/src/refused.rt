@@ -1,6 +1,6 @@
 //! A refused batch as it is told, and its lines for people.
 
-ghost use Rattle.std.specs.Prelude.{◌≡◌, ◌++◌, IfOk, OnOk, string_bytes, take, drop, length, map};
+ghost use Rattle.std.specs.Prelude.{◌≡◌, ◌++◌, IfOk, OnOk, string_bytes, take, map};
 ghost use Rattle.std.specs.List.{flat_map};
 ghost use Rattle.verdict_texts.specs.PlainFaults.{fault_lines};
 ghost use Rattle.verdict_texts.specs.Refused as spec;
@@ -14,7 +14,6 @@ use pool_types::FileDescriptorInner;
 use proto_types::FileDescriptorProto;
 use record_walk::{CountKind, count_word};
 use std::alloc::{AllocError, Global};
-use std::collections::BTreeSet;
 
 /// A batch that a pool refused for its faults.
 #[derive(Clone, Copy)]
@@ -23,7 +22,10 @@ pub struct RefusedBatch<'a> {
     pub linked: &'a [FileDescriptorInner],
     /// The new files of the batch, as they were handed in.
     pub files: &'a [FileDescriptorProto],
+    /// The first of its faults, or all.
     pub faults: &'a [DescriptorErrorKind],
+    /// How many more it has.
+    pub rest: usize,
 }
 
 /// A refused batch as it is told.
@@ -32,9 +34,7 @@ pub struct ToldRefusal {
     /// The first of its faults.
     pub told: Items<ToldFault>,
     /// How many faults it has.
-    pub count: usize,
-    /// In how many files the faults lie that are not told, by the names that they show.
-    pub further_files: usize,
+    pub count: u128,
 }
 
 /// The first of some faults.
@@ -48,48 +48,7 @@ fn first_faults(faults: &[DescriptorErrorKind], most: usize) -> &[DescriptorErro
     }
 }
 
-/// The faults behind the first.
-fn further_faults(faults: &[DescriptorErrorKind], most: usize) -> &[DescriptorErrorKind]
-    ensures { result.now ≡ drop most faults.now }
-{
-    if most < faults.len() {
-        &faults[most..]
-    } else {
-        &[]
-    }
-}
-
-/// How many files faults lie in, by the names that their labels show.
-fn count_files(alloc: Global, faults: &[DescriptorErrorKind]) -> Result<usize, AllocError>
-    ensures { IfOk result (λ n. n ≡ length (spec.files_shown faults.now)) }
-{
-    let mut names = BTreeSet::new(alloc);
-    for fault in faults {
-        add_file(&mut names, fault)?;
-    }
-    Ok(names.len())
-}
-
-/// Adds the file that a fault shows to a set of names, where it shows one.
-#[tactic(auto, using(crate::proofs::Shown::insert_shown))]
-fn add_file<'a>(
-    names: &mut BTreeSet<&'a str>,
-    fault: &'a DescriptorErrorKind,
-) -> Result<(), AllocError>
-    ensures { OnOk result (map (λ s. s.now) names.new.keys
-        ≡ spec.with_shown (map (λ s. s.now) names.old.keys) fault.now) }
-{
-    match fault.label() {
-        Some(label) => {
-            names.insert(label.file())?;
-            Ok(())
-        }
-        None => Ok(()),
-    }
-}
-
-/// Tells a refused batch: so many of its faults at most, the first of them, and of the others how
-/// many there are and in how many files.
+/// Tells a refused batch: so many of its faults at most, the first of them, and how many it has.
 ///
 /// # Errors
 /// `AllocError` where memory was refused.
@@ -99,24 +58,22 @@ pub fn tell_refusal(
     most: usize,
 ) -> Result<ToldRefusal, AllocError>
     ensures { IfOk result (λ told. told ≡ spec.told_refusal
-        (map (λ f. f.raw) batch.now.linked.now) batch.now.files.now batch.now.faults.now most) }
+        (map (λ f. f.raw) batch.now.linked.now) batch.now.files.now batch.now.faults.now batch.now.rest
+        most) }
 {
     let first = first_faults(batch.faults, most);
     let told = tell_faults(alloc, batch.linked, batch.files, first)?;
-    let further_files = count_files(alloc, further_faults(batch.faults, most))?;
-    Ok(ToldRefusal {
-        told,
-        count: batch.faults.len(),
-        further_files,
-    })
+    let count = batch.faults.len() as u128 + batch.rest as u128;
+    Ok(ToldRefusal { told, count })
 }
 
 impl ToldRefusal {
     /// How many of its faults are not told.
-    pub fn untold(&self) -> usize
+    pub fn untold(&self) -> u128
         ensures { result ≡ spec.untold self.now }
     {
-        self.count.saturating_sub(self.told.as_slice().len())
+        self.count
+            .saturating_sub(self.told.as_slice().len() as u128)
     }
 }
 
@@ -131,32 +88,20 @@ fn write_faults(alloc: Global, text: &mut String, told: &[ToldFault]) -> Result<
     Ok(())
 }
 
-/// In how many files faults lie, where there is one.
-fn in_files(alloc: Global, count: usize) -> Result<String, AllocError>
-    ensures { IfOk result (λ s. string_bytes s ≡ spec.in_files count) }
-{
-    if count == 0 {
-        return Ok(String::new(alloc));
-    }
-    let files = grouped_count(alloc, count, "file", "files")?;
-    let files = files.as_str();
-    format!(in alloc; " in {files}")
-}
-
-/// How many faults are not told, and in how many files these lie.
-fn more_line(alloc: Global, untold: usize, files: usize) -> Result<String, AllocError>
-    ensures { IfOk result (λ s. string_bytes s ≡ spec.more_line untold files) }
+/// How many faults are not told.
+fn more_line(alloc: Global, untold: u128) -> Result<String, AllocError>
+    ensures { IfOk result (λ s. string_bytes s ≡ spec.more_line untold) }
 {
     if untold == 0 {
         return Ok(String::new(alloc));
     }
     let more = grouped(alloc, untold)?;
-    let files = in_files(alloc, files)?;
-    format!(in alloc; "and {more} more{files}\n")
+    let more = more.as_str();
+    format!(in alloc; "and {more} more\n")
 }
 
 /// How many faults there are.
-fn refused_line(alloc: Global, count: usize) -> Result<String, AllocError>
+fn refused_line(alloc: Global, count: u128) -> Result<String, AllocError>
     ensures { IfOk result (λ s. string_bytes s ≡ spec.refused_line count) }
 {
     let faults = grouped_count(alloc, count, "fault", "faults")?;
@@ -164,8 +109,7 @@ fn refused_line(alloc: Global, count: usize) -> Result<String, AllocError>
     format!(in alloc; "refused: {faults}\n")
 }
 
-/// The faults that are told, how many more there are and in how many files, and how many there are,
-/// for people.
+/// The faults that are told, how many more there are, and how many there are, for people.
 ///
 /// # Errors
 /// `AllocError` where memory was refused.
@@ -174,7 +118,7 @@ pub fn refused_text(alloc: Global, refusal: &ToldRefusal) -> Result<String, Allo
 {
     let mut text = String::new(alloc);
     write_faults(alloc, &mut text, refusal.told.as_slice())?;
-    let more = more_line(alloc, refusal.untold(), refusal.further_files)?;
+    let more = more_line(alloc, refusal.untold())?;
     text.push_str(more.as_str())?;
     let count = refused_line(alloc, refusal.count)?;
     text.push_str(count.as_str())?;

@@ -1,5 +1,5 @@
 use Rattle.std.proofs.Common.{rules, ◌≡◌, None, inr}
-use Rattle.descriptor_check.proofs.Results.{if-ok}
+use Rattle.verdict_texts.proofs.Results.{if-ok}
 use Rattle.descriptor_check.proofs.runs.answer.Goals as goal
 
 -- the arguments could not be read
