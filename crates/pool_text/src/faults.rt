@@ -5,11 +5,11 @@ ghost use Rattle.std.specs.Option.{option_copied};
 ghost use Rattle.pool_text.specs.Faults as spec;
 
 use crate::words::path_words;
-use verdict_texts::related_label;
 use pool_faults::{DescriptorError, DescriptorErrorKind, Label, Labelled};
 use record_walk::alone;
 use std::alloc::{AllocError, Global};
 use std::fmt::Write;
+use verdict_texts::related_label;
 
 /// All faults of a refused batch, as a text: how many there are, and of each its text behind the
 /// label that it shows, a line `at` with the file, the path and the span of that label, and a line

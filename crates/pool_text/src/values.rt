@@ -4,9 +4,9 @@ ghost use Rattle.std.specs.Prelude.{◌≡◌, IfOk, string_bytes};
 ghost use Rattle.std.specs.Option.{option_copied};
 ghost use Rattle.pool_text.specs.Values as spec;
 
-use verdict_texts::json_string;
 use pool_types::DefaultValue;
 use std::alloc::{AllocError, Global};
+use verdict_texts::json_string;
 
 /// A default value: a text as a string of JSON, and the number of an enum's value.
 fn value_words(alloc: Global, value: &DefaultValue) -> Result<String, AllocError>

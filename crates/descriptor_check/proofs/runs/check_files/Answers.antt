@@ -9,5 +9,5 @@ pub returns-in-Err-Failed : goal.returns-in-Err-Failed
 returns-in-Err-Failed g c =
     if-ok c.complain.result
     (λ a is. unread_checks _ c.args.job.now c.as_slice.result.now c.in-Err-Failed.field-0 c.in-Err-Failed.words a
-      c.as_slice.ensures c.in-Err-Failed.ensures.err c.in-Err-Failed.field-0-is (is ∙ ap no_verdict c.as_str.ensures))
+    c.as_slice.ensures c.in-Err-Failed.ensures.err c.in-Err-Failed.field-0-is (is ∙ ap no_verdict c.as_str.ensures))
     c.complain.ensures
