@@ -12,11 +12,6 @@ static const char unread[] =
 static const char bad_index[] = "file d.proto\npublic 5\nend\n";
 static const char second_holder[] = "file e.proto\npackage p.q\nmessage M\nend\nend\n";
 
-static const uint8_t *bytes(const char *text)
-{
-    return (const uint8_t *)text;
-}
-
 static int add(protolink_pool *pool, const char *script)
 {
     return protolink_pool_add_script(pool, as_bytes(script), strlen(script));

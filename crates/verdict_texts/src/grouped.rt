@@ -7,7 +7,7 @@ use std::alloc::{AllocError, Global};
 
 /// A number with a comma before each three digits from its end.
 #[tactic(auto, using(crate::proofs::Grouping::grouped_small, crate::proofs::Grouping::grouped_large))]
-pub(crate) fn grouped(alloc: Global, number: u128) -> Result<String, AllocError>
+pub(crate) fn grouped(alloc: Global, number: usize) -> Result<String, AllocError>
     ensures { IfOk result (λ s. string_bytes s ≡ spec.grouped number) }
 {
     if number < 1000 {
@@ -22,7 +22,7 @@ pub(crate) fn grouped(alloc: Global, number: u128) -> Result<String, AllocError>
 /// A number of things, with their words for one and for more.
 pub(crate) fn grouped_count(
     alloc: Global,
-    number: u128,
+    number: usize,
     one: &str,
     many: &str,
 ) -> Result<String, AllocError>

@@ -29,7 +29,7 @@ fn head(alloc: Global, verdict: &str, counts: &str, too_many: &str) -> Result<St
 }
 
 /// The last members: how many faults are not told, and why there is no verdict.
-fn tail(alloc: Global, more: u128, error: &str) -> Result<String, AllocError>
+fn tail(alloc: Global, more: usize, error: &str) -> Result<String, AllocError>
     ensures { IfOk result (λ s. string_bytes s ≡ spec.tail more error.now) }
 {
     format!(in alloc; "\"more\":{more},\"error\":{error}")

@@ -34,7 +34,7 @@ pub struct ToldRefusal {
     /// The first of its faults.
     pub told: Items<ToldFault>,
     /// How many faults it has.
-    pub count: u128,
+    pub count: usize,
 }
 
 /// The first of some faults.
@@ -63,17 +63,20 @@ pub fn tell_refusal(
 {
     let first = first_faults(batch.faults, most);
     let told = tell_faults(alloc, batch.linked, batch.files, first)?;
-    let count = batch.faults.len() as u128 + batch.rest as u128;
+    let Some(count) = batch.faults.len().checked_add(batch.rest) else {
+        // No number is left for the faults, so this asks for more room than can be granted.
+        String::new(alloc).reserve(usize::MAX)?;
+        return Err(AllocError);
+    };
     Ok(ToldRefusal { told, count })
 }
 
 impl ToldRefusal {
     /// How many of its faults are not told.
-    pub fn untold(&self) -> u128
+    pub fn untold(&self) -> usize
         ensures { result ≡ spec.untold self.now }
     {
-        self.count
-            .saturating_sub(self.told.as_slice().len() as u128)
+        self.count.saturating_sub(self.told.as_slice().len())
     }
 }
 
@@ -89,7 +92,7 @@ fn write_faults(alloc: Global, text: &mut String, told: &[ToldFault]) -> Result<
 }
 
 /// How many faults are not told.
-fn more_line(alloc: Global, untold: u128) -> Result<String, AllocError>
+fn more_line(alloc: Global, untold: usize) -> Result<String, AllocError>
     ensures { IfOk result (λ s. string_bytes s ≡ spec.more_line untold) }
 {
     if untold == 0 {
@@ -101,7 +104,7 @@ fn more_line(alloc: Global, untold: u128) -> Result<String, AllocError>
 }
 
 /// How many faults there are.
-fn refused_line(alloc: Global, count: u128) -> Result<String, AllocError>
+fn refused_line(alloc: Global, count: usize) -> Result<String, AllocError>
     ensures { IfOk result (λ s. string_bytes s ≡ spec.refused_line count) }
 {
     let faults = grouped_count(alloc, count, "fault", "faults")?;
