@@ -25,7 +25,8 @@
  *   - What a call writes (the pool, a buffer, a value) overlaps nothing else that is passed to it.
  *   - A pool is PROTOLINK_POOL_EMPTY, all bytes zero, or what the library left there. It may be
  *     moved in memory. Of two copies of one only one may be used again.
- *   - One call at a time uses a pool, look-ups included. Different pools are independent.
+ *   - One call at a time uses a pool, look-ups included, so that no call takes a const pool.
+ *     Different pools are independent.
  *   - A pool may be handed to another thread, by what orders memory between the two: a lock, the
  *     start or the end of a thread, a sequentially consistent atomic.
  *   - No call is made from a signal handler, nor in the child of a fork of a process with threads.
@@ -310,7 +311,8 @@ protolink_status protolink_pool_limit_faults(protolink_pool *pool, size_t most);
  * ALL LINKED FILES, as the canonical encoding of one FileDescriptorSet, in the order of linking. In
  * them each type name that is resolved is a dot and the full name of its definition.
  *
- *   PROTOLINK_DONE, PROTOLINK_SHORT  as said under TEXTS. Both encode the whole set.
+ *   PROTOLINK_DONE, PROTOLINK_SHORT  as said under TEXTS. PROTOLINK_SHORT counts the bytes, and writes
+ *                                    none.
  *   PROTOLINK_NO_MEMORY              memory was refused.
  */
 protolink_status protolink_pool_linked(
@@ -419,9 +421,9 @@ protolink_status protolink_oneof_field(
 
 /*
  * A FIELD OF A MESSAGE by its name, by its JSON name, by its number, and a VALUE OF AN ENUM by its
- * name. No two have one, as a batch in which two have it is refused. By the JSON name those fields
- * are found to which one was given, as protoc gives it to all. Names are those that are declared,
- * without a scope.
+ * name. It is the only one that has it, which is proved of every pool: a batch in which two have one
+ * is refused. By the JSON name those fields are found to which one was given, as protoc gives it to
+ * all. Names are those that are declared, without a scope.
  *
  *   PROTOLINK_DONE       *position is the position in the message or the enum.
  *   PROTOLINK_NOT_FOUND  the pool has no such message or enum, which has no such part, or the bytes

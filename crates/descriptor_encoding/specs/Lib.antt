@@ -1,3 +1,4 @@
+pub mod Fronts
 pub mod Wire
 pub mod Parts
 pub mod Enums

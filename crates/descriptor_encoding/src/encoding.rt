@@ -1,4 +1,4 @@
-ghost use Rattle.std.specs.Prelude.{◌≡◌, IfOk};
+ghost use Rattle.std.specs.Prelude.{◌≡◌, length, IfOk};
 ghost use Rattle.descriptor_encoding.specs.Encoding.{set_encoding, file_encoding};
 
 use crate::front::FrontBuffer;
@@ -29,4 +29,16 @@ pub fn encode_file(alloc: Global, file: &FileDescriptorProto) -> Result<Vec<u8>,
     let mut out = FrontBuffer::new(alloc);
     file.put(&mut out)?;
     out.into_vec()
+}
+
+/// How many bytes `encode_file` writes. It takes no memory.
+///
+/// # Errors
+/// `AllocError` where they are more than a `usize` counts, so that no memory has room for them.
+pub fn file_len(alloc: Global, file: &FileDescriptorProto) -> Result<usize, AllocError>
+    ensures { IfOk result (λ n. n ≡ length (file_encoding file.now)) }
+{
+    let mut out = FrontBuffer::counting(alloc);
+    file.put(&mut out)?;
+    Ok(out.len())
 }

@@ -1,4 +1,5 @@
-ghost use Rattle.std.specs.Prelude.{◌≡◌, [], ◌∷◌, ◌++◌, length, IfOk, OnOk};
+ghost use Rattle.std.specs.Prelude.{◌≡◌, ◌≤◌, [], ◌∷◌, ◌++◌, drop, length, IfOk, OnOk};
+ghost use Rattle.descriptor_encoding.specs.Fronts.{Counted, Kept, bytes_of, in_front, size};
 
 use std::alloc::{AllocError, Global};
 use std::marker::Model;
@@ -7,47 +8,67 @@ use std::marker::Model;
 const LEAST_ROOM: usize = 256;
 
 /// Bytes that grow at their front. They stand at the end of what is held, and room is before them.
+/// Where they are only counted, nothing is held.
 #[derive(Drop)]
 pub struct FrontBuffer {
     alloc: Global,
     held: Vec<u8>,
     start: usize,
+    counted: Option<usize>,
 }
 
 impl Model for FrontBuffer {
-    ghost use Rattle.std.specs.Prelude.{ℕ, ◌≤◌, List, length, drop};
+    ghost use Rattle.std.specs.Prelude.{◌≡◌, ◌≤◌, [], length, drop, IsSome};
+    ghost use Rattle.descriptor_encoding.specs.Fronts.{Front, front_of};
 
-    ghost Value = { List ℕ };
+    ghost Value = { Front };
 
-    ghost view = { λ b. drop b.start b.held.items };
+    ghost view = { λ b. front_of b.counted (drop b.start b.held.items) };
 
-    ghost invariant = { λ b. b.start ≤ length b.held.items };
+    ghost invariant = { λ b. (b.start ≤ length b.held.items)
+        × (IsSome b.counted → b.held.items ≡ []) };
 }
 
 impl FrontBuffer {
     /// No bytes, which takes no memory.
     pub fn new(alloc: Global) -> FrontBuffer
-        ensures { result ≡ [] }
+        ensures { result ≡ Kept [] }
     {
         FrontBuffer {
             alloc,
             held: Vec::new(alloc),
             start: 0,
+            counted: None,
+        }
+    }
+
+    /// No bytes, of which only the number is kept. It takes no memory, nor do those that come.
+    pub fn counting(alloc: Global) -> FrontBuffer
+        ensures { result ≡ Counted 0 }
+    {
+        FrontBuffer {
+            alloc,
+            held: Vec::new(alloc),
+            start: 0,
+            counted: Some(0),
         }
     }
 
     /// How many bytes there are.
     #[inline]
     pub fn len(&self) -> usize
-        ensures { result ≡ length self.now }
+        ensures { result ≡ size self.now }
     {
-        self.held.len() - self.start
+        match self.counted {
+            Some(len) => len,
+            None => self.held.len() - self.start,
+        }
     }
 
     /// Puts a byte in front of the others.
     #[inline]
     pub fn put_byte(&mut self, byte: u8) -> Result<(), AllocError>
-        ensures { OnOk result (self.new ≡ byte ∷ self.old) }
+        ensures { OnOk result (self.new ≡ in_front (byte ∷ []) self.old) }
     {
         if self.start == 0 {
             return self.put_beyond(&[byte]);
@@ -59,7 +80,7 @@ impl FrontBuffer {
 
     /// Puts bytes in front of the others.
     pub fn put_bytes(&mut self, bytes: &[u8]) -> Result<(), AllocError>
-        ensures { OnOk result (self.new ≡ bytes.now ++ self.old) }
+        ensures { OnOk result (self.new ≡ in_front bytes.now self.old) }
     {
         if self.start < bytes.len() {
             return self.put_beyond(bytes);
@@ -70,27 +91,42 @@ impl FrontBuffer {
         Ok(())
     }
 
-    /// Puts bytes for which there is no room in front of the others, and before them as much room
-    /// as was held.
+    /// Counts bytes for which there is no room, or puts them in front of the others, behind as much
+    /// room as was held.
     #[cold]
     fn put_beyond(&mut self, bytes: &[u8]) -> Result<(), AllocError>
-        ensures { OnOk result (self.new ≡ bytes.now ++ self.old) }
+        ensures { OnOk result (self.new ≡ in_front bytes.now self.old) }
     {
-        let room = self.held.len().max(LEAST_ROOM);
-        let wanted = room.saturating_add(bytes.len()).saturating_add(self.len());
-        let mut held = Vec::with_capacity(self.alloc, wanted)?;
-        held.resize(room, 0)?;
-        held.extend_from_slice(bytes)?;
-        held.extend_from_slice(&self.held[self.start..])?;
-        self.held = held;
-        self.start = room;
+        match self.counted {
+            Some(len) => {
+                self.counted = Some(len.checked_add(bytes.len()).ok_or(AllocError)?);
+            }
+            None => {
+                let room = self.held.len().max(LEAST_ROOM);
+                self.held = behind_room(self.alloc, room, bytes, &self.held[self.start..])?;
+                self.start = room;
+            }
+        }
         Ok(())
     }
 
-    /// The bytes, in memory of their own length.
+    /// The bytes, in memory of their own length. There are none where they were only counted.
     pub fn into_vec(self) -> Result<Vec<u8>, AllocError>
-        ensures { IfOk result (λ v. v.items ≡ self) }
+        ensures { IfOk result (λ v. v.items ≡ bytes_of self) }
     {
         Vec::from_slice(self.alloc, &self.held[self.start..])
     }
+}
+
+/// Bytes, and others behind them, with room in front.
+fn behind_room(alloc: Global, room: usize, bytes: &[u8], rest: &[u8]) -> Result<Vec<u8>, AllocError>
+    ensures { IfOk result (λ v. (room ≤ length v.items)
+        × (drop room v.items ≡ bytes.now ++ rest.now)) }
+{
+    let wanted = room.saturating_add(bytes.len()).saturating_add(rest.len());
+    let mut held = Vec::with_capacity(alloc, wanted)?;
+    held.resize(room, 0)?;
+    held.extend_from_slice(bytes)?;
+    held.extend_from_slice(rest)?;
+    Ok(held)
 }

@@ -6,10 +6,12 @@ mod enums;
 mod fields;
 mod files;
 mod front;
+mod linked;
 mod messages;
 mod parts;
 mod services;
 mod sources;
 mod wire;
 
-pub use encoding::{encode, encode_file};
+pub use encoding::{encode, encode_file, file_len};
+pub use linked::{encode_linked, linked_len};

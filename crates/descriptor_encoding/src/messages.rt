@@ -73,7 +73,7 @@ fn put_descriptor(message: &DescriptorProto, out: &mut FrontBuffer) -> Result<()
 /// Puts the messages in a message. No cycle of calls can go through the trait, so `put_messages`
 /// does not serve here.
 #[cycle(message)]
-#[tactic(auto, using(crate::proofs::Appending::in_front))]
+#[tactic(auto, using(crate::proofs::Appending::measured, crate::proofs::Appending::one_more))]
 fn put_nested(out: &mut FrontBuffer, items: &Items<DescriptorProto>) -> Result<(), AllocError>
     ensures { Puts result out.old out.new
         (messages_listed 3 (map descriptor_listed items.now)) }

@@ -1,5 +1,6 @@
-ghost use Rattle.std.specs.Prelude.{◌≡◌, ◌<◌, ◌^◌, List, [], ◌∷◌, ◌++◌, map, OnOk};
+ghost use Rattle.std.specs.Prelude.{◌≡◌, ◌<◌, ◌^◌, List, [], ◌∷◌, map, OnOk};
 ghost use Rattle.wire_format.specs.Encoding.{Numbered, encoding};
+ghost use Rattle.descriptor_encoding.specs.Fronts.{in_front};
 ghost use Rattle.descriptor_encoding.specs.Wire.{bytes_field, Puts};
 ghost use Rattle.descriptor_encoding.specs.Parts.{bits, int32_listed, bool_listed, text_listed, options_listed, texts_listed, int32s_listed, packed, packed_listed, message_listed, messages_listed};
 
@@ -78,6 +79,7 @@ pub fn put_options<T>(
 }
 
 /// Puts repeated texts.
+#[tactic(auto, using(crate::proofs::Appending::one_more))]
 pub fn put_texts(out: &mut FrontBuffer, field: u32, items: &Items<Text>) -> Result<(), AllocError>
     requires { field < 2 ^ 29 }
     ensures { Puts result out.old out.new (texts_listed field items.now) }
@@ -92,6 +94,7 @@ pub fn put_texts(out: &mut FrontBuffer, field: u32, items: &Items<Text>) -> Resu
 }
 
 /// Puts repeated numbers, each as a field.
+#[tactic(auto, using(crate::proofs::Appending::one_more))]
 pub fn put_int32s(out: &mut FrontBuffer, field: u32, items: &Items<i32>) -> Result<(), AllocError>
     requires { field < 2 ^ 29 }
     ensures { Puts result out.old out.new (int32s_listed field items.now) }
@@ -106,8 +109,9 @@ pub fn put_int32s(out: &mut FrontBuffer, field: u32, items: &Items<i32>) -> Resu
 }
 
 /// Puts numbers one behind another.
+#[tactic(auto, using(crate::proofs::Appending::both))]
 fn put_numbers(out: &mut FrontBuffer, numbers: &[i32]) -> Result<(), AllocError>
-    ensures { OnOk result (out.new ≡ packed numbers.now ++ out.old) }
+    ensures { OnOk result (out.new ≡ in_front (packed numbers.now) out.old) }
 {
     let mut left = numbers.len();
     while left > 0 {
@@ -118,7 +122,7 @@ fn put_numbers(out: &mut FrontBuffer, numbers: &[i32]) -> Result<(), AllocError>
 }
 
 /// Puts repeated numbers, packed.
-#[tactic(auto, using(crate::proofs::Appending::in_front))]
+#[tactic(auto, using(crate::proofs::Appending::measured))]
 pub fn put_packed(out: &mut FrontBuffer, field: u32, items: &Items<i32>) -> Result<(), AllocError>
     requires { field < 2 ^ 29 }
     ensures { Puts result out.old out.new (packed_listed field items.now) }
@@ -134,7 +138,7 @@ pub fn put_packed(out: &mut FrontBuffer, field: u32, items: &Items<i32>) -> Resu
 }
 
 /// Puts a message as a field.
-#[tactic(auto, using(crate::proofs::Appending::in_front))]
+#[tactic(auto, using(crate::proofs::Appending::measured))]
 fn put_one<M: Encode>(out: &mut FrontBuffer, field: u32, message: &M) -> Result<(), AllocError>
     requires { field < 2 ^ 29 }
     ensures { Puts result out.old out.new
@@ -170,7 +174,20 @@ pub fn put_messages<M: Encode>(
     ensures { Puts result out.old out.new
         (messages_listed field (map M.listed items.now)) }
 {
-    let messages = items.as_slice();
+    put_each(out, field, items.as_slice())
+}
+
+/// Puts messages, each as a field.
+#[tactic(auto, using(crate::proofs::Appending::one_more))]
+pub fn put_each<M: Encode>(
+    out: &mut FrontBuffer,
+    field: u32,
+    messages: &[M],
+) -> Result<(), AllocError>
+    requires { field < 2 ^ 29 }
+    ensures { Puts result out.old out.new
+        (messages_listed field (map M.listed messages.now)) }
+{
     let mut left = messages.len();
     while left > 0 {
         left -= 1;

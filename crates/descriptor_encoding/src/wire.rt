@@ -1,5 +1,6 @@
-ghost use Rattle.std.specs.Prelude.{◌≡◌, ◌+◌, ◌-◌, ◌*◌, ◌<◌, ◌≤◌, ◌^◌, [], ◌∷◌, ◌++◌, length, OnOk};
+ghost use Rattle.std.specs.Prelude.{◌≡◌, ◌+◌, ◌-◌, ◌*◌, ◌<◌, ◌≤◌, ◌^◌, [], ◌∷◌, OnOk};
 ghost use Rattle.wire_format.specs.Encoding.{varint_of};
+ghost use Rattle.descriptor_encoding.specs.Fronts.{in_front, size};
 ghost use Rattle.descriptor_encoding.specs.Wire.{number_field, bytes_field, Puts};
 
 use crate::front::FrontBuffer;
@@ -9,7 +10,7 @@ use std::alloc::AllocError;
 #[cycle(varint)]
 #[inline]
 pub fn put_varint(out: &mut FrontBuffer, number: u64) -> Result<(), AllocError>
-    ensures { OnOk result (out.new ≡ varint_of number ++ out.old) }
+    ensures { OnOk result (out.new ≡ in_front (varint_of number) out.old) }
 {
     if number < 128 {
         return out.put_byte(number as u8);
@@ -22,13 +23,14 @@ pub fn put_varint(out: &mut FrontBuffer, number: u64) -> Result<(), AllocError>
 #[inline(never)]
 fn put_long_varint(out: &mut FrontBuffer, number: u64) -> Result<(), AllocError>
     requires { 128 ≤ number }
-    ensures { OnOk result (out.new ≡ varint_of number ++ out.old) }
+    ensures { OnOk result (out.new ≡ in_front (varint_of number) out.old) }
 {
     put_varint(out, number / 128)?;
     out.put_byte((number % 128) as u8 + 128)
 }
 
 /// Puts a field whose value is a number in front of the bytes.
+#[tactic(auto, using(crate::proofs::Appending::number_put))]
 pub fn put_number_field(out: &mut FrontBuffer, field: u32, number: u64) -> Result<(), AllocError>
     requires { field < 2 ^ 29 }
     ensures { Puts result out.old out.new (number_field field number ∷ []) }
@@ -38,6 +40,7 @@ pub fn put_number_field(out: &mut FrontBuffer, field: u32, number: u64) -> Resul
 }
 
 /// Puts a field whose value is a text, bytes or a message in front of the bytes.
+#[tactic(auto, using(crate::proofs::Appending::bytes_put))]
 pub fn put_bytes_field(out: &mut FrontBuffer, field: u32, bytes: &[u8]) -> Result<(), AllocError>
     requires { field < 2 ^ 29 }
     ensures { Puts result out.old out.new (bytes_field field bytes.now ∷ []) }
@@ -51,9 +54,9 @@ pub fn put_bytes_field(out: &mut FrontBuffer, field: u32, bytes: &[u8]) -> Resul
 /// `behind` bytes.
 pub fn put_length(out: &mut FrontBuffer, field: u32, behind: usize) -> Result<(), AllocError>
     requires field { field < 2 ^ 29 }
-    requires behind { behind ≤ length out.old }
-    ensures { OnOk result (out.new ≡ varint_of (8 * field + 2)
-        ++ (varint_of (length out.old - behind) ++ out.old)) }
+    requires behind { behind ≤ size out.old }
+    ensures { OnOk result (out.new ≡ in_front (varint_of (8 * field + 2))
+        (in_front (varint_of (size out.old - behind)) out.old)) }
 {
     let len = out.len() - behind;
     put_varint(out, len as u64)?;

@@ -1,15 +1,13 @@
 //! What is linked, as bytes that a runtime of protobuf takes in.
 
-ghost use Rattle.std.specs.Prelude.{◌≡◌, IfOk, slice_get};
+ghost use Rattle.std.specs.Prelude.{◌≡◌, length, IfOk, slice_get};
 ghost use Rattle.std.specs.Option.{option_map};
 ghost use Rattle.pool_types.specs.Contents.{files_of};
 ghost use Rattle.descriptor_encoding.specs.Encoding.{file_encoding, set_encoding};
 
 use crate::answers::Answers;
-use descriptor_encoding::{encode, encode_file};
-use plain_data::Items;
+use descriptor_encoding::{encode_file, encode_linked, file_len, linked_len};
 use pool_types::FileDescriptor;
-use proto_types::FileDescriptorSet;
 use std::alloc::{AllocError, Global};
 
 impl Answers {
@@ -21,8 +19,18 @@ impl Answers {
         ensures { IfOk result (λ v. v.items
             ≡ set_encoding (record { file = files_of self.now.pool })) }
     {
-        let file = Items::from_vec(self.pool.linked_files()?);
-        encode(alloc, &FileDescriptorSet { file })
+        encode_linked(alloc, self.pool.files())
+    }
+
+    /// How many bytes `linked` writes. It takes no memory.
+    ///
+    /// # Errors
+    /// `AllocError` where no memory has room for so many.
+    pub fn linked_len(&self, alloc: Global) -> Result<usize, AllocError>
+        ensures { IfOk result (λ len. len
+            ≡ length (set_encoding (record { file = files_of self.now.pool }))) }
+    {
+        linked_len(alloc, self.pool.files())
     }
 
     /// The canonical encoding of the linked file with an index, or none past the end.
@@ -37,5 +45,18 @@ impl Answers {
             Some(file) => Ok(Some(encode_file(alloc, &file.raw)?)),
             None => Ok(None),
         }
+    }
+    /// How many bytes `linked_file` writes, or none past the end. It takes no memory.
+    ///
+    /// # Errors
+    /// `AllocError` where no memory has room for so many.
+    pub fn linked_file_len(&self, alloc: Global, index: u32) -> Result<Option<usize>, AllocError>
+        ensures { IfOk result (λ found. found ≡ option_map (λ f. length (file_encoding f.raw))
+            (slice_get self.now.pool.files index)) }
+    {
+        let Some(file) = self.pool.file(FileDescriptor::new(index)) else {
+            return Ok(None);
+        };
+        Ok(Some(file_len(alloc, &file.raw)?))
     }
 }

@@ -44,6 +44,7 @@ pub mod ExchangedFiles
 pub mod ExchangedBatch
 pub mod Passes
 pub mod Items
+pub mod MadeFits
 pub mod Relinked
 pub mod Behind
 pub mod Parts

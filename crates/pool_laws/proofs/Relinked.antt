@@ -41,13 +41,13 @@ use Rattle.pool_contents.proofs.Each.{each-all, each-append, each-map, each-same
 use Rattle.name_pass.specs.FirstPass.{first_faults, first_pass, holder}
 use Rattle.descriptor_pool.specs.Build.{declared_with, with_batch, name_faults, reference_faults, setting_with, with_items, with_names}
 use Rattle.descriptor_pool.specs.Extensions.{ListsAreWhole, bare}
-use Rattle.descriptor_pool.specs.Invariant.{IsPool}
 use Rattle.descriptor_pool.specs.Pool.{Made, empty, linked_to, new_files}
 use Rattle.descriptor_pool.proofs.Declared.{declared-linked, each-changed, items-of-files, known_file_names, known_names, linking-keeps}
 use Rattle.descriptor_pool.proofs.Extendees.{each-made, made-whole}
 use Rattle.descriptor_pool.proofs.Files.{lie-between}
-use Rattle.descriptor_pool.proofs.Sound.{Known, fits_again, link-known, made-sound}
+use Rattle.descriptor_pool.proofs.Sound.{Known, link-known, made-sound}
 use Rattle.pool_laws.specs.Laws.{Relinks}
+use Rattle.pool_laws.proofs.MadeFits.{made_fits}
 use Rattle.pool_laws.proofs.Relinks.{files-are, long-with, new-again, old-again, reread, seen_in, sees-is, setting-again}
 use Rattle.pool_laws.proofs.Items.{SameItem, all-fine, files-again, kind-again, same-enum, same-extension, same-message, same-service}
 use Rattle.pool_laws.proofs.Passes.{after-both, pass-again, unbroken-again}
@@ -245,16 +245,16 @@ linked-again p known lists again =
       file_names = (setting i).file_names;
     })
 
--- the law
-pub relinked : (p : Contents) → IsPool p → Relinks p
-relinked p pool =
+-- the law, of all contents that are made
+pub relinked : (p : Contents) → Made p → Relinks p
+relinked p made =
     let fs = files_of p in
-    let known = (made-sound p pool.made).known in
-    let again = made-relinked p pool.made in
-    let whole = made-whole p pool.made in
+    let known = (made-sound p made).known in
+    let again = made-relinked p made in
+    let whole = made-whole p made in
     let new = subst (AllNew []) again.extensions whole.numbers in
     let second = ap (λ s. second_pass s [] (declared p)) (setting-again p known) ∙ owners-tell (reread p) [] no_counts fs ∙ owners-behind (reread p) [] (declared p) again.second new in (
       (ap (name_faults no_contents) (all-new fs) ∙ again.first, ap (reference_faults no_contents) (all-new fs) ∙ second),
-      subst (λ new. IsOk (counts_with no_counts new)) (sym (all-new fs)) (fits_again p pool),
+      subst (λ new. IsOk (counts_with no_counts new)) (sym (all-new fs)) (made_fits p made),
       ap (with_batch no_contents) (all-new fs) ∙ linked-again p known whole.lists again,
     )

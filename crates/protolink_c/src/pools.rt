@@ -16,9 +16,9 @@ ghost use Rattle.protolink_c.specs.Told.{handed_out, handed_out_if, located, wri
 use crate::boxes::{boxed_copy, closed, opened};
 use crate::handle::Handle;
 use crate::lent::lend;
-use crate::status::{DONE, NO_MEMORY, NOT_FOUND};
+use crate::status::{DONE, NO_MEMORY, NOT_FOUND, SHORT};
 use crate::told::{hand_out, locate, write};
-use numbered_pool::{Item, PoolCounts, Status};
+use numbered_pool::{Answers, Item, PoolCounts, Status};
 use std::alloc::Global;
 
 /// 0.2.0, as the programs have it.
@@ -147,12 +147,30 @@ pub extern "C" fn protolink_pool_linked(
     ensures no_memory { result ≡ 3 → (buffer.new ≡ buffer.old) × (length.new ≡ length.old) }
 {
     let lent = lend(alloc, pool);
-    let status = match lent.answers().linked(alloc) {
-        Ok(bytes) => hand_out(bytes.as_slice(), buffer, length),
-        Err(_) => NO_MEMORY,
-    };
+    let status = hand_out_linked(alloc, lent.answers(), buffer, length);
     pool.put(alloc, lent.back());
     status
+}
+
+/// Copies the encoding of all linked files to the front of a buffer, if it fits, and tells its
+/// length. Nothing is encoded where it does not fit.
+fn hand_out_linked(alloc: Global, answers: &Answers, buffer: &mut [u8], length: &mut usize) -> u8
+    ensures told { result ≢ 3 →
+        handed_out (set_encoding (record { file = files_of answers.now.pool })) buffer.old
+        ≡ (buffer.new, (length.new, result)) }
+    ensures no_memory { result ≡ 3 → (buffer.new ≡ buffer.old) × (length.new ≡ length.old) }
+{
+    let Ok(len) = answers.linked_len(alloc) else {
+        return NO_MEMORY;
+    };
+    if len > buffer.len() {
+        *length = len;
+        return SHORT;
+    }
+    match answers.linked(alloc) {
+        Ok(bytes) => hand_out(bytes.as_slice(), buffer, length),
+        Err(_) => NO_MEMORY,
+    }
 }
 
 /// Hands out the canonical encoding of one linked file, by its index.
@@ -172,13 +190,39 @@ pub extern "C" fn protolink_pool_linked_file(
     ensures no_memory { result ≡ 3 → (buffer.new ≡ buffer.old) × (length.new ≡ length.old) }
 {
     let lent = lend(alloc, pool);
-    let status = match lent.answers().linked_file(alloc, file) {
+    let status = hand_out_file(alloc, lent.answers(), file, buffer, length);
+    pool.put(alloc, lent.back());
+    status
+}
+
+/// Copies the encoding of a linked file to the front of a buffer, if it fits, and tells its length.
+/// Nothing is encoded where it does not fit.
+fn hand_out_file(
+    alloc: Global,
+    answers: &Answers,
+    file: u32,
+    buffer: &mut [u8],
+    length: &mut usize,
+) -> u8
+    ensures told { result ≢ 3 →
+        handed_out_if (option_map (λ f. file_encoding f.raw)
+        (slice_get answers.now.pool.files file)) buffer.old length.old
+        ≡ (buffer.new, (length.new, result)) }
+    ensures no_memory { result ≡ 3 → (buffer.new ≡ buffer.old) × (length.new ≡ length.old) }
+{
+    match answers.linked_file_len(alloc, file) {
+        Ok(Some(len)) if len > buffer.len() => {
+            *length = len;
+            return SHORT;
+        }
+        Ok(_) => {}
+        Err(_) => return NO_MEMORY,
+    }
+    match answers.linked_file(alloc, file) {
         Ok(Some(bytes)) => hand_out(bytes.as_slice(), buffer, length),
         Ok(None) => NOT_FOUND,
         Err(_) => NO_MEMORY,
-    };
-    pool.put(alloc, lent.back());
-    status
+    }
 }
 
 /// Tells what a full name means, and the file in which it is declared. The name may have one

@@ -3,9 +3,7 @@ use Rattle.std.proofs.Common.{◌≡◌, ◌<◌, ◌^◌, ℕ, IsOk, List, [], 
 use Rattle.proto_types.specs.declared.file.FileDescriptorSet.{FileDescriptorSet}
 use Rattle.descriptor_decoding.specs.Decoding.{file_set_of}
 use Rattle.descriptor_decoding.specs.declared.error.DecodeError.TheVariants as decoding
-use Rattle.descriptor_encoding.specs.Encoding.{set_encoding}
-use Rattle.descriptor_laws.specs.Whole.{IsSet}
-use Rattle.pool_types.specs.Contents.{Contents, files_of, no_contents}
+use Rattle.pool_types.specs.Contents.{Contents, no_contents}
 use Rattle.descriptor_pool.specs.Build.{first_of_both}
 use Rattle.descriptor_pool.specs.declared.error.BuildError.{BuildError}
 use Rattle.descriptor_pool.specs.declared.error.BuildError.TheVariants.{TooMany, Descriptor, OutOfMemory}
@@ -14,7 +12,8 @@ use Rattle.pool_laws.proofs.Relinked.{relinked}
 use Rattle.stored_pools.specs.declared.storing.LoadError.{LoadError}
 use Rattle.stored_pools.specs.declared.storing.LoadError.TheVariants.{Decode, Build}
 use Rattle.stored_pools.specs.Loaded.{AreLinked, LacksMemory, Loads, LoadsAgain}
-use Rattle.stored_pools.specs.Stored.{MakesPool, set_of, stored}
+use Rattle.stored_pools.specs.Stored.{MakesPool, stored}
+use Rattle.stored_pools.proofs.Makes.{WrittenIsRead, makes-pool}
 
 module _ (bytes : List ℕ) (p : Contents) (makes : MakesPool bytes p) where
   same-set : (set : FileDescriptorSet) → file_set_of bytes ≡ Ok set → set ≡ makes.set
@@ -39,13 +38,7 @@ module _ (bytes : List ℕ) (p : Contents) (makes : MakesPool bytes p) where
 
 -- what holds of bytes that are read as they were written
 pub stored-again : (bytes : List ℕ) (result : Result Contents LoadError)
-    → ((set : FileDescriptorSet) → IsSet 100 set → length (set_encoding set) < 2 ^ 64 → file_set_of (set_encoding set) ≡ Ok set)
-    → length bytes < 2 ^ 64 → Loads bytes result → LoadsAgain bytes result
+    → WrittenIsRead → length bytes < 2 ^ 64 → Loads bytes result → LoadsAgain bytes result
 stored-again bytes result written short loads p pool whole is =
-    let again = relinked p pool in
-    let makes : MakesPool (stored p) p = record {
-      set = set_of (files_of p);
-      read = written (set_of (files_of p)) whole (subst (λ bs. length bs < 2 ^ 64) is short);
-      linked = record { fits = again.1; accepted = again.0; is = sym again.2 };
-    } in
+    let makes : MakesPool (stored p) p = makes-pool written p (relinked p pool.made) whole (subst (λ bs. length bs < 2 ^ 64) is short) in
     loads-again bytes p (subst (λ bs. MakesPool bs p) (sym is) makes) result loads

@@ -1,5 +1,5 @@
 -- Linking leaves whole files whole.
-use Rattle.std.proofs.Common.{ℕ, ℤ, pos, cond, IfSome, Option, None, Some, List, [], ◌∷◌, length, sym, subst, true, false, lit<}
+use Rattle.std.proofs.Common.{◌≡◌, ℕ, ℤ, pos, cond, IfSome, Option, None, Some, List, [], ◌∷◌, length, sym, subst, true, false, lit<}
 use Rattle.std.specs.List.{AllByRecursion, filter}
 use Rattle.std.specs.Option.{option_map_or}
 use Rattle.proto_types.specs.Readers.{text_of, type_of}
@@ -11,6 +11,8 @@ use Rattle.pool_types.specs.Contents.{Contents, files_of}
 use Rattle.pool_types.specs.declared.contents.definition.DefinitionKind.{DefinitionKind}
 use Rattle.pool_types.specs.declared.contents.definition.DefinitionKind.TheVariants as definition
 use Rattle.record_walk.specs.Changed.{changed_files}
+use Rattle.record_walk.specs.Counts.{counted, counts_in, no_counts}
+use Rattle.record_walk.specs.Declarations.{declarations}
 use Rattle.name_resolution.specs.declared.filter.ResolveNameFilter.{ResolveNameFilter}
 use Rattle.name_resolution.specs.declared.filter.ResolveNameFilter.TheVariants.{Message, FieldType as AnyType}
 use Rattle.name_resolution.specs.Resolution.{Resolution, found, invalid_type, not_imported, shadowed, not_found, kind_found}
@@ -18,7 +20,6 @@ use Rattle.reference_pass.specs.Linked.{resolved, definition_number, type_number
 use Rattle.reference_pass.specs.Setting.{Setting, resolve}
 use Rattle.descriptor_laws.specs.Whole.{IsText, IsInt32, Within, IsField, IsMethod, IsFile}
 use Rattle.descriptor_pool.specs.Build.{declared_with, setting_with, with_names}
-use Rattle.descriptor_pool.specs.Invariant.{IsPool}
 use Rattle.descriptor_pool.specs.Pool.{new_files}
 use Rattle.descriptor_pool.proofs.Declared.{files-linked}
 use Rattle.descriptor_pool.proofs.Resolved.{all-append}
@@ -120,11 +121,11 @@ filter-all P test (x ∷ xs) all =
     let rest = filter-all P test xs all.1 in
     elim (test x) as (λ b. AllByRecursion P (cond b (x ∷ filter test xs) (filter test xs))) [ true ↦ (all.0, rest) | false ↦ rest ]
 
--- behind a pool
-pub linked-whole : (p : Contents) → IsPool p → LinkedAreWhole p
-linked-whole p pool before batch came =
+-- behind contents whose counts are those of what their files declare
+pub linked-whole : (p : Contents) → counts_in p ≡ counted no_counts (declarations no_counts (files_of p)) → LinkedAreWhole p
+linked-whole p counts before batch came =
     let new = new_files p batch in
     let s = setting_with p new in
     let linked = files-whole (linking s) (linking-whole s) 100 (length p.files) new (filter-all (Within 100 IsFile) (λ f. _) batch came.file) in
-    let are = files-linked (with_names p (declared_with p new)) new pool.counts_are s in
+    let are = files-linked (with_names p (declared_with p new)) new counts s in
     record { file = subst (AllByRecursion (Within 100 IsFile)) (sym are) (all-append (Within 100 IsFile) (files_of p) (changed_files (linking s) (length p.files) new) before.file linked) }

@@ -38,3 +38,9 @@ StoredIsLoaded p = AreWhole (files_of p) → length (stored p) < 2 ^ 64 → Make
 abbrev pub LinkedAreWhole : Contents → Type 0
 LinkedAreWhole p =
     AreWhole (files_of p) → (batch : Batch) → AreWhole batch → AreWhole (files_of (link p batch))
+
+-- law: the pool that a batch of whole files makes, linked at once from nothing, is stored as bytes
+-- that make an equal pool, where they are fewer than 2 ^ 64
+abbrev pub LinkedIsLoaded : Type 0
+LinkedIsLoaded = (batch : Batch) → AreWhole batch → (p : Contents) → IsLinked no_contents batch p
+    → length (stored p) < 2 ^ 64 → MakesPool (stored p) p

@@ -1,5 +1,5 @@
 //! A call does nothing: its contract is the law, and is proved of all pools.
-ghost use Rattle.stored_pools.specs.Stored.{LinkedAreWhole, StoredIsLoaded};
+ghost use Rattle.stored_pools.specs.Stored.{LinkedAreWhole, LinkedIsLoaded, StoredIsLoaded};
 
 use descriptor_laws::written_is_read;
 use descriptor_pool::DescriptorPool;
@@ -21,4 +21,12 @@ pub fn linked_are_whole(pool: &DescriptorPool)
     ensures { LinkedAreWhole pool.now }
 {
     pool.made();
+}
+
+/// A batch of whole files that is linked from nothing makes a pool that is stored as bytes which make
+/// an equal pool, where they are fewer than 2^64.
+pub fn linked_is_loaded()
+    ensures { LinkedIsLoaded }
+{
+    written_is_read();
 }

@@ -4,5 +4,5 @@
 mod laws;
 mod storing;
 
-pub use laws::{linked_are_whole, stored_is_loaded};
+pub use laws::{linked_are_whole, linked_is_loaded, stored_is_loaded};
 pub use storing::{LoadError, link, load, store};

@@ -5,10 +5,9 @@ ghost use Rattle.stored_pools.specs.Stored.{AreWhole, MakesPool, stored};
 
 use crate::laws::stored_is_loaded;
 use descriptor_decoding::{DecodeError, decode};
-use descriptor_encoding::encode;
+use descriptor_encoding::encode_linked;
 use descriptor_laws::written_is_read;
 use descriptor_pool::{BuildError, DescriptorPool};
-use plain_data::Items;
 use proto_types::FileDescriptorSet;
 use std::alloc::{AllocError, Global};
 
@@ -21,8 +20,8 @@ pub enum LoadError {
     Build(BuildError),
 }
 
-/// The canonical encoding of the set of a pool's linked files. Where these are whole, it is loaded
-/// as an equal pool.
+/// The canonical encoding of the set of a pool's linked files, none of which is copied. Where they
+/// are whole, it is loaded as an equal pool.
 ///
 /// # Errors
 /// `AllocError` where memory was refused.
@@ -31,8 +30,7 @@ pub fn store(alloc: Global, pool: &DescriptorPool) -> Result<Vec<u8>, AllocError
     ensures loaded { AreWhole (files_of pool.now) → IfOk result (λ v. MakesPool v.items pool.now) }
 {
     stored_is_loaded(pool);
-    let file = Items::from_vec(pool.linked_files()?);
-    encode(alloc, &FileDescriptorSet { file })
+    encode_linked(alloc, pool.files())
 }
 
 /// The pool of the files of a set, linked at once. Of the bytes that `store` wrote it is the pool that
