@@ -5,3 +5,4 @@ pub mod Batches
 pub mod Relinked
 mod Computed
 mod ReportChecks
+pub mod Told

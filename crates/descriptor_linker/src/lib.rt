@@ -33,6 +33,7 @@ pub use descriptor_pool::DescriptorPool;
 pub use ending::Ending;
 pub use link_script::Block;
 pub use link_script::Keyword;
+pub use link_script::Obeys;
 pub use link_script::Open;
 pub use link_script::RecordBuilder;
 pub use link_script::SaidExtension;

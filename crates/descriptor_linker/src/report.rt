@@ -1,8 +1,6 @@
-ghost use Rattle.std.specs.Prelude.{◌≡◌, ◌≢◌, true, false, None, IfOk, string_bytes};
+ghost use Rattle.std.specs.Prelude.{◌≡◌, ◌≢◌, true, false, None, IfOk, OnOk, string_bytes};
 ghost use Rattle.link_script.specs.Script.Reading.{script};
-ghost use Rattle.descriptor_linker.specs.Report.Code.{session_in};
-ghost use Rattle.link_script.specs.Obeyed.{IsObeyed};
-ghost use Rattle.descriptor_linker.specs.Report.Session.{report, step};
+ghost use Rattle.descriptor_linker.specs.Report.Session.{report, IsTold};
 
 mod answers;
 mod lines;
@@ -32,33 +30,24 @@ pub fn report_of(alloc: Global, bytes: &[u8]) -> Result<Report, AllocError>
         × (r.has_fault ≡ true → (script bytes.now).fault ≢ None)) }
 {
     let mut session = Session::new(alloc);
-    let ended = obey(&mut session, &mut ScriptReader::new(alloc, bytes));
+    let ended = ScriptReader::new(alloc, bytes).obey(&mut session);
     let mut text = session.text;
     let has_fault = match ended {
         Ok(()) => false,
-        Err(ScriptError::Fault(line, fault)) => {
-            write_fault(&mut text, line, fault)?;
+        Err(error) => {
+            write_end(&mut text, error)?;
             true
         }
-        Err(ScriptError::OutOfMemory) => return Err(AllocError),
     };
     Ok(Report { text, has_fault })
 }
 
-/// Does what the statements that are left of a script say, each as it is read.
-///
-/// # Errors
-/// `Fault` with the fault behind the statements, and `OutOfMemory` where memory was refused.
-fn obey(session: &mut Session, script: &mut ScriptReader<'_>) -> Result<(), ScriptError>
-    ensures { IsObeyed step script.old (session_in session.old) result (session_in session.new) }
+/// Writes the line of the fault that ends a script.
+fn write_end(text: &mut String, error: ScriptError) -> Result<(), AllocError>
+    ensures { OnOk result (IsTold error (string_bytes text.old) (string_bytes text.new)) }
 {
-    loop {
-        if let Some(location) = script.next_location()? {
-            session.locate(location)?;
-        } else if let Some(statement) = script.next()? {
-            session.step(statement)?;
-        } else {
-            return Ok(());
-        }
+    match error {
+        ScriptError::Fault(line, fault) => write_fault(text, line, fault),
+        ScriptError::OutOfMemory => Err(AllocError),
     }
 }

@@ -4,9 +4,7 @@ use Rattle.std.specs.List.{position}
 use Rattle.std.proofs.lemmas.List.{take_all, length-drop}
 use Rattle.link_script.specs.declared.script.lines.FirstLine.{FirstLine}
 use Rattle.link_script.specs.Script.Words.{lines}
-use Rattle.std.specs.Str.{IsUtf8}
 use Rattle.link_script.specs.Script.Answers.{bytes_left, IsFirstLine, IsTextOf}
-use Rattle.link_script.specs.Script.Locations.{IsLineCut}
 use Rattle.link_script.proofs.Words.{is_feed, at-position, line-ended, line-last}
 
 -- the line ends at a line feed
@@ -26,9 +24,3 @@ ended-within bs end first h line rest text =
 pub whole : (bs : List ℕ) (first : FirstLine) → 0 < length bs → position is_feed bs ≡ None → first.bytes.now ≡ bs → bytes_left first.rest ≡ []
     → IsTextOf first.text first.bytes.now → IsFirstLine bs first
 whole bs first some h line rest text = (line-last bs some h ∙ (λ i. sym line i ∷ lines (sym rest i)), omega (arith, ap length rest, some), text)
-
--- a line that ends at a line feed, by itself
-pub cut : (bs : List ℕ) (end : ℕ) (line rest : List ℕ) → position is_feed bs ≡ Some end → line ≡ take end bs → rest ≡ drop (end + 1) bs → IsUtf8 line → IsLineCut bs line rest
-cut bs end line rest h is left text =
-    let at = at-position is_feed bs end h in
-    (line-ended bs end h ∙ (λ i. sym is i ∷ lines (sym left i)), omega (arith, ap length left, length-drop (end + 1) bs, at.0), text)

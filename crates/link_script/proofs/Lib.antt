@@ -2,6 +2,7 @@ pub mod Rest
 pub mod NumberLists
 pub mod Words
 pub mod Reading
+pub mod Obeying
 pub mod LastStated
 pub mod Innermost
 pub mod Blocks

@@ -61,13 +61,3 @@ said_from-line n here opened left line rest said first h =
     ap (spec.said_from n here) first
     ∙ step n here opened (lines rest) said (spec.line_said here line) h
     ∙ ap (λ k. with_said said (spec.said_from k opened (lines rest))) (sym (add-one n))
-
--- what is left behind a line that says a statement
-pub next-said : (old after : Script) (said : Option Statement) → is_some said ≡ true → old ≡ with_said said after → IsNext old (Ok said) after
-next-said old after (Some s) some is = is
-next-said old after None some is = absurd (cc)
-
--- a line that says nothing leaves all that was left
-pub none-said : (old after : Script) (said : Option Statement) → is_some said ≡ false → old ≡ with_said said after → after ≡ old
-none-said old after (Some s) none is = absurd (cc)
-none-said old after None none is = sym is

@@ -5,4 +5,4 @@ pub mod Answers
 pub mod Reading
 pub mod Left
 pub mod Faults
-pub mod Locations
+pub mod Obeying

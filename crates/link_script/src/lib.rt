@@ -8,6 +8,6 @@ mod script;
 pub use building::Open;
 pub use records::{RecordBuilder, files_of};
 pub use script::{
-    Block, Keyword, SaidExtension, SaidField, SaidLocation, SaidMethod, SaidValue, Script,
+    Block, Keyword, Obeys, SaidExtension, SaidField, SaidLocation, SaidMethod, SaidValue, Script,
     ScriptError, ScriptFault, ScriptReader, Statement, read_script,
 };

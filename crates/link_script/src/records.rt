@@ -3,13 +3,13 @@
 ghost use Rattle.std.specs.Prelude.{◌≡◌, [], OnOk};
 ghost use Rattle.std.specs.Result.{result_map_both};
 ghost use Rattle.link_script.specs.declared.script.statement.Statement.TheVariants as say;
-ghost use Rattle.link_script.specs.Obeyed.{DeclaresFiles, IsObeyed};
+ghost use Rattle.link_script.specs.Obeyed.{DeclaresFiles};
 ghost use Rattle.link_script.specs.Records.{built, extends_after, nothing_built, opening, stating};
 ghost use Rattle.link_script.specs.RecordsCode.{building_in};
 ghost use Rattle.link_script.specs.Script.Reading.{script};
 
 use crate::building::Open;
-use crate::script::{SaidLocation, ScriptError, ScriptReader, Statement};
+use crate::script::{Obeys, SaidLocation, ScriptError, ScriptReader, Statement};
 use plain_data::Text;
 use proto_types::FileDescriptorProto;
 use std::alloc::{AllocError, Global};
@@ -20,22 +20,13 @@ use std::mem;
 /// # Errors
 /// `Fault` with the line, from 1, and the script's first fault; `OutOfMemory` where memory was
 /// refused.
+#[tactic(auto, using(crate::proofs::Obeying::all_built))]
 pub fn files_of(alloc: Global, bytes: &[u8]) -> Result<Vec<FileDescriptorProto>, ScriptError>
     ensures { DeclaresFiles (script bytes.now) (result_map_both (λ files. files.items) (λ e. e) result) }
 {
     let mut builder = RecordBuilder::new(alloc);
-    build(&mut builder, &mut ScriptReader::new(alloc, bytes))?;
+    ScriptReader::new(alloc, bytes).obey(&mut builder)?;
     Ok(builder.files)
-}
-
-/// Builds what the statements that are left of a script declare.
-fn build(builder: &mut RecordBuilder, script: &mut ScriptReader<'_>) -> Result<(), ScriptError>
-    ensures { IsObeyed built script.old (building_in builder.old) result (building_in builder.new) }
-{
-    while let Some(statement) = script.next()? {
-        builder.state(statement)?;
-    }
-    Ok(())
 }
 
 /// What the statements so far have built.
@@ -61,45 +52,6 @@ impl RecordBuilder {
             extends: false,
             files: Vec::new(alloc),
         }
-    }
-
-    /// Does what a statement says of records; a command says nothing of them.
-    ///
-    /// # Errors
-    /// `AllocError` where memory was refused.
-    // Inlined, so that a statement goes on in its parts and is not copied.
-    #[inline(always)]
-    pub fn state(&mut self, statement: Statement) -> Result<(), AllocError>
-        ensures { OnOk result (building_in self.new ≡ built (building_in self.old) statement) }
-    {
-        match statement {
-            Statement::File(name) => self.open_file(name),
-            Statement::Message(name) => self.open_message(name),
-            Statement::Enum(name) => self.open_enum(name),
-            Statement::Service(name) => self.open_service(name),
-            Statement::End => self.close(),
-            Statement::Link
-            | Statement::Find(_)
-            | Statement::Walk
-            | Statement::Refs(_)
-            | Statement::Ext(_, _)
-            | Statement::Relink => Ok(()),
-            statement => self.amend(statement),
-        }
-    }
-
-    /// Does what a location says of the innermost open record.
-    ///
-    /// # Errors
-    /// `AllocError` where memory was refused.
-    pub fn locate(&mut self, location: SaidLocation) -> Result<(), AllocError>
-        ensures { OnOk result (building_in self.new
-            ≡ built (building_in self.old) (say.At location)) }
-    {
-        if let Some(innermost) = self.open_records.last_mut() {
-            innermost.locate(self.alloc, self.extends, location)?;
-        }
-        Ok(())
     }
 
     /// The files whose blocks have closed. There are none then.
@@ -169,6 +121,37 @@ impl RecordBuilder {
             self.files.push(file)?;
         }
         Ok(())
+    }
+}
+
+/// A statement is obeyed by what it says of records; a command says nothing of them.
+impl Obeys for RecordBuilder {
+    ghost obeys = { λ old s new. building_in new ≡ built (building_in old) s };
+
+    fn locate(&mut self, location: SaidLocation) -> Result<(), AllocError> {
+        if let Some(innermost) = self.open_records.last_mut() {
+            innermost.locate(self.alloc, self.extends, location)?;
+        }
+        Ok(())
+    }
+
+    // Inlined, so that a statement goes on in its parts and is not copied.
+    #[inline(always)]
+    fn state(&mut self, statement: Statement) -> Result<(), AllocError> {
+        match statement {
+            Statement::File(name) => self.open_file(name),
+            Statement::Message(name) => self.open_message(name),
+            Statement::Enum(name) => self.open_enum(name),
+            Statement::Service(name) => self.open_service(name),
+            Statement::End => self.close(),
+            Statement::Link
+            | Statement::Find(_)
+            | Statement::Walk
+            | Statement::Refs(_)
+            | Statement::Ext(_, _)
+            | Statement::Relink => Ok(()),
+            statement => self.amend(statement),
+        }
     }
 }
 

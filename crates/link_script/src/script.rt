@@ -5,6 +5,7 @@ mod cuts;
 mod keyword;
 mod line_error;
 mod lines;
+mod obeys;
 mod reading;
 mod rest;
 mod said;
@@ -13,6 +14,7 @@ mod statement;
 mod values;
 mod words;
 
+pub use obeys::Obeys;
 pub use reading::{ScriptReader, read_script};
 pub use said::{SaidExtension, SaidField, SaidLocation, SaidMethod, SaidValue};
 pub use statement::{Block, Keyword, Script, ScriptError, ScriptFault, Statement};

@@ -9,6 +9,8 @@ use Rattle.record_walk.specs.declared.counts.CountKind.{CountKind}
 use Rattle.record_walk.specs.Counts.{counts_in}
 use Rattle.pool_types.specs.Contents.{Contents, no_contents, files_of}
 use Rattle.link_script.specs.declared.script.statement.Script.{Script}
+use Rattle.link_script.specs.declared.script.statement.ScriptError.{ScriptError}
+use Rattle.link_script.specs.declared.script.statement.ScriptError.TheVariants.{Fault, OutOfMemory}
 use Rattle.link_script.specs.declared.script.statement.Statement.{Statement}
 use Rattle.link_script.specs.declared.script.statement.Statement.TheVariants as say
 use Rattle.reference_pass.specs.SecondPass.{Faults}
@@ -66,6 +68,11 @@ step s (say.Refs name) = write s (refs_answer (files_of s.pool) name)
 step s (say.Ext name number) = write s (ext_answer s.pool name number)
 step s say.Relink = write s (relink_answer s.pool)
 step s statement = record s { building = built s.building statement }
+
+-- how the error that ends a script is told: a fault by its line; want of memory ends the report
+abbrev pub IsTold : ScriptError → List ℕ → List ℕ → Type 0
+IsTold (Fault number fault) old new = new ≡ old ++ fault_line (number, fault)
+IsTold OutOfMemory old new = ⊥
 
 -- what the statements of a script tell, one after another, and the line of its fault
 abbrev pub report : Script → List ℕ

@@ -8,7 +8,7 @@ use super::answers::{write_ext, write_found, write_refs, write_walk};
 use super::lines::{write_counts, write_refused, write_too_many};
 use super::relink::write_relink;
 use descriptor_pool::{BuildError, DescriptorPool};
-use link_script::{RecordBuilder, SaidLocation, Statement};
+use link_script::{Obeys, RecordBuilder, SaidLocation, Statement};
 use std::alloc::{AllocError, Global};
 
 /// What the statements so far have made.
@@ -36,34 +36,6 @@ impl Session {
         }
     }
 
-    /// Does what a location says.
-    pub(super) fn locate(&mut self, location: SaidLocation) -> Result<(), AllocError>
-        ensures { OnOk result (session_in self.new ≡ step (session_in self.old) (say.At location)) }
-    {
-        self.builder.locate(location)
-    }
-
-    /// Does what a statement says.
-    // Inlined, as `state` is.
-    #[inline(always)]
-    pub(super) fn step(&mut self, statement: Statement) -> Result<(), AllocError>
-        ensures { OnOk result (session_in self.new ≡ step (session_in self.old) statement) }
-    {
-        match statement {
-            Statement::Link => self.link(),
-            Statement::Find(name) => write_found(&mut self.text, &self.pool, name.as_str()),
-            Statement::Walk => write_walk(self.alloc, &mut self.text, &self.pool),
-            Statement::Refs(name) => {
-                write_refs(self.alloc, &mut self.text, &self.pool, name.as_str())
-            }
-            Statement::Ext(name, number) => {
-                write_ext(&mut self.text, &self.pool, name.as_str(), number)
-            }
-            Statement::Relink => write_relink(self.alloc, &mut self.text, &self.pool),
-            statement => self.builder.state(statement),
-        }
-    }
-
     /// Links the files that are built, and tells what has come of it.
     ///
     /// # Errors
@@ -79,6 +51,34 @@ impl Session {
             Err(BuildError::TooMany(kind)) => write_too_many(&mut self.text, kind),
             Err(BuildError::Descriptor(error)) => write_refused(&mut self.text, error.errors()),
             Err(BuildError::OutOfMemory) => Err(AllocError),
+        }
+    }
+}
+
+impl Obeys for Session {
+    ghost use Rattle.descriptor_linker.specs.Report.Code.{session_in};
+
+    ghost obeys = { λ old s new. session_in new ≡ step (session_in old) s };
+
+    fn locate(&mut self, location: SaidLocation) -> Result<(), AllocError> {
+        self.builder.locate(location)
+    }
+
+    // Inlined, as that of the builder is.
+    #[inline(always)]
+    fn state(&mut self, statement: Statement) -> Result<(), AllocError> {
+        match statement {
+            Statement::Link => self.link(),
+            Statement::Find(name) => write_found(&mut self.text, &self.pool, name.as_str()),
+            Statement::Walk => write_walk(self.alloc, &mut self.text, &self.pool),
+            Statement::Refs(name) => {
+                write_refs(self.alloc, &mut self.text, &self.pool, name.as_str())
+            }
+            Statement::Ext(name, number) => {
+                write_ext(&mut self.text, &self.pool, name.as_str(), number)
+            }
+            Statement::Relink => write_relink(self.alloc, &mut self.text, &self.pool),
+            statement => self.builder.state(statement),
         }
     }
 }

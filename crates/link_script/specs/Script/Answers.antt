@@ -2,11 +2,14 @@
 use Rattle.std.specs.Prelude.{◌≡◌, ◌<◌, ◌==◌, ℕ, ℤ, List, [], ◌∷◌, length, reverse, IsUtf8}
 use Rattle.std.specs.List.{slice_split}
 use Rattle.std.specs.Borrow.{Bor}
+use Rattle.std.specs.Result.{result_map_both}
 use Rattle.std.specs.declared.option.Option.{Option}
 use Rattle.std.specs.declared.option.Option.TheVariants.{None, Some}
 use Rattle.std.specs.declared.result.Result.{Result}
 use Rattle.std.specs.declared.result.Result.TheVariants.{Ok, Err}
+use Rattle.proto_types.specs.declared.records.source.Location.{Location}
 use Rattle.link_script.specs.declared.script.statement.Statement.{Statement}
+use Rattle.link_script.specs.declared.script.statement.Statement.TheVariants.{At}
 use Rattle.link_script.specs.declared.script.statement.ScriptFault.{ScriptFault}
 use Rattle.link_script.specs.declared.script.line_error.LineError.{LineError}
 use Rattle.link_script.specs.declared.script.line_error.LineError.TheVariants.{Fault, OutOfMemory}
@@ -27,6 +30,10 @@ IsAnswer meant (Ok x) = meant ≡ Ok x
 IsAnswer meant (Err (Fault fault)) = meant ≡ Err fault
 IsAnswer meant (Err OutOfMemory) = Unit {0}
 
+-- an answer is the location that is meant, unless memory was refused
+abbrev pub IsLocation : Result Statement ScriptFault → Result Location LineError → Type 0
+IsLocation meant answer = IsAnswer meant (result_map_both (λ l. At l) (λ e. e) answer)
+
 -- the statement that a line says, if it says one, and what stands before the next line
 abbrev pub after_line : Saying → Standing → Result (Option Statement × Standing) ScriptFault
 after_line (Err fault) here = Err fault
@@ -36,11 +43,6 @@ after_line (Ok (Some s)) here = Ok (Some s.1, standing_after here s.0)
 -- what stands before a statement, as the code has it with the innermost block last
 abbrev pub standing_in : Code → Standing
 standing_in h = record { blocks = reverse h.blocks.items; more = h.more }
-
--- an error is the fault of a line, unless memory was refused; a further fact holds behind either
-abbrev pub IsFaultOf : Saying → Type 0 → LineError → Type 0
-IsFaultOf read kept (Fault fault) = (read ≡ Err fault) × kept
-IsFaultOf read kept OutOfMemory = kept
 
 -- the bytes of the lines that are left
 abbrev pub bytes_left : Lines → List ℕ

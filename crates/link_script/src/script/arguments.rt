@@ -1,8 +1,7 @@
 //! The statements that keywords and the words behind them make.
 
 ghost use Rattle.link_script.specs.Script.Arguments as spec;
-ghost use Rattle.link_script.specs.Script.Answers.{IsAnswer, words_left};
-ghost use Rattle.link_script.specs.Script.Locations.{IsLocation};
+ghost use Rattle.link_script.specs.Script.Answers.{IsAnswer, IsLocation, words_left};
 ghost use Rattle.link_script.specs.declared.script.statement.Keyword.TheVariants as word;
 
 use super::line_error::LineError;

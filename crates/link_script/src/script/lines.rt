@@ -1,9 +1,8 @@
 //! The lines of a script, which is tested as a whole for being a text.
 
-ghost use Rattle.std.specs.Prelude.{◌≡◌, ◌<◌, [], length, IsUtf8, IfSome, MatchOption};
+ghost use Rattle.std.specs.Prelude.{◌≡◌, ◌<◌, [], length, MatchOption};
 ghost use Rattle.link_script.specs.Script.Words.{lines};
 ghost use Rattle.link_script.specs.Script.Answers.{bytes_left, IsFirstLine, IsTextOf};
-ghost use Rattle.link_script.specs.Script.Locations.{IsLineCut};
 
 use super::cuts::{first_far_place, parted};
 
@@ -33,21 +32,6 @@ impl<'a> Lines<'a> {
             Ok(text) => Lines::Text(text),
             Err(_) => Lines::Bytes(script),
         }
-    }
-
-    /// The first line and what stands behind its line feed, where it is of a text, begins as one
-    /// does that says a location, and is not the last.
-    pub(super) fn first_location(self) -> Option<(&'a str, &'a str)>
-        ensures { IfSome result (λ cut. IsLineCut (bytes_left self.entry) cut.0.now cut.1.now) }
-    {
-        let Lines::Text(text) = self else {
-            return None;
-        };
-        if !matches!(text.as_bytes(), [b'a', b't', b' ', ..]) {
-            return None;
-        }
-        let end = first_far_place(text.as_bytes(), b'\n')?;
-        Some(parted(text, end))
     }
 
     /// The first line, if there is one.

@@ -1,19 +1,18 @@
 //! Reading a script, line by line.
 
-ghost use Rattle.std.specs.Prelude.{◌≡◌, ℕ, List, ◌∷◌, Some, Ok, IfOk, IfErr};
+ghost use Rattle.std.specs.Prelude.{◌≡◌, ℕ, List, ◌∷◌, IfOk};
 ghost use Rattle.link_script.specs.Script.Words as spec;
 ghost use Rattle.link_script.specs.Script.Reading.{script, line_said};
-ghost use Rattle.link_script.specs.Script.Answers.{IsBegun, IsFaultOf, IsTextOf, after_line, standing_in, text_said};
+ghost use Rattle.link_script.specs.Script.Answers.{IsBegun, IsTextOf, standing_in, text_said, words_left};
+ghost use Rattle.link_script.specs.Script.Arguments.{said_in};
 ghost use Rattle.link_script.specs.Script.Left.{IsNext};
-ghost use Rattle.link_script.specs.Script.Locations.{IsNextLocation};
-ghost use Rattle.link_script.specs.declared.script.statement.Statement.TheVariants as say;
+ghost use Rattle.link_script.specs.Script.Obeying.{IsLineObeyed, IsNextObeyed, IsObeyed, IsSaidObeyed};
 
 use super::arguments::{location_of, statement};
-use super::cuts::is_same;
 use super::keyword::keyword_of;
 use super::line_error::LineError;
 use super::lines::{FirstLine, Lines};
-use super::said::SaidLocation;
+use super::obeys::{LastStatement, Obeys};
 use super::standing::Standing;
 use super::statement::{Keyword, Script, ScriptError, ScriptFault, Statement};
 use super::words::Words;
@@ -67,13 +66,37 @@ impl<'a> ScriptReader<'a> {
     pub fn next(&mut self) -> Result<Option<Statement>, ScriptError>
         ensures { IsNext self.old result self.new }
     {
+        let mut last = LastStatement { said: None };
+        match self.obey_next(&mut last) {
+            Ok(_) => Ok(last.said),
+            Err(error) => Err(error),
+        }
+    }
+
+    /// Obeys the statements that are left, each as it is read. The fault behind them is told, or
+    /// memory was refused, to the reader or to what obeys.
+    ///
+    /// # Errors
+    /// `Fault` with the fault behind the statements, and `OutOfMemory` where memory was refused.
+    pub fn obey<O: Obeys>(&mut self, to: &mut O) -> Result<(), ScriptError>
+        ensures { IsObeyed O.obeys self.old to.old result to.new }
+    {
+        while self.obey_next(to)? {}
+        Ok(())
+    }
+
+    /// Obeys the next statement, and tells whether there is one.
+    #[inline]
+    fn obey_next<O: Obeys>(&mut self, to: &mut O) -> Result<bool, ScriptError>
+        ensures { IsNextObeyed O.obeys self.old to.old result self.new to.new }
+    {
         while let Some(line) = self.left.first() {
-            match read_line(self.alloc, &mut self.here, line) {
-                Ok(read) => {
+            match obey_line(self.alloc, &mut self.here, line, to) {
+                Ok(obeyed) => {
                     self.left = line.rest;
                     self.number += 1;
-                    if read.is_some() {
-                        return Ok(read);
+                    if obeyed {
+                        return Ok(true);
                     }
                 }
                 Err(error) => return Err(error.in_line(self.number)),
@@ -82,29 +105,7 @@ impl<'a> ScriptReader<'a> {
         if self.here.is_open() {
             return Err(ScriptError::Fault(self.number, ScriptFault::MissingEnd));
         }
-        Ok(None)
-    }
-
-    /// Reads the next statement if it is a location, which has no fault, and stands in the next
-    /// line. The reader is as it was otherwise, and may be asked for any next statement.
-    ///
-    /// # Errors
-    /// `AllocError` where memory was refused. The reader is then as it was.
-    pub fn next_location(&mut self) -> Result<Option<SaidLocation>, AllocError>
-        ensures { IsNextLocation self.old result self.new }
-    {
-        let Some((text, rest)) = self.left.first_location() else {
-            return Ok(None);
-        };
-        match read_location(self.alloc, &mut self.here, text) {
-            Ok(location) => {
-                self.left = Lines::Text(rest);
-                self.number += 1;
-                Ok(Some(location))
-            }
-            Err(LineError::Fault(_)) => Ok(None),
-            Err(LineError::OutOfMemory) => Err(AllocError),
-        }
+        Ok(false)
     }
 }
 
@@ -136,54 +137,55 @@ fn keyword_in<'a>(
     Ok(Some((keyword, words)))
 }
 
-/// Reads a line of text: the statement that it says, if it says one.
-fn read_text(alloc: Global, here: &mut Standing, line: &str) -> Result<Option<Statement>, LineError>
-    ensures ok { IfOk result (λ read. after_line (text_said (standing_in here.old) line.now)
-        (standing_in here.old) ≡ Ok (read, standing_in here.new)) }
-    ensures err { IfErr result (IsFaultOf (text_said (standing_in here.old) line.now)
-        (standing_in here.new ≡ standing_in here.old)) }
+/// Obeys what a keyword and the words behind it say in a line.
+fn obey_words<O: Obeys>(
+    alloc: Global,
+    line: &str,
+    keyword: Keyword,
+    words: Words<'_>,
+    to: &mut O,
+) -> Result<(), LineError>
+    ensures { IsSaidObeyed O.obeys (said_in line.now keyword (words_left words.entry)) to.old
+        result to.new }
+{
+    match keyword {
+        Keyword::At => to.locate(location_of(alloc, words)?)?,
+        _ => to.state(statement(alloc, line, keyword, words)?)?,
+    }
+    Ok(())
+}
+
+/// Obeys what a line of text says, and tells whether it says a statement.
+fn obey_text<O: Obeys>(
+    alloc: Global,
+    here: &mut Standing,
+    line: &str,
+    to: &mut O,
+) -> Result<bool, LineError>
+    ensures { IsLineObeyed O.obeys (text_said (standing_in here.old) line.now)
+        (standing_in here.old) to.old result (standing_in here.new) to.new }
 {
     let Some((keyword, words)) = keyword_in(here, line)? else {
-        return Ok(None);
+        return Ok(false);
     };
-    let read = statement(alloc, line, keyword, words)?;
+    obey_words(alloc, line, keyword, words, to)?;
     here.follow(keyword)?;
-    Ok(Some(read))
+    Ok(true)
 }
 
-/// Reads a line of text that says a location, or else tells some fault.
-fn read_location(alloc: Global, here: &mut Standing, line: &str) -> Result<SaidLocation, LineError>
-    ensures ok { IfOk result (λ location. after_line (text_said (standing_in here.old) line.now)
-        (standing_in here.old) ≡ Ok (Some (say.At location), standing_in here.new)) }
-    ensures err { IfErr result (λ _. standing_in here.new ≡ standing_in here.old) }
-{
-    let mut words = Words::new(line);
-    let begins = match words.next() {
-        Some(word) => is_same(word, "at"),
-        None => false,
-    };
-    if !begins || !here.may_stand(Keyword::At) {
-        return Err(LineError::Fault(ScriptFault::Misplaced));
-    }
-    let location = location_of(alloc, words)?;
-    here.follow(Keyword::At)?;
-    Ok(location)
-}
-
-/// Reads a line: the statement that it says, if it says one.
-fn read_line(
+/// Obeys what a line says, and tells whether it says a statement.
+fn obey_line<O: Obeys>(
     alloc: Global,
     here: &mut Standing,
     line: FirstLine<'_>,
-) -> Result<Option<Statement>, LineError>
+    to: &mut O,
+) -> Result<bool, LineError>
     requires { IsTextOf line.text line.bytes.now }
-    ensures ok { IfOk result (λ read. after_line (line_said (standing_in here.old) line.entry.bytes.now)
-        (standing_in here.old) ≡ Ok (read, standing_in here.new)) }
-    ensures err { IfErr result (IsFaultOf (line_said (standing_in here.old) line.entry.bytes.now)
-        (standing_in here.new ≡ standing_in here.old)) }
+    ensures { IsLineObeyed O.obeys (line_said (standing_in here.old) line.entry.bytes.now)
+        (standing_in here.old) to.old result (standing_in here.new) to.new }
 {
     match line.text {
-        Some(text) => read_text(alloc, here, text),
+        Some(text) => obey_text(alloc, here, text, to),
         None => Err(LineError::Fault(ScriptFault::BadText)),
     }
 }
@@ -195,15 +197,16 @@ fn read_line(
 pub fn read_script(alloc: Global, bytes: &[u8]) -> Result<Script, AllocError>
     ensures { IfOk result (λ s. s ≡ script bytes.now) }
 {
-    let mut reader = ScriptReader::new(alloc, bytes);
     let mut statements = Items::new(alloc);
-    let fault = loop {
-        match reader.next() {
-            Ok(Some(statement)) => statements.push(statement)?,
-            Ok(None) => break None,
-            Err(ScriptError::Fault(line, fault)) => break Some((line, fault)),
-            Err(ScriptError::OutOfMemory) => return Err(AllocError),
-        }
-    };
-    Ok(Script { statements, fault })
+    match ScriptReader::new(alloc, bytes).obey(&mut statements) {
+        Ok(()) => Ok(Script {
+            statements,
+            fault: None,
+        }),
+        Err(ScriptError::Fault(line, fault)) => Ok(Script {
+            statements,
+            fault: Some((line, fault)),
+        }),
+        Err(ScriptError::OutOfMemory) => Err(AllocError),
+    }
 }

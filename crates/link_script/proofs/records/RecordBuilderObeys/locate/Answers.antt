@@ -1,6 +1,6 @@
 use Rattle.std.proofs.Common.{refl}
 use Rattle.link_script.proofs.Innermost.{innermost_of}
-use Rattle.link_script.proofs.records.RecordBuilder.locate.Goals as goal
+use Rattle.link_script.proofs.records.RecordBuilderObeys.locate.Goals as goal
 
 pub returns-in_ok-locate : goal.returns-in_ok-locate
 returns-in_ok-locate c =
