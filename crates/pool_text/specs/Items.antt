@@ -17,18 +17,18 @@ use Rattle.pool_types.specs.declared.contents.oneof.OneofDescriptorInner.{OneofD
 use Rattle.pool_types.specs.declared.contents.service.MethodDescriptorInner.{MethodDescriptorInner}
 use Rattle.pool_types.specs.declared.contents.service.ServiceDescriptorInner.{ServiceDescriptorInner}
 use Rattle.pool_text.specs.Values.{default_words}
-use Rattle.record_walk.specs.Words.{alone}
-use Rattle.pool_text.specs.Words.{file_name, message_name, place_words, syntax_word, type_words, flag_words, written_words}
+use Rattle.verdict_texts.specs.Lines.{plain_text}
+use Rattle.pool_text.specs.Words.{name_word, file_name, message_name, place_words, syntax_word, type_words, flag_words, written_words}
 
 -- the name and the syntax of a file
 abbrev pub file_head : FileDescriptorInner → List ℕ
-file_head f = codes "file " ++ (alone (text_of f.raw.name) ++ (codes " "
+file_head f = codes "file " ++ (name_word (text_of f.raw.name) ++ (codes " "
     ++ (syntax_word f.syntax ++ codes "\n")))
 
 -- a package, where it has a name
 abbrev pub package_line : List ℕ → List ℕ
 package_line [] = []
-package_line (c ∷ cs) = codes "  package " ++ ((c ∷ cs) ++ codes "\n")
+package_line (c ∷ cs) = codes "  package " ++ (plain_text (c ∷ cs) ++ codes "\n")
 
 -- a file that is imported
 abbrev pub import_line : Contents → ℕ → List ℕ
@@ -46,7 +46,7 @@ file_text p f = file_head f ++ (package_line (text_of f.raw.package)
 
 -- the name of an item behind a word for its kind, and where it is declared
 abbrev pub head_line : List ℕ → Contents → Identity → List ℕ
-head_line word p id = word ++ (codes " " ++ (alone id.full_name ++ (codes " "
+head_line word p id = word ++ (codes " " ++ (name_word id.full_name ++ (codes " "
     ++ (file_name p id.file ++ (codes " " ++ (place_words id ++ codes "\n"))))))
 
 -- the message around an item, where it is nested
@@ -57,7 +57,7 @@ parent_line p parent =
 -- the field with a position, behind its oneof
 abbrev pub member_words : List FieldDescriptorInner → ℕ → List ℕ
 member_words fields position =
-    codes " " ++ alone (option_map_or (λ f. f.id.full_name) (slice_get fields position) [])
+    codes " " ++ name_word (option_map_or (λ f. f.id.full_name) (slice_get fields position) [])
 
 -- the fields with some positions
 abbrev pub members_words : List FieldDescriptorInner → List ℕ → List ℕ
@@ -65,13 +65,13 @@ members_words fields positions = flat_map (member_words fields) positions
 
 -- a oneof and its fields
 unfoldable pub oneof_line : List FieldDescriptorInner → OneofDescriptorInner → List ℕ
-oneof_line fields o = codes "  oneof " ++ (alone o.id.full_name ++ (codes " " ++ (place_words o.id
-    ++ (members_words fields o.fields ++ codes "\n"))))
+oneof_line fields o = codes "  oneof " ++ (name_word o.id.full_name ++ (codes " "
+    ++ (place_words o.id ++ (members_words fields o.fields ++ codes "\n"))))
 
 -- the full name of the oneof with a position
 abbrev pub oneof_name : List OneofDescriptorInner → ℕ → List ℕ
 oneof_name oneofs position =
-    alone (option_map_or (λ o. o.id.full_name) (slice_get oneofs position) [])
+    name_word (option_map_or (λ o. o.id.full_name) (slice_get oneofs position) [])
 
 -- the oneof of a field, where it has one
 abbrev pub oneof_words : List OneofDescriptorInner → Option ℕ → List ℕ
@@ -80,7 +80,7 @@ oneof_words oneofs position =
 
 -- the JSON name of a field, where one was given
 abbrev pub json_words : Option (List ℕ) → List ℕ
-json_words name = option_map_or (λ n. codes " json_name " ++ alone n) name []
+json_words name = option_map_or (λ n. codes " json_name " ++ name_word n) name []
 
 -- what is told of a field behind its number and its place
 abbrev pub mark_words : Contents → List OneofDescriptorInner → FieldDescriptorInner → List ℕ
@@ -92,12 +92,12 @@ mark_words p oneofs f = oneof_words oneofs f.oneof
 unfoldable pub field_line :
     Contents → List OneofDescriptorInner → FieldDescriptorInner → List ℕ
 field_line p oneofs f = codes "  " ++ (type_words p f.cardinality f.kind ++ (codes " "
-    ++ (alone f.id.full_name ++ (codes " = " ++ (decimal f.number ++ (codes " "
+    ++ (name_word f.id.full_name ++ (codes " = " ++ (decimal f.number ++ (codes " "
     ++ (place_words f.id ++ (mark_words p oneofs f ++ codes "\n"))))))))
 
 -- an extension of a message, and its number
 abbrev pub extended_line : ExtensionDescriptorInner → List ℕ
-extended_line x = codes "  extended " ++ (alone x.id.full_name ++ (codes " = "
+extended_line x = codes "  extended " ++ (name_word x.id.full_name ++ (codes " = "
     ++ (decimal x.number ++ codes "\n")))
 
 -- the same of the extension with an index
@@ -128,7 +128,7 @@ alias_line false = []
 
 -- a value of an enum
 abbrev pub value_line : EnumValueDescriptorInner → List ℕ
-value_line v = codes "  value " ++ (alone v.id.full_name ++ (codes " = "
+value_line v = codes "  value " ++ (name_word v.id.full_name ++ (codes " = "
     ++ (signed_decimal v.number ++ (codes " " ++ (place_words v.id ++ codes "\n")))))
 
 -- an enum and its values
@@ -138,8 +138,8 @@ enum_text p e = (head_line (codes "enum") p e.id ++ parent_line p e.parent)
 
 -- a method: the message that it takes, and the one that it gives
 unfoldable pub method_line : Contents → MethodDescriptorInner → List ℕ
-method_line p m = codes "  rpc " ++ (alone m.id.full_name ++ (codes " (" ++ (message_name p m.input
-    ++ (codes ") returns (" ++ (message_name p m.output ++ (codes ") "
+method_line p m = codes "  rpc " ++ (name_word m.id.full_name ++ (codes " ("
+    ++ (message_name p m.input ++ (codes ") returns (" ++ (message_name p m.output ++ (codes ") "
     ++ (place_words m.id ++ codes "\n")))))))
 
 -- a service and its methods
@@ -149,7 +149,7 @@ service_text p s = head_line (codes "service") p s.id ++ flat_map (method_line p
 -- what is told of an extension behind its kind
 abbrev pub extension_marks : Contents → ExtensionDescriptorInner → List ℕ
 extension_marks p x = flag_words x.is_packed false ++ (codes " json_name "
-    ++ (alone x.json_name ++ (default_words x.default ++ written_words p x.id x.kind)))
+    ++ (name_word x.json_name ++ (default_words x.default ++ written_words p x.id x.kind)))
 
 -- what an extension extends, and what it is as a field
 abbrev pub extends_line : Contents → ExtensionDescriptorInner → List ℕ

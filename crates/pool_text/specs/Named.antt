@@ -23,8 +23,7 @@ use Rattle.pool_faults.specs.Fault.{path_text}
 use Rattle.record_walk.specs.Leads.{leads}
 use Rattle.record_walk.specs.Protos.{as_message}
 use Rattle.pool_text.specs.Items.{enum_text, extension_text, file_text, message_text, service_text}
-use Rattle.record_walk.specs.Words.{alone}
-use Rattle.pool_text.specs.Words.{file_name}
+use Rattle.pool_text.specs.Words.{file_name, name_word}
 
 -- a range of numbers behind a word for it: its first number and its last one
 unfoldable pub range_line : List ℕ → ℤ → ℤ → List ℕ
@@ -87,7 +86,7 @@ item_text p (kind.Extension x) = extension_at p x
 
 -- a package, and the first file that has it
 abbrev pub package_text : Contents → List ℕ → Definition → List ℕ
-package_text p name d = codes "package " ++ (alone name ++ (codes " " ++ (file_name p d.file
+package_text p name d = codes "package " ++ (name_word name ++ (codes " " ++ (file_name p d.file
     ++ (codes " " ++ (path_text d.path ++ codes "\n")))))
 
 -- what a full name means

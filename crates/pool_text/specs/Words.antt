@@ -20,21 +20,27 @@ use Rattle.pool_types.specs.declared.kinds.KindIndex.TheVariants as kind
 use Rattle.pool_faults.specs.Fault.{path_text}
 use Rattle.record_walk.specs.Leads.{leads}
 use Rattle.record_walk.specs.Words.{alone}
+use Rattle.verdict_texts.specs.Lines.{plain_text}
 use Rattle.record_walk.specs.Protos.{as_field, as_extension}
+
+-- a name as a word: two quotes where it is empty, and an escape for each character that a terminal
+-- would obey or hide
+abbrev pub name_word : List ℕ → List ℕ
+name_word name = plain_text (alone name)
 
 -- the name of the file with an index
 abbrev pub file_name : Contents → ℕ → List ℕ
-file_name p file = alone (option_map_or (λ f. text_of f.raw.name) (slice_get p.files file) [])
+file_name p file = name_word (option_map_or (λ f. text_of f.raw.name) (slice_get p.files file) [])
 
 -- the full name of the message with an index
 abbrev pub message_name : Contents → ℕ → List ℕ
 message_name p message =
-    alone (option_map_or (λ m. m.id.full_name) (slice_get p.messages message) [])
+    name_word (option_map_or (λ m. m.id.full_name) (slice_get p.messages message) [])
 
 -- the full name of the enum with an index
 abbrev pub enum_name : Contents → ℕ → List ℕ
 enum_name p enumeration =
-    alone (option_map_or (λ e. e.id.full_name) (slice_get p.enums enumeration) [])
+    name_word (option_map_or (λ e. e.id.full_name) (slice_get p.enums enumeration) [])
 
 -- whether a text has a dot from a byte on
 abbrev pub has_dot_from : List ℕ → ℕ → Bool

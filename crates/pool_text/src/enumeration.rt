@@ -6,10 +6,9 @@ ghost use Rattle.std.specs.Option.{option_map_or};
 ghost use Rattle.pool_text.specs.Items as spec;
 
 use crate::head::{head_line, write_parent};
-use crate::words::place_words;
+use crate::words::{name_word, place_words};
 use descriptor_pool::DescriptorPool;
 use pool_types::{EnumDescriptor, EnumDescriptorInner, EnumValueDescriptorInner};
-use record_walk::alone;
 use std::alloc::{AllocError, Global};
 use std::fmt::Write;
 
@@ -92,7 +91,7 @@ fn write_value(
     ensures { OnOk result (string_bytes text.new ≡ string_bytes text.old
         ++ spec.value_line value.now) }
 {
-    let (name, number) = (alone(value.id.full_name()), value.number);
+    let (name, number) = (name_word(value.id.full_name()), value.number);
     let place = place_words(alloc, &value.id)?;
     writeln!(text, "  value {name} = {number} {place}")
 }

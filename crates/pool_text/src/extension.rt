@@ -6,10 +6,9 @@ ghost use Rattle.pool_text.specs.Items as spec;
 
 use crate::head::{head_line, write_parent};
 use crate::values::default_words;
-use crate::words::{flag_words, message_name, type_words, written_words};
+use crate::words::{flag_words, message_name, name_word, type_words, written_words};
 use descriptor_pool::DescriptorPool;
 use pool_types::{ExtensionDescriptor, ExtensionDescriptorInner};
-use record_walk::alone;
 use std::alloc::{AllocError, Global};
 
 /// Tells all extensions of a pool.
@@ -83,7 +82,7 @@ fn extension_marks(
     ensures { IfOk result (λ s. string_bytes s ≡ spec.extension_marks pool.now extension.now) }
 {
     let flags = flag_words(extension.is_packed, false);
-    let json_name = alone(extension.json_name.as_str());
+    let json_name = name_word(extension.json_name.as_str());
     let default = default_words(alloc, &extension.default)?;
     let written = written_words(alloc, pool, &extension.id, extension.kind)?;
     format!(in alloc; "{flags} json_name {json_name}{default}{written}")

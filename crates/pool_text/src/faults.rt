@@ -4,16 +4,16 @@ ghost use Rattle.std.specs.Prelude.{◌≡◌, ◌++◌, IfOk, OnOk, string_byte
 ghost use Rattle.std.specs.Option.{option_copied};
 ghost use Rattle.pool_text.specs.Faults as spec;
 
-use crate::words::path_words;
+use crate::words::{name_word, path_words};
 use pool_faults::{DescriptorError, DescriptorErrorKind, Label, Labelled};
-use record_walk::alone;
 use std::alloc::{AllocError, Global};
 use std::fmt::Write;
-use verdict_texts::related_label;
+use verdict_texts::{related_label, write_line};
 
 /// All faults of a refused batch, as a text: how many there are, and of each its text behind the
 /// label that it shows, a line `at` with the file, the path and the span of that label, and a line
 /// `cites` with those of what it cites, where there are such. The numbers of a span count from 0.
+/// Texts are escaped as `describe` escapes them.
 ///
 /// # Errors
 /// `AllocError` where memory was refused.
@@ -41,7 +41,9 @@ fn write_fault(
     let shown = label_line(alloc, "at", fault.label())?;
     let cited = label_line(alloc, "cites", related_label(fault))?;
     let fault = Labelled(fault);
-    write!(text, "{fault}\n{shown}{cited}")
+    let told = format!(in alloc; "{fault}")?;
+    write_line(text, told.as_str())?;
+    write!(text, "{shown}{cited}")
 }
 
 /// A place behind a word for it, where there is one.
@@ -59,7 +61,7 @@ fn label_line(alloc: Global, word: &str, label: Option<&Label>) -> Result<String
 fn place_line(alloc: Global, word: &str, label: &Label) -> Result<String, AllocError>
     ensures { IfOk result (λ s. string_bytes s ≡ spec.place_line word.now label.now) }
 {
-    let file = alone(label.file());
+    let file = name_word(label.file());
     let path = path_words(alloc, label.path())?;
     let span = span_words(alloc, label.span())?;
     format!(in alloc; "  {word} {file} {path}{span}\n")

@@ -2,15 +2,16 @@
 
 ghost use Rattle.std.specs.Prelude.{◌≡◌, ◌++◌, IfOk, OnOk, string_bytes};
 ghost use Rattle.std.specs.Option.{option_copied};
+ghost use Rattle.verdict_texts.specs.Lines.{plain_text};
 ghost use Rattle.pool_text.specs.Items as spec;
 
 use crate::values::default_words;
-use crate::words::{flag_words, place_words, type_words, written_words};
+use crate::words::{flag_words, name_word, place_words, type_words, written_words};
 use descriptor_pool::DescriptorPool;
 use plain_data::Text;
 use pool_types::{FieldDescriptorInner, OneofDescriptorInner};
-use record_walk::alone;
 use std::alloc::{AllocError, Global};
+use verdict_texts::Plain;
 
 /// A field: its kind, its name, its number, where it is declared, and what its options say.
 #[tactic(auto, unfolding(crate::specs::Items::field_line))]
@@ -22,7 +23,7 @@ pub(super) fn field_line(
 ) -> Result<String, AllocError>
     ensures { IfOk result (λ s. string_bytes s ≡ spec.field_line pool.now oneofs.now field.now) }
 {
-    let (name, number) = (alone(field.id.full_name()), field.number);
+    let (name, number) = (name_word(field.id.full_name()), field.number);
     let kind = type_words(alloc, pool, field.cardinality, field.kind)?;
     let place = place_words(alloc, &field.id)?;
     let marks = mark_words(alloc, pool, oneofs, field)?;
@@ -64,12 +65,12 @@ fn oneof_words(
 }
 
 /// The full name of the oneof with a position, as a word.
-fn oneof_name(oneofs: &[OneofDescriptorInner], position: u32) -> &str
-    ensures { result.now ≡ spec.oneof_name oneofs.now position }
+fn oneof_name(oneofs: &[OneofDescriptorInner], position: u32) -> Plain<'_>
+    ensures { plain_text result.0.now ≡ spec.oneof_name oneofs.now position }
 {
     match oneofs.get(position as usize) {
-        Some(oneof) => alone(oneof.id.full_name()),
-        None => alone(""),
+        Some(oneof) => name_word(oneof.id.full_name()),
+        None => name_word(""),
     }
 }
 
@@ -79,7 +80,7 @@ fn json_words(alloc: Global, name: &Option<Text>) -> Result<String, AllocError>
 {
     match name {
         Some(name) => {
-            let name = alone(name.as_str());
+            let name = name_word(name.as_str());
             format!(in alloc; " json_name {name}")
         }
         None => Ok(String::new(alloc)),

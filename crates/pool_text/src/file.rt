@@ -4,13 +4,13 @@ ghost use Rattle.std.specs.Prelude.{◌≡◌, ◌++◌, OnOk, string_bytes};
 ghost use Rattle.std.specs.List.{flat_map};
 ghost use Rattle.pool_text.specs.Items as spec;
 
-use crate::words::{file_name, syntax_word};
+use crate::words::{file_name, name_word, syntax_word};
 use descriptor_pool::DescriptorPool;
 use pool_types::FileDescriptorInner;
-use record_walk::alone;
 use std::alloc::AllocError;
 use std::collections::BTreeSet;
 use std::fmt::Write;
+use verdict_texts::Plain;
 
 /// Tells all files of a pool.
 pub(super) fn write_files(text: &mut String, pool: &DescriptorPool) -> Result<(), AllocError>
@@ -43,7 +43,7 @@ fn write_head(text: &mut String, file: &FileDescriptorInner) -> Result<(), Alloc
     ensures { OnOk result (string_bytes text.new ≡ string_bytes text.old
         ++ spec.file_head file.now) }
 {
-    let (name, syntax) = (alone(file.raw.name()), syntax_word(file.syntax));
+    let (name, syntax) = (name_word(file.raw.name()), syntax_word(file.syntax));
     writeln!(text, "file {name} {syntax}")
 }
 
@@ -55,6 +55,7 @@ fn write_package(text: &mut String, name: &str) -> Result<(), AllocError>
     if name.is_empty() {
         Ok(())
     } else {
+        let name = Plain(name);
         writeln!(text, "  package {name}")
     }
 }

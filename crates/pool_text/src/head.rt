@@ -3,10 +3,9 @@
 ghost use Rattle.std.specs.Prelude.{◌≡◌, ◌++◌, IfOk, OnOk, string_bytes};
 ghost use Rattle.pool_text.specs.Items as spec;
 
-use crate::words::{file_name, message_name, place_words};
+use crate::words::{file_name, message_name, name_word, place_words};
 use descriptor_pool::DescriptorPool;
 use pool_types::Identity;
-use record_walk::alone;
 use std::alloc::{AllocError, Global};
 use std::fmt::Write;
 
@@ -19,7 +18,7 @@ pub(super) fn head_line(
 ) -> Result<String, AllocError>
     ensures { IfOk result (λ s. string_bytes s ≡ spec.head_line word.now pool.now id.now) }
 {
-    let (name, file) = (alone(id.full_name()), file_name(pool, id.file));
+    let (name, file) = (name_word(id.full_name()), file_name(pool, id.file));
     let place = place_words(alloc, id)?;
     format!(in alloc; "{word} {name} {file} {place}\n")
 }

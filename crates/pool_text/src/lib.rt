@@ -25,8 +25,10 @@ use std::alloc::{AllocError, Global};
 
 /// All that a pool has, as a text: its files, messages, enums, services and extensions, each kind
 /// in the order of linking. A line names an item or a part of one by its full name, and what it
-/// refers to as well, so it is the same whatever stands before it in the pool. The tables by which
-/// parts are looked up are not told: they follow from the parts.
+/// refers to as well, so it is the same whatever stands before it in the pool. An escape stands for
+/// each character of a name or a default value that a terminal would obey or hide, also for a line
+/// feed. The tables by which parts are looked up are not told: they lead to the parts (`MapsLead`
+/// and `ValuesLead`, which `message` and `enum_` of a pool promise).
 ///
 /// # Errors
 /// `AllocError` where memory was refused.

@@ -6,13 +6,12 @@ ghost use Rattle.pool_text.specs.Items as spec;
 
 use crate::field::field_line;
 use crate::head::{head_line, write_parent};
-use crate::words::place_words;
+use crate::words::{name_word, place_words};
 use descriptor_pool::DescriptorPool;
 use pool_types::{
     ExtensionDescriptor, ExtensionDescriptorInner, FieldDescriptorInner, MessageDescriptorInner,
     OneofDescriptorInner,
 };
-use record_walk::alone;
 use std::alloc::{AllocError, Global};
 use std::fmt::Write;
 
@@ -88,7 +87,7 @@ fn write_oneof(
     ensures { OnOk result (string_bytes text.new ≡ string_bytes text.old
         ++ spec.oneof_line fields.now oneof.now) }
 {
-    let name = alone(oneof.id.full_name());
+    let name = name_word(oneof.id.full_name());
     let place = place_words(alloc, &oneof.id)?;
     let members = member_words(alloc, fields, oneof.fields.as_slice())?;
     writeln!(text, "  oneof {name} {place}{members}")
@@ -119,8 +118,8 @@ fn write_member(
         ++ spec.member_words fields.now position) }
 {
     let name = match fields.get(position as usize) {
-        Some(field) => alone(field.id.full_name()),
-        None => alone(""),
+        Some(field) => name_word(field.id.full_name()),
+        None => name_word(""),
     };
     write!(text, " {name}")
 }
@@ -176,6 +175,6 @@ fn write_extended_line(
     ensures { OnOk result (string_bytes text.new ≡ string_bytes text.old
         ++ spec.extended_line extension.now) }
 {
-    let (name, number) = (alone(extension.id.full_name()), extension.number);
+    let (name, number) = (name_word(extension.id.full_name()), extension.number);
     writeln!(text, "  extended {name} = {number}")
 }

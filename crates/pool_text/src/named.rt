@@ -10,17 +10,17 @@ use crate::file::write_file;
 use crate::message::write_message;
 use crate::ranges::write_ranges;
 use crate::service::write_service_at;
-use crate::words::{file_name, path_words};
+use crate::words::{file_name, name_word, path_words};
 use descriptor_pool::DescriptorPool;
 use pool_types::{Definition, DefinitionKind, FileDescriptorInner, MessageDescriptor};
-use record_walk::alone;
 use std::alloc::{AllocError, Global};
 
 /// What a name means in a pool, as a text; nothing where it means nothing. The name is a full name,
 /// with one leading dot or without, or else that of a file. A message is told by the lines that
 /// `describe` has of it and by its ranges, each with its first and its last number; an enum, a
 /// service, an extension and a file by those of `describe`, and a field, a oneof, a value and a method
-/// by those of the item in which it stands. Of a package the first file that has it is told.
+/// by those of the item in which it stands. Of a package the first file that has it is told. Names
+/// are escaped as `describe` escapes them.
 ///
 /// # Errors
 /// `AllocError` where memory was refused.
@@ -62,7 +62,7 @@ fn package_text(
     ensures { IfOk result (λ text. string_bytes text
         ≡ spec.package_text pool.now name.now definition.now) }
 {
-    let (name, file) = (alone(name), file_name(pool, definition.file));
+    let (name, file) = (name_word(name), file_name(pool, definition.file));
     let path = path_words(alloc, definition.path.as_slice())?;
     format!(in alloc; "package {name} {file} {path}\n")
 }

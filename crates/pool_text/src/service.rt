@@ -6,10 +6,9 @@ ghost use Rattle.std.specs.Option.{option_map_or};
 ghost use Rattle.pool_text.specs.Items as spec;
 
 use crate::head::head_line;
-use crate::words::{message_name, place_words};
+use crate::words::{message_name, name_word, place_words};
 use descriptor_pool::DescriptorPool;
 use pool_types::{MethodDescriptorInner, ServiceDescriptor, ServiceDescriptorInner};
-use record_walk::alone;
 use std::alloc::{AllocError, Global};
 use std::fmt::Write;
 
@@ -86,7 +85,7 @@ fn write_method(
     ensures { OnOk result (string_bytes text.new ≡ string_bytes text.old
         ++ spec.method_line pool.now method.now) }
 {
-    let name = alone(method.id.full_name());
+    let name = name_word(method.id.full_name());
     let (input, output) = (
         message_name(pool, method.input),
         message_name(pool, method.output),

@@ -2,11 +2,13 @@
 
 ghost use Rattle.std.specs.Prelude.{◌≡◌, IfOk, string_bytes};
 ghost use Rattle.std.specs.Option.{option_copied};
+ghost use Rattle.verdict_texts.specs.JsonStrings.{json_string};
+ghost use Rattle.verdict_texts.specs.Lines.{plain_text};
 ghost use Rattle.pool_text.specs.Values as spec;
 
 use pool_types::DefaultValue;
 use std::alloc::{AllocError, Global};
-use verdict_texts::json_string;
+use verdict_texts::{Plain, json_string};
 
 /// A default value: a text as a string of JSON, and the number of an enum's value.
 fn value_words(alloc: Global, value: &DefaultValue) -> Result<String, AllocError>
@@ -18,11 +20,23 @@ fn value_words(alloc: Global, value: &DefaultValue) -> Result<String, AllocError
         DefaultValue::U32(number) => format!(in alloc; "{number}"),
         DefaultValue::U64(number) => format!(in alloc; "{number}"),
         DefaultValue::Bool(truth) => format!(in alloc; "{truth}"),
-        DefaultValue::String(text) => json_string(alloc, text.as_str()),
+        DefaultValue::String(text) => text_words(alloc, text.as_str()),
         DefaultValue::Bytes(bytes) => bytes_words(alloc, bytes.as_slice()),
         DefaultValue::EnumNumber(number) => format!(in alloc; "{number}"),
-        DefaultValue::FloatText(text) => String::from_str(alloc, text.as_str()),
+        DefaultValue::FloatText(text) => {
+            let text = Plain(text.as_str());
+            format!(in alloc; "{text}")
+        }
     }
+}
+
+/// A text as a string of JSON.
+fn text_words(alloc: Global, text: &str) -> Result<String, AllocError>
+    ensures { IfOk result (λ s. string_bytes s ≡ plain_text (json_string text.now)) }
+{
+    let quoted = json_string(alloc, text)?;
+    let plain = Plain(quoted.as_str());
+    format!(in alloc; "{plain}")
 }
 
 /// Bytes as numbers in square brackets.

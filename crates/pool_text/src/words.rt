@@ -2,6 +2,7 @@
 
 ghost use Rattle.std.specs.Prelude.{◌≡◌, IfOk, string_bytes};
 ghost use Rattle.pool_faults.specs.Fault.{path_text};
+ghost use Rattle.verdict_texts.specs.Lines.{plain_text};
 ghost use Rattle.pool_text.specs.Words as spec;
 
 use descriptor_pool::DescriptorPool;
@@ -11,34 +12,43 @@ use pool_types::{
 use record_lists::find_field_proto;
 use record_walk::alone;
 use std::alloc::{AllocError, Global};
+use verdict_texts::Plain;
+
+/// A name as a word: two quotes where it is empty, and an escape for each character that a terminal
+/// would obey or hide.
+pub(super) fn name_word(name: &str) -> Plain<'_>
+    ensures { plain_text result.0.now ≡ spec.name_word name.now }
+{
+    Plain(alone(name))
+}
 
 /// The name of a file, as a word.
-pub(super) fn file_name(pool: &DescriptorPool, file: u32) -> &str
-    ensures { result.now ≡ spec.file_name pool.now file }
+pub(super) fn file_name(pool: &DescriptorPool, file: u32) -> Plain<'_>
+    ensures { plain_text result.0.now ≡ spec.file_name pool.now file }
 {
     match pool.file(FileDescriptor::new(file)) {
-        Some(file) => alone(file.raw.name()),
-        None => alone(""),
+        Some(file) => name_word(file.raw.name()),
+        None => name_word(""),
     }
 }
 
 /// The full name of a message, as a word.
-pub(super) fn message_name(pool: &DescriptorPool, message: u32) -> &str
-    ensures { result.now ≡ spec.message_name pool.now message }
+pub(super) fn message_name(pool: &DescriptorPool, message: u32) -> Plain<'_>
+    ensures { plain_text result.0.now ≡ spec.message_name pool.now message }
 {
     match pool.message(MessageDescriptor::new(message)) {
-        Some(message) => alone(message.id.full_name()),
-        None => alone(""),
+        Some(message) => name_word(message.id.full_name()),
+        None => name_word(""),
     }
 }
 
 /// The full name of an enum, as a word.
-fn enum_name(pool: &DescriptorPool, enumeration: u32) -> &str
-    ensures { result.now ≡ spec.enum_name pool.now enumeration }
+fn enum_name(pool: &DescriptorPool, enumeration: u32) -> Plain<'_>
+    ensures { plain_text result.0.now ≡ spec.enum_name pool.now enumeration }
 {
     match pool.enum_(EnumDescriptor::new(enumeration)) {
-        Some(enumeration) => alone(enumeration.id.full_name()),
-        None => alone(""),
+        Some(enumeration) => name_word(enumeration.id.full_name()),
+        None => name_word(""),
     }
 }
 

@@ -5,7 +5,9 @@ pub mod Placing
 pub mod ReadStrings
 pub mod Grouping
 pub mod Entering
+pub mod Walks
 pub mod Declared
+pub mod Indexed
 pub mod Naming
 pub mod Standing
 pub mod Results

@@ -12,11 +12,11 @@ use Rattle.plain_data.proofs.Positions.{find-position, position-append}
 use Rattle.pool_types.specs.Contents.{ByText}
 use Rattle.proto_types.specs.Readers.{text_of}
 use Rattle.proto_types.specs.declared.file.FileDescriptorProto.{FileDescriptorProto}
-use Rattle.verdict_texts.specs.Known.{declares, declaring_file, file_named, has_name, is_among, only, only_one}
+use Rattle.record_walk.specs.Counts.{no_counts}
+use Rattle.record_walk.specs.Declarations.{declarations}
+use Rattle.verdict_texts.specs.Known.{declares, declaring_file, file_named, has_name, only, only_one, type_names}
 use Rattle.verdict_texts.specs.Named.{AreDeclaring, AreFirst, AreNamed, AreSeveral, Enters, are_several}
-use Rattle.verdict_texts.specs.Types.{file_types}
 use Rattle.verdict_texts.specs.declared.known.NamedFiles.{NamedFiles}
-use Rattle.verdict_texts.proofs.Declared.{types-declared}
 use Rattle.verdict_texts.proofs.Entering.{held-means, new-means, no-some, or-false}
 
 module _ {X : Type 0} (p : X → Bool) where
@@ -134,11 +134,10 @@ alone-next-file first several files f are held found name =
     ∙ ap are_several (sym (filter-last p files f))
 
 -- the first files that declare names, and a file more
-pub declaring-next : (names new : ByText ℕ) (files : List FileDescriptorProto) (f : FileDescriptorProto) → AreDeclaring names files → Enters names new (length files) (file_types f)
+pub declaring-next : (names new : ByText ℕ) (files : List FileDescriptorProto) (f : FileDescriptorProto) → AreDeclaring names files → Enters names new (length files) (type_names (declarations no_counts (f ∷ [])))
     → AreDeclaring new (files ++ f ∷ [])
 declaring-next names new files f are enters name =
     enters name
-    ∙ ap (λ b. option_or (map.get names name) (cond b (Some (length files)) None)) (ap (is_among name) (types-declared f))
     ∙ ap (λ held. option_or held (cond (declares name f) (Some (length files)) None)) (are name)
     ∙ sym (position-last (declares name) files f)
 

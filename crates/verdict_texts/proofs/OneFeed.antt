@@ -8,7 +8,7 @@ use Rattle.std.specs.List.{flat_map}
 use Rattle.std.specs.Str.{chars}
 use lib.Utf8.{encode}
 use Rattle.verdict_texts.specs.Hidden.{is_hidden}
-use Rattle.verdict_texts.specs.Lines.{ends_once, escape_of, four_digits, plain_char, line, LinesEndOnce}
+use Rattle.verdict_texts.specs.Lines.{ends_once, escape_of, four_digits, plain_char, plain_text, line, LinesEndOnce}
 
 -- no byte is a line feed
 abbrev NoFeed : List ℕ → Type 0
@@ -72,5 +72,5 @@ ends (b ∷ []) h = rw (ne_eqb b 10 h.0) refl
 ends (b ∷ d ∷ bs) h = rw (ne_eqb b 10 h.0) (ends (d ∷ bs) h.1)
 
 pub lines-end-once : LinesEndOnce
-unfolding line
+unfolding line plain_text
 lines-end-once text = ends (flat_map plain_char (chars text)) (no-feed-chars (chars text))

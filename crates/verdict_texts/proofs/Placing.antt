@@ -5,7 +5,7 @@ use Rattle.std.proofs.lemmas.List.{length-append, take_more}
 use Rattle.std.proofs.lemmas.List.Elements.{filter-append}
 use Rattle.std.specs.List.{filter, list_any}
 use Rattle.plain_data.specs.Lists.{after_each}
-use Rattle.verdict_texts.specs.Placed.{one_if}
+use Rattle.verdict_texts.specs.Places.{one_if}
 
 after-append : {X Y : Type 0} (f : List X → X → List Y) (before xs : List X) (x : X) → after_each f before (xs ++ x ∷ []) ≡ after_each f before xs ++ f (before ++ xs) x
 after-append f before [] x = append-nil (f before x) ∙ ap (λ ys. f ys x) (sym (append-nil before))

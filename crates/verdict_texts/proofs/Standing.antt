@@ -1,5 +1,5 @@
 -- The element of a path is the name of a declaration that stands there or around it.
-use Rattle.std.proofs.Common.{◌≡◌, ℕ, zero, suc, ◌+◌, ℤ, pos, negsuc, Bool, true, false, cond, List, [], ◌∷◌, ◌++◌, Option, None, Some, slice_get, refl, ap, sym, subst, ◌∙◌, append_assoc, append-nil, arith}
+use Rattle.std.proofs.Common.{◌≡◌, ℕ, zero, suc, ◌+◌, ℤ, pos, negsuc, Bool, true, false, cond, List, [], ◌∷◌, ◌++◌, Option, None, Some, slice_get, refl, ap, sym, subst, ◌∙◌, append_assoc, arith}
 use Rattle.std.specs.List.{Contains}
 use Rattle.std.specs.Option.{IfSome, option_map, option_map_or, option_and_then}
 use Rattle.std.specs.Ordering.{int_eq}
@@ -17,14 +17,13 @@ use Rattle.proto_types.specs.declared.tag.file.TheConstants as file
 use Rattle.proto_types.specs.declared.tag.message.TheConstants as message
 use Rattle.proto_types.specs.declared.tag.enum_.TheConstants as enumeration
 use Rattle.proto_types.specs.declared.tag.service.TheConstants as service
-use Rattle.pool_faults.specs.declared.label.Label.{Label}
 use Rattle.record_walk.specs.declared.counts.Counts.{Counts}
 use Rattle.record_walk.specs.Counts.{no_counts, counted, counting}
-use Rattle.record_walk.specs.Declarations.{in_file, enum_walk, enums_walk, service_walk, services_walk, message_front, message_end, message_walk, messages_walk, file_walk, declarations}
+use Rattle.record_walk.specs.Declarations.{in_file, enum_walk, enums_walk, service_walk, services_walk, message_front, message_end, message_walk, messages_walk, declarations}
 use Rattle.record_walk.specs.Protos.{Proto, as_file, name_of, of_message, of_field, of_oneof, of_service, of_method, of_enum, of_value, of_extension}
 use Rattle.record_walk.specs.Shown.{Shown, Surrounding, file_shown, shown, row, parts, inside, beside}
 use Rattle.record_walk.proofs.Leading.{message-walk-opens}
-use Rattle.verdict_texts.specs.Elements.{element_in, element_in_message, element_of, full_or, leaf_name, message_name, method_name, name_in_enum, name_in_message}
+use Rattle.verdict_texts.specs.Elements.{element_in, element_in_message, full_or, leaf_name, message_name, method_name, name_in_enum, name_in_message}
 use Rattle.verdict_texts.specs.Known.{only}
 use Rattle.verdict_texts.specs.Standing.{ElementsAreDeclared, IsElement, StandsAt}
 use Rattle.verdict_texts.proofs.Entering.{no-some}

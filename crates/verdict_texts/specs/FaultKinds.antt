@@ -1,9 +1,13 @@
 -- What is told of each kind of fault, a row for each.
-use Rattle.std.specs.Prelude.{ℕ, Bool, false, true, List, codes, if◌then◌else◌}
-use Rattle.std.specs.Option.{option_map}
+use Rattle.std.specs.Prelude.{ℕ, ℤ, ◌-◌, Bool, false, true, ◌==◌, ◌&&◌, ◌||◌, List, ◌++◌, codes, length, slice_get, if◌then◌else◌}
+use Rattle.std.specs.Option.{option_map, option_map_or}
+use Rattle.std.specs.Ordering.{int_eq}
 use Rattle.std.specs.Str.{bytes_eq}
 use Rattle.std.specs.declared.option.Option.{Option}
 use Rattle.std.specs.declared.option.Option.TheVariants.{None, Some}
+use Rattle.proto_types.specs.declared.tag.file.TheConstants as file
+use Rattle.proto_types.specs.declared.tag.message.TheConstants as message
+use Rattle.proto_types.specs.declared.tag.enum_.TheConstants as enumeration
 use Rattle.pool_faults.specs.declared.label.Label.{Label}
 use Rattle.pool_faults.specs.declared.fault.DescriptorErrorKind.{DescriptorErrorKind}
 use Rattle.pool_faults.specs.declared.fault.DescriptorErrorKind.TheVariants as fault
@@ -33,17 +37,13 @@ abbrev pub beside : List ℕ → List ℕ → Label → List ℕ → ToldKind
 beside code words label remedy =
     record { code = code; second = Some (words, label); remedy = remedy }
 
--- the words before the place of a first holder
-abbrev pub held_words : List ℕ
-held_words = codes "first declared at "
+-- a kind whose second place is that of the first holder
+abbrev pub held : List ℕ → Label → List ℕ → ToldKind
+held code = beside code (codes "first declared at ")
 
--- the words before the place of a range
-abbrev pub range_words : List ℕ
-range_words = codes "the range is declared at "
-
--- the words before the place of what a name means
-abbrev pub meant_words : List ℕ
-meant_words = codes "it is declared at "
+-- a kind whose second place is that of a range
+abbrev pub ranged : List ℕ → Label → List ℕ → ToldKind
+ranged code = beside code (codes "the range is declared at ")
 
 -- what to do about an index that is no position
 abbrev pub no_such_index : List ℕ
@@ -57,11 +57,34 @@ other_number = codes "take another number"
 abbrev pub not_reserved : List ℕ
 not_reserved = codes "take a number that is not reserved"
 
+-- whether a number stands so many places before the end of a path
+abbrev pub is_at : List ℤ → ℕ → ℤ → Bool
+is_at path places number =
+    option_map_or (λ found. int_eq found number) (slice_get path (length path - places)) false
+
+-- whether a path leads to the name of a value of an enum, which stands in a file or in a message
+abbrev pub is_of_value : List ℤ → Bool
+is_of_value path =
+    is_at path 5 (if length path == 5 then file.ENUM_TYPE else message.ENUM_TYPE)
+    && is_at path 3 enumeration.VALUE
+
+-- what to do about a name that is declared twice in one file, by a value of an enum or not
+abbrev pub rename_words : Bool → List ℕ
+rename_words is_of_value = if is_of_value
+    then codes "rename one; if it is a value of an enum, begin its name with the enum's, since "
+    ++ codes "values stand beside their enum" else codes "rename one"
+
 -- what to do about a name that is declared twice: in one file, or in two
 abbrev pub rename_remedy : Label → Label → List ℕ
 rename_remedy first second = if bytes_eq first.file second.file
-    then codes "rename one; values of an enum stand beside it, so begin their names with its own"
+    then rename_words (is_of_value first.path || is_of_value second.path)
     else codes "rename one; where all names of a file clash, it is given under two names"
+
+-- what to do about a default value that is none of a type, by the word for the type
+abbrev pub default_remedy : List ℕ → List ℕ
+default_remedy kind = if bytes_eq kind (codes "message type")
+    then codes "write a value of the type; a message has none, so leave its default out"
+    else codes "write a value of the type"
 
 -- what to do about a name that nothing has
 abbrev pub not_found : List ℕ
@@ -86,41 +109,41 @@ fault_kind (fault.FileNotFound _ _) = alone (codes "FileNotFound")
 fault_kind fault.InvalidImportIndex = alone (codes "InvalidImportIndex") no_such_index
 fault_kind fault.InvalidOneofIndex = alone (codes "InvalidOneofIndex") no_such_index
 fault_kind (fault.DuplicateName _ first second) =
-    beside (codes "DuplicateName") held_words first (rename_remedy first second)
-fault_kind (fault.DuplicateFieldNumber _ place _) =
-    beside (codes "DuplicateFieldNumber") held_words place other_number
-fault_kind (fault.DuplicateFieldJsonName _ place _) =
-    beside (codes "DuplicateFieldJsonName") held_words place
+    held (codes "DuplicateName") first (rename_remedy first second)
+fault_kind (fault.DuplicateFieldNumber _ first _) =
+    held (codes "DuplicateFieldNumber") first other_number
+fault_kind (fault.DuplicateFieldJsonName _ first _) = held (codes "DuplicateFieldJsonName") first
     (codes "set another json_name: protoc gives `user_id` and `userId` the same one")
-fault_kind (fault.DuplicateFieldCamelCaseName _ _ place _) =
-    beside (codes "DuplicateFieldCamelCaseName") held_words place
+fault_kind (fault.DuplicateFieldCamelCaseName _ _ first _) =
+    held (codes "DuplicateFieldCamelCaseName") first
     (codes "rename one: in proto3 names differ by more than case and underscores")
 fault_kind (fault.InvalidFieldNumber _ _) = alone (codes "InvalidFieldNumber")
     (codes "take a number from 1 to 536,870,911, but none from 19,000 to 19,999")
-fault_kind (fault.FieldNumberInReservedRange _ _ _ place _) =
-    beside (codes "FieldNumberInReservedRange") range_words place not_reserved
-fault_kind (fault.FieldNumberInExtensionRange _ _ _ place _) =
-    beside (codes "FieldNumberInExtensionRange") range_words place
+fault_kind (fault.FieldNumberInReservedRange _ _ _ defined _) =
+    ranged (codes "FieldNumberInReservedRange") defined not_reserved
+fault_kind (fault.FieldNumberInExtensionRange _ _ _ defined _) =
+    ranged (codes "FieldNumberInExtensionRange") defined
     (codes "take a number that is not left to extensions")
 fault_kind (fault.ExtensionNumberOutOfRange _ _ _) = alone (codes "ExtensionNumberOutOfRange")
-    (codes "take a number of one of the extension ranges of the message")
-fault_kind (fault.DuplicateExtensionNumber _ _ place _) =
-    beside (codes "DuplicateExtensionNumber") held_words place other_number
+    (codes "take a number of an extension range of the message; where it has none, give it one "
+    ++ codes "by `extensions`")
+fault_kind (fault.DuplicateExtensionNumber _ _ first _) =
+    held (codes "DuplicateExtensionNumber") first other_number
 fault_kind (fault.NameNotFound _ _) = alone (codes "NameNotFound") not_found
 fault_kind (fault.NameShadowed name shadowed_name _) =
     alone (codes "NameShadowed") (shadowed_remedy name shadowed_name)
-fault_kind (fault.InvalidType _ _ _ place) = beside (codes "InvalidType") meant_words place
+fault_kind (fault.InvalidType _ _ _ defined) =
+    beside (codes "InvalidType") (codes "it is declared at ") defined
     (codes "mend it; where a nearer name hides it, write a leading dot and the full name")
-fault_kind (fault.InvalidFieldDefault _ _ _) =
-    alone (codes "InvalidFieldDefault") (codes "write a value of the type")
+fault_kind (fault.InvalidFieldDefault _ kind _) =
+    alone (codes "InvalidFieldDefault") (default_remedy kind)
 fault_kind (fault.EmptyEnum _) = alone (codes "EmptyEnum") (codes "add a value")
 fault_kind (fault.InvalidProto3EnumDefault _) =
     alone (codes "InvalidProto3EnumDefault") (codes "put the value with the number 0 first")
-fault_kind (fault.DuplicateEnumNumber _ place _) =
-    beside (codes "DuplicateEnumNumber") held_words place
+fault_kind (fault.DuplicateEnumNumber _ first _) = held (codes "DuplicateEnumNumber") first
     (codes "take another number, or set the option allow_alias")
-fault_kind (fault.EnumNumberInReservedRange _ _ _ place _) =
-    beside (codes "EnumNumberInReservedRange") range_words place not_reserved
+fault_kind (fault.EnumNumberInReservedRange _ _ _ defined _) =
+    ranged (codes "EnumNumberInReservedRange") defined not_reserved
 
 -- the second place of a fault, if its kind has one
 abbrev pub related_label : DescriptorErrorKind → Option Label

@@ -1,6 +1,6 @@
 -- What is known of files by names: the file of a name, and the file that declares one.
-use Rattle.std.specs.Prelude.{ℕ, Bool, false, true, List, [], ◌∷◌, map}
-use Rattle.std.specs.List.{filter, find, list_any}
+use Rattle.std.specs.Prelude.{ℕ, ℤ, Bool, List, [], ◌∷◌}
+use Rattle.std.specs.List.{filter, find, flat_map, list_any}
 use Rattle.std.specs.Str.{bytes_eq}
 use Rattle.std.specs.declared.option.Option.{Option}
 use Rattle.std.specs.declared.option.Option.TheVariants.{None, Some}
@@ -8,8 +8,8 @@ use Rattle.proto_types.specs.Readers.{text_of}
 use Rattle.proto_types.specs.declared.file.FileDescriptorProto.{FileDescriptorProto}
 use Rattle.record_walk.specs.Counts.{no_counts}
 use Rattle.record_walk.specs.Declarations.{declarations}
-use Rattle.record_walk.specs.Protos.{of_enum, of_message}
-use Rattle.record_walk.specs.Shown.{Shown}
+use Rattle.record_walk.specs.Protos.{Proto, of_enum, of_message}
+use Rattle.record_walk.specs.Shown.{Shown, Surrounding}
 
 -- the entry of a list that has no other
 abbrev pub only_one : {X : Type 0} → List X → Option X
@@ -29,13 +29,15 @@ file_named files name = find (has_name name) files
 abbrev pub only : List FileDescriptorProto → List ℕ → Option FileDescriptorProto
 only files name = only_one (filter (has_name name) files)
 
--- whether a declaration is a message or an enum
-abbrev pub is_type : Shown → Bool
-is_type d = elim d.proto [ of_message _ ↦ true | of_enum _ ↦ true | _ ↦ false ]
+-- a full name, where the record that has it is of a message or of an enum
+abbrev pub type_name : List ℕ → Proto → List (List ℕ)
+type_name name (of_message _) = name ∷ []
+type_name name (of_enum _) = name ∷ []
+type_name name _ = []
 
 -- the full names of the messages and enums among declarations
 abbrev pub type_names : List Shown → List (List ℕ)
-type_names ds = map (λ d. d.full_name) (filter is_type ds)
+type_names ds = flat_map (λ d. type_name d.full_name d.proto) ds
 
 -- whether a name is one of some names
 abbrev pub is_among : List ℕ → List (List ℕ) → Bool
@@ -48,3 +50,7 @@ declares name f = is_among name (type_names (declarations no_counts (f ∷ [])))
 -- the first file that declares a message or an enum of a full name
 abbrev pub declaring_file : List FileDescriptorProto → List ℕ → Option FileDescriptorProto
 declaring_file files name = find (declares name) files
+
+-- what declarations stand in, by a path and a scope alone
+abbrev pub site : List ℤ → List ℕ → Surrounding
+site path scope = record { file = 0; path = path; scope = scope; parent = None }

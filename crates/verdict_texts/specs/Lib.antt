@@ -6,10 +6,8 @@ pub mod PlainFaults
 pub mod JsonFaults
 pub mod Known
 pub mod Named
-pub mod Types
 pub mod Notes
 pub mod Places
-pub mod Placed
 pub mod Telling
 pub mod JsonStrings
 pub mod Accepted

@@ -19,17 +19,13 @@ escape_of c = if nat_lt c 65536 then codes "\\u" ++ four_digits c
 abbrev pub plain_char : ℕ → List ℕ
 plain_char c = if is_hidden c then escape_of c else encode_utf8 c
 
+-- a text in which an escape stands for each character that a terminal would obey or hide
+unfoldable pub plain_text : List ℕ → List ℕ
+plain_text text = flat_map plain_char (chars text)
+
 -- a text as a line, with its end
 unfoldable pub line : List ℕ → List ℕ
-line text = flat_map plain_char (chars text) ++ 10 ∷ []
-
--- what is printed for a character of several lines
-abbrev pub char_of_lines : ℕ → List ℕ
-char_of_lines c = if c == 10 then 10 ∷ [] else plain_char c
-
--- lines, each with its end
-unfoldable pub lines : List ℕ → List ℕ
-lines text = flat_map char_of_lines (chars text)
+line text = plain_text text ++ 10 ∷ []
 
 -- whether a text's last byte is a line feed, and no other is one
 abbrev pub ends_once : List ℕ → Bool

@@ -1,7 +1,7 @@
 -- What is told beside a fault: where a name that is not seen is declared, or else what to do.
 use Rattle.std.specs.Prelude.{ℕ, Bool, false, ◌||◌, ◌==◌, nat_eq, List, [], ◌∷◌, ◌++◌, codes, is_some, length, take, drop, map, unwrap_or, if◌then◌else◌}
 use Rattle.std.specs.Cmp.Lexicographic.{pointwise}
-use Rattle.std.specs.List.{find}
+use Rattle.std.specs.List.{find, list_any}
 use Rattle.std.specs.Option.{option_map, option_map_or, option_and_then}
 use Rattle.std.specs.Str.{bytes_eq}
 use Rattle.std.specs.declared.option.Option.{Option}
@@ -15,13 +15,10 @@ use Rattle.name_resolution.specs.Parents.{outer}
 use Rattle.verdict_texts.specs.Known.{declaring_file, only}
 use Rattle.verdict_texts.specs.FaultKinds.{fault_kind}
 
--- the import of a file, if there is one
-abbrev pub import_of : FileDescriptorProto → List ℕ → Option (List ℕ)
-import_of f file = find (λ d. bytes_eq d file) f.dependency
-
 -- whether a file, if there is one, imports another
 abbrev pub is_imported : Option FileDescriptorProto → List ℕ → Bool
-is_imported importing file = option_map_or (λ f. is_some (import_of f file)) importing false
+is_imported importing file =
+    option_map_or (λ f. list_any (λ own. bytes_eq own file) f.dependency) importing false
 
 -- whether a file is another one, or imported by it
 abbrev pub is_near : List FileDescriptorProto → List ℕ → List ℕ → Bool

@@ -1,108 +1,113 @@
 -- Where the faults stand whose kinds have no label: a name of a file that another has, an index of
 -- an import, and an index of a oneof. Each is a place in the records, in the order of the walk.
-use Rattle.std.specs.Prelude.{ℕ, ℤ, pos, nat_lt, Bool, false, not, is_some, List, [], ◌∷◌, ◌++◌, map, if◌then◌else◌}
-use Rattle.std.specs.List.{enumerate_from, flat_map}
+use Rattle.std.specs.Prelude.{ℕ, ℤ, Bool, true, false, not, is_some, List, [], ◌∷◌, ◌++◌, length, map, drop, slice_get, if◌then◌else◌}
+use Rattle.std.specs.List.{enumerate_from, filter, find, flat_map, list_any}
 use Rattle.std.specs.Option.{option_map_or}
+use Rattle.std.specs.Str.{bytes_eq}
+use Rattle.std.specs.declared.option.Option.{Option}
 use Rattle.plain_data.specs.Lists.{at, only_if}
+use Rattle.proto_types.specs.Paths.{entry_path}
 use Rattle.proto_types.specs.declared.file.FileDescriptorProto.{FileDescriptorProto}
 use Rattle.proto_types.specs.declared.message.DescriptorProto.{DescriptorProto, out-DescriptorProto}
-use Rattle.proto_types.specs.declared.message.DescriptorProto.TheOpen.{DescriptorProto-F}
-use Rattle.proto_types.specs.declared.message.DescriptorProto.TheFolds.{fold-DescriptorProto}
-use Rattle.proto_types.specs.declared.message.OneofDescriptorProto.{OneofDescriptorProto}
 use Rattle.proto_types.specs.declared.records.field.FieldDescriptorProto.{FieldDescriptorProto}
 use Rattle.proto_types.specs.declared.tag.file.TheConstants as file
 use Rattle.proto_types.specs.declared.tag.message.TheConstants as message
+use Rattle.pool_faults.specs.Fault.{shown_label}
 use Rattle.pool_faults.specs.Labels.{label}
 use Rattle.pool_faults.specs.declared.label.Label.{Label}
+use Rattle.pool_faults.specs.declared.fault.DescriptorErrorKind.{DescriptorErrorKind}
+use Rattle.pool_faults.specs.declared.fault.DescriptorErrorKind.TheVariants as fault
+use Rattle.record_walk.specs.Counts.{no_counts}
+use Rattle.record_walk.specs.Declarations.{declarations, messages_walk}
+use Rattle.record_walk.specs.Protos.{Proto, of_file, of_message}
+use Rattle.record_walk.specs.Shown.{Shown}
+use Rattle.verdict_texts.specs.Known.{site}
 use Rattle.verdict_texts.specs.declared.places.Unplaced.{Unplaced}
-use Rattle.verdict_texts.specs.declared.places.Unplaced.TheVariants.{Import, Name, Oneof}
+use Rattle.verdict_texts.specs.declared.places.Unplaced.TheVariants.{Name, Index}
 
--- a position as a path shows it, whose numbers end at 2 to the 31st less 1
-abbrev pub shown_position : ℕ → ℤ
-shown_position n = if nat_lt n 2147483647 then pos n else pos 2147483647
+-- whether an index is no position of a list
+abbrev pub is_outside : {X : Type 0} → List X → ℤ → Bool
+is_outside xs index = not (is_some (at xs index))
 
--- the path of the list with a field number, of what stands at a path
-abbrev pub list_path : List ℤ → ℤ → List ℤ
-list_path path tag = path ++ tag ∷ []
+-- the paths of the indexes of the list with a field number that are no positions of the imports
+abbrev pub outside_imports : List (List ℕ) → ℤ → List ℤ → List (List ℤ)
+outside_imports imports tag indexes = flat_map
+    (λ e. only_if (is_outside imports e.1) (entry_path [] tag e.0)) (enumerate_from 0 indexes)
 
--- the path of an entry of the list at a path, by its position
-abbrev pub position_path : List ℤ → ℕ → List ℤ
-position_path list position = list ++ shown_position position ∷ []
+-- whether a field has a oneof index that is no position of its message's oneofs
+abbrev pub names_no_oneof : DescriptorProto → FieldDescriptorProto → Bool
+names_no_oneof m field =
+    option_map_or (is_outside (out-DescriptorProto m).oneof_decl) field.oneof_index false
 
--- the label of an entry of the list at a path, by its position
-abbrev pub position_label : FileDescriptorProto → List ℤ → ℕ → Label
-position_label f list position = label f (position_path list position)
+-- the paths of the fields of the message at a path that have a oneof index which is no position
+abbrev pub outside_oneofs : DescriptorProto → List ℤ → List (List ℤ)
+outside_oneofs m path = flat_map
+    (λ e. only_if (names_no_oneof m e.1) (entry_path path message.FIELD e.0))
+    (enumerate_from 0 (out-DescriptorProto m).field)
 
--- the name of each file
-abbrev pub name_places : List FileDescriptorProto → List Label
-name_places files = map (λ f. label f (file.NAME ∷ [])) files
+-- the paths of the indexes that are no positions in the record at a path: of a file those of its
+-- public imports and its weak ones, and of a message those of its oneofs
+abbrev pub indexes_of : List ℤ → Proto → List (List ℤ)
+indexes_of path (of_file f) =
+    outside_imports f.dependency file.PUBLIC_DEPENDENCY f.public_dependency
+    ++ outside_imports f.dependency file.WEAK_DEPENDENCY f.weak_dependency
+indexes_of path (of_message m) = outside_oneofs m path
+indexes_of path _ = []
 
--- whether an index is no position of a file's imports
-abbrev pub has_no_import : FileDescriptorProto → ℤ → Bool
-has_no_import f index = not (is_some (at f.dependency index))
+-- the paths of the indexes that are no positions in the records of declarations
+abbrev pub indexes_in : List Shown → List (List ℤ)
+indexes_in ds = flat_map (λ d. indexes_of d.path d.proto) ds
 
--- each index of the list at a path that is no position of the file's imports
-abbrev pub index_places : FileDescriptorProto → List ℤ → List ℤ → List Label
-index_places f list indexes = flat_map
-    (λ e. only_if (has_no_import f e.1) (position_label f list e.0)) (enumerate_from 0 indexes)
+-- the paths of the indexes that are no positions in the messages of the list with a field number
+-- of what stands at a path, and in all messages in them
+abbrev pub messages_indexes : List ℤ → ℤ → List DescriptorProto → List (List ℤ)
+messages_indexes path tag messages =
+    indexes_in (messages_walk (site path []) tag 0 no_counts messages)
 
--- each public and each weak index of a file that is no position of its imports
-abbrev pub imports_of : FileDescriptorProto → List Label
-imports_of f = index_places f (file.PUBLIC_DEPENDENCY ∷ []) f.public_dependency
-    ++ index_places f (file.WEAK_DEPENDENCY ∷ []) f.weak_dependency
+-- the paths of the indexes that are no positions in the message at a path, and in all in it
+abbrev pub message_indexes : List ℤ → DescriptorProto → List (List ℤ)
+message_indexes path m = outside_oneofs m path
+    ++ messages_indexes path message.NESTED_TYPE (out-DescriptorProto m).nested_type
 
--- the same of files
-abbrev pub import_places : List FileDescriptorProto → List Label
-import_places files = flat_map imports_of files
+-- the paths of a file at which the faults of a kind can stand
+abbrev pub paths_of : Unplaced → FileDescriptorProto → List (List ℤ)
+paths_of Name f = (file.NAME ∷ []) ∷ []
+paths_of Index f = indexes_in (declarations no_counts (f ∷ []))
 
--- whether a field has a oneof index that is no position of some oneofs
-abbrev pub is_outside : List OneofDescriptorProto → FieldDescriptorProto → Bool
-is_outside oneofs field = option_map_or (λ n. not (is_some (at oneofs n))) field.oneof_index false
+-- whether a fault is of a kind without a label
+abbrev pub is_of : Unplaced → DescriptorErrorKind → Bool
+is_of Name (fault.DuplicateFileName _) = true
+is_of Name _ = false
+is_of Index fault.InvalidImportIndex = true
+is_of Index fault.InvalidOneofIndex = true
+is_of Index _ = false
 
--- the same of the oneofs of its message
-abbrev pub has_no_oneof : DescriptorProto → FieldDescriptorProto → Bool
-has_no_oneof m field = is_outside (out-DescriptorProto m).oneof_decl field
+-- the places in files at which faults of a kind can stand, in order
+abbrev pub places_of : Unplaced → List FileDescriptorProto → List Label
+places_of kind files = flat_map (λ f. map (label f) (paths_of kind f)) files
 
--- each field of the list at a path that has a oneof index that is no position of some oneofs
-abbrev pub field_places : FileDescriptorProto → List ℤ → List OneofDescriptorProto
-    → List FieldDescriptorProto → List Label
-field_places f list oneofs fields = flat_map
-    (λ e. only_if (is_outside oneofs e.1) (position_label f list e.0)) (enumerate_from 0 fields)
+-- the places in files at which faults of a kind can stand, where one of some faults is of it
+abbrev pub places_for : List FileDescriptorProto → List DescriptorErrorKind → Unplaced → List Label
+places_for files faults kind =
+    if list_any (is_of kind) faults then places_of kind files else []
 
--- the same of the fields and the oneofs of a message
-abbrev pub fields_of : FileDescriptorProto → List ℤ → DescriptorProto → List Label
-fields_of f list m =
-    field_places f list (out-DescriptorProto m).oneof_decl (out-DescriptorProto m).field
+-- where a fault stands: the label that it shows, or the first that names its file, or the first
+-- that is left of the indexes
+abbrev pub place_among : List Label → List Label → DescriptorErrorKind → Option Label
+place_among names left (fault.DuplicateFileName name) = find (λ l. bytes_eq l.file name) names
+place_among names left fault.InvalidImportIndex = slice_get left 0
+place_among names left fault.InvalidOneofIndex = slice_get left 0
+place_among names left other = shown_label other
 
--- the same of the fields of the message at a path, and then of what is given of each message in it
--- by its path
-abbrev pub row_places : {A : Type 0} → FileDescriptorProto → DescriptorProto-F A
-    → List (List ℤ → List Label) → List ℤ → List Label
-row_places f d nested path =
-    field_places f (list_path path message.FIELD) d.oneof_decl d.field
-    ++ flat_map (λ e. e.1 (position_path (list_path path message.NESTED_TYPE) e.0))
-    (enumerate_from 0 nested)
+-- how many places a fault takes
+abbrev pub one_if : Bool → ℕ
+one_if takes = if takes then 1 else 0
 
--- the same of the message at a path and of all messages in it
-abbrev pub message_places : FileDescriptorProto → DescriptorProto → List ℤ → List Label
-message_places f =
-    fold-DescriptorProto (List ℤ → List Label) (λ d. row_places f d d.nested_type)
+-- the indexes that are left behind earlier faults: but for as many as these have of their kinds
+abbrev pub left_behind : List DescriptorErrorKind → List Label → List Label
+left_behind earlier indexes = drop (length (filter (is_of Index) earlier)) indexes
 
--- the same of each message of the list at a path
-abbrev pub messages_places : FileDescriptorProto → List ℤ → List DescriptorProto → List Label
-messages_places f list messages =
-    flat_map (λ e. message_places f e.1 (position_path list e.0)) (enumerate_from 0 messages)
-
--- each field of a file that has a oneof index that is no position of its message's oneofs
-abbrev pub oneofs_of : FileDescriptorProto → List Label
-oneofs_of f = messages_places f (file.MESSAGE_TYPE ∷ []) f.message_type
-
--- each field of files that has a oneof index that is no position of its message's oneofs
-abbrev pub oneof_places : List FileDescriptorProto → List Label
-oneof_places files = flat_map oneofs_of files
-
--- the places of a kind in files
-abbrev pub labels_of : Unplaced → List FileDescriptorProto → List Label
-labels_of Name files = name_places files
-labels_of Import files = import_places files
-labels_of Oneof files = oneof_places files
+-- where a fault stands, by those before it in its batch
+abbrev pub place_of : List Label → List Label → List DescriptorErrorKind → DescriptorErrorKind
+    → Option Label
+place_of names indexes earlier fault = place_among names (left_behind earlier indexes) fault

@@ -31,13 +31,11 @@ abbrev pub fault_words : ToldFault → List ℕ
 fault_words told = option_map_or (λ place. place_words place ++ (codes ": " ++ told.message))
     told.place told.message
 
--- the element of a place, in brackets, if there is one
-abbrev pub bracketed : Option (List ℕ) → List ℕ
-bracketed element = option_map_or (λ name. codes " ('" ++ (name ++ codes "')")) element []
-
--- the same, where the line does not tell the element
+-- the element of a place, in brackets, if there is one and the line does not tell it
 abbrev pub bracketed_words : ToldPlace → List ℕ
-bracketed_words place = option_map_or (λ _. bracketed place.element) place.position []
+bracketed_words place = option_map_or
+    (λ _. option_map_or (λ name. codes " ('" ++ (name ++ codes "')")) place.element [])
+    place.position []
 
 -- where the second place of a fault stands
 abbrev pub second_words : ToldSecond → List ℕ

@@ -11,8 +11,8 @@ use Rattle.pool_faults.specs.declared.fault.DescriptorErrorKind.{DescriptorError
 use Rattle.verdict_texts.specs.Elements.{element_of}
 use Rattle.verdict_texts.specs.FaultKinds.{fault_kind}
 use Rattle.verdict_texts.specs.Notes.{note}
-use Rattle.verdict_texts.specs.Placed.{place_of, places_for}
-use Rattle.verdict_texts.specs.declared.places.Places.{Places}
+use Rattle.verdict_texts.specs.Places.{place_of, places_for}
+use Rattle.verdict_texts.specs.declared.places.Unplaced.TheVariants.{Name, Index}
 use Rattle.verdict_texts.specs.declared.telling.Position.{Position}
 use Rattle.verdict_texts.specs.declared.telling.ToldFault.{ToldFault}
 use Rattle.verdict_texts.specs.declared.telling.ToldPlace.{ToldPlace}
@@ -49,14 +49,15 @@ told_fault files fault place = record {
   note = note files fault;
 }
 
--- the same of a fault, by those before it in its batch and by the places of its batch
-abbrev pub told_after : List FileDescriptorProto → Places → List DescriptorErrorKind
-    → DescriptorErrorKind → List ToldFault
-told_after files places earlier fault =
-    told_fault files fault (place_of places earlier fault) ∷ []
+-- what is told of a fault, by those before it in its batch, and by the places of names and of
+-- indexes
+abbrev pub told_after : List FileDescriptorProto → List Label → List Label
+    → List DescriptorErrorKind → DescriptorErrorKind → List ToldFault
+told_after files names indexes earlier fault =
+    told_fault files fault (place_of names indexes earlier fault) ∷ []
 
 -- faults of a batch from the first on, by the records of the files of the pool and of the new files
 abbrev pub told_faults : List FileDescriptorProto → List FileDescriptorProto
     → List DescriptorErrorKind → List ToldFault
-told_faults linked new faults =
-    flat_map_after (told_after (linked ++ new) (places_for new faults)) faults
+told_faults linked new faults = flat_map_after
+    (told_after (linked ++ new) (places_for new faults Name) (places_for new faults Index)) faults

@@ -9,7 +9,7 @@ use Rattle.wire_format.specs.declared.fault.WireFaultKind.TheVariants as wire
 abbrev pub wire_words : WireFaultKind → List ℕ
 wire_words wire.Truncated = codes "a field is cut off"
 wire_words wire.LongVarint = codes "a number has more than ten bytes"
-wire_words wire.LargeTag = codes "a tag has more than five bytes"
+wire_words wire.LargeTag = codes "a tag has more than five bytes or more than 32 bits"
 wire_words wire.FieldNumberZero = codes "a field has the number 0"
 wire_words wire.UnknownWireType = codes "a field has an unknown wire type"
 wire_words wire.EndGroup = codes "a group ends that did not begin"

@@ -1,8 +1,14 @@
 //! The names of the messages and enums that a file declares, entered where none has them.
 
-ghost use Rattle.std.specs.Prelude.{OnOk};
+ghost use Rattle.std.specs.Prelude.{[], ◌∷◌, OnOk};
+ghost use Rattle.proto_types.specs.Names.{join};
+ghost use Rattle.proto_types.specs.Readers.{text_of};
+ghost use Rattle.proto_types.specs.declared.message.DescriptorProto.{out-DescriptorProto};
+ghost use Rattle.record_walk.specs.Counts.{no_counts};
+ghost use Rattle.record_walk.specs.Declarations.{declarations};
+ghost use Rattle.verdict_texts.specs.Known.{type_names};
+ghost use Rattle.verdict_texts.specs.Named as spec;
 ghost use Rattle.verdict_texts.specs.Named.{Enters};
-ghost use Rattle.verdict_texts.specs.Types as spec;
 
 use crate::elements::full_name;
 use crate::known::enter;
@@ -43,7 +49,8 @@ fn enter_message(
     message: &DescriptorProto,
 ) -> Result<(), AllocError>
     ensures { OnOk result (Enters names.old names.new here.now.file
-        (spec.message_types here.now.scope.now message.now)) }
+        (spec.message_types
+        (join here.now.scope.now (text_of (out-DescriptorProto message.now).name)) message.now)) }
 {
     let full = full_name(here.alloc, here.scope, message.name())?;
     enter(names, full.as_str(), here.file)?;
@@ -64,7 +71,7 @@ fn enter_messages(
     messages: &Items<DescriptorProto>,
 ) -> Result<(), AllocError>
     ensures { OnOk result (Enters names.old names.new here.now.file
-        (spec.messages_types here.now.scope.now messages.now)) }
+        (spec.types_in here.now.scope.now messages.now)) }
 {
     for message in messages.as_slice() {
         enter_message(here, names, message)?;
@@ -73,16 +80,14 @@ fn enter_messages(
 }
 
 /// Enters the names of the messages and enums of the file with a position.
-///
-/// # Errors
-/// `AllocError` where memory was refused.
 pub(crate) fn enter_types(
     alloc: Global,
     names: &mut FileNames,
     file: &FileDescriptorProto,
     at: u32,
 ) -> Result<(), AllocError>
-    ensures { OnOk result (Enters names.old names.new at (spec.file_types file.now)) }
+    ensures { OnOk result (Enters names.old names.new at
+        (type_names (declarations no_counts (file.now ∷ [])))) }
 {
     let here = Surrounding {
         alloc,

@@ -162,9 +162,6 @@ fn element_in(
 
 /// The full name of what a label stands in, by the only file with its name; none where several files
 /// have it, or where it stands in no declaration of that file.
-///
-/// # Errors
-/// `AllocError` where memory was refused.
 pub(crate) fn element_of(
     alloc: Global,
     known: &Known,

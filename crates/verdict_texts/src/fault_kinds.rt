@@ -1,12 +1,11 @@
 //! What is told of each kind of fault, a row for each.
 
-ghost use Rattle.std.specs.Prelude.{◌≡◌, IfOk, string_bytes};
+ghost use Rattle.std.specs.Prelude.{◌≡◌};
 ghost use Rattle.std.specs.Option.{option_copied, option_map};
-ghost use Rattle.pool_faults.specs.Fault.{fault_text};
 ghost use Rattle.verdict_texts.specs.FaultKinds as spec;
 
-use pool_faults::{DescriptorErrorKind, Label};
-use std::alloc::{AllocError, Global};
+use pool_faults::{DescriptorErrorKind as Fault, Label};
+use proto_types::tag::{enum_, file, message};
 
 /// What is told of a kind of fault.
 #[derive(Clone, Copy)]
@@ -25,15 +24,6 @@ pub(crate) struct SecondPlace<'a> {
     pub words: &'static str,
     pub label: &'a Label,
 }
-
-/// The words before a first holder.
-const FIRST: &str = "first declared at ";
-
-/// The words before a range.
-const RANGE: &str = "the range is declared at ";
-
-/// The words before what a name means.
-const MEANT: &str = "it is declared at ";
 
 /// What to do about a name that nothing has.
 const NOT_FOUND: &str = "mend the name, or give and import the file that declares it";
@@ -58,15 +48,23 @@ fn alone(code: &'static str, remedy: &'static str) -> FaultKind<'static>
     }
 }
 
-/// A kind with a second place, and with the words before it.
-fn beside<'a>(
-    code: &'static str,
-    words: &'static str,
-    label: &'a Label,
-    remedy: &'static str,
-) -> FaultKind<'a>
-    ensures { spec.told_kind result ≡ spec.beside code.now words.now label.now remedy.now }
+/// A kind whose second place is that of the first holder.
+fn held<'a>(code: &'static str, label: &'a Label, remedy: &'static str) -> FaultKind<'a>
+    ensures { spec.told_kind result ≡ spec.held code.now label.now remedy.now }
 {
+    let words = "first declared at ";
+    FaultKind {
+        code,
+        second: Some(SecondPlace { words, label }),
+        remedy,
+    }
+}
+
+/// A kind whose second place is that of a range.
+fn ranged<'a>(code: &'static str, label: &'a Label, remedy: &'static str) -> FaultKind<'a>
+    ensures { spec.told_kind result ≡ spec.ranged code.now label.now remedy.now }
+{
+    let words = "the range is declared at ";
     FaultKind {
         code,
         second: Some(SecondPlace { words, label }),
@@ -75,80 +73,66 @@ fn beside<'a>(
 }
 
 /// What is told of the kind of a fault.
-pub(crate) fn fault_kind(fault: &DescriptorErrorKind) -> FaultKind<'_>
+pub(crate) fn fault_kind(fault: &Fault) -> FaultKind<'_>
     ensures { spec.told_kind result ≡ spec.fault_kind fault.now }
 {
     match fault {
-        DescriptorErrorKind::MissingRequiredField { .. } => alone(
+        Fault::MissingRequiredField { .. } => alone(
             "MissingRequiredField",
             "give the type name: a message, a group or an enum needs one",
         ),
-        DescriptorErrorKind::UnknownSyntax { .. } => alone(
+        Fault::UnknownSyntax { .. } => alone(
             "UnknownSyntax",
             "proto2 and proto3 are read; of a file of an edition nothing is",
         ),
-        DescriptorErrorKind::DuplicateFileName { .. } => alone(
+        Fault::DuplicateFileName { .. } => alone(
             "DuplicateFileName",
             "the sets have unequal files of that name: give one of them",
         ),
-        DescriptorErrorKind::FileNotFound { .. } => alone(
+        Fault::FileNotFound { .. } => alone(
             "FileNotFound",
             "give it too, as `protoc --include_imports` does, or under the name that is imported",
         ),
-        DescriptorErrorKind::InvalidImportIndex => alone("InvalidImportIndex", NO_SUCH_INDEX),
-        DescriptorErrorKind::InvalidOneofIndex => alone("InvalidOneofIndex", NO_SUCH_INDEX),
-        DescriptorErrorKind::DuplicateName { first, second, .. } => beside(
-            "DuplicateName",
-            FIRST,
-            first,
-            rename_remedy(first, second),
-        ),
-        DescriptorErrorKind::DuplicateFieldNumber { first, .. } => beside(
-            "DuplicateFieldNumber",
-            FIRST,
-            first,
-            OTHER_NUMBER,
-        ),
-        DescriptorErrorKind::DuplicateFieldJsonName { first, .. } => beside(
+        Fault::InvalidImportIndex => alone("InvalidImportIndex", NO_SUCH_INDEX),
+        Fault::InvalidOneofIndex => alone("InvalidOneofIndex", NO_SUCH_INDEX),
+        Fault::DuplicateName { first, second, .. } => {
+            held("DuplicateName", first, rename_remedy(first, second))
+        }
+        Fault::DuplicateFieldNumber { first, .. } => {
+            held("DuplicateFieldNumber", first, OTHER_NUMBER)
+        }
+        Fault::DuplicateFieldJsonName { first, .. } => held(
             "DuplicateFieldJsonName",
-            FIRST,
             first,
             "set another json_name: protoc gives `user_id` and `userId` the same one",
         ),
-        DescriptorErrorKind::DuplicateFieldCamelCaseName { first, .. } => beside(
+        Fault::DuplicateFieldCamelCaseName { first, .. } => held(
             "DuplicateFieldCamelCaseName",
-            FIRST,
             first,
             "rename one: in proto3 names differ by more than case and underscores",
         ),
-        DescriptorErrorKind::InvalidFieldNumber { .. } => alone(
+        Fault::InvalidFieldNumber { .. } => alone(
             "InvalidFieldNumber",
             "take a number from 1 to 536,870,911, but none from 19,000 to 19,999",
         ),
-        DescriptorErrorKind::FieldNumberInReservedRange { defined, .. } => beside(
-            "FieldNumberInReservedRange",
-            RANGE,
-            defined,
-            NOT_RESERVED,
-        ),
-        DescriptorErrorKind::FieldNumberInExtensionRange { defined, .. } => beside(
+        Fault::FieldNumberInReservedRange { defined, .. } => {
+            ranged("FieldNumberInReservedRange", defined, NOT_RESERVED)
+        }
+        Fault::FieldNumberInExtensionRange { defined, .. } => ranged(
             "FieldNumberInExtensionRange",
-            RANGE,
             defined,
             "take a number that is not left to extensions",
         ),
-        DescriptorErrorKind::ExtensionNumberOutOfRange { .. } => alone(
+        Fault::ExtensionNumberOutOfRange { .. } => alone(
             "ExtensionNumberOutOfRange",
-            "take a number of one of the extension ranges of the message",
+            "take a number of an extension range of the message; where it has none, give it one by \
+             `extensions`",
         ),
-        DescriptorErrorKind::DuplicateExtensionNumber { first, .. } => beside(
-            "DuplicateExtensionNumber",
-            FIRST,
-            first,
-            OTHER_NUMBER,
-        ),
-        DescriptorErrorKind::NameNotFound { .. } => alone("NameNotFound", NOT_FOUND),
-        DescriptorErrorKind::NameShadowed {
+        Fault::DuplicateExtensionNumber { first, .. } => {
+            held("DuplicateExtensionNumber", first, OTHER_NUMBER)
+        }
+        Fault::NameNotFound { .. } => alone("NameNotFound", NOT_FOUND),
+        Fault::NameShadowed {
             name,
             shadowed_name,
             ..
@@ -156,72 +140,95 @@ pub(crate) fn fault_kind(fault: &DescriptorErrorKind) -> FaultKind<'_>
             "NameShadowed",
             shadowed_remedy(name.as_str(), shadowed_name.as_str()),
         ),
-        DescriptorErrorKind::InvalidType { defined, .. } => beside(
-            "InvalidType",
-            MEANT,
-            defined,
-            "mend it; where a nearer name hides it, write a leading dot and the full name",
-        ),
-        DescriptorErrorKind::InvalidFieldDefault { .. } => alone(
-            "InvalidFieldDefault",
-            "write a value of the type",
-        ),
-        DescriptorErrorKind::EmptyEnum { .. } => alone("EmptyEnum", "add a value"),
-        DescriptorErrorKind::InvalidProto3EnumDefault { .. } => alone(
+        Fault::InvalidType { defined, .. } => FaultKind {
+            code: "InvalidType",
+            second: Some(SecondPlace {
+                words: "it is declared at ",
+                label: defined,
+            }),
+            remedy: "mend it; where a nearer name hides it, write a leading dot and the full name",
+        },
+        Fault::InvalidFieldDefault { kind, .. } => {
+            alone("InvalidFieldDefault", default_remedy(kind.as_str()))
+        }
+        Fault::EmptyEnum { .. } => alone("EmptyEnum", "add a value"),
+        Fault::InvalidProto3EnumDefault { .. } => alone(
             "InvalidProto3EnumDefault",
             "put the value with the number 0 first",
         ),
-        DescriptorErrorKind::DuplicateEnumNumber { first, .. } => beside(
+        Fault::DuplicateEnumNumber { first, .. } => held(
             "DuplicateEnumNumber",
-            FIRST,
             first,
             "take another number, or set the option allow_alias",
         ),
-        DescriptorErrorKind::EnumNumberInReservedRange { defined, .. } => beside(
-            "EnumNumberInReservedRange",
-            RANGE,
-            defined,
-            NOT_RESERVED,
-        ),
+        Fault::EnumNumberInReservedRange { defined, .. } => {
+            ranged("EnumNumberInReservedRange", defined, NOT_RESERVED)
+        }
     }
 }
 
 /// The second place of a fault, if its kind has one: of the first holder, of the range, or of what
 /// a name means.
-pub fn related_label(fault: &DescriptorErrorKind) -> Option<&Label>
+pub fn related_label(fault: &Fault) -> Option<&Label>
     ensures { option_copied result ≡ spec.related_label fault.now }
 {
     Some(fault_kind(fault).second?.label)
 }
 
 /// Whether a fault is of a reference: it tells where the name is declared that isn't found.
-pub(crate) fn is_of_reference(fault: &DescriptorErrorKind) -> bool
+pub(crate) fn is_of_reference(fault: &Fault) -> bool
     ensures { result ≡ spec.is_of_reference fault.now }
 {
     matches!(
         fault,
-        DescriptorErrorKind::NameNotFound { .. } | DescriptorErrorKind::NameShadowed { .. }
+        Fault::NameNotFound { .. } | Fault::NameShadowed { .. }
     )
 }
 
-/// The text of a fault.
-pub(crate) fn fault_message(
-    alloc: Global,
-    fault: &DescriptorErrorKind,
-) -> Result<String, AllocError>
-    ensures { IfOk result (λ s. string_bytes s ≡ fault_text fault.now) }
+/// Whether a number stands so many places before the end of a path.
+fn is_at(path: &[i32], places: usize, number: i32) -> bool
+    ensures { result ≡ spec.is_at path.now places number }
 {
-    format!(in alloc; "{fault}")
+    match path.get(path.len().saturating_sub(places)) {
+        Some(found) => *found == number,
+        None => false,
+    }
 }
 
-/// What to do about a name that is declared twice: in one file, or in two.
+/// Whether a path leads to the name of a value of an enum, which stands in a file or in a message.
+fn is_of_value(path: &[i32]) -> bool
+    ensures { result ≡ spec.is_of_value path.now }
+{
+    if path.len() == 5 {
+        return is_at(path, 5, file::ENUM_TYPE) && is_at(path, 3, enum_::VALUE);
+    }
+    is_at(path, 5, message::ENUM_TYPE) && is_at(path, 3, enum_::VALUE)
+}
+
+/// What to do about a name that is declared twice: in one file, by a value of an enum or not, or in
+/// two files.
 fn rename_remedy(first: &Label, second: &Label) -> &'static str
     ensures { result.now ≡ spec.rename_remedy first.now second.now }
 {
-    if first.file() == second.file() {
-        "rename one; values of an enum stand beside it, so begin their names with its own"
+    if first.file() != second.file() {
+        return "rename one; where all names of a file clash, it is given under two names";
+    }
+    if is_of_value(first.path()) || is_of_value(second.path()) {
+        "rename one; if it is a value of an enum, begin its name with the enum's, since values \
+         stand beside their enum"
     } else {
-        "rename one; where all names of a file clash, it is given under two names"
+        "rename one"
+    }
+}
+
+/// What to do about a default value that is none of a type, by the word for the type.
+fn default_remedy(kind: &str) -> &'static str
+    ensures { result.now ≡ spec.default_remedy kind.now }
+{
+    if kind == "message type" {
+        "write a value of the type; a message has none, so leave its default out"
+    } else {
+        "write a value of the type"
     }
 }
 

@@ -98,9 +98,6 @@ pub(crate) struct NamedFiles {
 }
 
 /// The records of the files of a pool, and behind them those of new files.
-///
-/// # Errors
-/// `AllocError` where memory was refused.
 pub(crate) fn records<'a>(
     alloc: Global,
     linked: &'a [FileDescriptorInner],
@@ -173,9 +170,6 @@ fn declaring_of<'a>(
 }
 
 /// The number of a position.
-///
-/// # Errors
-/// `AllocError` where no table has room for so many.
 fn number_of(position: usize) -> Result<u32, AllocError>
     ensures { IfOk result (λ number. number ≡ position) }
 {

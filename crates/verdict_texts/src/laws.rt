@@ -3,16 +3,10 @@
 ghost use Rattle.verdict_texts.specs.JsonStrings.{StringsReadBack};
 ghost use Rattle.verdict_texts.specs.Lines.{LinesEndOnce};
 ghost use Rattle.verdict_texts.specs.Standing.{ElementsAreDeclared};
-ghost use Rattle.verdict_texts.specs.Types.{TypesAreDeclared};
 
 /// A line has one line feed, its last byte.
 pub fn lines_end_once()
     ensures { LinesEndOnce }
-{}
-
-/// The names of messages and enums that are looked for in a file are those of its declarations.
-pub fn types_are_declared()
-    ensures { TypesAreDeclared }
 {}
 
 /// The string of JSON that is written for a text is read as that text.

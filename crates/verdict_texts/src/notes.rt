@@ -1,7 +1,9 @@
 //! What is told beside a fault.
 
 ghost use Rattle.std.specs.Prelude.{◌≡◌, IfOk, IsTrue, string_bytes};
+ghost use Rattle.std.specs.List.{list_any};
 ghost use Rattle.std.specs.Option.{option_copied};
+ghost use Rattle.std.specs.Str.{bytes_eq};
 ghost use Rattle.proto_types.specs.Names as names;
 ghost use Rattle.verdict_texts.specs.FaultKinds.{is_of_reference};
 ghost use Rattle.verdict_texts.specs.Notes as spec;
@@ -15,29 +17,28 @@ use pool_faults::DescriptorErrorKind;
 use proto_types::FileDescriptorProto;
 use std::alloc::{AllocError, Global};
 
-/// Whether a file is another one, or imported by it.
-fn is_near(known: &Known, from: &str, file: &str) -> bool
-    ensures { result ≡ spec.is_near known.now.0 from.now file.now }
-{
-    file == from || is_imported(known.only(from), file)
-}
-
-/// The import of a file, if there is one.
-fn import_of<'a>(importing: &'a FileDescriptorProto, file: &str) -> Option<&'a Text>
-    ensures { option_copied result ≡ spec.import_of importing.now file.now }
-{
-    let imports = importing.dependency.as_slice();
-    imports.iter().find(|name| name.as_str() == file)
-}
-
 /// Whether a file, if there is one, imports another.
 fn is_imported(importing: Option<&FileDescriptorProto>, file: &str) -> bool
     ensures { result ≡ spec.is_imported (option_copied importing.entry) file.now }
 {
     match importing {
-        Some(importing) => import_of(importing, file).is_some(),
+        Some(importing) => imports(importing.dependency.as_slice(), file),
         None => false,
     }
+}
+
+/// Whether a file is one of some imports.
+fn imports(imports: &[Text], file: &str) -> bool
+    ensures { result ≡ list_any (λ own. bytes_eq own file.now) imports.now }
+{
+    imports.iter().any(|name| name.as_str() == file)
+}
+
+/// Whether a file is another one, or imported by it.
+fn is_near(known: &Known, from: &str, file: &str) -> bool
+    ensures { result ≡ spec.is_near known.now.0 from.now file.now }
+{
+    file == from || is_imported(known.only(from), file)
 }
 
 /// The name of the first file that declares a name, unless it is near.
@@ -167,30 +168,19 @@ fn nearer_words(alloc: Global, scope: &str, name: &str, dotted: &str) -> Result<
     Ok(Text::from_string(words))
 }
 
-/// A reference that resolves to a full name which isn't defined: the file in which it stands, the
-/// name as it is written, and the full name.
-#[derive(Clone, Copy)]
-struct Shadowed<'a> {
-    from: &'a str,
-    name: &'a str,
-    full_name: &'a str,
-}
-
-/// What is told of a name that means something nearer, by the full name that it resolves to.
+/// What is told of a name that means something nearer, by the file in which it stands and the full
+/// name that it resolves to.
 fn shadowed_words(
     alloc: Global,
     known: &Known,
-    shadowed: Shadowed,
+    from: &str,
+    name: &str,
+    full_name: &str,
 ) -> Result<Option<Text>, AllocError>
     requires { IsTrue known.now.1 }
-    ensures { IfOk result (λ words. words ≡ spec.shadowed_note known.now.0 shadowed.entry.from.now
-        shadowed.entry.name.now shadowed.entry.full_name.now) }
+    ensures { IfOk result (λ words. words
+        ≡ spec.shadowed_note known.now.0 from.now name.now full_name.now) }
 {
-    let Shadowed {
-        from,
-        name,
-        full_name,
-    } = shadowed;
     let Some(scope) = scope_of(full_name, name) else {
         return Ok(None);
     };
@@ -220,22 +210,18 @@ fn looked_up(
             name,
             shadowed_name,
             found,
-        } => {
-            let shadowed = Shadowed {
-                from: found.file(),
-                name: name.as_str(),
-                full_name: shadowed_name.as_str(),
-            };
-            shadowed_words(alloc, known, shadowed)
-        }
+        } => shadowed_words(
+            alloc,
+            known,
+            found.file(),
+            name.as_str(),
+            shadowed_name.as_str(),
+        ),
         _ => Ok(None),
     }
 }
 
 /// What is told beside a fault: where a name that is not seen is declared, or else what to do.
-///
-/// # Errors
-/// `AllocError` where memory was refused.
 pub(crate) fn note(
     alloc: Global,
     known: &Known,

@@ -1,257 +1,317 @@
 //! Where the faults stand whose kinds have no label: a name of a file that another has, an index of
 //! an import, and an index of a oneof.
 
-ghost use Rattle.std.specs.Prelude.{◌≡◌, ◌++◌, IfOk, OnOk};
+ghost use Rattle.std.specs.Prelude.{◌≡◌, [], ◌∷◌, ◌++◌, ℤ, List, IfOk, OnOk, drop, find, map};
+ghost use Rattle.std.specs.List.{list_any};
+ghost use Rattle.std.specs.Option.{option_copied};
+ghost use Rattle.std.specs.Str.{bytes_eq};
 ghost use Rattle.plain_data.specs.Lists.{only_if};
+ghost use Rattle.proto_types.specs.Paths.{entry_path};
+ghost use Rattle.proto_types.specs.declared.tag.file.TheConstants as tags;
+ghost use Rattle.pool_faults.specs.Labels.{label, label_in};
 ghost use Rattle.verdict_texts.specs.Places as spec;
+ghost use Rattle.verdict_texts.specs.declared.places.Unplaced.TheVariants.{Index};
 
 use crate::elements::entry;
-use plain_data::Items;
-use pool_faults::Label;
-use proto_types::{DescriptorProto, FieldDescriptorProto, FileDescriptorProto, tag};
+use plain_data::{Items, Path, Text, duplicate_option};
+use pool_faults::{DescriptorErrorKind as Fault, Label, Labels};
+use pool_types::{FileDescriptorInner, Syntax};
+use proto_types::tag::{file, message};
+use proto_types::{DescriptorProto, FieldDescriptorProto, FileDescriptorProto};
 use std::alloc::{AllocError, Global};
-
-/// A list of the record of a file, by its path.
-#[derive(Clone, Copy)]
-struct Row<'a> {
-    alloc: Global,
-    file: &'a FileDescriptorProto,
-    path: &'a [i32],
-}
+use std::collections::BTreeSet;
 
 /// A kind of fault that shows no label.
 #[derive(Clone, Copy)]
 pub(crate) enum Unplaced {
     /// A name of a file that another has.
     Name,
-    /// A public or weak index that is no position of its file's imports.
-    Import,
-    /// The oneof index of a field that is no position of its message's oneofs.
-    Oneof,
+    /// An index that is no position: a public or weak one of the file's imports, or one of a field
+    /// of the oneofs of its message.
+    Index,
 }
 
-/// Where the faults of a batch can stand whose kinds have no label, in the order of the walk.
-#[derive(Drop)]
-pub(crate) struct Places {
-    /// The name of each file.
-    pub names: Items<Label>,
-    pub imports: Items<Label>,
-    pub oneofs: Items<Label>,
+/// Want of memory where no number is left: it asks for more room than can be granted.
+pub(crate) fn no_room(alloc: Global) -> AllocError {
+    let _ = String::new(alloc).reserve(usize::MAX);
+    AllocError
 }
 
-/// A position as a path shows it, whose numbers end at 2 to the 31st less 1.
-fn shown_position(position: usize) -> i32
-    ensures { result ≡ spec.shown_position position }
+/// The path of an entry of a list.
+fn below(alloc: Global, path: &[i32], tag: i32, position: usize) -> Result<Path, AllocError>
+    ensures { IfOk result (λ below. below ≡ entry_path path.now tag position) }
 {
-    if position < 0x7fff_ffff {
-        position as i32
-    } else {
-        i32::MAX
+    match i32::try_from(position) {
+        Ok(position) => Path::below(alloc, path, tag, position),
+        Err(_) => Err(no_room(alloc)),
     }
 }
 
-/// The path of the list with a field number, of what stands at a path.
-fn list_path(alloc: Global, path: &[i32], tag: i32) -> Result<Vec<i32>, AllocError>
-    ensures { IfOk result (λ list. list.items ≡ spec.list_path path.now tag) }
-{
-    let mut list = Vec::from_slice(alloc, path)?;
-    list.push(tag)?;
-    Ok(list)
-}
-
-/// The path of an entry of a list, by its position, from 0.
-fn position_path(row: &Row, position: usize) -> Result<Vec<i32>, AllocError>
-    ensures { IfOk result (λ path. path.items ≡ spec.position_path row.now.path.now position) }
-{
-    let mut path = Vec::from_slice(row.alloc, row.path)?;
-    path.push(shown_position(position))?;
-    Ok(path)
-}
-
-/// Appends the label of an entry of a list, by its position, from 0, where it is wanted.
+/// Adds the path of an entry of a list where it is wanted.
 fn add_if(
-    row: &Row,
-    labels: &mut Items<Label>,
+    paths: &mut Vec<Path>,
+    path: &[i32],
+    tag: i32,
     position: usize,
     is_wanted: bool,
 ) -> Result<(), AllocError>
-    ensures { OnOk result (labels.new ≡ labels.old ++ only_if is_wanted
-        (spec.position_label row.now.file.now row.now.path.now position)) }
+    ensures { OnOk result (paths.new.items ≡ paths.old.items
+        ++ only_if is_wanted (entry_path path.now tag position)) }
 {
     if is_wanted {
-        let path = position_path(row, position)?;
-        labels.push(Label::in_record(row.alloc, row.file, &path)?)?;
+        let at = below(*paths.allocator(), path, tag, position)?;
+        paths.push(at)?;
     }
     Ok(())
 }
 
-/// The label of the name of each file.
-fn name_places(alloc: Global, files: &[FileDescriptorProto]) -> Result<Items<Label>, AllocError>
-    ensures { IfOk result (λ labels. labels ≡ spec.name_places files.now) }
+/// Whether an index is no position of a list.
+fn is_outside<T>(items: &Items<T>, index: i32) -> bool
+    ensures { result ≡ spec.is_outside items.now index }
 {
-    let mut labels = Items::new(alloc);
-    for file in files {
-        labels.push(Label::in_record(alloc, file, &[tag::file::NAME])?)?;
-    }
-    Ok(labels)
+    entry(items, index).is_none()
 }
 
-/// Whether an index is no position of a file's imports.
-fn has_no_import(file: &FileDescriptorProto, index: i32) -> bool
-    ensures { result ≡ spec.has_no_import file.now index }
-{
-    entry(&file.dependency, index).is_none()
-}
-
-/// Appends the label of each index of a list that is no position of the file's imports.
-fn add_indexes(row: &Row, labels: &mut Items<Label>, indexes: &[i32]) -> Result<(), AllocError>
-    ensures { OnOk result (labels.new ≡ labels.old
-        ++ spec.index_places row.now.file.now row.now.path.now indexes.now) }
+/// Adds the paths of the indexes of a list that are no positions of a file's imports.
+fn add_imports(
+    paths: &mut Vec<Path>,
+    imports: &Items<Text>,
+    tag: i32,
+    indexes: &[i32],
+) -> Result<(), AllocError>
+    ensures { OnOk result (paths.new.items ≡ paths.old.items
+        ++ spec.outside_imports imports.now tag indexes.now) }
 {
     for (position, index) in indexes.iter().enumerate() {
-        let is_wanted = has_no_import(row.file, *index);
-        add_if(row, labels, position, is_wanted)?;
+        let is_wanted = is_outside(imports, *index);
+        add_if(paths, &[], tag, position, is_wanted)?;
     }
     Ok(())
-}
-
-/// Appends the label of each index of a file that is no position of its imports.
-fn add_imports(
-    alloc: Global,
-    labels: &mut Items<Label>,
-    file: &FileDescriptorProto,
-) -> Result<(), AllocError>
-    ensures { OnOk result (labels.new ≡ labels.old ++ spec.imports_of file.now) }
-{
-    let path = &[tag::file::PUBLIC_DEPENDENCY];
-    let row = Row { alloc, file, path };
-    add_indexes(&row, labels, file.public_dependency.as_slice())?;
-    let path = &[tag::file::WEAK_DEPENDENCY];
-    let row = Row { alloc, file, path };
-    add_indexes(&row, labels, file.weak_dependency.as_slice())
-}
-
-/// The label of each index that is no position of the imports of its file.
-fn import_places(alloc: Global, files: &[FileDescriptorProto]) -> Result<Items<Label>, AllocError>
-    ensures { IfOk result (λ labels. labels ≡ spec.import_places files.now) }
-{
-    let mut labels = Items::new(alloc);
-    for file in files {
-        add_imports(alloc, &mut labels, file)?;
-    }
-    Ok(labels)
 }
 
 /// Whether a field has a oneof index that is no position of the oneofs of its message.
-fn has_no_oneof(message: &DescriptorProto, field: &FieldDescriptorProto) -> bool
-    ensures { result ≡ spec.has_no_oneof message.now field.now }
+fn names_no_oneof(message: &DescriptorProto, field: &FieldDescriptorProto) -> bool
+    ensures { result ≡ spec.names_no_oneof message.now field.now }
 {
     match field.oneof_index {
-        Some(index) => entry(&message.oneof_decl, index).is_none(),
+        Some(index) => is_outside(&message.oneof_decl, index),
         None => false,
     }
 }
 
-/// Appends the label of each field of a list of a message that has a oneof index that is no position
-/// of the message's oneofs.
+/// Adds the paths of the fields of the message at a path whose oneof index is no position.
 fn add_fields(
-    row: &Row,
-    labels: &mut Items<Label>,
-    message: &DescriptorProto,
-) -> Result<(), AllocError>
-    ensures { OnOk result (labels.new ≡ labels.old
-        ++ spec.fields_of row.now.file.now row.now.path.now message.now) }
-{
-    for (position, field) in message.field.as_slice().iter().enumerate() {
-        let is_wanted = has_no_oneof(message, field);
-        add_if(row, labels, position, is_wanted)?;
-    }
-    Ok(())
-}
-
-/// The same of the fields of the message at a path and of all messages in it.
-#[cycle(message)]
-fn add_message(
-    row: &Row,
-    labels: &mut Items<Label>,
+    paths: &mut Vec<Path>,
     path: &[i32],
     message: &DescriptorProto,
 ) -> Result<(), AllocError>
-    ensures { OnOk result (labels.new ≡ labels.old
-        ++ spec.message_places row.now.file.now message.now path.now) }
+    ensures { OnOk result (paths.new.items ≡ paths.old.items
+        ++ spec.outside_oneofs message.now path.now) }
 {
-    let (alloc, file) = (row.alloc, row.file);
-    let fields = list_path(alloc, path, tag::message::FIELD)?;
-    let path_of_fields = Row {
-        alloc,
-        file,
-        path: &fields,
-    };
-    add_fields(&path_of_fields, labels, message)?;
-    let nested = list_path(alloc, path, tag::message::NESTED_TYPE)?;
-    let nested = Row {
-        alloc,
-        file,
-        path: &nested,
-    };
-    add_messages(&nested, labels, &message.nested_type)
-}
-
-/// The same of each message of a list.
-#[cycle(message)]
-fn add_messages(
-    row: &Row,
-    labels: &mut Items<Label>,
-    messages: &Items<DescriptorProto>,
-) -> Result<(), AllocError>
-    ensures { OnOk result (labels.new ≡ labels.old
-        ++ spec.messages_places row.now.file.now row.now.path.now messages.now) }
-{
-    for (position, message) in messages.as_slice().iter().enumerate() {
-        let path = position_path(row, position)?;
-        add_message(row, labels, &path, message)?;
+    for (position, field) in message.field.as_slice().iter().enumerate() {
+        let is_wanted = names_no_oneof(message, field);
+        add_if(paths, path, message::FIELD, position, is_wanted)?;
     }
     Ok(())
 }
 
-/// Appends the label of each field of a file with a oneof index that is no position of the oneofs of
-/// its message.
-fn add_oneofs(
+/// Adds the paths of the indexes that are no positions in the message at a path, and in all in it.
+#[cycle(message)]
+fn add_message(
+    paths: &mut Vec<Path>,
+    path: &[i32],
+    message: &DescriptorProto,
+) -> Result<(), AllocError>
+    ensures { OnOk result (paths.new.items ≡ paths.old.items
+        ++ spec.message_indexes path.now message.now) }
+{
+    add_fields(paths, path, message)?;
+    add_messages(paths, path, message::NESTED_TYPE, &message.nested_type)
+}
+
+/// Adds the paths of the indexes that are no positions in the messages of a list and below.
+#[cycle(message)]
+fn add_messages(
+    paths: &mut Vec<Path>,
+    path: &[i32],
+    tag: i32,
+    messages: &Items<DescriptorProto>,
+) -> Result<(), AllocError>
+    ensures { OnOk result (paths.new.items ≡ paths.old.items
+        ++ spec.messages_indexes path.now tag messages.now) }
+{
+    for (position, message) in messages.as_slice().iter().enumerate() {
+        let at = below(*paths.allocator(), path, tag, position)?;
+        add_message(paths, at.as_slice(), message)?;
+    }
+    Ok(())
+}
+
+/// The paths of a file's indexes that are no positions.
+fn index_paths(alloc: Global, file: &FileDescriptorProto) -> Result<Vec<Path>, AllocError>
+    ensures { IfOk result (λ paths. paths.items ≡ spec.paths_of Index file.now) }
+{
+    let imports = &file.dependency;
+    let mut paths = Vec::new(alloc);
+    add_imports(
+        &mut paths,
+        imports,
+        file::PUBLIC_DEPENDENCY,
+        file.public_dependency.as_slice(),
+    )?;
+    add_imports(
+        &mut paths,
+        imports,
+        file::WEAK_DEPENDENCY,
+        file.weak_dependency.as_slice(),
+    )?;
+    add_messages(&mut paths, &[], file::MESSAGE_TYPE, &file.message_type)?;
+    Ok(paths)
+}
+
+/// The path of the name of a file.
+fn name_paths(alloc: Global) -> Result<Vec<Path>, AllocError>
+    ensures { IfOk result (λ paths. paths.items ≡ (tags.NAME ∷ []) ∷ []) }
+{
+    let mut paths = Vec::new(alloc);
+    paths.push(Path::from_slice(alloc, &[file::NAME])?)?;
+    Ok(paths)
+}
+
+/// The paths of a file at which the faults of a kind can stand.
+fn paths_of(
+    alloc: Global,
+    kind: Unplaced,
+    file: &FileDescriptorProto,
+) -> Result<Vec<Path>, AllocError>
+    ensures { IfOk result (λ paths. paths.items ≡ spec.paths_of kind file.now) }
+{
+    match kind {
+        Unplaced::Name => name_paths(alloc),
+        Unplaced::Index => index_paths(alloc, file),
+    }
+}
+
+/// What labels of a file are made of, in a list of its own.
+fn located(
+    alloc: Global,
+    file: &FileDescriptorProto,
+) -> Result<Vec<FileDescriptorInner>, AllocError>
+    ensures { IfOk result (λ files. (path : List ℤ)
+        → label_in (map (λ f. f.raw) files.items) 0 path ≡ label file.now path) }
+{
+    let mut raw = FileDescriptorProto::empty(alloc);
+    raw.name = duplicate_option(alloc, &file.name)?;
+    raw.source_code_info = duplicate_option(alloc, &file.source_code_info)?;
+    let mut files = Vec::new(alloc);
+    files.push(FileDescriptorInner {
+        syntax: Syntax::Proto2,
+        raw,
+        dependencies: Items::new(alloc),
+        transitive_dependencies: BTreeSet::new(alloc),
+    })?;
+    Ok(files)
+}
+
+/// Adds the labels of paths of a file, whose locations are gone through once.
+fn add_labels(
     alloc: Global,
     labels: &mut Items<Label>,
     file: &FileDescriptorProto,
+    paths: &[Path],
 ) -> Result<(), AllocError>
-    ensures { OnOk result (labels.new ≡ labels.old ++ spec.oneofs_of file.now) }
+    ensures { OnOk result (labels.new ≡ labels.old ++ map (label file.now) paths.now) }
 {
-    let path = &[tag::file::MESSAGE_TYPE];
-    add_messages(&Row { alloc, file, path }, labels, &file.message_type)
-}
-
-/// The label of each field with a oneof index that is no position of the oneofs of its message.
-fn oneof_places(alloc: Global, files: &[FileDescriptorProto]) -> Result<Items<Label>, AllocError>
-    ensures { IfOk result (λ labels. labels ≡ spec.oneof_places files.now) }
-{
-    let mut labels = Items::new(alloc);
-    for file in files {
-        add_oneofs(alloc, &mut labels, file)?;
+    if paths.is_empty() {
+        return Ok(());
     }
-    Ok(labels)
+    let files = located(alloc, file)?;
+    let mut spans = Labels::new(alloc, &files);
+    for path in paths {
+        let label = spans.label(0, path.as_slice())?;
+        labels.push(label)?;
+    }
+    Ok(())
 }
 
-/// The places of a kind in files.
-///
-/// # Errors
-/// `AllocError` where memory was refused.
-pub(crate) fn labels_of(
-    alloc: Global,
-    kind: Unplaced,
-    files: &[FileDescriptorProto],
-) -> Result<Items<Label>, AllocError>
-    ensures { IfOk result (λ labels. labels ≡ spec.labels_of kind files.now) }
+/// Whether a fault is of a kind without a label.
+fn is_of(kind: Unplaced, fault: &Fault) -> bool
+    ensures { result ≡ spec.is_of kind fault.now }
 {
     match kind {
-        Unplaced::Name => name_places(alloc, files),
-        Unplaced::Import => import_places(alloc, files),
-        Unplaced::Oneof => oneof_places(alloc, files),
+        Unplaced::Name => matches!(fault, Fault::DuplicateFileName { .. }),
+        Unplaced::Index => matches!(fault, Fault::InvalidImportIndex | Fault::InvalidOneofIndex),
+    }
+}
+
+/// Whether one of some faults is of a kind without a label.
+fn has(kind: Unplaced, faults: &[Fault]) -> bool
+    ensures { result ≡ list_any (spec.is_of kind) faults.now }
+{
+    faults.iter().any(|fault| is_of(kind, fault))
+}
+
+/// The places in files at which faults of a kind can stand, in order.
+fn places_of(
+    alloc: Global,
+    files: &[FileDescriptorProto],
+    kind: Unplaced,
+) -> Result<Items<Label>, AllocError>
+    ensures { IfOk result (λ places. places ≡ spec.places_of kind files.now) }
+{
+    let mut places = Items::new(alloc);
+    for file in files {
+        let paths = paths_of(alloc, kind, file)?;
+        add_labels(alloc, &mut places, file, &paths)?;
+    }
+    Ok(places)
+}
+
+/// The places in files at which faults of a kind can stand, in order, where one of some faults is
+/// of it.
+pub(crate) fn places_for(
+    alloc: Global,
+    files: &[FileDescriptorProto],
+    faults: &[Fault],
+    kind: Unplaced,
+) -> Result<Items<Label>, AllocError>
+    ensures { IfOk result (λ places. places ≡ spec.places_for files.now faults.now kind) }
+{
+    if has(kind, faults) {
+        return places_of(alloc, files, kind);
+    }
+    Ok(Items::new(alloc))
+}
+
+/// The first label that names a file.
+fn label_of<'a>(labels: &'a [Label], file: &str) -> Option<&'a Label>
+    ensures { option_copied result ≡ find (λ l. bytes_eq l.file file.now) labels.now }
+{
+    labels.iter().find(|label| label.file() == file)
+}
+
+/// Where a fault stands, by the names of files and by the indexes that no earlier fault has.
+pub(crate) fn place_among<'a>(
+    names: &'a [Label],
+    left: &'a [Label],
+    fault: &'a Fault,
+) -> Option<&'a Label>
+    ensures { option_copied result ≡ spec.place_among names.now left.now fault.now }
+{
+    match fault {
+        Fault::DuplicateFileName { name } => label_of(names, name.as_str()),
+        Fault::InvalidImportIndex | Fault::InvalidOneofIndex => left.first(),
+        _ => fault.label(),
+    }
+}
+
+/// The indexes that are left behind a fault.
+pub(crate) fn left_behind<'a>(left: &'a [Label], fault: &Fault) -> &'a [Label]
+    ensures { result.now ≡ drop (spec.one_if (spec.is_of Index fault.now)) left.now }
+{
+    let takes = is_of(Unplaced::Index, fault);
+    match left {
+        [_, rest @ ..] if takes => rest,
+        _ => left,
     }
 }

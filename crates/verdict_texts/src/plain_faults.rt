@@ -5,7 +5,6 @@ ghost use Rattle.verdict_texts.specs.PlainFaults as spec;
 
 use crate::lines::write_line;
 use crate::telling::{Position, ToldFault, ToldPlace, ToldSecond};
-use plain_data::Text;
 use std::alloc::{AllocError, Global};
 
 /// A line and a column of a file.
@@ -54,25 +53,18 @@ fn fault_words(alloc: Global, told: &ToldFault) -> Result<String, AllocError>
     }
 }
 
-/// The element of a place, in brackets, if there is one.
-fn bracketed(alloc: Global, element: &Option<Text>) -> Result<String, AllocError>
-    ensures { IfOk result (λ s. string_bytes s ≡ spec.bracketed element.now) }
-{
-    match element {
-        Some(element) => {
-            let element = element.as_str();
-            format!(in alloc; " ('{element}')")
-        }
-        None => Ok(String::new(alloc)),
-    }
-}
-
-/// The same, where the line does not tell the element.
+/// The element of a place, in brackets, if there is one and the line does not tell it.
 fn bracketed_words(alloc: Global, place: &ToldPlace) -> Result<String, AllocError>
     ensures { IfOk result (λ s. string_bytes s ≡ spec.bracketed_words place.now) }
 {
     match place.position {
-        Some(_) => bracketed(alloc, &place.element),
+        Some(_) => match &place.element {
+            Some(element) => {
+                let element = element.as_str();
+                format!(in alloc; " ('{element}')")
+            }
+            None => Ok(String::new(alloc)),
+        },
         None => Ok(String::new(alloc)),
     }
 }

@@ -6,6 +6,7 @@ ghost use Rattle.verdict_texts.specs.PlainFaults.{fault_lines};
 ghost use Rattle.verdict_texts.specs.Refused as spec;
 
 use crate::grouped::{grouped, grouped_count};
+use crate::places::no_room;
 use crate::plain_faults::write_fault_lines;
 use crate::telling::{ToldFault, tell_faults};
 use plain_data::Items;
@@ -63,12 +64,10 @@ pub fn tell_refusal(
 {
     let first = first_faults(batch.faults, most);
     let told = tell_faults(alloc, batch.linked, batch.files, first)?;
-    let Some(count) = batch.faults.len().checked_add(batch.rest) else {
-        // No number is left for the faults, so this asks for more room than can be granted.
-        String::new(alloc).reserve(usize::MAX)?;
-        return Err(AllocError);
-    };
-    Ok(ToldRefusal { told, count })
+    match batch.faults.len().checked_add(batch.rest) {
+        Some(count) => Ok(ToldRefusal { told, count }),
+        None => Err(no_room(alloc)),
+    }
 }
 
 impl ToldRefusal {

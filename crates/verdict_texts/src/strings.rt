@@ -1,8 +1,9 @@
-ghost use Rattle.std.specs.Prelude.{◌≡◌, ◌<◌, ◌++◌, IfOk, OnOk, string_bytes};
-ghost use Rattle.std.specs.Char.{digit_char};
+ghost use Rattle.std.specs.Prelude.{◌≡◌, ◌++◌, IfOk, OnOk, string_bytes};
 ghost use Rattle.verdict_texts.specs.JsonStrings as spec;
 
+use crate::plain::Escape;
 use std::alloc::{AllocError, Global};
+use std::fmt::Write;
 
 /// A text as a string of JSON, with its quotes.
 ///
@@ -47,33 +48,11 @@ fn write_json_char(text: &mut String, c: char) -> Result<(), AllocError>
         '\u{2029}' => text.push_str("\\u2029"),
         _ => {
             if c < ' ' {
-                write_control(text, c)
+                let escape = Escape(u32::from(c));
+                write!(text, "{escape}")
             } else {
                 text.push(c)
             }
         }
-    }
-}
-
-/// Writes the escape of a control character by its number.
-fn write_control(text: &mut String, c: char) -> Result<(), AllocError>
-    requires { c < 32 }
-    ensures { OnOk result (string_bytes text.new ≡ string_bytes text.old ++ spec.control_escape c) }
-{
-    let code = u32::from(c);
-    let (high, low) = (hex_digit(code / 16), hex_digit(code % 16));
-    text.push_str("\\u00")?;
-    text.push(high)?;
-    text.push(low)
-}
-
-/// A hexadecimal digit.
-fn hex_digit(value: u32) -> char
-    requires { value < 16 }
-    ensures { result ≡ digit_char value }
-{
-    match char::from_digit(value, 16) {
-        Some(digit) => digit,
-        None => '0',
     }
 }

@@ -8,11 +8,10 @@ ghost use Rattle.verdict_texts.specs.FaultKinds.{is_of_reference, told_kind};
 ghost use Rattle.verdict_texts.specs.Telling as spec;
 
 use crate::elements::element_of;
-use crate::fault_kinds::{FaultKind, fault_kind, fault_message};
+use crate::fault_kinds::{FaultKind, fault_kind};
 use crate::known::{Known, records};
 use crate::notes::note;
-use crate::placed::{Left, place_among, places_for};
-use crate::places::Places;
+use crate::places::{Unplaced, left_behind, place_among, places_for};
 use plain_data::{Items, Text};
 use pool_faults::{DescriptorErrorKind, Label};
 use pool_types::FileDescriptorInner;
@@ -71,22 +70,12 @@ fn position_of(span: [i32; 4]) -> Position
     }
 }
 
-/// Where a span begins, if there is one.
-fn position_if(span: Option<[i32; 4]>) -> Option<Position>
-    ensures { result ≡ option_map spec.position_of span }
-{
-    match span {
-        Some(span) => Some(position_of(span)),
-        None => None,
-    }
-}
-
 /// A label as it is told.
 fn told_place(alloc: Global, known: &Known, label: &Label) -> Result<ToldPlace, AllocError>
     ensures { IfOk result (λ place. place ≡ spec.told_place known.now.0 label.now) }
 {
     let file = Text::from_str(alloc, label.file())?;
-    let position = position_if(label.span());
+    let position = label.span().map(position_of);
     let path = Items::from_slice(alloc, label.path())?;
     let element = element_of(alloc, known, label)?;
     Ok(ToldPlace {
@@ -142,7 +131,7 @@ fn told_fault(
 {
     let kind = fault_kind(fault);
     let code = Text::from_str(alloc, kind.code)?;
-    let message = Text::from_string(fault_message(alloc, fault)?);
+    let message = Text::from_string(format!(in alloc; "{fault}")?);
     let place = told_if(alloc, known, place)?;
     let second = told_second(alloc, known, kind)?;
     let note = note(alloc, known, fault)?;
@@ -155,29 +144,26 @@ fn told_fault(
     })
 }
 
-/// Faults from the first on, as they are told. The k-th of a kind without a label stands at the k-th
-/// place of that kind, and one of a name of a file at the first place with that name.
+/// Faults from the first on, as they are told. One of a name of a file stands at the first place
+/// with that name, and the k-th of an index at the k-th place of an index.
 fn tell_each(
     alloc: Global,
     known: &Known,
-    places: &Places,
+    names: &[Label],
+    indexes: &[Label],
     faults: &[DescriptorErrorKind],
 ) -> Result<Items<ToldFault>, AllocError>
     requires { IsTrue (list_any is_of_reference faults.now) → IsTrue known.now.1 }
     ensures { IfOk result (λ told. told
-        ≡ flat_map_after (spec.told_after known.now.0 places.now) faults.now) }
+        ≡ flat_map_after (spec.told_after known.now.0 names.now indexes.now) faults.now) }
 {
-    let names = places.names.as_slice();
-    let mut left = Left {
-        imports: places.imports.as_slice(),
-        oneofs: places.oneofs.as_slice(),
-    };
+    let mut left = indexes;
     let mut told = Items::new(alloc);
     for fault in faults {
-        let place = place_among(names, &left, fault);
+        let place = place_among(names, left, fault);
         let next = told_fault(alloc, known, fault, place)?;
         told.push(next)?;
-        left = left.behind(fault);
+        left = left_behind(left, fault);
     }
     Ok(told)
 }
@@ -198,6 +184,7 @@ pub fn tell_faults(
 {
     let records = records(alloc, linked, files)?;
     let known = Known::for_faults(alloc, records, faults)?;
-    let places = places_for(alloc, files, faults)?;
-    tell_each(alloc, &known, &places, faults)
+    let names = places_for(alloc, files, faults, Unplaced::Name)?;
+    let indexes = places_for(alloc, files, faults, Unplaced::Index)?;
+    tell_each(alloc, &known, names.as_slice(), indexes.as_slice(), faults)
 }

@@ -13,7 +13,7 @@ fn wire_words(kind: WireFaultKind) -> &'static str
     match kind {
         WireFaultKind::Truncated => "a field is cut off",
         WireFaultKind::LongVarint => "a number has more than ten bytes",
-        WireFaultKind::LargeTag => "a tag has more than five bytes",
+        WireFaultKind::LargeTag => "a tag has more than five bytes or more than 32 bits",
         WireFaultKind::FieldNumberZero => "a field has the number 0",
         WireFaultKind::UnknownWireType => "a field has an unknown wire type",
         WireFaultKind::EndGroup => "a group ends that did not begin",

@@ -1,6 +1,5 @@
 use Rattle.std.proofs.Common.{take}
-use Rattle.verdict_texts.specs.Named.{Enters}
-use Rattle.verdict_texts.specs.Types.{enum_names}
+use Rattle.verdict_texts.specs.Named.{Enters, enum_names}
 use Rattle.verdict_texts.proofs.declaring.enter_enums.Given as goal
 
 -- the enums so far are entered

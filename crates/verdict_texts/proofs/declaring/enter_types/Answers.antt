@@ -1,7 +1,7 @@
-use Rattle.std.proofs.Common.{rules, ◌≡◌, List, ℕ, OnOk, subst}
+use Rattle.std.proofs.Common.{rules, ◌≡◌, List, ℕ, OnOk, subst, sym}
 use Rattle.proto_types.specs.Readers.{text_of}
-use Rattle.verdict_texts.specs.Named.{Enters}
-use Rattle.verdict_texts.specs.Types.{enum_names, messages_types}
+use Rattle.verdict_texts.specs.Named.{Enters, enum_names, types_in}
+use Rattle.verdict_texts.proofs.Declared.{file-named}
 use Rattle.verdict_texts.proofs.Entering.{enters-both}
 use Rattle.verdict_texts.proofs.Results.{on-ok}
 use Rattle.verdict_texts.proofs.declaring.enter_types.Goals as goal
@@ -15,6 +15,7 @@ returns c =
     let a = c.args.names.now in
     let b = c.enter_messages.new.names in
     let d = c.enter_enums.new.names in
-    let first = subst (λ (s : List ℕ). Enters a b c.args.at (messages_types s f.message_type)) is c.in_ok-enter_messages.ensures in
+    let first = subst (λ (s : List ℕ). Enters a b c.args.at (types_in s f.message_type)) is c.in_ok-enter_messages.ensures in
     let second = subst (λ (s : List ℕ). OnOk c.enter_enums.result (Enters b d c.args.at (enum_names s f.enum_type))) is c.enter_enums.ensures in
-    on-ok c.enter_enums.result (λ last. enters-both a b d c.args.at (messages_types scope f.message_type) (enum_names scope f.enum_type) first last) second
+    on-ok c.enter_enums.result
+    (λ last. subst (Enters a d c.args.at) (sym (file-named f)) (enters-both a b d c.args.at (types_in scope f.message_type) (enum_names scope f.enum_type) first last)) second

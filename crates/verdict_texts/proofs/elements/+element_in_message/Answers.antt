@@ -3,7 +3,7 @@ use Rattle.proto_types.specs.Names.{join}
 use Rattle.proto_types.specs.declared.message.DescriptorProto.{out-DescriptorProto}
 use Rattle.proto_types.specs.declared.tag.message.TheConstants as message
 use Rattle.plain_data.specs.Lists.{at}
-use Rattle.verdict_texts.specs.Elements.{element_in_message, message_name}
+use Rattle.verdict_texts.specs.Elements.{message_name}
 use Rattle.verdict_texts.proofs.Going.{element-on}
 use Rattle.verdict_texts.proofs.elements.+element_in_message.Goals as goal
 

@@ -1,10 +1,9 @@
-use Rattle.std.proofs.Common.{rules, ◌≡◌, ◌++◌, ◌∷◌, [], ℕ, List, Bor, None, true, is_some, length, map, take, OnOk, sym, subst, ap, ◌∙◌}
+use Rattle.std.proofs.Common.{rules, ◌≡◌, ◌++◌, ◌∷◌, [], ℕ, List, Bor, None, true, is_some, length, map, take, sym, subst, ◌∙◌}
 use Rattle.std.specs.FinMap as finite
 use Rattle.pool_types.specs.Contents.{ByText}
 use Rattle.proto_types.specs.Readers.{text_of}
 use Rattle.proto_types.specs.declared.file.FileDescriptorProto.{FileDescriptorProto}
 use Rattle.verdict_texts.specs.Named.{AreNamed, Enters}
-use Rattle.verdict_texts.specs.declared.known.NamedFiles.{NamedFiles}
 use Rattle.verdict_texts.proofs.Naming.{named-again, named-new, records-length, records-next}
 use Rattle.verdict_texts.proofs.Results.{on-ok}
 use Rattle.verdict_texts.proofs.known.add_file.Goals as goal

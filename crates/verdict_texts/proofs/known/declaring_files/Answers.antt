@@ -1,10 +1,12 @@
-use Rattle.std.proofs.Common.{◌≡◌, ℕ, List, Bor, length, map, take, sym, subst, ap, ◌∙◌}
+use Rattle.std.proofs.Common.{◌≡◌, ℕ, List, Bor, [], ◌∷◌, length, map, take, sym, subst, ap, ◌∙◌}
 use Rattle.std.specs.FinMap as finite
 use Rattle.std.specs.Cmp.Lexicographic.{slice_cmp}
 use Rattle.std.specs.Ordering.{nat_cmp}
 use Rattle.proto_types.specs.declared.file.FileDescriptorProto.{FileDescriptorProto}
 use Rattle.verdict_texts.specs.Named.{AreDeclaring, Enters}
-use Rattle.verdict_texts.specs.Types.{file_types}
+use Rattle.record_walk.specs.Counts.{no_counts}
+use Rattle.record_walk.specs.Declarations.{declarations}
+use Rattle.verdict_texts.specs.Known.{type_names}
 use Rattle.verdict_texts.proofs.Naming.{declaring-next, records-length, records-next}
 use Rattle.verdict_texts.proofs.known.declaring_files.Goals as goal
 
@@ -23,4 +25,4 @@ loop-at-preserved c =
     let number : c.in_ok-number_of.field-0 ≡ length files = c.in_ok-number_of.ensures ∙ records-length xs i c.loop-at-test.true in
     subst (AreDeclaring new) (sym (records-next xs i c.index-files-at.result c.loop-at-test.true c.index-files-at.is))
     (declaring-next c.loop-at.names new files f c.loop-at.invariant
-    (subst (λ (n : ℕ). Enters c.loop-at.names new n (file_types f)) number c.in_ok-enter_types.ensures))
+    (subst (λ (n : ℕ). Enters c.loop-at.names new n (type_names (declarations no_counts (f ∷ [])))) number c.in_ok-enter_types.ensures))

@@ -1,4 +1,4 @@
-use Rattle.std.proofs.Common.{◌≡◌, Bor, map, slice_get, sym, ap, ◌∙◌, List}
+use Rattle.std.proofs.Common.{Bor, map, slice_get, sym, ap, ◌∙◌, List}
 use Rattle.std.specs.Option.{option_and_then}
 use Rattle.proto_types.specs.declared.file.FileDescriptorProto.{FileDescriptorProto}
 use Rattle.verdict_texts.proofs.Naming.{declaring-is}

@@ -1,4 +1,4 @@
-use Rattle.std.proofs.Common.{rules, ◌≡◌, Bor, Option, None, false, true, is_some, cond, map, slice_get, sym, ap, ◌∙◌, List}
+use Rattle.std.proofs.Common.{rules, ◌≡◌, Bor, None, false, true, is_some, cond, map, slice_get, sym, ap, ◌∙◌, List}
 use Rattle.std.specs.FinMap as finite
 use Rattle.std.specs.Option.{option_and_then}
 use Rattle.proto_types.specs.declared.file.FileDescriptorProto.{FileDescriptorProto}

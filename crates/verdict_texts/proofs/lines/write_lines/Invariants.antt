@@ -1,9 +1,0 @@
-use Rattle.std.proofs.Common.{◌≡◌, ◌++◌, string_bytes}
-use Rattle.std.specs.List.{flat_map}
-use Rattle.verdict_texts.specs.Lines.{char_of_lines}
-use Rattle.verdict_texts.proofs.lines.write_lines.Given as goal
-
--- the characters so far are written
-abbrev pub invariant-loop-c : goal.invariant-loop-c
-invariant-loop-c l =
-    string_bytes l.text ≡ string_bytes l.fn.text ++ flat_map char_of_lines l.yielded

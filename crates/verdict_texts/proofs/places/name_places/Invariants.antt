@@ -1,7 +1,0 @@
-use Rattle.std.proofs.Common.{◌≡◌, take}
-use Rattle.verdict_texts.specs.Places.{name_places}
-use Rattle.verdict_texts.proofs.places.name_places.Given as goal
-
--- the files so far are looked at
-abbrev pub invariant-loop-file : goal.invariant-loop-file
-invariant-loop-file l = l.labels ≡ name_places (take l.file-index l.files)
