@@ -6,7 +6,7 @@ use Rattle.message_values.specs.Values.{Value, Numbered}
 use Rattle.message_values.specs.Schema.{Schema, Kind, Field, Cardinality, Optional, Required, Repeated}
 use Rattle.message_values.specs.Numbers.{Coding, Form, form}
 use Rattle.message_values.specs.Numbers as form
-use Rattle.message_values.specs.Fields.{Item, Number, Text, Message, Taken, Items, items_in, is_repeated, in_one, clears, taken, items_from, merge_all, counted, value}
+use Rattle.message_values.specs.Fields.{Item, Number, Bits, Text, Message, Taken, Items, items_in, is_repeated, in_one, clears, taken, items_from, merge_all, counted, value}
 use Rattle.message_values.specs.Reading.{Fact, OfMessage, OfMessages, TakenWith, IsTaken, AreTaken, TooDeep, AreWellFormed, HasRequired, IsComplete, IsRead}
 use Rattle.message_values.specs.Writing.{IsValue, Besides, IsValueOf, occurs, IsWrittenOver, IsWritten}
 use Rattle.message_values.specs.Kept.{Pairs, KeepsForm, KeepsCardinality, KeepsField, KeepsMessage, KeepsAll}
@@ -21,6 +21,7 @@ use Rattle.message_values.proofs.Parts.{Splits, OfItem, counted-parts, HoldsMess
 lift : (P Q : List Numbered → Type 0) → ((vs : List Numbered) → P vs → Q vs) → (x : Item) → OfItem P x → OfItem Q x
 lift P Q f (Message vs) h = f vs h
 lift P Q f (Number n) h = tt
+lift P Q f (Bits n) h = tt
 lift P Q f (Text t) h = tt
 
 -- a form of messages with an index
@@ -30,14 +31,14 @@ record AtMessage (F : Form) (a : ℕ) : Type 1 where
 
 at-message : (a : ℕ) → AtMessage (form.Message a) a
 at-message a = record {
-  to = λ P. elim [ Message vs ↦ λ h. h | Number n ↦ λ h. h | Text t ↦ λ h. h ];
-  from = λ P. elim [ Message vs ↦ λ h. h | Number n ↦ λ h. h | Text t ↦ λ h. h ];
+  to = λ P. elim [ Message vs ↦ λ h. h | Number n ↦ λ h. h | Bits n ↦ λ h. h | Text t ↦ λ h. h ];
+  from = λ P. elim [ Message vs ↦ λ h. h | Number n ↦ λ h. h | Bits n ↦ λ h. h | Text t ↦ λ h. h ];
 }
 
 at-group : (a : ℕ) → AtMessage (form.Group a) a
 at-group a = record {
-  to = λ P. elim [ Message vs ↦ λ h. h | Number n ↦ λ h. h | Text t ↦ λ h. h ];
-  from = λ P. elim [ Message vs ↦ λ h. h | Number n ↦ λ h. h | Text t ↦ λ h. h ];
+  to = λ P. elim [ Message vs ↦ λ h. h | Number n ↦ λ h. h | Bits n ↦ λ h. h | Text t ↦ λ h. h ];
+  from = λ P. elim [ Message vs ↦ λ h. h | Number n ↦ λ h. h | Bits n ↦ λ h. h | Text t ↦ λ h. h ];
 }
 
 -- the messages of an old and of a new form
@@ -63,9 +64,9 @@ linked : (pairs : Pairs) (s t : Schema) (k l : Kind) (F G : Form) → KeepsForm 
 linked pairs s t k l (form.Number c) (form.Number d) h = IsBare (record { new = λ P x. tt; both = λ B x. tt })
 linked pairs s t k l form.Text form.Text h = IsBare (record { new = λ P x. tt; both = λ B x. tt })
 linked pairs s t k l (form.Message a) (form.Message b) h =
-    IsPair (record { a = a; b = b; pair = h; old = at-message a; new = at-message b; both = λ B. elim [ Message vs ↦ λ h. h | Number n ↦ λ h. h | Text t ↦ λ h. h ]; holds = tt })
+    IsPair (record { a = a; b = b; pair = h; old = at-message a; new = at-message b; both = λ B. elim [ Message vs ↦ λ h. h | Number n ↦ λ h. h | Bits n ↦ λ h. h | Text t ↦ λ h. h ]; holds = tt })
 linked pairs s t k l (form.Group a) (form.Group b) h =
-    IsPair (record { a = a; b = b; pair = h; old = at-group a; new = at-group b; both = λ B. elim [ Message vs ↦ λ h. h | Number n ↦ λ h. h | Text t ↦ λ h. h ]; holds = tt })
+    IsPair (record { a = a; b = b; pair = h; old = at-group a; new = at-group b; both = λ B. elim [ Message vs ↦ λ h. h | Number n ↦ λ h. h | Bits n ↦ λ h. h | Text t ↦ λ h. h ]; holds = tt })
 linked pairs s t k l _ _ h = absurd h
 
 -- ---- cardinalities

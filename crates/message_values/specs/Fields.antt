@@ -4,12 +4,14 @@ use Rattle.std.specs.Str.{is_utf8}
 use Rattle.message_values.specs.Values.{Value, Bytes, Group, Numbered, listed, values}
 use Rattle.message_values.specs.Schema.{Schema, Kind, Field, Cardinality, Optional, Required, Repeated}
 use Rattle.message_values.specs.Schema as kind
-use Rattle.message_values.specs.Numbers.{Coding, Form, form, raw, packed, number_read}
+use Rattle.message_values.specs.Numbers.{Coding, FloatBits, DoubleBits, Form, form, raw, packed, number_read}
 use Rattle.message_values.specs.Numbers as form
 
--- a value that a field has: a number, a text or bytes, or a message by its numbered values
+-- a value that a field has: a number; a float or a double, by its bits; a text or bytes; or a
+-- message by its numbered values
 pub data Item : Type 0 where
   Number : ℤ → Item
+  Bits : ℤ → Item
   Text : List ℕ → Item
   Message : List Numbered → Item
 
@@ -30,9 +32,15 @@ abbrev pub has_text : Kind → List ℕ → Bool
 has_text (kind.Text checked) bytes = not checked || is_utf8 bytes
 has_text _ bytes = true
 
--- the item of a number, if it is one of the kind
-abbrev pub number_taken : Schema → Kind → ℕ → Option Item
-number_taken s k n = option_map Number (number_read s k n)
+-- the item that a number of a coding is
+abbrev pub number_item : Coding → ℤ → Item
+number_item FloatBits x = Bits x
+number_item DoubleBits x = Bits x
+number_item _ x = Number x
+
+-- the item of a number of a coding, if it is one of the kind
+abbrev pub number_taken : Schema → Kind → Coding → ℕ → Option Item
+number_taken s k c n = option_map (number_item c) (number_read s k n)
 
 -- one item, or nothing known
 abbrev pub one_taken : Option Item → Taken
@@ -40,19 +48,19 @@ one_taken (Some x) = Items (x ∷ [])
 one_taken None = Unknown
 
 -- packed numbers, but for those that are none of the kind
-abbrev pub packed_taken : Schema → Kind → Option (List ℕ) → Taken
-packed_taken s k None = Refused
-packed_taken s k (Some ns) = Items (filter_map (number_taken s k) ns)
+abbrev pub packed_taken : Schema → Kind → Coding → Option (List ℕ) → Taken
+packed_taken s k c None = Refused
+packed_taken s k c (Some ns) = Items (filter_map (number_taken s k c) ns)
 
 -- a value that isn't a number of the coding: a repeated field takes packed numbers
 abbrev pub other_taken : Schema → Field → Coding → Value → Taken
 other_taken s f c (Bytes bytes) =
-    if is_repeated f.cardinality then packed_taken s f.kind (packed c bytes) else Unknown
+    if is_repeated f.cardinality then packed_taken s f.kind c (packed c bytes) else Unknown
 other_taken s f c _ = Unknown
 
 -- what a field of numbers takes of a value: the number that it is, or packed ones
 abbrev pub numbers_taken : Schema → Field → Coding → Value → Option ℕ → Taken
-numbers_taken s f c v (Some n) = one_taken (number_taken s f.kind n)
+numbers_taken s f c v (Some n) = one_taken (number_taken s f.kind c n)
 numbers_taken s f c v None = other_taken s f c v
 
 -- a message by its values; bytes that are none refuse all

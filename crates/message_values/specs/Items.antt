@@ -4,12 +4,14 @@ use Rattle.message_values.specs.Values.{Value, Values, listed, values}
 use Rattle.message_values.specs.Schema.{Schema, Kind, Field}
 use Rattle.message_values.specs.Numbers.{Form, form, has_number}
 use Rattle.message_values.specs.Numbers as form
-use Rattle.message_values.specs.Fields.{Item, Number, Text, Message, Items, has_text, taken}
+use Rattle.message_values.specs.Fields.{Item, Number, Bits, Text, Message, Items, has_text, number_item, taken}
 use Rattle.message_values.specs.Writing.{IsValue}
 
--- an item of a kind: a number that it has, a text, or a message that bytes or a group say
+-- an item of a kind: a number that it has, or its bits, a text, or a message that bytes or a group
+-- say
 abbrev pub IsItemAs : Schema → Kind → Form → Item → Type 0
-IsItemAs s k (form.Number c) (Number x) = has_number s k x ≡ true
+IsItemAs s k (form.Number c) (Number x) = (number_item c x ≡ Number x) × (has_number s k x ≡ true)
+IsItemAs s k (form.Number c) (Bits x) = (number_item c x ≡ Bits x) × (has_number s k x ≡ true)
 IsItemAs s k form.Text (Text bytes) = has_text k bytes ≡ true
 IsItemAs s k (form.Message m) (Message vs) = (bytes : List ℕ) × (values bytes ≡ Some vs)
 IsItemAs s k (form.Group m) (Message vs) = (ws : Values) × (listed ws ≡ vs)

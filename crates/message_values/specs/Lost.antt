@@ -7,13 +7,22 @@ use Rattle.message_values.specs.Schema.{Schema, Kind, Field, Optional, Required,
 use Rattle.message_values.specs.Schema as kind
 use Rattle.message_values.specs.Reading.{IsRead}
 use Rattle.message_values.specs.Writing.{IsWritten}
+use Rattle.message_values.specs.Kept.{KeepsAll}
 use Rattle.message_values.specs.Carried.{AreCarried}
 
--- an old schema writes a message that a new one does not read, or reads otherwise
+-- an old schema writes a message, of some levels, that a new one does not read, or reads otherwise
 pub record Loses (old new : Schema) : Type 0 where
+  pub levels : ℕ
   pub values : List Numbered
-  pub written : IsWritten old (λ _ _. false) 0 0 values
-  pub lost : IsRead new 0 0 values → AreCarried old new 0 0 0 values → ⊥
+  pub written : IsWritten old (λ _ _. false) levels 0 values
+  pub lost : IsRead new levels 0 values → AreCarried old new levels 0 0 values → ⊥
+
+-- two steps from an old schema to a newer one, of which each keeps the one before, and which lose
+-- something together
+pub record LosesTogether (old between new : Schema) : Type 0 where
+  pub first : KeepsAll (λ _ _. true) (λ _ _. false) old between
+  pub second : KeepsAll (λ _ _. true) (λ _ _. false) between new
+  pub both : Loses old new
 
 -- a schema whose messages have a field with the number 1, and maybe one with the number 2; its
 -- enums have the numbers that pass a test
@@ -51,6 +60,29 @@ two_fields f = fields_one_and_two f (Some f) (λ x. false)
 abbrev pub enum_of : ℤ → Schema
 enum_of n = fields_one_and_two (optional (kind.Enum 0)) None (λ x. int_eq x n)
 
+-- a schema whose messages have no field
+abbrev pub no_field : Schema
+no_field = record { field = λ m n. None; has_value = λ e x. false }
+
+-- a schema whose first message has one field, with number 1, and whose other messages have another
+abbrev pub field_within : Field → Option Field → Schema
+field_within f g = record {
+  field = λ m n. if n == 1 then (if m == 0 then Some f else g) else None;
+  has_value = λ e x. false;
+}
+
+-- a field that holds a message, in which there is an optional field of a kind
+abbrev pub message_of : Kind → Schema
+message_of k = field_within (optional (kind.Message 1)) (Some (optional k))
+
+-- a field of a kind, beside messages without fields
+abbrev pub holding : Kind → Schema
+holding k = field_within (optional k) None
+
+-- a field that holds messages in which a number is required
+abbrev pub needing : Field → Schema
+needing f = field_within f (Some (required kind.Int32))
+
 -- an optional field of one kind gets another
 abbrev pub kinds : Kind → Kind → Schema × Schema
 kinds k l = (field_one (optional k), field_one (optional l))
@@ -81,6 +113,12 @@ losing =
     ∷ kinds kind.Sfixed64 kind.Fixed64
     ∷ kinds kind.Int32 kind.Fixed32
     ∷ kinds kind.Fixed32 kind.Fixed64
+    ∷ kinds kind.Float kind.Fixed32
+    ∷ kinds kind.Fixed32 kind.Float
+    ∷ kinds kind.Float kind.Sfixed32
+    ∷ kinds kind.Double kind.Fixed64
+    ∷ kinds kind.Fixed64 kind.Double
+    ∷ kinds kind.Double kind.Sfixed64
     ∷ kinds kind.Int32 kind.Bytes
     ∷ kinds kind.Bytes kind.Int32
     ∷ kinds kind.Int32 (kind.Enum 0)
@@ -88,4 +126,10 @@ losing =
     ∷ (field_one (repeated kind.Int32), field_one (optional kind.Int32))
     ∷ (two_fields (optional kind.Int32), two_fields (in_oneof kind.Int32))
     ∷ (field_one (optional kind.Int32), field_one (required kind.Int32))
+    ∷ (message_of kind.Int32, message_of kind.Sint32)
+    ∷ (holding (kind.Message 1), holding (kind.Group 1))
+    ∷ (holding (kind.Group 1), holding (kind.Message 1))
+    ∷ (holding (kind.Message 1), holding kind.Bytes)
+    ∷ (holding kind.Bytes, holding (kind.Message 1))
+    ∷ (needing (optional (kind.Message 1)), needing (repeated (kind.Message 1)))
     ∷ []

@@ -12,13 +12,14 @@ use Rattle.message_values.specs.Steps.{AreJoined, StaysRemoved}
 use Rattle.message_values.proofs.Joined.{all-joined}
 use Rattle.message_values.proofs.Step.{law, keeps-all-own}
 use Rattle.schema_changes.specs.declared.entries.Entry.{Entry}
-use Rattle.schema_changes.specs.Parts.{parts_of, one_name}
+use Rattle.schema_changes.specs.Parts.{parts_of}
+use Rattle.schema_changes.specs.MapEntries.{are_paired}
 use Rattle.schema_changes.specs.Entries.{entry_at, field_seen, field_at, schema_of}
 use Rattle.schema_changes.specs.Unchanged.{LookUp}
 use Rattle.schema_changes.specs.Pools.{NamesMean}
 use Rattle.schema_changes.specs.Chains.{last_of, goes_on, AllLookUp, NoneChanges, StaysFree, AllStayFree}
 use Rattle.schema_changes.proofs.Forms.{named_alike}
-use Rattle.schema_changes.proofs.Keeping.{mapped, both-named}
+use Rattle.schema_changes.proofs.Keeping.{mapped, both-paired}
 use Rattle.schema_changes.proofs.Named.{pool-kept}
 
 some-of : {A : Type 0} (p : A → Bool) (xs : List A) → list_any p xs ≡ true → (x : A) × (p x ≡ true)
@@ -44,21 +45,21 @@ none-before p m i h = by (entry_at (parts_of p) m i) h
 joined : (p q : Contents) (qs : List Contents) → AreJoined (named_alike (λ m. true) (parts_of p) (parts_of q)) (goes_on q qs) (goes_on p (q ∷ qs))
 unfolding goes_on
 joined p q qs = record {
-  between = λ m n h. let e = some-of (λ e. one_name (parts_of p) m (parts_of q) e.0 && goes_on q qs e.0 n) (enumerate_from 0 q.messages) h in
-      let both = and_parts (one_name (parts_of p) m (parts_of q) (e.0).0) (goes_on q qs (e.0).0 n) e.1 in
+  between = λ m n h. let e = some-of (λ e. are_paired (parts_of p) m (parts_of q) e.0 && goes_on q qs e.0 n) (enumerate_from 0 q.messages) h in
+      let both = and_parts (are_paired (parts_of p) m (parts_of q) (e.0).0) (goes_on q qs (e.0).0 n) e.1 in
       ((e.0).0, and_from true _ refl both.0, both.1);
   joined = λ m k n h i.
-      let name = (and_parts true (one_name (parts_of p) m (parts_of q) k) h).1 in
-      let b = both-named (parts_of p) (parts_of q) m k name in
+      let name = (and_parts true (are_paired (parts_of p) m (parts_of q) k) h).1 in
+      let b = both-paired (parts_of p) (parts_of q) m k name in
       let at : 0 + k ≡ k = omega arith in
-      any-at (λ e. one_name (parts_of p) m (parts_of q) e.0 && goes_on q qs e.0 n) 0 k q.messages b.1 b.3
-      (λ y. subst (λ j. (one_name (parts_of p) m (parts_of q) j && goes_on q qs j n) ≡ true) (sym at) (and_from _ _ name i));
+      any-at (λ e. are_paired (parts_of p) m (parts_of q) e.0 && goes_on q qs e.0 n) 0 k q.messages b.1 b.3
+      (λ y. subst (λ j. (are_paired (parts_of p) m (parts_of q) j && goes_on q qs j n) ≡ true) (sym at) (and_from _ _ name i));
 }
 
 removed : (p q : Contents) (qs : List Contents) → StaysFree p q qs → StaysRemoved (named_alike (λ m. true) (parts_of p) (parts_of q)) (goes_on q qs) (schema_of (parts_of p)) (schema_of (parts_of q)) (schema_of (parts_of (last_of q qs)))
 removed p q qs free m k n i F pair on had gone =
     let f = mapped (field_seen (parts_of p)) _ F had in
-    ap (option_map (field_seen (parts_of (last_of q qs)))) (free m k n i f.0 (and_parts true (one_name (parts_of p) m (parts_of q) k) pair).1 on f.1 (none-before q k i gone))
+    ap (option_map (field_seen (parts_of (last_of q qs)))) (free m k n i f.0 (and_parts true (are_paired (parts_of p) m (parts_of q) k) pair).1 on f.1 (none-before q k i gone))
 
 -- the pools that a list has look up
 first-looks : (q : Contents) (qs : List Contents) → AllLookUp q qs → LookUp (parts_of q) × NamesMean q

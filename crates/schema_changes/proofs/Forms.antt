@@ -3,6 +3,7 @@ use Rattle.std.proofs.Common.{◌≡◌, ℕ, zero, suc, inl, inr, ◌^◌, ◌<
 use Rattle.std.proofs.lemmas.Bool.{ltb-true, lt-ltb, and_parts, and_from, or_cases, or_left, false≢true}
 use Rattle.std.proofs.lemmas.Bool.Decides.{Decides-int_eq}
 use Rattle.std.specs.List.{list_all}
+use Rattle.std.specs.Option.{option_map_or}
 use Rattle.std.specs.Ordering.{int_eq}
 use Rattle.pool_types.specs.declared.kinds.KindIndex.{KindIndex}
 use Rattle.pool_types.specs.declared.kinds.KindIndex.TheVariants as index
@@ -13,14 +14,15 @@ use Rattle.message_values.specs.Numbers as form
 use Rattle.message_values.specs.Fields.{has_text}
 use Rattle.message_values.specs.Kept.{Pairs, KeepsForm}
 use Rattle.schema_changes.specs.declared.entries.Entry.{Entry}
-use Rattle.schema_changes.specs.Parts.{Parts, in_proto3, is_open, has_value, values_of, one_name}
+use Rattle.schema_changes.specs.Parts.{Parts, in_proto3, is_open, has_value, values_of}
 use Rattle.schema_changes.specs.Entries.{kind_seen, schema_of}
-use Rattle.schema_changes.specs.Kinds.{is_natural, is_bit, holds, holds_all, is_plain, holds_unsigned, keeps_numbers, text_check, keeps_check, keeps_message, keeps_kind}
+use Rattle.schema_changes.specs.Kinds.{is_natural, is_bit, holds, holds_all, is_plain, holds_unsigned, keeps_numbers, text_check, keeps_check, messages_of}
+use Rattle.schema_changes.specs.MapEntries.{are_paired, keeps_kind}
 use Rattle.schema_changes.specs.Unchanged.{IsReached}
 
--- the pairs of some messages and the new ones with their full names
+-- the pairs of some messages
 abbrev pub named_alike : (ℕ → Bool) → Parts → Parts → Pairs
-named_alike reached old new m n = reached m && one_name old m new n
+named_alike reached old new m n = reached m && are_paired old m new n
 
 same_int : (x y : ℤ) → int_eq x y ≡ true → x ≡ y
 same_int x y h = (Decides-int_eq x y).0 h
@@ -174,7 +176,7 @@ texts-form pairs old new a b index.Bytes index.Bytes h = λ bytes t. refl
 texts-form pairs old new a b index.Bytes index.String h = λ bytes t. unchecked b bytes h
 texts-form pairs old new a b _ _ h = absurd (false≢true h)
 
-messages-form : (reached : ℕ → Bool) (old new : Parts) (a b : Bool) (k l : KindIndex) → IsReached reached k → keeps_message old k new l ≡ true
+messages-form : (reached : ℕ → Bool) (old new : Parts) (a b : Bool) (k l : KindIndex) → IsReached reached k → option_map_or (λ e. are_paired old e.0 new e.1) (messages_of k l) false ≡ true
     → KeepsForm (named_alike reached old new) (schema_of old) (kind_seen a k) (form (kind_seen a k)) (schema_of new) (kind_seen b l) (form (kind_seen b l))
 messages-form reached old new a b (index.Message m) (index.Message n) r h = and_from _ _ r h
 messages-form reached old new a b (index.Group m) (index.Group n) r h = and_from _ _ r h
@@ -186,7 +188,7 @@ pub keeps-form : (reached : ℕ → Bool) (old new : Parts) (f g : Entry) → Is
 keeps-form reached old new f g r h =
     let a = in_proto3 old f.file in
     let b = in_proto3 new g.file in
-    elim (or_cases (keeps_numbers old f.kind new g.kind || keeps_check (text_check a f.kind) (text_check b g.kind)) (keeps_message old f.kind new g.kind) h) [
+    elim (or_cases (keeps_numbers old f.kind new g.kind || keeps_check (text_check a f.kind) (text_check b g.kind)) (option_map_or (λ e. are_paired old e.0 new e.1) (messages_of f.kind g.kind) false) h) [
       | inl first ↦ elim (or_cases (keeps_numbers old f.kind new g.kind) (keeps_check (text_check a f.kind) (text_check b g.kind)) first) [
         | inl numbers ↦ numbers-form (named_alike reached old new) old new a b f.kind g.kind numbers
         | inr texts ↦ texts-form (named_alike reached old new) old new a b f.kind g.kind texts

@@ -1,11 +1,11 @@
 -- Where nothing changes, the new message keeps the old one.
-use Rattle.std.proofs.Common.{◌≡◌, ◌≢◌, ℕ, zero, suc, Bool, true, false, not, cond, eqb, ◌&&◌, ◌||◌, List, [], ◌∷◌, ◌++◌, Option, Some, None, option_map, option_and_then, slice_get, unwrap_or, flat_map, ◌⊎◌, inl, inr, refl, ap, sym, subst, subst₂, ◌∙◌}
-use Rattle.std.proofs.lemmas.Bool.{and_parts, and_from, eq-eqb, eqb-true, or_cases, false≢true, false_from_ne_true}
+use Rattle.std.proofs.Common.{◌≡◌, ◌≢◌, ℕ, zero, suc, Bool, true, false, not, cond, eqb, ◌==◌, length, ◌&&◌, ◌||◌, List, [], ◌∷◌, ◌++◌, Option, Some, None, option_map, option_and_then, slice_get, is_some, unwrap_or, flat_map, ◌⊎◌, inl, inr, refl, ap, sym, subst, subst₂, ◌∙◌, arith}
+use Rattle.std.proofs.lemmas.Bool.{and_parts, and_from, eq-eqb, eqb-true, or_cases, or_left, or_right, false≢true, false_from_ne_true}
 use Rattle.std.proofs.lemmas.List.Elements.{All-contains, All-from_recursion}
 use Rattle.std.specs.FinMap as finite
 use Rattle.std.specs.Prelude.{⊤}
-use Rattle.std.specs.List.{AllByRecursion, Contains}
-use Rattle.std.specs.Option.{option_or}
+use Rattle.std.specs.List.{AllByRecursion, Contains, list_all}
+use Rattle.std.specs.Option.{is_none, option_map_or, option_or}
 use Rattle.pool_types.specs.Kinds.{is_message}
 use Rattle.pool_types.specs.LookUps.{field_numbered}
 use Rattle.pool_types.specs.declared.contents.extension.ExtensionDescriptorInner.{ExtensionDescriptorInner}
@@ -32,8 +32,9 @@ use Rattle.schema_changes.specs.declared.change.WireChangeKind.{WireChangeKind}
 use Rattle.schema_changes.specs.declared.change.WireChangeKind.TheVariants as change
 use Rattle.schema_changes.specs.declared.entries.Entry.{Entry}
 use Rattle.schema_changes.specs.Parts.{Parts, in_proto3, are_named_alike, named_as, one_name}
-use Rattle.schema_changes.specs.Entries.{field_entry, extension_entry, extension_at, entry_numbered, entry_at, kind_seen, cardinality_seen, field_seen, field_at, schema_of}
-use Rattle.schema_changes.specs.Kinds.{keeps_cardinality, keeps_kind, is_repeated, is_required}
+use Rattle.schema_changes.specs.Entries.{field_entry, extension_entry, extension_at, extension_in, entry_numbered, entry_at, kind_seen, cardinality_seen, field_seen, field_at, schema_of}
+use Rattle.schema_changes.specs.Kinds.{entry_check, keeps_numbers, keeps_check, messages_of, keeps_kind_by, keeps_cardinality, is_repeated, is_required}
+use Rattle.schema_changes.specs.MapEntries.{is_map_entry, map_entry_at, keeps_entry, keeps_part, keeps_map_entry, keep_maps, are_paired, keeps_kind}
 use Rattle.schema_changes.specs.Changes.{Compared, old_entry, new_entry, unless, kept_changes, entry_changes, old_member, first_some, joined_changes, members_changes, oneof_changes, was_required, required_changes, extension_changes, required_extension_changes, message_changes}
 use Rattle.schema_changes.specs.Unchanged.{LooksUp, LookUp, NothingChanges, IsReached, IsClosed, LeavesOut}
 use Rattle.schema_changes.proofs.Forms.{named_alike, keeps-form}
@@ -136,7 +137,7 @@ or_of_not false c h e = absurd (false≢true e)
 -- where an entry comes from: a field at a position, or an extension that is listed
 data Source (p : Parts) (m : MessageDescriptorInner) (f : Entry) : Type 0 where
   OfField : (i : ℕ) (x : FieldDescriptorInner) → slice_get m.fields i ≡ Some x → field_entry x ≡ f → Source p m f
-  OfExtension : (i : ℕ) → Contains m.extensions i → extension_at p i ≡ Some f → f.oneof ≡ None → Source p m f
+  OfExtension : (i : ℕ) → Contains m.extensions i → extension_in p m i ≡ Some f → f.oneof ≡ None → Source p m f
 
 number-at : (xs : List FieldDescriptorInner) (i n : ℕ) (x : FieldDescriptorInner) → slice_get xs i ≡ Some x → option_map (λ f. f.number) (slice_get xs i) ≡ Some n → x.number ≡ n
 number-at xs i n x e h = let same : Some x.number ≡ Some n = sym (ap (option_map (λ (f : FieldDescriptorInner). f.number)) e) ∙ h in cc
@@ -155,17 +156,20 @@ source-by p m looks n f None e h =
     let at = followed (extension_at p) (finite.get m.extension_numbers n) f h in
     let listed = looks.extensions n at.0 at.1 in
     let x = mapped extension_entry (slice_get p.extensions at.0) f at.2 in
-    (OfExtension at.0 listed.0 at.2 (sym (ap (λ (g : Entry). g.oneof) x.2)), sym (ap (λ (g : Entry). g.number) x.2) ∙ extension-number p.extensions at.0 n x.0 x.1 listed.1)
+    let number : f.number ≡ n = sym (ap (λ (g : Entry). g.number) x.2) ∙ extension-number p.extensions at.0 n x.0 x.1 listed.1 in
+    let own : Entry → Option Entry = λ g. cond (is_some (field_numbered m g.number)) None (Some g) in
+    let here = ap (option_and_then own) at.2 ∙ ap (λ got. cond (is_some got) None (Some f)) (ap (field_numbered m) number ∙ e) in
+    (OfExtension at.0 listed.0 here (sym (ap (λ (g : Entry). g.oneof) x.2)), number)
 
 source : (p : Parts) (m : MessageDescriptorInner) → LooksUp p m → (n : ℕ) (f : Entry) → entry_numbered p m n ≡ Some f → Source p m f × (f.number ≡ n)
 unfolding entry_numbered
 source p m looks n f h = source-by p m looks n f (field_numbered m n) refl h
 
 -- what holds of each field and of each extension holds of an entry
-by-source : (P : Entry → Type 0) (Q : Option Entry → Type 0) (p : Parts) (m : MessageDescriptorInner) (f : Entry) → AllByRecursion (λ x. P (field_entry x)) m.fields → AllByRecursion (λ i. Q (extension_at p i)) m.extensions
+by-source : (P : Entry → Type 0) (Q : Option Entry → Type 0) (p : Parts) (m : MessageDescriptorInner) (f : Entry) → AllByRecursion (λ x. P (field_entry x)) m.fields → AllByRecursion (λ i. Q (extension_in p m i)) m.extensions
     → ((g : Entry) → Q (Some g) → P g) → Source p m f → P f
 by-source P Q p m f of-fields of-extensions step (OfField i x e same) = subst P same (at-index (λ y. P (field_entry y)) m.fields i x of-fields e)
-by-source P Q p m f of-fields of-extensions step (OfExtension i has e none) = step f (subst Q e (at-contained (λ j. Q (extension_at p j)) m.extensions i of-extensions has))
+by-source P Q p m f of-fields of-extensions step (OfExtension i has e none) = step f (subst Q e (at-contained (λ j. Q (extension_in p m j)) m.extensions i of-extensions has))
 
 -- ---- the first member of a oneof
 
@@ -227,15 +231,15 @@ both-joined k l a f g apart fk gl is-f is-g h i =
 -- ---- a message of which nothing changes
 
 module _ (reached : ℕ → Bool) (c : Compared) (looks-old : LooksUp c.old c.before) (looks-new : LooksUp c.new c.after) (reaches : (k : ℕ) (f : Entry) → old_entry c k ≡ Some f → IsReached reached f.kind) (none : message_changes c ≡ []) where
-  lists-none : (flat_map (λ x. entry_changes c (field_entry x)) c.before.fields ≡ []) × (flat_map (λ i. extension_changes c (extension_at c.old i)) c.before.extensions ≡ []) × (flat_map (oneof_changes c) c.after.oneofs ≡ [])
-      × (flat_map (λ x. required_changes c (field_entry x)) c.after.fields ≡ []) × (flat_map (λ i. required_extension_changes c (extension_at c.new i)) c.after.extensions ≡ [])
+  lists-none : (flat_map (λ x. entry_changes c (field_entry x)) c.before.fields ≡ []) × (flat_map (λ i. extension_changes c (extension_in c.old c.before i)) c.before.extensions ≡ []) × (flat_map (oneof_changes c) c.after.oneofs ≡ [])
+      × (flat_map (λ x. required_changes c (field_entry x)) c.after.fields ≡ []) × (flat_map (λ i. required_extension_changes c (extension_in c.new c.after i)) c.after.extensions ≡ [])
   lists-none = five-none _ _ _ _ _ none
 
   fields-none : AllByRecursion (λ x. entry_changes c (field_entry x) ≡ []) c.before.fields
   fields-none = each-none (λ x. entry_changes c (field_entry x)) c.before.fields lists-none.0
 
-  extensions-none : AllByRecursion (λ i. extension_changes c (extension_at c.old i) ≡ []) c.before.extensions
-  extensions-none = each-none (λ i. extension_changes c (extension_at c.old i)) c.before.extensions lists-none.1
+  extensions-none : AllByRecursion (λ i. extension_changes c (extension_in c.old c.before i) ≡ []) c.before.extensions
+  extensions-none = each-none (λ i. extension_changes c (extension_in c.old c.before i)) c.before.extensions lists-none.1
 
   oneofs-none : AllByRecursion (λ o. oneof_changes c o ≡ []) c.after.oneofs
   oneofs-none = each-none (oneof_changes c) c.after.oneofs lists-none.2
@@ -243,8 +247,8 @@ module _ (reached : ℕ → Bool) (c : Compared) (looks-old : LooksUp c.old c.be
   required-none : AllByRecursion (λ x. required_changes c (field_entry x) ≡ []) c.after.fields
   required-none = each-none (λ x. required_changes c (field_entry x)) c.after.fields lists-none.3
 
-  required-extensions-none : AllByRecursion (λ i. required_extension_changes c (extension_at c.new i) ≡ []) c.after.extensions
-  required-extensions-none = each-none (λ i. required_extension_changes c (extension_at c.new i)) c.after.extensions lists-none.4
+  required-extensions-none : AllByRecursion (λ i. required_extension_changes c (extension_in c.new c.after i) ≡ []) c.after.extensions
+  required-extensions-none = each-none (λ i. required_extension_changes c (extension_in c.new c.after i)) c.after.extensions lists-none.4
 
   kept-at : (k : ℕ) (f g : Entry) → old_entry c k ≡ Some f → new_entry c k ≡ Some g → kept_changes c f (Some g) ≡ []
   kept-at k f g e eg =
@@ -317,6 +321,22 @@ module _ (reached : ℕ → Bool) (c : Compared) (looks-old : LooksUp c.old c.be
       let was = was-some (old_entry c g.number) (or_of_not (is_required g.cardinality) _ (passed _ g.number change.Required h) needs) in
       (was.0, ap (old_entry c) (sym s.1) ∙ was.1, was.2)
 
+-- ---- the entries of the message with an index
+
+module _ (p : Parts) (m : ℕ) (x : MessageDescriptorInner) (at : slice_get p.messages m ≡ Some x) where
+  entry-is : (k : ℕ) → entry_at p m k ≡ entry_numbered p x k
+  unfolding entry_at
+  entry-is k = ap (option_and_then (λ (z : MessageDescriptorInner). entry_numbered p z k)) at
+
+  entry-seen : (k : ℕ) (F : Field) → field_at p m k ≡ Some F → (f : Entry) × (entry_numbered p x k ≡ Some f) × (field_seen p f ≡ F)
+  entry-seen k F e = let f = mapped (field_seen p) _ F e in (f.0, sym (entry-is k) ∙ f.1, f.2)
+
+-- a new message has no entry of a number that the old one may have besides
+left-out : (besides : ℕ → Bool) (new : Parts) (n : ℕ) → ((k : ℕ) → besides k ≡ true → entry_at new n k ≡ None) → (k : ℕ) (G : Field) → field_at new n k ≡ Some G → besides k ≡ false
+left-out besides new n free k G eg =
+    let g = mapped (field_seen new) _ G eg in
+    false_from_ne_true _ (λ has. let found : entry_at new n k ≡ Some g.0 = g.1 in let left : entry_at new n k ≡ None = free k has in absurd cc)
+
 -- ---- the messages with two indexes
 
 module _ (reached : ℕ → Bool) (old new : Parts) (m n : ℕ) (x y : MessageDescriptorInner) (at-x : slice_get old.messages m ≡ Some x) (at-y : slice_get new.messages n ≡ Some y) (looks-old : LooksUp old x) (looks-new : LooksUp new y)
@@ -324,53 +344,141 @@ module _ (reached : ℕ → Bool) (old new : Parts) (m n : ℕ) (x y : MessageDe
   abbrev c : Compared
   c = record { old = old; before = x; new = new; after = y }
 
-  old-at : (k : ℕ) → entry_at old m k ≡ entry_numbered old x k
-  unfolding entry_at
-  old-at k = ap (option_and_then (λ (z : MessageDescriptorInner). entry_numbered old z k)) at-x
-
-  new-at : (k : ℕ) → entry_at new n k ≡ entry_numbered new y k
-  unfolding entry_at
-  new-at k = ap (option_and_then (λ (z : MessageDescriptorInner). entry_numbered new z k)) at-y
-
   reached-at : (k : ℕ) (f : Entry) → entry_numbered old x k ≡ Some f → IsReached reached f.kind
-  reached-at k f e = reaches k f (old-at k ∙ e)
-
-  old-entry : (k : ℕ) (F : Field) → field_at old m k ≡ Some F → (f : Entry) × (entry_numbered old x k ≡ Some f) × (field_seen old f ≡ F)
-  old-entry k F e = let f = mapped (field_seen old) _ F e in (f.0, sym (old-at k) ∙ f.1, f.2)
-
-  new-entry : (k : ℕ) (G : Field) → field_at new n k ≡ Some G → (g : Entry) × (entry_numbered new y k ≡ Some g) × (field_seen new g ≡ G)
-  new-entry k G e = let g = mapped (field_seen new) _ G e in (g.0, sym (new-at k) ∙ g.1, g.2)
+  reached-at k f e = reaches k f (entry-is old m x at-x k ∙ e)
 
   fields-kept : (k : ℕ) (F G : Field) → field_at old m k ≡ Some F → field_at new n k ≡ Some G → KeepsField (named_alike reached old new) (schema_of old) (schema_of new) F G
   fields-kept k F G e eg =
-      let f = old-entry k F e in
-      let g = new-entry k G eg in
+      let f = entry-seen old m x at-x k F e in
+      let g = entry-seen new n y at-y k G eg in
       subst₂ (λ a b. KeepsField (named_alike reached old new) (schema_of old) (schema_of new) a b) f.2 g.2 (entry-kept reached c looks-old looks-new reached-at none k f.0 g.0 f.1 g.1)
 
   oneofs-kept : (k l : ℕ) (F F' G G' : Field) → field_at old m k ≡ Some F → field_at old m l ≡ Some F' → field_at new n k ≡ Some G → field_at new n l ≡ Some G' → k ≢ l → in_one G.oneof G'.oneof ≡ true → in_one F.oneof F'.oneof ≡ true
   oneofs-kept k l F F' G G' e e' eg eg' apart one =
-      let f = old-entry k F e in
-      let f' = old-entry l F' e' in
-      let g = new-entry k G eg in
-      let g' = new-entry l G' eg' in
+      let f = entry-seen old m x at-x k F e in
+      let f' = entry-seen old m x at-x l F' e' in
+      let g = entry-seen new n y at-y k G eg in
+      let g' = entry-seen new n y at-y l G' eg' in
       subst₂ (λ (a b : Field). in_one a.oneof b.oneof ≡ true) f.2 f'.2
       (oneofs-at reached c looks-old looks-new reached-at none k l f.0 f'.0 g.0 g'.0 (g.0).oneof (g'.0).oneof apart f.1 f'.1 g.1 g'.1 refl refl
       (subst₂ (λ (a b : Field). in_one a.oneof b.oneof ≡ true) (sym g.2) (sym g'.2) one))
 
   required-kept : (k : ℕ) (G : Field) → field_at new n k ≡ Some G → G.cardinality ≡ kind.Required → (F : Field) × (field_at old m k ≡ Some F) × (F.cardinality ≡ kind.Required)
   required-kept k G eg req =
-      let g = new-entry k G eg in
+      let g = entry-seen new n y at-y k G eg in
       let needs : is_required (g.0).cardinality ≡ true = required-seen (g.0).cardinality (ap (λ (z : Field). z.cardinality) g.2 ∙ req) in
       let f = required-at reached c looks-old looks-new reached-at none k g.0 g.1 needs in
-      (field_seen old f.0, ap (option_map (field_seen old)) (old-at k ∙ f.1), seen-required (f.0).cardinality f.2)
-
-  besides-kept : (k : ℕ) (G : Field) → field_at new n k ≡ Some G → besides m k ≡ false
-  besides-kept k G eg =
-      let g = mapped (field_seen new) _ G eg in
-      false_from_ne_true _ (λ has. let found : entry_at new n k ≡ Some g.0 = g.1 in let left : entry_at new n k ≡ None = free k has in absurd cc)
+      (field_seen old f.0, ap (option_map (field_seen old)) (entry-is old m x at-x k ∙ f.1), seen-required (f.0).cardinality f.2)
 
   pub keeps-message : KeepsMessage (named_alike reached old new) besides (schema_of old) (schema_of new) m n
-  keeps-message = record { fields = fields-kept; required = required-kept; oneofs = oneofs-kept; left_out = besides-kept }
+  keeps-message = record { fields = fields-kept; required = required-kept; oneofs = oneofs-kept; left_out = left-out (besides m) new n free }
+
+-- ---- entries of maps
+
+all-at : {X : Type 0} (test : X → Bool) (xs : List X) (i : ℕ) (x : X) → list_all test xs ≡ true → slice_get xs i ≡ Some x → test x ≡ true
+all-at test [] i x all at = absurd cc
+all-at test (y ∷ ys) zero x all at = let same : y ≡ x = cc in ap test (sym same) ∙ (and_parts (test y) (list_all test ys) all).0
+all-at test (y ∷ ys) (suc i) x all at = all-at test ys i x (and_parts (test y) (list_all test ys) all).1 at
+
+none-contained : (xs : List ℕ) (x : ℕ) → (length xs == 0) ≡ true → Contains xs x → ⊥
+none-contained xs x empty has = let none : length xs ≡ 0 = eqb-true (length xs) 0 empty in omega (arith, none, has.1)
+
+-- what kinds keep by one test they keep by a wider one
+kind-wider : (P Q : ℕ → ℕ → Bool) (old new : Parts) (f g : Entry) → ((m n : ℕ) → P m n ≡ true → Q m n ≡ true) → keeps_kind_by P old f new g ≡ true → keeps_kind_by Q old f new g ≡ true
+kind-wider P Q old new f g wider h =
+    let scalar = keeps_numbers old f.kind new g.kind || keeps_check (entry_check old f) (entry_check new g) in
+    elim (or_cases scalar (option_map_or (λ e. P e.0 e.1) (messages_of f.kind g.kind) false) h) [
+      | inl first ↦ or_left scalar (option_map_or (λ e. Q e.0 e.1) (messages_of f.kind g.kind) false) first
+      | inr messages ↦ or_right scalar (option_map_or (λ e. Q e.0 e.1) (messages_of f.kind g.kind) false) (by (messages_of f.kind g.kind) messages)
+    ]
+  where
+    by : (got : Option (ℕ × ℕ)) → option_map_or (λ e. P e.0 e.1) got false ≡ true → option_map_or (λ e. Q e.0 e.1) got false ≡ true
+    by (Some e) is = wider e.0 e.1 is
+    by None is = absurd (false≢true is)
+
+named-paired : (old new : Parts) (m n : ℕ) → one_name old m new n ≡ true → are_paired old m new n ≡ true
+unfolding are_paired
+named-paired old new m n named = or_left (one_name old m new n) (keep_maps old (map_entry_at old m) new (map_entry_at new n)) named
+
+module _ (reached : ℕ → Bool) (old new : Parts) (m n : ℕ) (x y : MessageDescriptorInner) (at-x : slice_get old.messages m ≡ Some x) (at-y : slice_get new.messages n ≡ Some y) (looks-new : LooksUp new y)
+    (reaches : (k : ℕ) (f : Entry) → entry_at old m k ≡ Some f → IsReached reached f.kind) (besides : Besides) (free : (k : ℕ) → besides m k ≡ true → entry_at new n k ≡ None) (keeps : keeps_map_entry old x new y ≡ true) where
+  -- what each part of the new entry keeps
+  part-at : (k : ℕ) (g : Entry) → entry_numbered new y k ≡ Some g → (is_none g.oneof ≡ true) × (keeps_entry old (entry_numbered old x k) new g ≡ true)
+  unfolding keeps_map_entry
+  part-at k g eg = by (source new y looks-new k g eg).0 (source new y looks-new k g eg).1
+    where
+      both : ((length y.extensions == 0) ≡ true) × (list_all (λ z. keeps_part old x new (field_entry z)) y.fields ≡ true)
+      both = and_parts (length y.extensions == 0) (list_all (λ z. keeps_part old x new (field_entry z)) y.fields) keeps
+
+      by : Source new y g → g.number ≡ k → (is_none g.oneof ≡ true) × (keeps_entry old (entry_numbered old x k) new g ≡ true)
+      by (OfField i z at same) number =
+          let part = subst (λ e. keeps_part old x new e ≡ true) same (all-at (λ z. keeps_part old x new (field_entry z)) y.fields i z both.1 at) in
+          let halves = and_parts (is_none g.oneof) (keeps_entry old (entry_numbered old x g.number) new g) part in
+          (halves.0, subst (λ k. keeps_entry old (entry_numbered old x k) new g ≡ true) number halves.1)
+      by (OfExtension i has at nothing) number = absurd (none-contained y.extensions i both.0 has)
+
+  kept-part : (k : ℕ) (f g : Entry) → entry_numbered old x k ≡ Some f → entry_numbered new y k ≡ Some g
+      → (keeps_kind_by (λ a b. one_name old a new b) old f new g ≡ true) × (keeps_cardinality f.kind f.cardinality g.cardinality ≡ true)
+  kept-part k f g e eg =
+      let kept = subst (λ got. keeps_entry old got new g ≡ true) e (part-at k g eg).1 in
+      let three = and_parts (keeps_kind_by (λ a b. one_name old a new b) old f new g && keeps_cardinality f.kind f.cardinality g.cardinality) (not (is_required g.cardinality) || is_required f.cardinality) kept in
+      and_parts (keeps_kind_by (λ a b. one_name old a new b) old f new g) (keeps_cardinality f.kind f.cardinality g.cardinality) three.0
+
+  map-fields : (k : ℕ) (F G : Field) → field_at old m k ≡ Some F → field_at new n k ≡ Some G → KeepsField (named_alike reached old new) (schema_of old) (schema_of new) F G
+  map-fields k F G e eg =
+      let f = entry-seen old m x at-x k F e in
+      let g = entry-seen new n y at-y k G eg in
+      let kept = kept-part k f.0 g.0 f.1 g.1 in
+      let kind = kind-wider (λ a b. one_name old a new b) (λ a b. are_paired old a new b) old new f.0 g.0 (named-paired old new) kept.0 in
+      subst₂ (λ a b. KeepsField (named_alike reached old new) (schema_of old) (schema_of new) a b) f.2 g.2 (record {
+        kind = keeps-form reached old new f.0 g.0 (reaches k f.0 (entry-is old m x at-x k ∙ f.1)) kind;
+        cardinality = cardinality-by (form (kind_seen (in_proto3 old (f.0).file) (f.0).kind)) (is_message (f.0).kind) (f.0).cardinality (g.0).cardinality (has-messages (in_proto3 old (f.0).file) (f.0).kind) kept.1;
+      })
+
+  needed : (k : ℕ) (g : Entry) (got : Option Entry) → entry_numbered old x k ≡ got → keeps_entry old got new g ≡ true → is_required g.cardinality ≡ true → (f : Entry) × (entry_numbered old x k ≡ Some f) × (is_required f.cardinality ≡ true)
+  needed k g None e kept needs = absurd (false≢true (sym (ap not needs) ∙ kept))
+  needed k g (Some f) e kept needs =
+      let last = and_parts (keeps_kind_by (λ a b. one_name old a new b) old f new g && keeps_cardinality f.kind f.cardinality g.cardinality) (not (is_required g.cardinality) || is_required f.cardinality) kept in
+      (f, e, or_of_not (is_required g.cardinality) (is_required f.cardinality) last.1 needs)
+
+  map-required : (k : ℕ) (G : Field) → field_at new n k ≡ Some G → G.cardinality ≡ kind.Required → (F : Field) × (field_at old m k ≡ Some F) × (F.cardinality ≡ kind.Required)
+  map-required k G eg req =
+      let g = entry-seen new n y at-y k G eg in
+      let needs : is_required (g.0).cardinality ≡ true = required-seen (g.0).cardinality (ap (λ (z : Field). z.cardinality) g.2 ∙ req) in
+      let f = needed k g.0 (entry_numbered old x k) refl (part-at k g.0 g.1).1 needs in
+      (field_seen old f.0, ap (option_map (field_seen old)) (entry-is old m x at-x k ∙ f.1), seen-required (f.0).cardinality f.2)
+
+  no-oneof : (o p : Option ℕ) → is_none o ≡ true → in_one o p ≡ true → ⊥
+  no-oneof None p none one = false≢true one
+  no-oneof (Some o) p none one = false≢true none
+
+  map-oneofs : (k l : ℕ) (F F' G G' : Field) → field_at old m k ≡ Some F → field_at old m l ≡ Some F' → field_at new n k ≡ Some G → field_at new n l ≡ Some G' → k ≢ l → in_one G.oneof G'.oneof ≡ true → in_one F.oneof F'.oneof ≡ true
+  map-oneofs k l F F' G G' e e' eg eg' apart one =
+      let g = entry-seen new n y at-y k G eg in
+      absurd (no-oneof (g.0).oneof G'.oneof (part-at k g.0 g.1).0 (ap (λ (z : Field). in_one z.oneof G'.oneof) g.2 ∙ one))
+
+  keeps-map : KeepsMessage (named_alike reached old new) besides (schema_of old) (schema_of new) m n
+  keeps-map = record { fields = map-fields; required = map-required; oneofs = map-oneofs; left_out = left-out (besides m) new n free }
+
+-- the entry of a map that is there
+entry-there : (p : Parts) (m : ℕ) (x : MessageDescriptorInner) → map_entry_at p m ≡ Some x → slice_get p.messages m ≡ Some x
+unfolding map_entry_at
+entry-there p m x h =
+    let z = followed (λ z. cond (is_map_entry p z) (Some z) None) (slice_get p.messages m) x h in
+    z.1 ∙ by (is_map_entry p z.0) z.0 z.2
+  where
+    by : (b : Bool) (z : MessageDescriptorInner) → cond b (Some z) None ≡ Some x → Some z ≡ Some x
+    by true z is = is
+    by false z is = absurd cc
+
+maps-there : (old new : Parts) (a b : Option MessageDescriptorInner) → keep_maps old a new b ≡ true → (x : MessageDescriptorInner) × (y : MessageDescriptorInner) × (a ≡ Some x) × (b ≡ Some y) × (keeps_map_entry old x new y ≡ true)
+maps-there old new (Some x) (Some y) h = (x, y, refl, refl, h)
+maps-there old new None b h = absurd (false≢true h)
+maps-there old new (Some x) None h = absurd (false≢true h)
+
+pair-cases : (old new : Parts) (m n : ℕ) → are_paired old m new n ≡ true → (one_name old m new n ≡ true) ⊎ (keep_maps old (map_entry_at old m) new (map_entry_at new n) ≡ true)
+unfolding are_paired
+pair-cases old new m n h = or_cases (one_name old m new n) (keep_maps old (map_entry_at old m) new (map_entry_at new n)) h
 
 -- messages with one name are there
 named-at : (new : Parts) (n : ℕ) (x : MessageDescriptorInner) (r : Option MessageDescriptorInner) → slice_get new.messages n ≡ r → named_as new n x ≡ true → (y : MessageDescriptorInner) × (r ≡ Some y) × (are_named_alike x y ≡ true)
@@ -387,15 +495,30 @@ pub both-named : (old new : Parts) (m n : ℕ) → one_name old m new n ≡ true
 unfolding one_name
 both-named old new m n h = both-at old new m n (slice_get old.messages m) refl h
 
+-- the messages of a pair are there
+pub both-paired : (old new : Parts) (m n : ℕ) → are_paired old m new n ≡ true → (x : MessageDescriptorInner) × (y : MessageDescriptorInner) × (slice_get old.messages m ≡ Some x) × (slice_get new.messages n ≡ Some y)
+both-paired old new m n pair = elim (pair-cases old new m n pair) [
+  | inl named ↦ let b = both-named old new m n named in (b.0, b.1, b.2, b.3)
+  | inr maps ↦ let b = maps-there old new (map_entry_at old m) (map_entry_at new n) maps in (b.0, b.1, entry-there old m b.0 b.2, entry-there new n b.1 b.3)
+]
+
 pub keeps-all : (old new : Parts) (reached : ℕ → Bool) (besides : Besides) → LookUp old → LookUp new → IsClosed old reached → NothingChanges old new reached → LeavesOut old new reached besides
     → KeepsAll (named_alike reached old new) besides (schema_of old) (schema_of new)
 keeps-all old new reached besides look-old look-new closed none free m n pair =
-    let p = and_parts (reached m) (one_name old m new n) pair in
-    let b = both-named old new m n p.1 in
-    keeps-message reached old new m n b.0 b.1 b.2 b.3 (look-old m b.0 b.2) (look-new n b.1 b.3) (λ k f e. closed m k f p.0 e) besides (λ k. free m n k p.0 p.1) (none m n b.0 b.1 p.0 p.1 b.2 b.3)
+    let p = and_parts (reached m) (are_paired old m new n) pair in
+    elim (pair-cases old new m n p.1) [
+      | inl named ↦
+          let b = both-named old new m n named in
+          keeps-message reached old new m n b.0 b.1 b.2 b.3 (look-old m b.0 b.2) (look-new n b.1 b.3) (λ k f e. closed m k f p.0 e) besides (λ k. free m n k p.0 p.1) (none m n b.0 b.1 p.0 named b.2 b.3)
+      | inr maps ↦
+          let b = maps-there old new (map_entry_at old m) (map_entry_at new n) maps in
+          let at-x = entry-there old m b.0 b.2 in
+          let at-y = entry-there new n b.1 b.3 in
+          keeps-map reached old new m n b.0 b.1 at-x at-y (look-new n b.1 at-y) (λ k f e. closed m k f p.0 e) besides (λ k. free m n k p.0 p.1) b.4
+    ]
 
 pub unchanged : (old new : Parts) (reached : ℕ → Bool) (besides : Besides) → LookUp old → LookUp new → IsClosed old reached → NothingChanges old new reached → LeavesOut old new reached besides
     → (levels m n : ℕ) → reached m ≡ true → one_name old m new n ≡ true → (vs : List Numbered) → IsWritten (schema_of old) besides levels m vs
     → IsRead (schema_of new) levels n vs × AreCarried (schema_of old) (schema_of new) levels m n vs
 unchanged old new reached besides look-old look-new closed none free levels m n here same vs w =
-    law (schema_of old) (schema_of new) (named_alike reached old new) besides (keeps-all old new reached besides look-old look-new closed none free) levels m n (and_from (reached m) _ here same) vs w
+    law (schema_of old) (schema_of new) (named_alike reached old new) besides (keeps-all old new reached besides look-old look-new closed none free) levels m n (and_from (reached m) _ here (named-paired old new m n same)) vs w

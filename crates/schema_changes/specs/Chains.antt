@@ -3,8 +3,9 @@ use Rattle.std.specs.Prelude.{◌≡◌, ℕ, Bool, true, ◌==◌, ◌&&◌, Li
 use Rattle.std.specs.List.{list_any, enumerate_from}
 use Rattle.pool_types.specs.Contents.{Contents}
 use Rattle.schema_changes.specs.declared.entries.Entry.{Entry}
-use Rattle.schema_changes.specs.Parts.{parts_of, one_name}
+use Rattle.schema_changes.specs.Parts.{parts_of}
 use Rattle.schema_changes.specs.Entries.{entry_at}
+use Rattle.schema_changes.specs.MapEntries.{are_paired}
 use Rattle.schema_changes.specs.Unchanged.{LookUp}
 use Rattle.schema_changes.specs.Pools.{wire_changes, NamesMean}
 
@@ -13,12 +14,12 @@ abbrev pub last_of : Contents → List Contents → Contents
 last_of p [] = p
 last_of p (q ∷ qs) = last_of q qs
 
--- whether a message of the first pool has one of its name in each later one, the last of which has
--- an index
+-- whether a message of the first pool has one that it is a pair with in each later one, the last of
+-- which has an index
 unfoldable pub goes_on : Contents → List Contents → ℕ → ℕ → Bool
 goes_on p [] m n = m == n
 goes_on p (q ∷ qs) m n =
-    list_any (λ e. one_name (parts_of p) m (parts_of q) e.0 && goes_on q qs e.0 n)
+    list_any (λ e. are_paired (parts_of p) m (parts_of q) e.0 && goes_on q qs e.0 n)
     (enumerate_from 0 q.messages)
 
 -- the maps and the names of each of these pools lead to what has the number or the name
@@ -33,7 +34,7 @@ NoneChanges p (q ∷ qs) = (wire_changes p q ≡ []) × NoneChanges q qs
 
 -- a number whose entry a message loses in the second pool has no entry in the last one
 abbrev pub StaysFree : Contents → Contents → List Contents → Type 0
-StaysFree p q qs = (m k n i : ℕ) (f : Entry) → one_name (parts_of p) m (parts_of q) k ≡ true
+StaysFree p q qs = (m k n i : ℕ) (f : Entry) → are_paired (parts_of p) m (parts_of q) k ≡ true
     → goes_on q qs k n ≡ true → entry_at (parts_of p) m i ≡ Some f
     → entry_at (parts_of q) k i ≡ None → entry_at (parts_of (last_of q qs)) n i ≡ None
 

@@ -11,8 +11,9 @@ use Rattle.schema_changes.specs.declared.change.WireChangeKind.TheVariants as ch
 use Rattle.schema_changes.specs.declared.compared.Compared as code
 use Rattle.schema_changes.specs.declared.entries.Entry.{Entry}
 use Rattle.schema_changes.specs.Parts.{Parts, parts}
-use Rattle.schema_changes.specs.Entries.{field_entry, extension_at, entry_numbered}
-use Rattle.schema_changes.specs.Kinds.{keeps_kind, keeps_cardinality, is_required}
+use Rattle.schema_changes.specs.Entries.{field_entry, extension_in, entry_numbered}
+use Rattle.schema_changes.specs.Kinds.{keeps_cardinality, is_required}
+use Rattle.schema_changes.specs.MapEntries.{keeps_kind}
 use Rattle.schema_changes.specs.Records.{is_kept_free}
 
 -- an old and a new message that are compared, each with the items of its pool
@@ -108,7 +109,7 @@ required_extension_changes c (Some g) = required_changes c g
 abbrev pub message_changes : Compared → List WireChange
 message_changes c =
     flat_map (λ f. entry_changes c (field_entry f)) c.before.fields
-    ++ (flat_map (λ i. extension_changes c (extension_at c.old i)) c.before.extensions
+    ++ (flat_map (λ i. extension_changes c (extension_in c.old c.before i)) c.before.extensions
     ++ (flat_map (oneof_changes c) c.after.oneofs
     ++ (flat_map (λ g. required_changes c (field_entry g)) c.after.fields
-    ++ flat_map (λ i. required_extension_changes c (extension_at c.new i)) c.after.extensions)))
+    ++ flat_map (λ i. required_extension_changes c (extension_in c.new c.after i)) c.after.extensions)))

@@ -1,5 +1,5 @@
 -- A pool as a schema. A message has an entry for each of its fields, and for each extension of it.
-use Rattle.std.specs.Prelude.{ℕ, Bool, slice_get, option_map, option_and_then, ◌||◌, Option, None}
+use Rattle.std.specs.Prelude.{ℕ, Bool, slice_get, option_map, option_and_then, is_some, if◌then◌else◌, ◌||◌, Option, Some, None}
 use Rattle.std.specs.FinMap as finite
 use Rattle.std.specs.Option.{option_or}
 use Rattle.pool_types.specs.LookUps.{field_numbered}
@@ -38,6 +38,13 @@ extension_entry x = record {
 -- the entry of the extension with an index
 abbrev pub extension_at : Parts → ℕ → Option Entry
 extension_at p i = option_map extension_entry (slice_get p.extensions i)
+
+-- the entry of an extension of a message with an index; none where a field of the message has its
+-- number, by which bytes are read then
+abbrev pub extension_in : Parts → MessageDescriptorInner → ℕ → Option Entry
+extension_in p m i =
+    option_and_then (λ f. if is_some (field_numbered m f.number) then None else Some f)
+    (extension_at p i)
 
 -- the entry of a message to which its maps lead from a number: that of a field, or else that of an
 -- extension

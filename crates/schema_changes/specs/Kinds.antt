@@ -1,14 +1,15 @@
 -- Whether a new kind keeps an old one: each value of the old kind is one of the new kind, and is
 -- encoded alike.
-use Rattle.std.specs.Prelude.{ℤ, pos, negsuc, Bool, true, false, not, ◌||◌, ◌&&◌, nat_lt, if◌then◌else◌, Option, None, Some}
+use Rattle.std.specs.Prelude.{ℕ, ℤ, pos, negsuc, Bool, true, false, not, ◌||◌, ◌&&◌, nat_lt, if◌then◌else◌, Option, None, Some}
 use Rattle.std.specs.List.{list_all}
+use Rattle.std.specs.Option.{option_map_or}
 use Rattle.pool_types.specs.Kinds.{is_message}
 use Rattle.pool_types.specs.declared.kinds.Cardinality.{Cardinality}
 use Rattle.pool_types.specs.declared.kinds.Cardinality.TheVariants as cardinality
 use Rattle.pool_types.specs.declared.kinds.KindIndex.{KindIndex}
 use Rattle.pool_types.specs.declared.kinds.KindIndex.TheVariants as index
 use Rattle.schema_changes.specs.declared.entries.Entry.{Entry}
-use Rattle.schema_changes.specs.Parts.{Parts, in_proto3, is_open, has_value, values_of, one_name}
+use Rattle.schema_changes.specs.Parts.{Parts, in_proto3, is_open, has_value, values_of}
 
 -- whether a number is not negative
 abbrev pub is_natural : ℤ → Bool
@@ -86,22 +87,24 @@ abbrev pub keeps_check : Option Bool → Option Bool → Bool
 keeps_check (Some old) (Some new) = old || not new
 keeps_check _ _ = false
 
--- whether a message, or a group, stays one with its full name
-abbrev pub keeps_message : Parts → KindIndex → Parts → KindIndex → Bool
-keeps_message old (index.Message m) new (index.Message n) = one_name old m new n
-keeps_message old (index.Group m) new (index.Group n) = one_name old m new n
-keeps_message old _ new _ = false
+-- the two messages of an old and a new kind, by their indexes, where both are messages or both are
+-- groups
+abbrev pub messages_of : KindIndex → KindIndex → Option (ℕ × ℕ)
+messages_of (index.Message m) (index.Message n) = Some (m, n)
+messages_of (index.Group m) (index.Group n) = Some (m, n)
+messages_of _ _ = None
 
 -- how the texts of an entry are checked
 abbrev pub entry_check : Parts → Entry → Option Bool
 entry_check p f = text_check (in_proto3 p f.file) f.kind
 
--- whether the kind of a new entry keeps that of an old one
-abbrev pub keeps_kind : Parts → Entry → Parts → Entry → Bool
-keeps_kind old f new g =
+-- whether the kind of a new entry keeps that of an old one, where messages keep each other that are
+-- pairs
+abbrev pub keeps_kind_by : (ℕ → ℕ → Bool) → Parts → Entry → Parts → Entry → Bool
+keeps_kind_by pairs old f new g =
     keeps_numbers old f.kind new g.kind
     || keeps_check (entry_check old f) (entry_check new g)
-    || keeps_message old f.kind new g.kind
+    || option_map_or (λ e. pairs e.0 e.1) (messages_of f.kind g.kind) false
 
 -- whether a field is repeated
 abbrev pub is_repeated : Cardinality → Bool

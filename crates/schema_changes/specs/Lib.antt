@@ -1,7 +1,9 @@
 pub mod Parts
 pub mod Entries
 pub mod Kinds
+pub mod Lacking
 pub mod Records
+pub mod MapEntries
 pub mod Changes
 pub mod Unchanged
 pub mod Pools

@@ -10,6 +10,7 @@ use Rattle.pool_types.specs.declared.contents.oneof.OneofDescriptorInner.{OneofD
 use Rattle.message_values.specs.Writing.{Besides}
 use Rattle.schema_changes.specs.declared.entries.Entry.{Entry}
 use Rattle.schema_changes.specs.Parts.{Parts, one_name}
+use Rattle.schema_changes.specs.MapEntries.{are_paired}
 use Rattle.schema_changes.specs.Entries.{entry_at}
 use Rattle.schema_changes.specs.Changes.{message_changes}
 
@@ -46,7 +47,7 @@ abbrev pub IsClosed : Parts → (ℕ → Bool) → Type 0
 IsClosed p reached = (m k : ℕ) (f : Entry) → reached m ≡ true → entry_at p m k ≡ Some f
     → IsReached reached f.kind
 
--- no new message has an entry of a number that its old one may have besides
+-- no new message of a pair has an entry of a number that its old one may have besides
 abbrev pub LeavesOut : Parts → Parts → (ℕ → Bool) → Besides → Type 0
-LeavesOut old new reached besides = (m n k : ℕ) → reached m ≡ true → one_name old m new n ≡ true
-    → besides m k ≡ true → entry_at new n k ≡ None
+LeavesOut old new reached besides =
+    (m n k : ℕ) → reached m ≡ true → are_paired old m new n ≡ true → besides m k ≡ true → entry_at new n k ≡ None

@@ -5,11 +5,12 @@ ghost use Rattle.std.specs.List.{flat_map};
 ghost use Rattle.schema_changes.specs.declared.change.WireChangeKind.TheVariants as change;
 ghost use Rattle.schema_changes.specs.Parts.{parts};
 ghost use Rattle.schema_changes.specs.Records.{is_kept_free};
-ghost use Rattle.schema_changes.specs.Entries.{field_entry, extension_at};
+ghost use Rattle.schema_changes.specs.Entries.{field_entry, extension_in};
 ghost use Rattle.schema_changes.specs.Changes.{compared, unless, old_entry, new_entry, kept_changes, entry_changes, extension_changes, was_required, required_changes, required_extension_changes, oneof_changes, message_changes};
 
 use crate::entries::field_entry;
-use crate::kinds::{keeps_cardinality, keeps_kind};
+use crate::kinds::keeps_cardinality;
+use crate::map_entries::keeps_kind;
 use crate::{Entry, Parts, WireChange, WireChangeKind};
 use pool_types::{Cardinality, MessageDescriptorInner};
 use std::alloc::AllocError;
@@ -147,11 +148,11 @@ impl Compared<'_> {
     fn tell_extensions(self, changes: &mut Vec<WireChange>) -> Result<(), AllocError>
         ensures { OnOk result (changes.new.items ≡ changes.old.items
             ++ flat_map (λ i. extension_changes (compared self.entry)
-            (extension_at (parts self.entry.old) i)) self.entry.before.now.extensions) }
+            (extension_in (parts self.entry.old) self.entry.before.now i)) self.entry.before.now.extensions) }
     {
         let extensions = self.before.extensions.as_slice();
         for index in extensions {
-            self.tell_extension(changes, self.old.extension_at(*index))?;
+            self.tell_extension(changes, self.old.extension_in(self.before, *index))?;
         }
         Ok(())
     }
@@ -200,11 +201,11 @@ impl Compared<'_> {
     fn tell_required_extensions(self, changes: &mut Vec<WireChange>) -> Result<(), AllocError>
         ensures { OnOk result (changes.new.items ≡ changes.old.items
             ++ flat_map (λ i. required_extension_changes (compared self.entry)
-            (extension_at (parts self.entry.new) i)) self.entry.after.now.extensions) }
+            (extension_in (parts self.entry.new) self.entry.after.now i)) self.entry.after.now.extensions) }
     {
         let extensions = self.after.extensions.as_slice();
         for index in extensions {
-            self.tell_required_extension(changes, self.new.extension_at(*index))?;
+            self.tell_required_extension(changes, self.new.extension_in(self.after, *index))?;
         }
         Ok(())
     }

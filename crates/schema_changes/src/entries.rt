@@ -2,7 +2,7 @@
 
 ghost use Rattle.std.specs.Prelude.{◌≡◌};
 ghost use Rattle.schema_changes.specs.Parts.{parts};
-ghost use Rattle.schema_changes.specs.Entries.{field_entry, extension_entry, extension_at, entry_numbered};
+ghost use Rattle.schema_changes.specs.Entries.{field_entry, extension_entry, extension_at, extension_in, entry_numbered};
 
 use crate::Parts;
 use pool_types::{
@@ -49,12 +49,23 @@ fn extension_entry(extension: &ExtensionDescriptorInner) -> Entry
 
 impl Parts<'_> {
     /// The entry of the extension with an index, if there is one.
-    pub(crate) fn extension_at(self, index: u32) -> Option<Entry>
+    fn extension_at(self, index: u32) -> Option<Entry>
         ensures { result ≡ extension_at (parts self.entry) index }
     {
         match self.extensions.get(index as usize) {
             Some(extension) => Some(extension_entry(extension)),
             None => None,
+        }
+    }
+
+    /// The entry of an extension of a message with an index, unless a field has its number.
+    pub(crate) fn extension_in(self, message: &MessageDescriptorInner, index: u32) -> Option<Entry>
+        ensures { result ≡ extension_in (parts self.entry) message.now index }
+    {
+        let entry = self.extension_at(index)?;
+        match message.get_field(entry.number) {
+            Some(_) => None,
+            None => Some(entry),
         }
     }
 

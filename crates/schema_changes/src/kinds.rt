@@ -1,9 +1,9 @@
 //! Whether a new kind keeps an old one.
 
-ghost use Rattle.std.specs.Prelude.{◌≡◌};
+ghost use Rattle.std.specs.Prelude.{◌≡◌, ◌||◌};
 ghost use Rattle.std.specs.List.{list_all};
 ghost use Rattle.schema_changes.specs.Parts.{parts};
-ghost use Rattle.schema_changes.specs.Kinds.{holds, holds_all, is_plain, holds_unsigned, keeps_numbers, text_check, keeps_check, entry_check, keeps_message, keeps_kind, keeps_cardinality};
+ghost use Rattle.schema_changes.specs.Kinds.{holds, holds_all, is_plain, holds_unsigned, keeps_numbers, text_check, keeps_check, entry_check, messages_of, keeps_cardinality};
 
 use crate::parts::has_value;
 use crate::{Entry, Parts};
@@ -11,7 +11,7 @@ use pool_types::{Cardinality, EnumValueDescriptorInner, KindIndex};
 
 /// Whether a number of 32 bits is one of a kind that is encoded as int32 is.
 #[tactic(auto, unfolding(crate::specs::Kinds::holds))]
-fn holds(items: Parts<'_>, kind: KindIndex, number: i32) -> bool
+pub(crate) fn holds(items: Parts<'_>, kind: KindIndex, number: i32) -> bool
     ensures { result ≡ holds (parts items.entry) kind number }
 {
     match kind {
@@ -36,7 +36,7 @@ fn holds_all(items: Parts<'_>, kind: KindIndex) -> bool
 }
 
 /// Whether a kind is encoded as int32 is.
-fn is_plain(kind: KindIndex) -> bool
+pub(crate) fn is_plain(kind: KindIndex) -> bool
     ensures { result ≡ is_plain kind }
 {
     matches!(
@@ -118,28 +118,25 @@ fn keeps_check(old: Option<bool>, new: Option<bool>) -> bool
     }
 }
 
-/// Whether a message, or a group, stays one with its full name.
-fn keeps_message(old: Parts<'_>, old_kind: KindIndex, new: Parts<'_>, new_kind: KindIndex) -> bool
-    ensures { result ≡ keeps_message (parts old.entry) old_kind (parts new.entry) new_kind }
+/// The two messages of an old and a new kind, where both are messages or both are groups.
+pub(crate) fn messages_of(old: KindIndex, new: KindIndex) -> Option<(u32, u32)>
+    ensures { result ≡ messages_of old new }
 {
-    match (old_kind, new_kind) {
-        (KindIndex::Message(old_index), KindIndex::Message(new_index)) => {
-            old.has_name_of(old_index, new, new_index)
-        }
-        (KindIndex::Group(old_index), KindIndex::Group(new_index)) => {
-            old.has_name_of(old_index, new, new_index)
-        }
-        _ => false,
+    match (old, new) {
+        (KindIndex::Message(old), KindIndex::Message(new)) => Some((old, new)),
+        (KindIndex::Group(old), KindIndex::Group(new)) => Some((old, new)),
+        _ => None,
     }
 }
 
-/// Whether the kind of a new entry keeps that of an old one.
-pub(crate) fn keeps_kind(old: Parts<'_>, field: &Entry, new: Parts<'_>, kept: &Entry) -> bool
-    ensures { result ≡ keeps_kind (parts old.entry) field.now (parts new.entry) kept.now }
+/// Whether the kind of a new entry keeps that of an old one, where both have numbers or texts.
+pub(crate) fn keeps_scalar(old: Parts<'_>, field: &Entry, new: Parts<'_>, kept: &Entry) -> bool
+    ensures { result ≡ (keeps_numbers (parts old.entry) field.now.kind (parts new.entry) kept.now.kind
+        || keeps_check (entry_check (parts old.entry) field.now)
+        (entry_check (parts new.entry) kept.now)) }
 {
     keeps_numbers(old, field.kind, new, kept.kind)
         || keeps_check(entry_check(old, field), entry_check(new, kept))
-        || keeps_message(old, field.kind, new, kept.kind)
 }
 
 /// Whether a field of a kind may become repeated, or not repeated.

@@ -20,7 +20,7 @@ pub struct Parts<'a> {
 impl<'a> Parts<'a> {
     /// Whether a file is one of proto3.
     #[tactic(auto, unfolding(crate::specs::Parts::in_proto3))]
-    pub(crate) fn in_proto3(self, file: u32) -> bool
+    pub fn in_proto3(self, file: u32) -> bool
         ensures { result ≡ in_proto3 (parts self.entry) file }
     {
         match self.files.get(file as usize) {
@@ -31,7 +31,7 @@ impl<'a> Parts<'a> {
 
     /// Whether an enum is open.
     #[tactic(auto, unfolding(crate::specs::Parts::is_open))]
-    pub(crate) fn is_open(self, index: u32) -> bool
+    pub fn is_open(self, index: u32) -> bool
         ensures { result ≡ is_open (parts self.entry) index }
     {
         match self.enums.get(index as usize) {

@@ -50,7 +50,10 @@ fn keeps_free(message: &DescriptorProto, number: i64) -> bool
 
 impl<'a> Parts<'a> {
     /// The linked record of a message.
-    fn message_record(self, message: &MessageDescriptorInner) -> Option<&'a DescriptorProto>
+    pub(crate) fn message_record(
+        self,
+        message: &MessageDescriptorInner,
+    ) -> Option<&'a DescriptorProto>
         ensures { option_copied result ≡ message_record (parts self.entry) message.now }
     {
         let file = self.files.get(message.id.file as usize)?;

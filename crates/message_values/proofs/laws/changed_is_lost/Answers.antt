@@ -1,4 +1,4 @@
-use Rattle.message_values.proofs.Lost.{all-lost, bytes-checked, text-checked}
+use Rattle.message_values.proofs.Lost.{all-lost, bytes-checked, text-checked, used-again}
 use Rattle.message_values.proofs.laws.changed_is_lost.Goals as goal
 
 pub returns-clause-rows : goal.returns-clause-rows
@@ -6,3 +6,6 @@ returns-clause-rows c = all-lost
 
 pub returns-clause-texts : goal.returns-clause-texts
 returns-clause-texts c = λ bytes bad. (bytes-checked bytes bad, text-checked bytes bad)
+
+pub returns-clause-together : goal.returns-clause-together
+returns-clause-together c = used-again

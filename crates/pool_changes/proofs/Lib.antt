@@ -1,0 +1,5 @@
+pub mod Lists
+pub mod Lying
+pub mod Looking
+pub mod Itself
+pub mod Fresh

@@ -1,0 +1,7 @@
+use Rattle.schema_changes.proofs.Chained.{chain}
+use Rattle.pool_changes.proofs.Looking.{all-look-up}
+use Rattle.pool_changes.proofs.laws.chains.Goals as goal
+
+pub returns : goal.returns
+returns c = λ first later pool pools none free m n on levels vs written.
+    chain first later (all-look-up first later pool pools) none free levels m n on vs written

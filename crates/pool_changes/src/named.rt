@@ -1,0 +1,67 @@
+//! The message of a pool that a full name means.
+
+ghost use Rattle.std.specs.Prelude.{◌≡◌, IfOk};
+ghost use Rattle.std.specs.FinMap as finite;
+ghost use Rattle.std.specs.Option.{option_copied};
+ghost use Rattle.schema_changes.specs.Pools.{message_meant, message_named};
+
+use descriptor_pool::DescriptorPool;
+use pool_types::{Definition, DefinitionKind, MessageDescriptor, MessageDescriptorInner};
+use std::alloc::{AllocError, Global};
+
+/// What a pool has under a full name that begins with a dot of its own.
+fn dotted_definition<'a>(
+    alloc: Global,
+    pool: &'a DescriptorPool,
+    name: &str,
+) -> Result<Option<&'a Definition>, AllocError>
+    ensures { IfOk result (λ found. option_copied found ≡ finite.get pool.now.names name.now) }
+{
+    let mut dotted = String::new(alloc);
+    dotted.push('.')?;
+    dotted.push_str(name)?;
+    Ok(pool.get_by_name(dotted.as_str()))
+}
+
+/// What a pool has under a full name. Where that begins with a dot, one more is put before it, since
+/// the pool takes one away.
+fn definition_of<'a>(
+    alloc: Global,
+    pool: &'a DescriptorPool,
+    name: &str,
+) -> Result<Option<&'a Definition>, AllocError>
+    ensures { IfOk result (λ found. option_copied found ≡ finite.get pool.now.names name.now) }
+{
+    match name.strip_prefix('.') {
+        Some(_) => dotted_definition(alloc, pool, name),
+        None => Ok(pool.get_by_name(name)),
+    }
+}
+
+/// The message of a pool that a definition is.
+fn message_meant(pool: &DescriptorPool, kind: DefinitionKind) -> Option<&MessageDescriptorInner>
+    ensures { option_copied result ≡ message_meant pool.now kind }
+{
+    match kind {
+        DefinitionKind::Message(index) => pool.message(MessageDescriptor::new(index)),
+        _ => None,
+    }
+}
+
+/// The message of a pool that a full name means.
+///
+/// # Errors
+/// `AllocError` where memory was refused.
+#[tactic(auto, unfolding(schema_changes::specs::Pools::message_named))]
+pub fn message_named<'a>(
+    alloc: Global,
+    pool: &'a DescriptorPool,
+    name: &str,
+) -> Result<Option<&'a MessageDescriptorInner>, AllocError>
+    ensures { IfOk result (λ found. option_copied found ≡ message_named pool.now name.now) }
+{
+    match definition_of(alloc, pool, name)? {
+        Some(definition) => Ok(message_meant(pool, definition.kind)),
+        None => Ok(None),
+    }
+}
