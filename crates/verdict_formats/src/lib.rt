@@ -1,0 +1,18 @@
+//! The verdict on a batch in the formats of the tools where people read it: annotations of GitHub's
+//! workflows, GitLab's code quality, and SARIF, beside lines for people and an object of JSON.
+#![tactic(auto)]
+
+mod annotations;
+mod formats;
+pub mod laws;
+mod members;
+mod percent;
+mod quality;
+mod rules;
+mod sarif;
+mod texts;
+
+pub use annotations::annotations_text;
+pub use formats::{Format, accepted_report, refused_report, too_many_report, unread_report};
+pub use quality::quality_text;
+pub use sarif::sarif_text;
