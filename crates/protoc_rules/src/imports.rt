@@ -1,0 +1,167 @@
+//! What files may not be, and what they may not import.
+
+ghost use Rattle.std.specs.Prelude.{◌≡◌, ◌<◌, ◌++◌, OnOk, IfOk, length, map, position as position_of};
+ghost use Rattle.protoc_rules.specs.Faults.{each_told, told_at};
+ghost use Rattle.protoc_rules.specs.Imports as spec;
+
+use crate::Linked;
+use crate::faults::{Entry, Found, StrictKind, entry_at};
+use plain_data::{Items, Path, Text};
+use pool_types::{FileDescriptorInner, Identity};
+use proto_types::tag::file::{DEPENDENCY, NAME};
+use std::alloc::{AllocError, Global};
+
+/// A file as an item whose parts are told. An index past those of a pool asks for more room than
+/// can be granted.
+fn file_id(alloc: Global, index: usize) -> Result<Identity, AllocError>
+    ensures { IfOk result (λ id. id ≡ spec.file_id index) }
+{
+    match u32::try_from(index) {
+        Ok(file) => Ok(Identity {
+            file,
+            path: Path::from_slice(alloc, &[])?,
+            full_name: Text::new(alloc),
+            name_index: 0,
+        }),
+        Err(_) => {
+            String::new(alloc).reserve(usize::MAX)?;
+            Err(AllocError)
+        }
+    }
+}
+
+/// The position of the first of some files that is one.
+fn first_same(files: &[u32], file: u32) -> Option<usize>
+    ensures { result ≡ position_of (spec.is_same file) files.now }
+{
+    files.iter().position(|other| file == *other)
+}
+
+/// Appends that the import with a position is of a file that is imported before.
+fn tell_import(
+    found: &mut Found,
+    id: &Identity,
+    imports: &[u32],
+    position: usize,
+) -> Result<(), AllocError>
+    requires { position < length imports.now }
+    ensures { OnOk result (found.new ≡ found.old
+        ++ told_at (spec.import_faults id.now imports.now) imports.now position) }
+{
+    let Some(import) = imports.get(position) else {
+        return Ok(());
+    };
+    let tag = DEPENDENCY;
+    let first = entry_at(tag, first_same(&imports[..position], *import));
+    found.tell_pair(
+        StrictKind::DuplicateImport,
+        id,
+        Entry { tag, position },
+        first,
+    )
+}
+
+/// Appends which imports of a file are of one that it imports before.
+fn tell_imports(found: &mut Found, id: &Identity, imports: &[u32]) -> Result<(), AllocError>
+    ensures { OnOk result (found.new
+        ≡ found.old ++ each_told (spec.import_faults id.now imports.now) imports.now) }
+{
+    for position in 0..imports.len() {
+        tell_import(found, id, imports, position)?;
+    }
+    Ok(())
+}
+
+/// Whether a file is known to end its chains of imports.
+fn ends(known: &[bool], file: u32) -> bool
+    ensures { result ≡ spec.ends known.now file }
+{
+    match known.get(file as usize) {
+        Some(known) => *known,
+        None => false,
+    }
+}
+
+/// Whether all of some files are known to end their chains of imports.
+fn all_end(known: &[bool], imports: &[u32]) -> bool
+    ensures { result ≡ spec.all_end known.now imports.now }
+{
+    imports.iter().all(|import| ends(known, *import))
+}
+
+/// Of which files is known that their chains of imports end, by what is known of their imports.
+fn known_next(
+    alloc: Global,
+    files: &[FileDescriptorInner],
+    known: &[bool],
+) -> Result<Items<bool>, AllocError>
+    ensures { IfOk result (λ next. next ≡ map (spec.all_end known.now) (spec.imports files.now)) }
+{
+    let mut next = Items::new(alloc);
+    for file in files {
+        next.push(all_end(known, file.dependencies.as_slice()))?;
+    }
+    Ok(next)
+}
+
+/// Which files end all their chains of imports. A round that tells nothing new is the last one.
+fn ending_files(alloc: Global, files: &[FileDescriptorInner]) -> Result<Items<bool>, AllocError>
+    ensures { IfOk result (λ known. known
+        ≡ spec.known_after (spec.imports files.now) (length files.now)) }
+{
+    let mut known = Items::new(alloc);
+    'rounds: for _round in 0..files.len() {
+        let next = known_next(alloc, files, known.as_slice())?;
+        if next == known {
+            return Ok(known);
+        }
+        known = next;
+    }
+    Ok(known)
+}
+
+/// Appends what a file may not be: without a name, in a cycle of imports or with one behind it, nor
+/// with an import twice.
+fn tell_file(
+    found: &mut Found,
+    index: usize,
+    file: &FileDescriptorInner,
+    known: &[bool],
+) -> Result<(), AllocError>
+    ensures { OnOk result (found.new
+        ≡ found.old ++ spec.file_faults known.now index file.now) }
+{
+    let id = file_id(found.alloc(), index)?;
+    let unnamed = file.raw.name().is_empty();
+    let in_cycle = !ends(known, id.file);
+    found.tell_if(unnamed, StrictKind::MissingFileName, &id, NAME)?;
+    found.tell_if(in_cycle, StrictKind::ImportCycle, &id, DEPENDENCY)?;
+    tell_imports(found, &id, file.dependencies.as_slice())
+}
+
+/// Appends what some files may not be, where it is known which end their chains of imports.
+#[tactic(auto, using(crate::proofs::Told::told_next))]
+fn tell_each_file(
+    found: &mut Found,
+    files: &[FileDescriptorInner],
+    known: &[bool],
+) -> Result<(), AllocError>
+    ensures { OnOk result (found.new
+        ≡ found.old ++ each_told (spec.file_faults known.now) files.now) }
+{
+    for (index, file) in files.iter().enumerate() {
+        tell_file(found, index, file, known)?;
+    }
+    Ok(())
+}
+
+impl Linked<'_> {
+    /// Appends what the files may not be.
+    pub(crate) fn tell_files(self, found: &mut Found) -> Result<(), AllocError>
+        ensures { OnOk result (found.new
+            ≡ found.old ++ spec.files_faults self.entry.files.now) }
+    {
+        let known = ending_files(found.alloc(), self.files)?;
+        tell_each_file(found, self.files, known.as_slice())
+    }
+}

@@ -1,0 +1,26 @@
+//! What `protoc` refuses besides the rules of the linker, in the files of a pool.
+#![tactic(auto)]
+
+mod enums;
+mod extensions;
+mod faults;
+mod fields;
+mod imports;
+mod labels;
+mod linked;
+mod maps;
+mod messages;
+mod names;
+mod oneofs;
+mod proto3;
+mod ranges;
+mod reserved;
+mod spans;
+mod strict;
+mod types;
+mod written;
+
+pub use faults::{StrictFault, StrictKind};
+pub use linked::Linked;
+pub use strict::strict_faults;
+pub use written::{WrittenTypes, written_types};

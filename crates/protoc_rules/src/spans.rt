@@ -1,0 +1,161 @@
+//! Ranges of numbers, each as its start and the number behind its last one.
+
+ghost use Rattle.std.specs.Prelude.{◌≡◌, ◌<◌, ◌++◌, OnOk, IfOk, length, map, slice_get, position as position_of};
+ghost use Rattle.protoc_rules.specs.Faults.{each_told, told_at};
+ghost use Rattle.protoc_rules.specs.Spans as spec;
+
+use crate::faults::{Entry, Found, StrictKind, entry_at};
+use plain_data::Items;
+use pool_types::Identity;
+use proto_types::tag::message::{EXTENSION_RANGE, RESERVED_RANGE};
+use proto_types::{EnumReservedRange, ExtensionRange, ReservedRange};
+use std::alloc::{AllocError, Global};
+
+/// The extension ranges of a message.
+pub(crate) fn extension_spans(
+    alloc: Global,
+    ranges: &[ExtensionRange],
+) -> Result<Items<(i64, i64)>, AllocError>
+    ensures { IfOk result (λ spans. spans ≡ map spec.extension_span ranges.now) }
+{
+    let mut spans = Items::new(alloc);
+    for range in ranges {
+        spans.push((i64::from(range.start()), i64::from(range.end())))?;
+    }
+    Ok(spans)
+}
+
+/// The reserved ranges of a message.
+pub(crate) fn reserved_spans(
+    alloc: Global,
+    ranges: &[ReservedRange],
+) -> Result<Items<(i64, i64)>, AllocError>
+    ensures { IfOk result (λ spans. spans ≡ map spec.reserved_span ranges.now) }
+{
+    let mut spans = Items::new(alloc);
+    for range in ranges {
+        spans.push((i64::from(range.start()), i64::from(range.end())))?;
+    }
+    Ok(spans)
+}
+
+/// The numbers of a reserved range of an enum, which holds its end.
+fn enum_span(range: &EnumReservedRange) -> (i64, i64)
+    ensures { result ≡ spec.enum_span range.now }
+{
+    (i64::from(range.start()), i64::from(range.end()) + 1)
+}
+
+/// The reserved ranges of an enum, which hold their ends.
+pub(crate) fn enum_spans(
+    alloc: Global,
+    ranges: &[EnumReservedRange],
+) -> Result<Items<(i64, i64)>, AllocError>
+    ensures { IfOk result (λ spans. spans ≡ map spec.enum_span ranges.now) }
+{
+    let mut spans = Items::new(alloc);
+    for range in ranges {
+        spans.push(enum_span(range))?;
+    }
+    Ok(spans)
+}
+
+/// The range with a position, if there is one.
+pub(crate) fn span_at(spans: &[(i64, i64)], position: usize) -> Option<(i64, i64)>
+    ensures { result ≡ slice_get spans.now position }
+{
+    spans.get(position).copied()
+}
+
+/// Whether two ranges overlap, as protobuf compares them.
+fn overlap(first: (i64, i64), second: (i64, i64)) -> bool
+    ensures { result ≡ spec.overlap first second }
+{
+    second.0 < first.1 && first.0 < second.1
+}
+
+/// The position of the first of some ranges that overlaps with one.
+fn first_overlap(spans: &[(i64, i64)], span: (i64, i64)) -> Option<usize>
+    ensures { result ≡ position_of (spec.overlap span) spans.now }
+{
+    spans.iter().position(|other| overlap(span, *other))
+}
+
+/// Appends that the range with a position overlaps with an earlier one, of which the first is told.
+fn tell_overlap(
+    found: &mut Found,
+    id: &Identity,
+    tag: i32,
+    spans: &[(i64, i64)],
+    position: usize,
+) -> Result<(), AllocError>
+    requires { position < length spans.now }
+    ensures { OnOk result (found.new
+        ≡ found.old ++ told_at (spec.earlier_overlap id.now tag spans.now) spans.now position) }
+{
+    let Some(span) = spans.get(position) else {
+        return Ok(());
+    };
+    let second = entry_at(tag, first_overlap(&spans[..position], *span));
+    found.tell_pair(
+        StrictKind::RangesOverlap,
+        id,
+        Entry { tag, position },
+        second,
+    )
+}
+
+/// Appends which ranges of a list overlap with an earlier one, each with the first such.
+pub(crate) fn tell_overlaps(
+    found: &mut Found,
+    id: &Identity,
+    tag: i32,
+    spans: &[(i64, i64)],
+) -> Result<(), AllocError>
+    ensures { OnOk result (found.new
+        ≡ found.old ++ each_told (spec.earlier_overlap id.now tag spans.now) spans.now) }
+{
+    for position in 0..spans.len() {
+        tell_overlap(found, id, tag, spans, position)?;
+    }
+    Ok(())
+}
+
+/// Appends that the extension range with a position overlaps with a reserved one, of which the first
+/// is told.
+fn tell_reserved(
+    found: &mut Found,
+    id: &Identity,
+    extensions: &[(i64, i64)],
+    reserved: &[(i64, i64)],
+    position: usize,
+) -> Result<(), AllocError>
+    ensures { OnOk result (found.new ≡ found.old
+        ++ told_at (spec.reserved_overlap id.now reserved.now) extensions.now position) }
+{
+    let Some(span) = span_at(extensions, position) else {
+        return Ok(());
+    };
+    let at = Entry {
+        tag: EXTENSION_RANGE,
+        position,
+    };
+    let second = entry_at(RESERVED_RANGE, first_overlap(reserved, span));
+    found.tell_pair(StrictKind::RangesOverlap, id, at, second)
+}
+
+/// Appends which extension ranges of a message overlap with a reserved one, each with the first such.
+pub(crate) fn tell_across(
+    found: &mut Found,
+    id: &Identity,
+    extensions: &[(i64, i64)],
+    reserved: &[(i64, i64)],
+) -> Result<(), AllocError>
+    ensures { OnOk result (found.new
+        ≡ found.old ++ each_told (spec.reserved_overlap id.now reserved.now) extensions.now) }
+{
+    for position in 0..extensions.len() {
+        tell_reserved(found, id, extensions, reserved, position)?;
+    }
+    Ok(())
+}
