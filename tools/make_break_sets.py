@@ -50,12 +50,19 @@ DESCRIPTOR = "google/protobuf/descriptor.proto"
 MEND_NAME = "mend the name, or give and import the file that declares it"
 OTHER_NUMBER = "take another number"
 OTHER_JSON_NAME = "set another json_name: protoc gives `user_id` and `userId` the same one"
-RENAME = "rename one; values of an enum stand beside it, so begin their names with its own"
+RENAME = "rename one"
+RENAME_VALUE = (
+    "rename one; if it is a value of an enum, begin its name with the enum's, since values stand "
+    "beside their enum"
+)
 RENAME_OVER_FILES = "rename one; where all names of a file clash, it is given under two names"
 NUMBERS = "take a number from 1 to 536,870,911, but none from 19,000 to 19,999"
 NOT_RESERVED = "take a number that is not reserved"
 NOT_EXTENSIONS = "take a number that is not left to extensions"
-OF_A_RANGE = "take a number of one of the extension ranges of the message"
+OF_A_RANGE = (
+    "take a number of an extension range of the message; where it has none, give it one by "
+    "`extensions`"
+)
 GIVE_FILE = "give it too, as `protoc --include_imports` does, or under the name that is imported"
 GIVE_TYPE = "give the type name: a message, a group or an enum needs one"
 NO_SUCH_INDEX = "protoc makes no such index: look for it with `protoc --decode`"
@@ -65,6 +72,7 @@ ALIAS = "take another number, or set the option allow_alias"
 ZERO_FIRST = "put the value with the number 0 first"
 CAMEL_CASE = "rename one: in proto3 names differ by more than case and underscores"
 VALUE = "write a value of the type"
+NO_VALUE = "write a value of the type; a message has none, so leave its default out"
 SYNTAXES = "proto2 and proto3 are read; of a file of an edition nothing is"
 
 
@@ -564,7 +572,7 @@ for name, position, text, kind, element in (
         Fault(
             "InvalidFieldDefault",
             f"invalid default value '{text}' for type '{kind}'",
-            VALUE,
+            NO_VALUE if kind == "message type" else VALUE,
             Place(SHELF, [4, 0, 2, position, 7], f"depot.Shelf.{element}"),
         ),
     )
@@ -583,10 +591,10 @@ refused(
 # Names that are there already.
 
 
-def name_twice(name: str, place: Place, first: Place) -> Fault:
+def name_twice(name: str, place: Place, first: Place, note: str = RENAME) -> Fault:
     """A name that is there already."""
     if place.file == first.file:
-        return Fault("DuplicateName", f"name '{name}' is defined twice", RENAME, place, first)
+        return Fault("DuplicateName", f"name '{name}' is defined twice", note, place, first)
     message = f"name '{name}' is already defined in file '{first.file}'"
     return Fault("DuplicateName", message, RENAME_OVER_FILES, place, first)
 
@@ -758,6 +766,7 @@ refused(
         "depot.SMALL",
         Place(SHELF, [5, 1, 2, 0, 1], "depot.SMALL"),
         Place(SHELF, [5, 0, 2, 0, 1], "depot.SMALL"),
+        RENAME_VALUE,
     ),
 )
 refused(
@@ -768,6 +777,7 @@ refused(
         "depot.Crate.OAK",
         Place(CRATE, [4, 0, 4, 1, 2, 1, 1], "depot.Crate.OAK"),
         Place(CRATE, [4, 0, 4, 0, 2, 1, 1], "depot.Crate.OAK"),
+        RENAME_VALUE,
     ),
 )
 refused(
@@ -778,6 +788,7 @@ refused(
         "depot.Room",
         Place(SHELF, [5, 1, 2, 2, 1], "depot.Room"),
         Place(SHELF, [4, 1, 1], "depot.Room"),
+        RENAME_VALUE,
     ),
 )
 ROWS.append(
@@ -1318,6 +1329,23 @@ file { name: "two words" package: "s" enum_type { name: "a\\nb" } }
 """
 """Names that look like a place, are empty, or would be obeyed by a terminal."""
 
+LINE_FEEDS = """
+file { name: "b.proto" package: "q\\n"
+    enum_type { name: "E\\n" value { name: "V" number: -1 } } }
+file { name: "c\\n.proto" }
+file { name: "a.proto" dependency: "b.proto" dependency: "c\\n.proto"
+    message_type { name: "M" oneof_decl { name: "o\\n" } extension_range { start: 5 end: 6 }
+        field { name: "f\\n" number: 1 type: TYPE_STRING json_name: "j\\n" oneof_index: 0
+            default_value: "one\\ntwo\\177" }
+        field { name: "g" number: 2 type: TYPE_ENUM type_name: ".q\\n.E\\n" default_value: "V" }
+        field { name: "h" number: 3 type: TYPE_FLOAT default_value: "1\\n2" }
+        nested_type { name: "N\\n" extension_range { start: 7 end: 9 } } }
+    extension { name: "x\\n" number: 5 extendee: ".M" type: TYPE_BOOL }
+    extension { name: "y" number: 7 extendee: ".M.N\\n" type: TYPE_BOOL }
+    service { name: "S" method { name: "m\\n" input_type: ".M" output_type: ".M.N\\n" } } }
+"""
+"""Names, JSON names and default values with line feeds."""
+
 DEFAULTS = """
 file { name: "a.proto" message_type { name: "M"
     field { name: "a" number: 1 type: TYPE_STRING default_value: "two\\nlines" }
@@ -1377,6 +1405,18 @@ def broken_files(records: Records) -> None:
     records[ITEM].message_type[0].field[3].number = 7
 
 
+BUF_FIELD = b"\xd2\xf6\x03\x02\x08\x01"
+"""The field 8042 that buf's images have in each file, a message: here its field 1 is 1."""
+
+
+def image(data: bytes) -> bytes:
+    """A set as an image of buf's: in each file a further field."""
+    files = descriptor_pb2.FileDescriptorSet.FromString(data)
+    for file in files.file:
+        file.MergeFromString(BUF_FIELD)
+    return files.SerializeToString()
+
+
 def run_sets() -> dict[str, bytes]:
     """The sets of the rows that are written by hand, by their names."""
     whole = compiled_set([ORDER, SHELF], "--include_source_info")
@@ -1385,12 +1425,15 @@ def run_sets() -> dict[str, bytes]:
     return {
         "shop": whole,
         "cut": whole[:-1],
+        "image": image(whole),
         "empty": b"",
+        "large-tag": b"\x8a\x80\x80\x80\x10\x00",
         "money": compiled_set([MONEY], "--include_source_info"),
         "broken": descriptor_pb2.FileDescriptorSet(file=broken.values()).SerializeToString(),
         "first-pass": small_set(FIRST_PASS),
         "second-pass": small_set(SECOND_PASS),
         "odd-names": small_set(ODD_NAMES),
+        "line-feeds": small_set(LINE_FEEDS),
         "defaults": small_set(DEFAULTS),
         "files-of-one-name": small_set(FILES_OF_ONE_NAME),
         "names-with-dots": small_set(NAMES_WITH_DOTS),

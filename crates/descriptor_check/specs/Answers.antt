@@ -9,14 +9,14 @@ use Rattle.proto_types.specs.declared.file.FileDescriptorProto.{FileDescriptorPr
 use Rattle.record_walk.specs.Counts.{counts_in}
 use Rattle.record_walk.specs.declared.counts.CountKind.{CountKind}
 use Rattle.descriptor_encoding.specs.Encoding.{set_encoding}
-use Rattle.verdict_texts.specs.declared.refused.ToldRefusal.{ToldRefusal}
 use Rattle.verdict_texts.specs.Accepted.{accepted_text}
 use Rattle.descriptor_check.specs.Batches.{batch_of}
 use Rattle.descriptor_check.specs.Complaints.{complaint, no_answer}
 use Rattle.descriptor_check.specs.Described.{described, unknown_names}
 use Rattle.descriptor_check.specs.Listed.{listed}
-use Rattle.verdict_texts.specs.Objects.{accepted_json, refused_json, too_many_json, unread_json}
-use Rattle.verdict_texts.specs.Refused.{refused_text, told_refusal, too_many_text}
+use Rattle.verdict_formats.specs.Formats as formats
+use Rattle.verdict_formats.specs.Formats.{is_for_people, refused_report, too_many_report, unread_report}
+use Rattle.verdict_texts.specs.Refused.{told_refusal}
 use Rattle.descriptor_check.specs.Unread.{unread_words}
 use Rattle.descriptor_check.specs.Verdicts.{verdict_of}
 use Rattle.descriptor_check.specs.declared.answer.Answer.{Answer}
@@ -50,8 +50,8 @@ accepted_lines w p =
 
 -- what is told of an accepted batch
 abbrev pub accepted_report : Wanted → Contents → List ℕ
-accepted_report w p =
-    if w.is_json then accepted_json (counts_in p) else accepted_lines w p
+accepted_report w p = if is_for_people w.format then accepted_lines w p
+    else formats.accepted_report w.format (counts_in p)
 
 -- the set of the linked files, for the file with a name
 abbrev pub set_for : List ℕ → Contents → LinkedSet
@@ -71,24 +71,18 @@ accepted_unless w p (c ∷ cs) = no_answer [] (c ∷ cs)
 abbrev pub accepted_answer : Wanted → Contents → Answer
 accepted_answer w p = accepted_unless w p (unknown_names p w.names)
 
--- what is told of a refused one
-abbrev pub refused_report : Wanted → ToldRefusal → List ℕ
-refused_report w r = if w.is_json then refused_json r else refused_text r
-
 -- of a refused one
 abbrev pub refused_answer : Wanted → Refusal → Answer
 refused_answer w refusal = told status.Refused
-    (refused_report w (told_refusal [] refusal.files refusal.faults refusal.rest w.most))
+    (refused_report w.format (told_refusal [] refusal.files refusal.faults refusal.rest w.most))
 
 -- of one that has too much of a kind
 abbrev pub too_many_answer : Wanted → CountKind → Answer
-too_many_answer w kind =
-    told status.Refused (if w.is_json then too_many_json kind else too_many_text kind)
+too_many_answer w kind = told status.Refused (too_many_report w.format kind)
 
--- where an input is no set: a line, and an object where one is wanted
+-- where an input is no set: a line on the standard error, and what the format has for it
 abbrev pub unread_answer : Wanted → NotASet → Answer
-unread_answer w n =
-    no_answer (if w.is_json then unread_json (unread_words n) else []) (complaint (unread_words n))
+unread_answer w n = no_answer (unread_report w.format (unread_words n)) (complaint (unread_words n))
 
 -- the answer for a verdict on a batch
 abbrev pub verdict_answer : Wanted → Verdict → Answer

@@ -1,11 +1,13 @@
 -- The arguments: words, read from left to right.
-use Rattle.std.specs.Prelude.{ℕ, Bool, true, false, not, ◌&&◌, ◌||◌, ◌==◌, nat_eq, List, [], ◌∷◌, ◌++◌, codes, fold, length, if◌then◌else◌}
+use Rattle.std.specs.Prelude.{ℕ, Bool, true, false, not, ◌&&◌, ◌||◌, ◌==◌, nat_eq, is_some, List, [], ◌∷◌, ◌++◌, codes, fold, length, if◌then◌else◌}
 use Rattle.std.specs.Option.{option_and_then}
 use Rattle.std.specs.Str.{bytes_eq}
 use Rattle.std.specs.declared.option.Option.{Option}
 use Rattle.std.specs.declared.option.Option.TheVariants.{None, Some}
 use Rattle.plain_data.specs.WholeNumbers.{whole_signed}
 use Rattle.pool_faults.specs.Labels.{non_negative}
+use Rattle.descriptor_check.specs.declared.answer.Compatibility.{Compatibility}
+use Rattle.descriptor_check.specs.declared.answer.Compatibility.TheVariants.{Backward, Forward, Full}
 use Rattle.descriptor_check.specs.declared.answer.Wanted.{Wanted}
 use Rattle.descriptor_check.specs.declared.arguments.Job.{Job}
 use Rattle.descriptor_check.specs.declared.arguments.Reading.{Reading}
@@ -13,7 +15,11 @@ use Rattle.descriptor_check.specs.declared.arguments.Reading.TheVariants as read
 use Rattle.descriptor_check.specs.declared.arguments.Request.{Request}
 use Rattle.descriptor_check.specs.declared.arguments.Request.TheVariants.{Check, Help, Version, Wrong}
 use Rattle.descriptor_check.specs.declared.arguments.Valued.{Valued}
+use Rattle.descriptor_check.specs.declared.arguments.Valued.TheVariants as valued
 use Rattle.descriptor_check.specs.declared.arguments.Valued.TheVariants.{MaxFaults, Describe, Linked}
+use Rattle.verdict_formats.specs.Formats.{is_for_people}
+use Rattle.verdict_formats.specs.declared.formats.Format.{Format}
+use Rattle.verdict_formats.specs.declared.formats.Format.TheVariants.{Text, Json, GitHub, GitLab, Sarif}
 
 -- arguments that ask nothing, and why
 abbrev pub wrong : List ℕ → Request
@@ -22,7 +28,15 @@ wrong words = Wrong words
 -- nothing wanted but lines for people, of a hundred faults at most
 abbrev pub no_job : Job
 no_job = record {
-  wanted = record { is_json = false; most = 100; lists = false; names = []; linked = None };
+  wanted = record {
+    format = Text;
+    most = 100;
+    lists = false;
+    names = [];
+    linked = None;
+    compatibility = None;
+  };
+  against = [];
   files = [];
 }
 
@@ -51,15 +65,59 @@ with_name job word =
 abbrev pub with_linked : Job → List ℕ → Job
 with_linked job word = record job { wanted = record job.wanted { linked = Some word } }
 
+-- the verdict told in a format
+abbrev pub with_format : Job → Format → Job
+with_format job format = record job { wanted = record job.wanted { format = format } }
+
+-- the format that a word names
+abbrev pub format_named : List ℕ → Option Format
+format_named word =
+    if bytes_eq word (codes "text") then Some Text
+    else (if bytes_eq word (codes "json") then Some Json
+    else (if bytes_eq word (codes "github") then Some GitHub
+    else (if bytes_eq word (codes "gitlab") then Some GitLab
+    else (if bytes_eq word (codes "sarif") then Some Sarif
+    else None))))
+
+-- the value of `--format`, if it names one
+abbrev pub with_named_format : Job → List ℕ → Option Format → Reading
+with_named_format job word (Some format) = reading.Reads (with_format job format)
+with_named_format job word None = reading.Done (Wrong
+    (codes "--format '" ++ (word ++ codes "': give text, json, github, gitlab or sarif")))
+
+-- one older version more, by the name of its set
+abbrev pub with_older : Job → List ℕ → Job
+with_older job word = record job { against = job.against ++ word ∷ [] }
+
+-- which version is to read what the other writes
+abbrev pub compatibility : List ℕ → Option Compatibility
+compatibility word =
+    if bytes_eq word (codes "backward") then Some Backward
+    else (if bytes_eq word (codes "forward") then Some Forward
+    else (if bytes_eq word (codes "full") then Some Full
+    else None))
+
+-- the value of `--compatibility`, if it is one
+abbrev pub with_compatibility : Job → List ℕ → Option Compatibility → Reading
+with_compatibility job word (Some c) =
+    reading.Reads (record job { wanted = record job.wanted { compatibility = Some c } })
+with_compatibility job word None = reading.Done (Wrong
+    (codes "--compatibility '" ++ (word ++ codes "': give backward, forward or full")))
+
+-- the value of `--level`: there is one level
+abbrev pub with_level : Job → List ℕ → Reading
+with_level job word = if bytes_eq word (codes "wire") then reading.Reads job
+    else reading.Done (Wrong (codes "--level '" ++ (word ++ codes "': give wire")))
+
 -- the value of an option
 abbrev pub with_value : Valued → Job → List ℕ → Reading
+with_value valued.Format job word = with_named_format job word (format_named word)
 with_value MaxFaults job word = with_most job word (max_faults word)
 with_value Describe job word = reading.Reads (with_name job word)
 with_value Linked job word = reading.Reads (with_linked job word)
-
--- the verdict told as an object
-abbrev pub with_json : Job → Job
-with_json job = record job { wanted = record job.wanted { is_json = true } }
+with_value valued.Against job word = reading.Reads (with_older job word)
+with_value valued.Compatibility job word = with_compatibility job word (compatibility word)
+with_value valued.Level job word = with_level job word
 
 -- each declaration told
 abbrev pub with_list : Job → Job
@@ -69,50 +127,93 @@ with_list job = record job { wanted = record job.wanted { lists = true } }
 abbrev pub with_file : Job → List ℕ → Job
 with_file job word = record job { files = job.files ++ word ∷ [] }
 
--- a word that is no option that is known
+-- the option that has a name, and a value behind it
+abbrev pub valued_named : List ℕ → Option Valued
+valued_named name =
+    if bytes_eq name (codes "--format") then Some valued.Format
+    else (if bytes_eq name (codes "--max-faults") then Some MaxFaults
+    else (if bytes_eq name (codes "--describe") then Some Describe
+    else (if bytes_eq name (codes "--linked") then Some Linked
+    else (if bytes_eq name (codes "--against") then Some valued.Against
+    else (if bytes_eq name (codes "--compatibility") then Some valued.Compatibility
+    else (if bytes_eq name (codes "--level") then Some valued.Level
+    else None))))))
+
+-- an option that is not known, or the name of a file
 abbrev pub with_other : Job → List ℕ → Reading
 with_other job word = if is_option word
     then reading.Done (Wrong (codes "unknown option '" ++ (word ++ codes "'")))
     else reading.Reads (with_file job word)
 
+-- an option whose value is the next word, or another word
+abbrev pub with_named : Job → List ℕ → Option Valued → Reading
+with_named job word (Some option) = reading.Awaits option job
+with_named job word None = with_other job word
+
 -- a word
 abbrev pub with_word : Job → List ℕ → Reading
 with_word job word =
-    if bytes_eq word (codes "--help") then reading.Done Help
+    if bytes_eq word (codes "--") then reading.Files job
+    else (if bytes_eq word (codes "-h") || bytes_eq word (codes "--help") then reading.Done Help
     else (if bytes_eq word (codes "--version") then reading.Done Version
-    else (if bytes_eq word (codes "--json") then reading.Reads (with_json job)
+    else (if bytes_eq word (codes "--json") then reading.Reads (with_format job Json)
     else (if bytes_eq word (codes "--list") then reading.Reads (with_list job)
-    else (if bytes_eq word (codes "--max-faults") then reading.Awaits MaxFaults job
-    else (if bytes_eq word (codes "--describe") then reading.Awaits Describe job
-    else (if bytes_eq word (codes "--linked") then reading.Awaits Linked job
-    else with_other job word))))))
+    else with_named job word (valued_named word)))))
 
--- one word further; what is done stays
+-- one word further: behind `--` the name of a file; what is done stays
 abbrev pub step : Reading → List ℕ → Reading
 step (reading.Reads job) word = with_word job word
+step (reading.Files job) word = reading.Files (with_file job word)
 step (reading.Awaits option job) word = with_value option job word
 step (reading.Done request) word = reading.Done request
 
 -- what is wanted behind an option that is the last word
 abbrev pub awaited_words : Valued → List ℕ
+awaited_words valued.Format = codes "--format: give text, json, github, gitlab or sarif"
 awaited_words MaxFaults = codes "--max-faults: give a number from 0 on"
 awaited_words Describe = codes "--describe: give a full name or the name of a file"
 awaited_words Linked = codes "--linked: give the name of the file to write"
+awaited_words valued.Against = codes "--against: give the name of the set of an older version"
+awaited_words valued.Compatibility = codes "--compatibility: give backward, forward or full"
+awaited_words valued.Level = codes "--level: give wire"
 
--- whether an object is wanted, and something that it does not tell: declarations, or what names mean
+-- whether a format for programs is wanted, and something that it does not tell: declarations, or
+-- what names mean
 abbrev pub asks_too_much : Wanted → Bool
-asks_too_much w = w.is_json && (w.lists || not (length w.names == 0))
+asks_too_much w = not (is_for_people w.format) && (w.lists || not (length w.names == 0))
+
+-- whether a format tells what changes of older versions
+abbrev pub tells_changes : Format → Bool
+tells_changes Text = true
+tells_changes Json = true
+tells_changes GitHub = true
+tells_changes GitLab = false
+tells_changes Sarif = false
+
+-- whether it is said which version is to read, and there is none to compare with
+abbrev pub compares_nothing : Job → Bool
+compares_nothing job = is_some job.wanted.compatibility && length job.against == 0
+
+-- whether older versions are given, and a format that tells no changes
+abbrev pub tells_no_changes : Job → Bool
+tells_no_changes job =
+    not (length job.against == 0) && not (tells_changes job.wanted.format)
 
 -- what is asked where the words end
 abbrev pub with_files : Job → Request
 with_files job = if length job.files == 0 then Wrong (codes "no file is named")
     else (if asks_too_much job.wanted
-    then Wrong (codes "--json tells the verdict alone: leave out --list and --describe")
-    else Check job)
+    then Wrong (codes "a format for programs tells the verdict alone: leave out --list and --describe")
+    else (if compares_nothing job
+    then Wrong (codes "--compatibility is about older versions: give --against")
+    else (if tells_no_changes job
+    then Wrong (codes "--against is told as text, json or github: give one of these formats")
+    else Check job)))
 
 -- what is asked once all words are read
 abbrev pub finished : Reading → Request
 finished (reading.Reads job) = with_files job
+finished (reading.Files job) = with_files job
 finished (reading.Awaits option _) = Wrong (awaited_words option)
 finished (reading.Done request) = request
 

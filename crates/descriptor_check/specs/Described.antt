@@ -1,14 +1,13 @@
 -- What names mean in a pool, and what is told of those that mean nothing.
 use Rattle.std.specs.Prelude.{ℕ, List, [], ◌∷◌, ◌++◌, codes}
 use Rattle.std.specs.List.{flat_map}
-use Rattle.verdict_texts.specs.Lines.{lines}
 use Rattle.pool_text.specs.Named.{name_text}
 use Rattle.pool_types.specs.Contents.{Contents}
 use Rattle.descriptor_check.specs.Complaints.{complaint}
 
 -- what names mean, in order
 abbrev pub described : Contents → List (List ℕ) → List ℕ
-described p names = flat_map (λ name. lines (name_text p name)) names
+described p names = flat_map (name_text p) names
 
 -- what is wrong with a name that means nothing, and what to do
 abbrev pub unknown_words : List ℕ → List ℕ

@@ -5,6 +5,8 @@ pub mod Complaints
 pub mod Listed
 pub mod Described
 pub mod Answers
+pub mod Olders
+pub mod Against
 pub mod Arguments
 pub mod Statuses
 pub mod Devices

@@ -2,7 +2,8 @@
 use Rattle.std.specs.Prelude.{◌≡◌, ◌⊎◌, ℕ, List, ◌++◌, All, Contains, codes, map}
 use Rattle.std.specs.declared.option.Option.{Option}
 use Rattle.std.specs.declared.option.Option.TheVariants.{None, Some}
-use Rattle.descriptor_check.specs.Answers.{answer, told}
+use Rattle.descriptor_check.specs.Against.{answer_against}
+use Rattle.descriptor_check.specs.Answers.{told}
 use Rattle.descriptor_check.specs.Arguments.{request_of}
 use Rattle.descriptor_check.specs.Complaints.{no_verdict, wrong_arguments}
 use Rattle.descriptor_check.specs.Devices.{Devices, IsTold, with_complaint, with_report, with_set}
@@ -50,12 +51,22 @@ TellsUnread name a = (why : List ℕ) × (a ≡ no_verdict (failure_words name w
 abbrev pub CouldNotRead : {A : Type 0} → Option A → List ℕ → Answer → Type 0
 CouldNotRead told name a = (told ≡ None) × TellsUnread name a
 
--- the answer to a job: that of inputs that have the names of its files, in their order, all of
--- them, or that one of them could not be read
+-- no verdict, since one of some files could not be read
+abbrev pub CouldNotReadOne : (List ℕ → Option (List ℕ)) → List (List ℕ) → Answer → Type 0
+CouldNotReadOne bytes_of names a =
+    (name : List ℕ) × Contains names name × CouldNotRead (bytes_of name) name a
+
+-- the answer to some inputs against older versions, which have the names of the files and of the
+-- older versions of a job, in their order, all of them
+abbrev pub Answers : (List ℕ → Option (List ℕ)) → Job → Answer → Type 0
+Answers bytes_of job a = (older inputs : List Input) × AreInputsOf bytes_of job.against older
+    × AreInputsOf bytes_of job.files inputs × (a ≡ answer_against job.wanted older inputs)
+
+-- the answer to a job: that of its files against its older versions, or that one of these or of
+-- those could not be read
 abbrev pub Checks : (List ℕ → Option (List ℕ)) → Job → Answer → Type 0
-Checks bytes_of job a =
-    ((inputs : List Input) × AreInputsOf bytes_of job.files inputs × (a ≡ answer job.wanted inputs))
-    ⊎ ((name : List ℕ) × Contains job.files name × CouldNotRead (bytes_of name) name a)
+Checks bytes_of job a = Answers bytes_of job a
+    ⊎ (CouldNotReadOne bytes_of job.against a ⊎ CouldNotReadOne bytes_of job.files a)
 
 -- the answer to what some words ask
 abbrev pub Asked : (List ℕ → Option (List ℕ)) → Request → Answer → Type 0

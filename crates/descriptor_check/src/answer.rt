@@ -4,12 +4,13 @@ ghost use Rattle.std.specs.Prelude.{◌≡◌};
 ghost use Rattle.descriptor_check.specs.Statuses as spec;
 
 use plain_data::{Items, Text};
+use verdict_formats::Format;
 
 /// How the verdict is told, and what is told of an accepted batch besides.
 #[derive(Drop)]
 pub struct Wanted {
-    /// As an object of JSON, which has the verdict alone, and not as lines for people.
-    pub is_json: bool,
+    /// The format, which has the verdict alone where it is not for people.
+    pub format: Format,
     /// The most faults that are told.
     pub most: usize,
     /// Each declaration is told.
@@ -18,6 +19,19 @@ pub struct Wanted {
     pub names: Items<Text>,
     /// The name of the file to which the linked files go as a set, if they are wanted.
     pub linked: Option<Text>,
+    /// Which version is to read what the other writes, if that is said: the new one where it isn't.
+    pub compatibility: Option<Compatibility>,
+}
+
+/// Which version is to read what the other writes.
+#[derive(Clone, Copy, PartialEq, Debug)]
+pub enum Compatibility {
+    /// The new one what an older one writes.
+    Backward,
+    /// An older one what the new one writes.
+    Forward,
+    /// Each what the other writes.
+    Full,
 }
 
 /// How a run ends.

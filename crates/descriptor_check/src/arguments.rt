@@ -4,9 +4,10 @@ ghost use Rattle.std.specs.Prelude.{◌≡◌, ℕ, IfOk, IfSome};
 ghost use Rattle.std.specs.Option.{option_copied};
 ghost use Rattle.descriptor_check.specs.Arguments as spec;
 
-use crate::answer::Wanted;
+use crate::answer::{Compatibility, Wanted};
 use plain_data::{Items, Text, parse_int32};
 use std::alloc::{AllocError, Global};
+use verdict_formats::Format;
 
 /// The version of the program.
 pub const VERSION: &str = "check_descriptors 0.2.0\n";
@@ -15,30 +16,42 @@ pub const VERSION: &str = "check_descriptors 0.2.0\n";
 pub const HELP: &str = "\
 usage: check_descriptors [--json] [--max-faults N] [--linked OUT] FILE...
        check_descriptors [--list] [--describe NAME]... [--linked OUT] FILE...
+       check_descriptors --against OLD... [--compatibility WHICH] [--level wire] .. FILE...
 
-Links descriptor sets as one batch, and tells whether they break a rule.
+Links descriptor sets as one batch, and tells whether they break a rule, and what they change of older
+versions, so that bytes are read otherwise.
 
     protoc --include_imports --include_source_info -o set.pb shop/order.proto
     check_descriptors set.pb
+    check_descriptors --against main.pb set.pb
 
 FILE             a descriptor set, as protoc writes it; - is the standard input. A file that is
                  equal to the first of its name in the sets counts once
---json           tell the verdict as one object of JSON
---max-faults N   tell at most N faults (100)
+--format FORMAT  one of text, json, github, gitlab, sarif: how the verdict is told (text)
+--json           the same as --format json
+--max-faults N   tell at most N faults, and as many changes of each older version (100)
 --list           of an accepted batch, tell each declaration: its kind and its full name
 --describe NAME  tell what a full name, or the name of a file, means in it; may be repeated
 --linked OUT     write the set of its linked files to OUT, whole or not at all
---help           tell this
+--against OLD    tell what it changes of an older version, the set OLD; may be repeated, each by itself
+--compatibility WHICH  backward (the default): it reads what the older version writes; forward:
+                 the older version reads what it writes; full: both
+--level wire     tell changes by which bytes are read otherwise, as is done where nothing is said
+--               what stands behind it is a FILE, also if it begins with a dash
+--help           tell this, as -h does
 --version        tell the version
 
-exit status: 0 accepted; 1 refused; 2 no verdict, as of wrong arguments or what is no set; 3 memory
-was refused; 4 what there is to tell could not be written
+exit status: 0 accepted, and nothing changes; 1 refused, or something changes; 2 no verdict, as of
+wrong arguments, what is no set, or an older version that is refused; 3 memory was refused; 4 what
+there is to tell could not be written
 ";
 
 /// What is to be checked, and what is wanted of it.
 #[derive(Drop)]
 pub struct Job {
     pub wanted: Wanted,
+    /// The names of the sets of older versions, in order.
+    pub against: Items<Text>,
     /// Names of files, in order; `-` is the standard input.
     pub files: Items<Text>,
 }
@@ -56,22 +69,28 @@ pub enum Request {
 /// An option that has a value behind it.
 #[derive(Clone, Copy)]
 enum Valued {
+    Format,
     MaxFaults,
     Describe,
     Linked,
+    Against,
+    Compatibility,
+    Level,
 }
 
 /// What the words so far ask.
 #[derive(Drop)]
 enum Reading {
     Reads(Job),
+    /// Behind `--`: each word is the name of a file.
+    Files(Job),
     /// The next word is the value of an option.
     Awaits(Valued, Job),
     Done(Request),
 }
 
 /// What some arguments ask, without the name of the program. Of an option that stands twice the last
-/// counts; each `--describe` adds a name.
+/// counts; each `--describe` adds a name, and each `--against` an older version.
 ///
 /// # Errors
 /// `AllocError` where memory was refused.
@@ -91,12 +110,14 @@ fn no_job(alloc: Global) -> Job
 {
     Job {
         wanted: Wanted {
-            is_json: false,
+            format: Format::Text,
             most: 100,
             lists: false,
             names: Items::new(alloc),
             linked: None,
+            compatibility: None,
         },
+        against: Items::new(alloc),
         files: Items::new(alloc),
     }
 }
@@ -107,6 +128,7 @@ fn step(alloc: Global, reading: Reading, word: &str) -> Result<Reading, AllocErr
 {
     match reading {
         Reading::Reads(job) => with_word(alloc, job, word),
+        Reading::Files(job) => Ok(Reading::Files(with_file(alloc, job, word)?)),
         Reading::Awaits(option, job) => with_value(alloc, option, job, word),
         Reading::Done(request) => Ok(Reading::Done(request)),
     }
@@ -117,22 +139,39 @@ fn with_word(alloc: Global, job: Job, word: &str) -> Result<Reading, AllocError>
     ensures { IfOk result (λ further. further ≡ spec.with_word job word.now) }
 {
     match word {
-        "--help" => Ok(Reading::Done(Request::Help)),
+        "--" => Ok(Reading::Files(job)),
+        "-h" | "--help" => Ok(Reading::Done(Request::Help)),
         "--version" => Ok(Reading::Done(Request::Version)),
-        "--json" => Ok(Reading::Reads(with_json(job))),
+        "--json" => Ok(Reading::Reads(with_format(job, Format::Json))),
         "--list" => Ok(Reading::Reads(with_list(job))),
-        "--max-faults" => Ok(Reading::Awaits(Valued::MaxFaults, job)),
-        "--describe" => Ok(Reading::Awaits(Valued::Describe, job)),
-        "--linked" => Ok(Reading::Awaits(Valued::Linked, job)),
-        _ => with_other(alloc, job, word),
+        _ => match valued_named(word) {
+            Some(option) => Ok(Reading::Awaits(option, job)),
+            None => with_other(alloc, job, word),
+        },
     }
 }
 
-/// A job whose verdict is told as an object.
-fn with_json(mut job: Job) -> Job
-    ensures { result ≡ spec.with_json job }
+/// The option that has a name, and a value behind it.
+fn valued_named(name: &str) -> Option<Valued>
+    ensures { result ≡ spec.valued_named name.now }
 {
-    job.wanted.is_json = true;
+    match name {
+        "--format" => Some(Valued::Format),
+        "--max-faults" => Some(Valued::MaxFaults),
+        "--describe" => Some(Valued::Describe),
+        "--linked" => Some(Valued::Linked),
+        "--against" => Some(Valued::Against),
+        "--compatibility" => Some(Valued::Compatibility),
+        "--level" => Some(Valued::Level),
+        _ => None,
+    }
+}
+
+/// A job whose verdict is told in a format.
+fn with_format(mut job: Job, format: Format) -> Job
+    ensures { result ≡ spec.with_format job format }
+{
+    job.wanted.format = format;
     job
 }
 
@@ -149,9 +188,43 @@ fn with_value(alloc: Global, option: Valued, job: Job, word: &str) -> Result<Rea
     ensures { IfOk result (λ further. further ≡ spec.with_value option job word.now) }
 {
     match option {
+        Valued::Format => with_named_format(alloc, job, word),
         Valued::MaxFaults => with_most(alloc, job, word),
         Valued::Describe => Ok(Reading::Reads(with_name(alloc, job, word)?)),
         Valued::Linked => Ok(Reading::Reads(with_linked(alloc, job, word)?)),
+        Valued::Against => Ok(Reading::Reads(with_older(alloc, job, word)?)),
+        Valued::Compatibility => with_compatibility(alloc, job, word),
+        Valued::Level => with_level(alloc, job, word),
+    }
+}
+
+/// The format that a word names.
+fn format_named(word: &str) -> Option<Format>
+    ensures { result ≡ spec.format_named word.now }
+{
+    match word {
+        "text" => Some(Format::Text),
+        "json" => Some(Format::Json),
+        "github" => Some(Format::GitHub),
+        "gitlab" => Some(Format::GitLab),
+        "sarif" => Some(Format::Sarif),
+        _ => None,
+    }
+}
+
+/// A word that is to name a format.
+fn with_named_format(alloc: Global, job: Job, word: &str) -> Result<Reading, AllocError>
+    ensures { IfOk result (λ further. further ≡ spec.with_named_format job word.now
+        (spec.format_named word.now)) }
+{
+    match format_named(word) {
+        Some(format) => Ok(Reading::Reads(with_format(job, format))),
+        None => {
+            let words = format!(in alloc;
+                "--format '{word}': give text, json, github, gitlab or sarif"
+            )?;
+            Ok(Reading::Done(Request::Wrong(Text::from_string(words))))
+        }
     }
 }
 
@@ -199,6 +272,53 @@ fn with_linked(alloc: Global, job: Job, word: &str) -> Result<Job, AllocError>
     Ok(job)
 }
 
+/// A job with one older version more.
+fn with_older(alloc: Global, job: Job, word: &str) -> Result<Job, AllocError>
+    ensures { IfOk result (λ further. further ≡ spec.with_older job word.now) }
+{
+    let name = Text::from_str(alloc, word)?;
+    let mut job = job;
+    job.against.push(name)?;
+    Ok(job)
+}
+
+/// Which version is to read what the other writes, if a word says it.
+fn compatibility(word: &str) -> Option<Compatibility>
+    ensures { result ≡ spec.compatibility word.now }
+{
+    match word {
+        "backward" => Some(Compatibility::Backward),
+        "forward" => Some(Compatibility::Forward),
+        "full" => Some(Compatibility::Full),
+        _ => None,
+    }
+}
+
+/// A word that is to be the value of `--compatibility`.
+fn with_compatibility(alloc: Global, mut job: Job, word: &str) -> Result<Reading, AllocError>
+    ensures { IfOk result (λ further. further ≡ spec.with_compatibility job word.now
+        (spec.compatibility word.now)) }
+{
+    let which = compatibility(word);
+    if which.is_some() {
+        job.wanted.compatibility = which;
+        return Ok(Reading::Reads(job));
+    }
+    let words = format!(in alloc; "--compatibility '{word}': give backward, forward or full")?;
+    Ok(Reading::Done(Request::Wrong(Text::from_string(words))))
+}
+
+/// A word that is to be the value of `--level`: there is one level.
+fn with_level(alloc: Global, job: Job, word: &str) -> Result<Reading, AllocError>
+    ensures { IfOk result (λ further. further ≡ spec.with_level job word.now) }
+{
+    if word == "wire" {
+        return Ok(Reading::Reads(job));
+    }
+    let words = format!(in alloc; "--level '{word}': give wire")?;
+    Ok(Reading::Done(Request::Wrong(Text::from_string(words))))
+}
+
 /// A job with one file more.
 fn with_file(alloc: Global, job: Job, word: &str) -> Result<Job, AllocError>
     ensures { IfOk result (λ further. further ≡ spec.with_file job word.now) }
@@ -216,7 +336,7 @@ fn is_option(word: &str) -> bool
     matches!(word.as_bytes(), [b'-', _, ..])
 }
 
-/// A word that is no option that is known.
+/// An option that is not known, or the name of a file.
 fn with_other(alloc: Global, job: Job, word: &str) -> Result<Reading, AllocError>
     ensures { IfOk result (λ further. further ≡ spec.with_other job word.now) }
 {
@@ -232,7 +352,7 @@ fn finished(alloc: Global, reading: Reading) -> Result<Request, AllocError>
     ensures { IfOk result (λ request. request ≡ spec.finished reading) }
 {
     match reading {
-        Reading::Reads(job) => with_files(alloc, job),
+        Reading::Reads(job) | Reading::Files(job) => with_files(alloc, job),
         Reading::Awaits(option, _) => wrong(alloc, awaited_words(option)),
         Reading::Done(request) => Ok(request),
     }
@@ -243,20 +363,40 @@ fn awaited_words(option: Valued) -> &'static str
     ensures { result.now ≡ spec.awaited_words option }
 {
     match option {
+        Valued::Format => "--format: give text, json, github, gitlab or sarif",
         Valued::MaxFaults => "--max-faults: give a number from 0 on",
         Valued::Describe => "--describe: give a full name or the name of a file",
         Valued::Linked => "--linked: give the name of the file to write",
+        Valued::Against => "--against: give the name of the set of an older version",
+        Valued::Compatibility => "--compatibility: give backward, forward or full",
+        Valued::Level => "--level: give wire",
     }
 }
 
-/// Whether an object is wanted, and something that it does not tell.
+/// Whether a format for programs is wanted, and something that it does not tell.
 fn asks_too_much(wanted: &Wanted) -> bool
     ensures { result ≡ spec.asks_too_much wanted.now }
 {
-    wanted.is_json && (wanted.lists || !wanted.names.as_slice().is_empty())
+    !wanted.format.is_for_people() && (wanted.lists || !wanted.names.as_slice().is_empty())
 }
 
-/// A job that has files, and asks nothing of an object that it does not tell.
+/// Whether it is said which version is to read, and there is none to compare with.
+fn compares_nothing(job: &Job) -> bool
+    ensures { result ≡ spec.compares_nothing job.now }
+{
+    job.wanted.compatibility.is_some() && job.against.as_slice().is_empty()
+}
+
+/// Whether older versions are given, and a format that tells no changes.
+fn tells_no_changes(job: &Job) -> bool
+    ensures { result ≡ spec.tells_no_changes job.now }
+{
+    !job.against.as_slice().is_empty()
+        && matches!(job.wanted.format, Format::GitLab | Format::Sarif)
+}
+
+/// A job that has files, asks nothing of a format that it does not tell, and compares something
+/// where it says how.
 fn with_files(alloc: Global, job: Job) -> Result<Request, AllocError>
     ensures { IfOk result (λ request. request ≡ spec.with_files job) }
 {
@@ -266,7 +406,19 @@ fn with_files(alloc: Global, job: Job) -> Result<Request, AllocError>
     if asks_too_much(&job.wanted) {
         return wrong(
             alloc,
-            "--json tells the verdict alone: leave out --list and --describe",
+            "a format for programs tells the verdict alone: leave out --list and --describe",
+        );
+    }
+    if compares_nothing(&job) {
+        return wrong(
+            alloc,
+            "--compatibility is about older versions: give --against",
+        );
+    }
+    if tells_no_changes(&job) {
+        return wrong(
+            alloc,
+            "--against is told as text, json or github: give one of these formats",
         );
     }
     Ok(Request::Check(job))

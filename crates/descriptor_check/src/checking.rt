@@ -1,6 +1,8 @@
 //! The check: from inputs to what is told of them.
 
 ghost use Rattle.std.specs.Prelude.{◌≡◌, ◌++◌, IfOk, OnOk, string_bytes};
+ghost use Rattle.record_walk.specs.Counts.{counts_in};
+ghost use Rattle.verdict_formats.specs.Formats as formats;
 ghost use Rattle.descriptor_check.specs.Answers as spec;
 ghost use Rattle.descriptor_check.specs.declared.answer.Status.TheVariants.{Accepted};
 
@@ -12,16 +14,13 @@ use crate::inputs::Input;
 use crate::listed::write_list;
 use crate::unread::unread_words;
 use crate::verdicts::{Refusal, Verdict, verdict_on};
-use descriptor_encoding::encode;
+use descriptor_encoding::encode_linked;
 use descriptor_pool::DescriptorPool;
 use plain_data::{Items, Text};
-use proto_types::FileDescriptorSet;
 use record_walk::CountKind;
 use std::alloc::{AllocError, Global};
-use verdict_texts::{
-    RefusedBatch, accepted_json, accepted_text, refused_json, refused_text, tell_refusal,
-    too_many_json, too_many_text, unread_json,
-};
+use verdict_formats::{Format, refused_report, too_many_report, unread_report};
+use verdict_texts::{RefusedBatch, accepted_text, tell_refusal};
 
 /// The verdict on the files of some inputs, linked as one batch, as text and as a status, and what
 /// is wanted of an accepted batch besides. Where a name is to be told that means nothing in it, there
@@ -43,7 +42,11 @@ pub fn check(alloc: Global, wanted: &Wanted, inputs: &[Input]) -> Result<Answer,
 }
 
 /// What is told of a verdict.
-fn tell_verdict(alloc: Global, wanted: &Wanted, verdict: &Verdict) -> Result<Answer, AllocError>
+pub(crate) fn tell_verdict(
+    alloc: Global,
+    wanted: &Wanted,
+    verdict: &Verdict,
+) -> Result<Answer, AllocError>
     ensures { IfOk result (λ answer. answer ≡ spec.verdict_answer wanted.now verdict.now) }
 {
     match verdict {
@@ -103,11 +106,19 @@ fn accepted_report(
 ) -> Result<String, AllocError>
     ensures { IfOk result (λ s. string_bytes s ≡ spec.accepted_report wanted.now pool.now) }
 {
-    if wanted.is_json {
-        accepted_json(alloc, pool.counts())
-    } else {
+    if wanted.format.is_for_people() {
         accepted_lines(alloc, wanted, pool)
+    } else {
+        counts_report(alloc, wanted.format, pool)
     }
+}
+
+/// How much an accepted batch declares, in a format.
+fn counts_report(alloc: Global, format: Format, pool: &DescriptorPool) -> Result<String, AllocError>
+    ensures { IfOk result (λ s. string_bytes s
+        ≡ formats.accepted_report format (counts_in pool.now)) }
+{
+    verdict_formats::accepted_report(alloc, format, pool.counts())
 }
 
 /// What is told of an accepted batch for people.
@@ -147,8 +158,7 @@ fn set_for(alloc: Global, name: &Text, pool: &DescriptorPool) -> Result<LinkedSe
     ensures { IfOk result (λ set. set ≡ spec.set_for name.now pool.now) }
 {
     let name = name.clone(alloc)?;
-    let file = Items::from_vec(pool.linked_files()?);
-    let bytes = encode(alloc, &FileDescriptorSet { file })?;
+    let bytes = encode_linked(alloc, pool.files())?;
     Ok(LinkedSet {
         name,
         bytes: Items::from_vec(bytes),
@@ -166,34 +176,26 @@ fn tell_refused(alloc: Global, wanted: &Wanted, refusal: &Refusal) -> Result<Ans
         rest: refusal.rest,
     };
     let refusal = tell_refusal(alloc, &batch, wanted.most)?;
-    let report = if wanted.is_json {
-        refused_json(alloc, &refusal)?
-    } else {
-        refused_text(alloc, &refusal)?
-    };
+    let report = refused_report(alloc, wanted.format, &refusal)?;
     Ok(told_by(alloc, Status::Refused, report))
 }
 
 fn tell_too_many(alloc: Global, wanted: &Wanted, kind: CountKind) -> Result<Answer, AllocError>
     ensures { IfOk result (λ answer. answer ≡ spec.too_many_answer wanted.now kind) }
 {
-    let report = if wanted.is_json {
-        too_many_json(alloc, kind)?
-    } else {
-        too_many_text(alloc, kind)?
-    };
+    let report = too_many_report(alloc, wanted.format, kind)?;
     Ok(told_by(alloc, Status::Refused, report))
 }
 
-fn tell_unread(alloc: Global, wanted: &Wanted, input: &NotASet) -> Result<Answer, AllocError>
+pub(crate) fn tell_unread(
+    alloc: Global,
+    wanted: &Wanted,
+    input: &NotASet,
+) -> Result<Answer, AllocError>
     ensures { IfOk result (λ answer. answer ≡ spec.unread_answer wanted.now input.now) }
 {
     let words = unread_words(alloc, input)?;
-    let report = if wanted.is_json {
-        unread_json(alloc, words.as_str())?
-    } else {
-        String::new(alloc)
-    };
+    let report = unread_report(alloc, wanted.format, words.as_str())?;
     let mut complaint = String::new(alloc);
     write_complaint(alloc, &mut complaint, words.as_str())?;
     Ok(no_answer(report, complaint))

@@ -9,7 +9,6 @@ use descriptor_pool::DescriptorPool;
 use plain_data::Text;
 use pool_text::describe_name;
 use std::alloc::{AllocError, Global};
-use verdict_texts::write_lines;
 
 /// Writes what names mean in a pool, in order.
 pub(crate) fn write_names(
@@ -23,7 +22,7 @@ pub(crate) fn write_names(
 {
     for name in names {
         let lines = describe_name(alloc, pool, name.as_str())?;
-        write_lines(text, lines.as_str())?;
+        text.push_str(lines.as_str())?;
     }
     Ok(())
 }

@@ -1,6 +1,7 @@
 //! The check of descriptor sets: from their bytes to the verdict on their files, as text.
 #![tactic(auto)]
 
+mod against;
 mod answer;
 mod arguments;
 mod batches;
@@ -10,11 +11,13 @@ mod described;
 mod devices;
 mod inputs;
 mod listed;
+mod olders;
 mod runs;
 mod unread;
 mod verdicts;
 
-pub use answer::{Answer, LinkedSet, Status, Wanted};
+pub use against::check_against;
+pub use answer::{Answer, Compatibility, LinkedSet, Status, Wanted};
 pub use arguments::{HELP, Job, Request, VERSION, read_arguments};
 pub use batches::{BatchError, Flaw, NotASet, read_batch};
 pub use checking::check;

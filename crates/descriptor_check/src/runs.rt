@@ -6,9 +6,10 @@ ghost use Rattle.descriptor_check.specs.Devices.{with_set};
 ghost use Rattle.descriptor_check.specs.Runs as spec;
 ghost use Rattle.descriptor_check.specs.declared.answer.Status.TheVariants.{Device};
 
+use crate::against::check_against;
 use crate::answer::{Answer, LinkedSet, Status};
 use crate::arguments::{HELP, Job, Request, VERSION, read_arguments};
-use crate::checking::{check, tell};
+use crate::checking::tell;
 use crate::complaints::{complain, complain_of_arguments, write_complaint};
 use crate::devices::{CheckDevices, DeviceError};
 use crate::inputs::Input;
@@ -63,12 +64,30 @@ fn answer_words<D: CheckDevices>(
     }
 }
 
-/// The verdict on the files that a job names, or which of them could not be read.
+/// The verdict on the files that a job names, against the older versions that it names, or which of
+/// all these could not be read.
 fn check_files<D: CheckDevices>(alloc: Global, devices: &D, job: &Job) -> Result<Answer, AllocError>
     ensures { IfOk result (spec.Checks (D.told devices.now).bytes_of job.now) }
 {
+    match read_inputs(alloc, devices, job.against.as_slice()) {
+        Ok(older) => check_behind(alloc, devices, job, older.as_slice()),
+        Err(DeviceError::Failed(words)) => complain(alloc, words.as_str()),
+        Err(DeviceError::OutOfMemory) => Err(AllocError),
+    }
+}
+
+/// The verdict on the files that a job names, against older versions that were read.
+fn check_behind<D: CheckDevices>(
+    alloc: Global,
+    devices: &D,
+    job: &Job,
+    older: &[Input],
+) -> Result<Answer, AllocError>
+    requires { spec.AreInputsOf (D.told devices.now).bytes_of job.now.against older.now }
+    ensures { IfOk result (spec.Checks (D.told devices.now).bytes_of job.now) }
+{
     match read_inputs(alloc, devices, job.files.as_slice()) {
-        Ok(inputs) => check(alloc, &job.wanted, inputs.as_slice()),
+        Ok(inputs) => check_against(alloc, &job.wanted, older, inputs.as_slice()),
         Err(DeviceError::Failed(words)) => complain(alloc, words.as_str()),
         Err(DeviceError::OutOfMemory) => Err(AllocError),
     }

@@ -9,13 +9,14 @@ mod sets;
 mod shop;
 
 use linking::tell_linking;
-use sets::tell_set;
+use sets::{tell_refused, tell_set};
 use std::{fs, io};
 
 fn main(rt: HostRuntime) -> io::Result<()> {
     let alloc = rt.alloc();
     let mut report = String::new(alloc);
     tell_linking(alloc, &mut report)?;
+    tell_refused(alloc, &mut report)?;
     let bytes = fs::read(&rt, "well_known.pb")?;
     tell_set(alloc, &mut report, bytes.as_slice())?;
     print!(rt; "{report}")

@@ -1,6 +1,6 @@
 use descriptor_linker::{write_counts, write_fault, write_too_many};
 use descriptor_pool::{BuildError, DescriptorPool};
-use link_script::{RecordBuilder, ScriptError, ScriptReader, Statement};
+use link_script::{Obeys, RecordBuilder, SaidLocation, ScriptError, ScriptReader, Statement};
 use pool_text::{describe, faults_text};
 use std::alloc::{AllocError, Global};
 
@@ -11,50 +11,59 @@ use std::alloc::{AllocError, Global};
 /// # Errors
 /// `AllocError` where memory was refused.
 pub(super) fn batches_text(alloc: Global, script: &[u8]) -> Result<String, AllocError> {
-    let mut text = String::new(alloc);
-    let mut pool = DescriptorPool::new(alloc);
-    match link_all(alloc, &mut text, &mut pool, script) {
+    let mut batches = Batches {
+        alloc,
+        text: String::new(alloc),
+        builder: RecordBuilder::new(alloc),
+        pool: DescriptorPool::new(alloc),
+    };
+    match ScriptReader::new(alloc, script).obey(&mut batches) {
         Ok(()) => {}
-        Err(ScriptError::Fault(line, fault)) => write_fault(&mut text, line, fault)?,
+        Err(ScriptError::Fault(line, fault)) => write_fault(&mut batches.text, line, fault)?,
         Err(ScriptError::OutOfMemory) => return Err(AllocError),
     }
+    let Batches { mut text, pool, .. } = batches;
     let items = describe(alloc, &pool)?;
     text.push_str(items.as_str())?;
     Ok(text)
 }
 
-/// Links what a script declares, and passes over its other commands.
-fn link_all(
+/// What the statements so far have made.
+#[derive(Drop)]
+struct Batches {
     alloc: Global,
-    text: &mut String,
-    pool: &mut DescriptorPool,
-    script: &[u8],
-) -> Result<(), ScriptError> {
-    let mut builder = RecordBuilder::new(alloc);
-    let mut script = ScriptReader::new(alloc, script);
-    while let Some(statement) = script.next()? {
-        match statement {
-            Statement::Link => link(alloc, text, pool, &mut builder)?,
-            statement => builder.state(statement)?,
-        }
-    }
-    Ok(())
+    text: String,
+    builder: RecordBuilder,
+    pool: DescriptorPool,
 }
 
-/// Links the files that are built, and tells what has come of it.
-fn link(
-    alloc: Global,
-    text: &mut String,
-    pool: &mut DescriptorPool,
-    builder: &mut RecordBuilder,
-) -> Result<(), AllocError> {
-    match pool.build_files(builder.take_files()) {
-        Ok(()) => write_counts(text, pool.counts()),
-        Err(BuildError::TooMany(kind)) => write_too_many(text, kind),
-        Err(BuildError::Descriptor(error)) => {
-            let faults = faults_text(alloc, &error)?;
-            text.push_str(faults.as_str())
+/// Links what a script declares, and passes over its other commands.
+impl Obeys for Batches {
+    ghost obeys = { λ _ _ _. Unit {0} };
+
+    fn locate(&mut self, location: SaidLocation) -> Result<(), AllocError> {
+        self.builder.locate(location)
+    }
+
+    fn state(&mut self, statement: Statement) -> Result<(), AllocError> {
+        match statement {
+            Statement::Link => self.link(),
+            statement => self.builder.state(statement),
         }
-        Err(BuildError::OutOfMemory) => Err(AllocError),
+    }
+}
+
+impl Batches {
+    /// Links the files that are built, and tells what has come of it.
+    fn link(&mut self) -> Result<(), AllocError> {
+        match self.pool.build_files(self.builder.take_files()) {
+            Ok(()) => write_counts(&mut self.text, self.pool.counts()),
+            Err(BuildError::TooMany(kind)) => write_too_many(&mut self.text, kind),
+            Err(BuildError::Descriptor(error)) => {
+                let faults = faults_text(self.alloc, &error)?;
+                self.text.push_str(faults.as_str())
+            }
+            Err(BuildError::OutOfMemory) => Err(AllocError),
+        }
     }
 }

@@ -1,13 +1,13 @@
 use Rattle.verdict_texts.proofs.Results.{if-ok}
-use Rattle.std.proofs.Common.{ap, ◌∙◌}
+use Rattle.std.proofs.Common.{ap, inl, inr, ◌∙◌}
 use Rattle.descriptor_check.specs.Complaints.{no_verdict}
-use Rattle.descriptor_check.proofs.NotRead.{unread_checks}
+use Rattle.descriptor_check.proofs.NotRead.{one-not-read}
 use Rattle.descriptor_check.proofs.runs.check_files.Goals as goal
 
--- one of the files could not be read
+-- one of the older versions could not be read
 pub returns-in-Err-Failed : goal.returns-in-Err-Failed
 returns-in-Err-Failed g c =
     if-ok c.complain.result
-    (λ a is. unread_checks _ c.args.job.now c.as_slice.result.now c.in-Err-Failed.field-0 c.in-Err-Failed.words a
-    c.as_slice.ensures c.in-Err-Failed.ensures.err c.in-Err-Failed.field-0-is (is ∙ ap no_verdict c.as_str.ensures))
+    (λ a is. inr (inl (one-not-read _ _ c.as_slice.result.now c.in-Err-Failed.field-0 c.in-Err-Failed.words a
+    c.as_slice.ensures c.in-Err-Failed.ensures.err c.in-Err-Failed.field-0-is (is ∙ ap no_verdict c.as_str.ensures))))
     c.complain.ensures

@@ -1,0 +1,114 @@
+-- What the check of some inputs answers against older versions: the verdict, and behind it what an
+-- accepted batch changes of each.
+use Rattle.std.specs.Prelude.{ℕ, Bool, not, ◌==◌, List, [], ◌∷◌, ◌++◌, Result, Ok, Err, map, if◌then◌else◌}
+use Rattle.std.specs.List.{flat_map, list_any}
+use Rattle.std.specs.declared.option.Option.{Option}
+use Rattle.std.specs.declared.option.Option.TheVariants.{None, Some}
+use Rattle.pool_types.specs.Contents.{Contents}
+use Rattle.proto_types.specs.declared.file.FileDescriptorProto.{FileDescriptorProto}
+use Rattle.change_texts.specs.Comparing.{told_changes}
+use Rattle.change_texts.specs.Texts.{changes_lines, untold_changes, with_changes}
+use Rattle.change_texts.specs.declared.changes.ToldChanges.{ToldChanges}
+use Rattle.change_texts.specs.declared.direction.Direction.{Direction}
+use Rattle.change_texts.specs.declared.direction.Direction.TheVariants as direction
+use Rattle.verdict_formats.specs.Annotations.{annotations}
+use Rattle.verdict_formats.specs.declared.formats.Format.{Format}
+use Rattle.verdict_formats.specs.declared.formats.Format.TheVariants.{Text, Json, GitHub, GitLab, Sarif}
+use Rattle.descriptor_check.specs.Answers.{answer, unread_answer, verdict_answer}
+use Rattle.descriptor_check.specs.Batches.{batch_of}
+use Rattle.descriptor_check.specs.Olders.{olders_of}
+use Rattle.descriptor_check.specs.Verdicts.{verdict_of}
+use Rattle.descriptor_check.specs.declared.answer.Answer.{Answer}
+use Rattle.descriptor_check.specs.declared.answer.Compatibility.{Compatibility}
+use Rattle.descriptor_check.specs.declared.answer.Compatibility.TheVariants.{Backward, Forward, Full}
+use Rattle.descriptor_check.specs.declared.answer.LinkedSet.{LinkedSet}
+use Rattle.descriptor_check.specs.declared.answer.Status.{Status}
+use Rattle.descriptor_check.specs.declared.answer.Status.TheVariants as status
+use Rattle.descriptor_check.specs.declared.answer.Wanted.{Wanted}
+use Rattle.descriptor_check.specs.declared.batches.NotASet.{NotASet}
+use Rattle.descriptor_check.specs.declared.inputs.Input.{Input}
+use Rattle.descriptor_check.specs.declared.olders.Older.{Older}
+use Rattle.descriptor_check.specs.declared.verdicts.Verdict.{Verdict}
+use Rattle.descriptor_check.specs.declared.verdicts.Verdict.TheVariants.{Accepted, Refused, TooMany}
+
+-- the directions that are wanted, in order
+abbrev pub directions : Option Compatibility → List Direction
+directions None = direction.Backward ∷ []
+directions (Some Backward) = direction.Backward ∷ []
+directions (Some Forward) = direction.Forward ∷ []
+directions (Some Full) = direction.Backward ∷ direction.Forward ∷ []
+
+-- what a pool changes of an older version, in each direction that is wanted
+abbrev pub compared_with : Wanted → Contents → Older → List ToldChanges
+compared_with w p o =
+    map (λ d. told_changes d o.name w.most o.pool p) (directions w.compatibility)
+
+-- what the pool of an accepted batch changes of older versions, if the answer to it is a verdict
+abbrev pub compared_if : Wanted → List Older → Contents → Status → List ToldChanges
+compared_if w olders p status.Accepted = flat_map (compared_with w p) olders
+compared_if w olders p _ = []
+
+-- what a batch changes of older versions, by the verdict on it and the status of the answer
+abbrev pub compared_for : Wanted → List Older → Verdict → Status → List ToldChanges
+compared_for w olders (Accepted p) st = compared_if w olders p st
+compared_for w olders (Refused _) st = []
+compared_for w olders (TooMany _) st = []
+
+-- whether something changes
+abbrev pub some_change : List ToldChanges → Bool
+some_change told = list_any (λ r. not (r.count == 0)) told
+
+-- the annotations of what a new version changes of an older one
+abbrev pub changes_annotations : ToldChanges → List ℕ
+changes_annotations changes = annotations changes.told (untold_changes changes)
+
+-- what is told by a format: the verdict, and behind it the changes, or the object that has both; the
+-- formats of code quality have the verdict alone, and no arguments ask them for changes
+abbrev pub report_in : Format → List ToldChanges → List ℕ → List ℕ
+report_in Text told report = report ++ flat_map changes_lines told
+report_in Json told report = with_changes told report
+report_in GitHub told report = report ++ flat_map changes_annotations told
+report_in GitLab told report = report
+report_in Sarif told report = report
+
+-- what is told in the format that is wanted
+abbrev pub report_with : Wanted → List ToldChanges → List ℕ → List ℕ
+report_with w told report = report_in w.format told report
+
+-- the status of an answer and its set; where something changes, the status of a refused batch, and
+-- no set
+abbrev pub unless_changed : List ToldChanges → Status → Option LinkedSet
+    → Status × Option LinkedSet
+unless_changed told st set = if some_change told then (status.Refused, None) else (st, set)
+
+-- an answer with what was compared
+abbrev pub with_told : Wanted → List ToldChanges → Answer → Answer
+with_told w told a = record {
+  status = (unless_changed told a.status a.linked).0;
+  report = report_with w told a.report;
+  complaint = a.complaint;
+  linked = (unless_changed told a.status a.linked).1;
+}
+
+-- the answer for a verdict on a batch, by what is answered without older versions
+abbrev pub told_against : Wanted → List Older → Verdict → Answer → Answer
+told_against w olders v a = with_told w (compared_for w olders v a.status) a
+
+-- the answer for a verdict on a batch
+abbrev pub verdict_against : Wanted → List Older → Verdict → Answer
+verdict_against w olders v = told_against w olders v (verdict_answer w v)
+
+-- the answer for a batch, or for an input that is no set
+abbrev pub batch_against : Wanted → List Older → Result (List FileDescriptorProto) NotASet → Answer
+batch_against w olders (Ok batch) = verdict_against w olders (verdict_of w.most batch)
+batch_against w olders (Err n) = with_told w [] (unread_answer w n)
+
+-- the answer for some inputs by their older versions, or what is answered where one is none
+abbrev pub olders_answer : Wanted → List Input → Result (List Older) Answer → Answer
+olders_answer w inputs (Ok olders) = batch_against w olders (batch_of inputs)
+olders_answer w inputs (Err a) = with_told w [] a
+
+-- the answer for some inputs against the older versions of others
+abbrev pub answer_against : Wanted → List Input → List Input → Answer
+answer_against w [] inputs = answer w inputs
+answer_against w (i ∷ is) inputs = olders_answer w inputs (olders_of w (i ∷ is))

@@ -1,0 +1,279 @@
+//! The check of inputs against older versions.
+
+ghost use Rattle.std.specs.Prelude.{◌≡◌, ◌++◌, IfOk, OnOk, map, string_bytes};
+ghost use Rattle.std.specs.List.{flat_map};
+ghost use Rattle.change_texts.specs.Comparing.{told_changes};
+ghost use Rattle.change_texts.specs.Texts.{changes_lines};
+ghost use Rattle.descriptor_check.specs.Against as spec;
+ghost use Rattle.descriptor_check.specs.Batches.{batch_of};
+
+use crate::answer::{Answer, Compatibility, LinkedSet, Status, Wanted};
+use crate::batches::{BatchError, read_batch};
+use crate::checking::{check, tell_unread, tell_verdict};
+use crate::inputs::Input;
+use crate::olders::{Older, OlderError, read_olders};
+use crate::verdicts::{Verdict, verdict_on};
+use change_texts::{Comparison, Direction, ToldChanges, tell_changes, with_changes, write_changes};
+use descriptor_pool::DescriptorPool;
+use plain_data::Text;
+use std::alloc::{AllocError, Global};
+use verdict_formats::{Format, annotations_text};
+
+/// The verdict on the files of some inputs as `check` tells it, and behind it what an accepted batch
+/// changes of older versions, the files of each of which are linked alone, and first. Where
+/// something changes, the status is `Refused`, and no set is written. Where an older version is
+/// refused, there is no verdict.
+///
+/// # Errors
+/// `AllocError` where memory was refused.
+pub fn check_against(
+    alloc: Global,
+    wanted: &Wanted,
+    older: &[Input],
+    inputs: &[Input],
+) -> Result<Answer, AllocError>
+    ensures { IfOk result (λ answer. answer
+        ≡ spec.answer_against wanted.now older.now inputs.now) }
+{
+    if older.is_empty() {
+        return check(alloc, wanted, inputs);
+    }
+    match read_olders(alloc, wanted, older) {
+        Ok(olders) => check_batch(alloc, wanted, olders.as_slice(), inputs),
+        Err(OlderError::Answered(answer)) => with_told(alloc, wanted, &[], answer),
+        Err(OlderError::OutOfMemory) => Err(AllocError),
+    }
+}
+
+/// The verdict on the files of some inputs, and what they change of older versions.
+fn check_batch(
+    alloc: Global,
+    wanted: &Wanted,
+    olders: &[Older],
+    inputs: &[Input],
+) -> Result<Answer, AllocError>
+    ensures { IfOk result (λ answer. answer ≡ spec.batch_against wanted.now olders.now
+        (batch_of inputs.now)) }
+{
+    match read_batch(alloc, inputs) {
+        Ok(batch) => {
+            let verdict = verdict_on(alloc, batch, wanted.most)?;
+            tell_against(alloc, wanted, olders, &verdict)
+        }
+        Err(BatchError::NotASet(input)) => {
+            let answer = tell_unread(alloc, wanted, &input)?;
+            with_told(alloc, wanted, &[], answer)
+        }
+        Err(BatchError::OutOfMemory) => Err(AllocError),
+    }
+}
+
+/// What is told of a verdict, and of what changes.
+fn tell_against(
+    alloc: Global,
+    wanted: &Wanted,
+    olders: &[Older],
+    verdict: &Verdict,
+) -> Result<Answer, AllocError>
+    ensures { IfOk result (λ answer. answer
+        ≡ spec.verdict_against wanted.now olders.now verdict.now) }
+{
+    let answer = tell_verdict(alloc, wanted, verdict)?;
+    let told = compared_for(alloc, wanted, olders, verdict, answer.status)?;
+    with_told(alloc, wanted, told.as_slice(), answer)
+}
+
+/// The directions that are wanted, in order.
+fn directions(compatibility: Option<Compatibility>) -> &'static [Direction]
+    ensures { result.now ≡ spec.directions compatibility }
+{
+    match compatibility {
+        None | Some(Compatibility::Backward) => &[Direction::Backward],
+        Some(Compatibility::Forward) => &[Direction::Forward],
+        Some(Compatibility::Full) => &[Direction::Backward, Direction::Forward],
+    }
+}
+
+/// Appends what a pool changes of an older version, in each direction that is wanted.
+fn tell_older(
+    alloc: Global,
+    wanted: &Wanted,
+    told: &mut Vec<ToldChanges>,
+    older: &Older,
+    pool: &DescriptorPool,
+) -> Result<(), AllocError>
+    ensures { OnOk result (told.new.items ≡ told.old.items
+        ++ spec.compared_with wanted.now pool.now older.now) }
+{
+    for direction in directions(wanted.compatibility) {
+        let comparison = Comparison {
+            direction: *direction,
+            old: &older.pool,
+            new: pool,
+        };
+        let changes = tell_changes(alloc, comparison, older.name.as_str(), wanted.most)?;
+        told.push(changes)?;
+    }
+    Ok(())
+}
+
+/// What an accepted batch changes of older versions, by the status of the answer to it.
+fn compared_for(
+    alloc: Global,
+    wanted: &Wanted,
+    olders: &[Older],
+    verdict: &Verdict,
+    status: Status,
+) -> Result<Vec<ToldChanges>, AllocError>
+    ensures { IfOk result (λ told. told.items
+        ≡ spec.compared_for wanted.now olders.now verdict.now status) }
+{
+    match verdict {
+        Verdict::Accepted(pool) => compared_if(alloc, wanted, olders, pool, status),
+        Verdict::Refused(_) | Verdict::TooMany(_) => Ok(Vec::new(alloc)),
+    }
+}
+
+/// What the pool of an accepted batch changes of older versions, if the answer to it is a verdict.
+fn compared_if(
+    alloc: Global,
+    wanted: &Wanted,
+    olders: &[Older],
+    pool: &DescriptorPool,
+    status: Status,
+) -> Result<Vec<ToldChanges>, AllocError>
+    ensures { IfOk result (λ told. told.items
+        ≡ spec.compared_if wanted.now olders.now pool.now status) }
+{
+    match status {
+        Status::Accepted => compared(alloc, wanted, olders, pool),
+        _ => Ok(Vec::new(alloc)),
+    }
+}
+
+/// What a pool changes of older versions.
+fn compared(
+    alloc: Global,
+    wanted: &Wanted,
+    olders: &[Older],
+    pool: &DescriptorPool,
+) -> Result<Vec<ToldChanges>, AllocError>
+    ensures { IfOk result (λ told. told.items
+        ≡ flat_map (spec.compared_with wanted.now pool.now) olders.now) }
+{
+    let mut told = Vec::new(alloc);
+    for older in olders {
+        tell_older(alloc, wanted, &mut told, older, pool)?;
+    }
+    Ok(told)
+}
+
+/// Whether something changes.
+fn some_change(told: &[ToldChanges]) -> bool
+    ensures { result ≡ spec.some_change told.now }
+{
+    told.iter().any(|changes| changes.count != 0)
+}
+
+/// Writes the lines of changes.
+fn write_each(alloc: Global, text: &mut String, told: &[ToldChanges]) -> Result<(), AllocError>
+    ensures { OnOk result (string_bytes text.new ≡ string_bytes text.old
+        ++ flat_map changes_lines told.now) }
+{
+    for changes in told {
+        write_changes(alloc, text, changes)?;
+    }
+    Ok(())
+}
+
+/// Writes the annotations of changes.
+fn write_annotations(
+    alloc: Global,
+    text: &mut String,
+    told: &[ToldChanges],
+) -> Result<(), AllocError>
+    ensures { OnOk result (string_bytes text.new ≡ string_bytes text.old
+        ++ flat_map spec.changes_annotations told.now) }
+{
+    for changes in told {
+        write_annotated(alloc, text, changes)?;
+    }
+    Ok(())
+}
+
+/// Writes the annotations of what a new version changes of an older one.
+fn write_annotated(
+    alloc: Global,
+    text: &mut String,
+    changes: &ToldChanges,
+) -> Result<(), AllocError>
+    ensures { OnOk result (string_bytes text.new ≡ string_bytes text.old
+        ++ spec.changes_annotations changes.now) }
+{
+    let annotations = annotations_text(alloc, changes.told.as_slice(), changes.untold())?;
+    text.push_str(annotations.as_str())
+}
+
+/// What is told: the verdict, and behind it the changes, or the object that has both. The formats of
+/// code quality have the verdict alone.
+fn report_with(
+    alloc: Global,
+    wanted: &Wanted,
+    told: &[ToldChanges],
+    report: &str,
+) -> Result<String, AllocError>
+    ensures { IfOk result (λ s. string_bytes s
+        ≡ spec.report_with wanted.now told.now report.now) }
+{
+    let mut text = String::from_str(alloc, report)?;
+    match wanted.format {
+        Format::Json => return with_changes(alloc, told, report),
+        Format::Text => write_each(alloc, &mut text, told)?,
+        Format::GitHub => write_annotations(alloc, &mut text, told)?,
+        Format::GitLab | Format::Sarif => {}
+    }
+    Ok(text)
+}
+
+/// The status of an answer and its set; where something changes, the status of a refused batch, and
+/// no set.
+fn unless_changed(
+    told: &[ToldChanges],
+    status: Status,
+    linked: Option<LinkedSet>,
+) -> (Status, Option<LinkedSet>)
+    ensures { result ≡ spec.unless_changed told.now status linked }
+{
+    if some_change(told) {
+        (Status::Refused, None)
+    } else {
+        (status, linked)
+    }
+}
+
+/// An answer with what was compared. Where something changes, the status is that of a refused batch,
+/// and no set is written.
+fn with_told(
+    alloc: Global,
+    wanted: &Wanted,
+    told: &[ToldChanges],
+    answer: Answer,
+) -> Result<Answer, AllocError>
+    ensures { IfOk result (λ a. a ≡ spec.with_told wanted.now told.now answer) }
+{
+    let report = report_with(alloc, wanted, told, answer.report.as_str())?;
+    let report = Text::from_string(report);
+    let Answer {
+        status,
+        complaint,
+        linked,
+        ..
+    } = answer;
+    let (status, linked) = unless_changed(told, status, linked);
+    Ok(Answer {
+        status,
+        report,
+        complaint,
+        linked,
+    })
+}

@@ -1,0 +1,697 @@
+#!/usr/bin/env python3
+"""Makes the rows of the check against older versions, or find that they are as stored.
+
+    python3 make_change_rows.py write
+    python3 make_change_rows.py compare
+
+The rows stand in crates/test_rows/data/checks/changes. Each has the sources of an older and of a new
+version, and behind them by hand, by docs/CHANGES.md and docs/CHECK.md, what is told of them: of each
+change its code, its text, the element at which it stands in the new version and in the older one,
+and what to do. Lines and columns are those that protoc gives. `write` writes of each row
+NAME.old.pb, NAME.new.pb, NAME.args, NAME.text, NAME.json and, where it is not 0, NAME.status.
+`compare` ends with status 1 where a stored file is another.
+
+Needed are protoc and protobuf's Python package: protobuf-compiler and python3-protobuf on Debian.
+That package serves the system's own Python, /usr/bin/python3.
+"""
+
+from __future__ import annotations
+
+import argparse
+import json
+import subprocess
+import sys
+import tempfile
+from dataclasses import dataclass, field
+from pathlib import Path
+from typing import Optional
+
+from google.protobuf import descriptor_pb2
+
+import make_break_sets as breaks
+from make_break_sets import Fault, Place, Records
+
+CHANGES = breaks.DATA / "changes"
+FILE = "m.proto"
+
+P2 = 'syntax = "proto2";\npackage m;\n'
+P3 = 'syntax = "proto3";\npackage m;\n'
+E = "enum E {\n  A = 0;\n  B = 1;\n  C = 2;\n}\n"
+E_LESS = "enum E {\n  A = 0;\n  B = 1;\n}\n"
+E_MORE = "enum E {\n  A = 0;\n  B = 1;\n  C = 2;\n  D = 3;\n}\n"
+N = "message N {\n  optional int32 x = 1;\n  optional int32 y = 2;\n}\n"
+
+
+def message(*lines: str, name: str = "M") -> str:
+    """The source of a message."""
+    return f"message {name} {{\n" + "".join(f"  {line}\n" for line in lines) + "}\n"
+
+
+def new_number(number: int) -> str:
+    """What to do where a number cannot have both meanings."""
+    return f"take a new number, and write 'reserved {number};'"
+
+
+def reserve(number: int) -> str:
+    """What to do about a number that is free."""
+    return f"write 'reserved {number};', so that no later field takes the number"
+
+
+OUTSIDE = "a writer may set two of these fields, and a reader keeps the last: leave it outside"
+INSIDE = "a writer may set two of these fields, and an older reader keeps the last: leave it inside"
+OPTIONAL = "a reader refuses what an older writer leaves out: make it optional"
+REQUIRED = "an older reader refuses what a writer leaves out: leave it required"
+
+
+@dataclass
+class Change:
+    """What is told of a change. The elements are full names, of the new version and of the older one."""
+
+    code: str
+    text: str
+    note: str
+    new: str
+    old: str
+
+
+@dataclass
+class Row:
+    """A row: both sources, and the changes of each direction that is tried."""
+
+    name: str
+    old: str
+    new: str
+    backward: Optional[list[Change]] = None
+    forward: Optional[list[Change]] = None
+    most: Optional[int] = None
+
+
+ROWS: list[Row] = []
+
+
+def kept(name: str, old: str, new: str) -> None:
+    """A row of which nothing changes for a reader of the new version."""
+    ROWS.append(Row(name, old, new, backward=[]))
+
+
+def told(name: str, old: str, new: str, *changes: Change) -> None:
+    """A row of which something changes for a reader of the new version."""
+    ROWS.append(Row(name, old, new, backward=list(changes)))
+
+
+def told_forward(name: str, old: str, new: str, *changes: Change) -> None:
+    """A row of which something changes for a reader of the older version."""
+    ROWS.append(Row(name, old, new, forward=list(changes)))
+
+
+def kind(element: str, number: int, before: str, after: str, behind: str = "") -> Change:
+    """A field of another kind."""
+    text = f"'{element}' ({number}): {before} became {after}{behind}"
+    return Change("field-kind", text, new_number(number), element, element)
+
+
+def cardinality(element: str, number: int, before: str, after: str) -> Change:
+    """A field that is repeated, and was not, or the other way round."""
+    text = f"'{element}' ({number}): {before} became {after}"
+    return Change("field-cardinality", text, new_number(number), element, element)
+
+
+def of_one_field(name: str, before: str, after: str, *changes: Change, head: str = P3) -> None:
+    """A row of a message with one field, whose kind changes."""
+    label = "optional " if head.startswith(P2) else ""
+    old = head + message(f"{label}{before} a = 1;")
+    told(name, old, head + message(f"{label}{after} a = 1;"), *changes)
+
+
+# Numbers: each value of the old kind is one of the new kind, and is encoded alike, or it is told.
+for before, after in (
+    ("int32", "int64"),
+    ("uint32", "uint64"),
+    ("uint32", "int64"),
+    ("sint32", "sint64"),
+    ("bool", "int32"),
+    ("bool", "int64"),
+    ("bool", "uint32"),
+    ("bool", "uint64"),
+):
+    of_one_field(f"{before}-to-{after}", before, after)
+for before, after in (
+    ("int64", "int32"),
+    ("int32", "uint32"),
+    ("int32", "uint64"),
+    ("uint32", "int32"),
+    ("uint64", "int64"),
+    ("int64", "uint64"),
+    ("uint64", "uint32"),
+    ("int32", "sint32"),
+    ("sint32", "int32"),
+    ("sint64", "sint32"),
+    ("int32", "bool"),
+    ("bool", "sint32"),
+    ("fixed32", "sfixed32"),
+    ("sfixed64", "fixed64"),
+    ("fixed64", "fixed32"),
+    ("uint32", "fixed32"),
+    ("float", "double"),
+    ("float", "fixed32"),
+    ("double", "int64"),
+):
+    of_one_field(f"{before}-to-{after}", before, after, kind("m.M.a", 1, before, after))
+
+# Enums: an open one has each number of 32 bits, and a closed one those of its values.
+of_one_field("open-enum-to-int32", "E", "int32", head=P3 + E)
+of_one_field("open-enum-to-int64", "E", "int64", head=P3 + E)
+of_one_field("int32-to-open-enum", "int32", "E", head=P3 + E)
+of_one_field(
+    "open-enum-to-uint32",
+    "E",
+    "uint32",
+    kind("m.M.a", 1, "open enum m.E", "uint32"),
+    head=P3 + E,
+)
+kept("open-enum-loses-a-value", P3 + E + message("E a = 1;"), P3 + E_LESS + message("E a = 1;"))
+of_one_field("closed-enum-to-int32", "E", "int32", head=P2 + E)
+of_one_field("closed-enum-to-uint32", "E", "uint32", head=P2 + E)
+of_one_field("closed-enum-to-bool", "E", "bool", head=P2 + E_LESS)
+of_one_field(
+    "closed-enum-with-another-number-to-bool",
+    "E",
+    "bool",
+    kind("m.M.a", 1, "closed enum m.E", "bool", ", which lacks 2"),
+    head=P2 + E,
+)
+MINUS = "enum E {\n  A = 0;\n  B = -1;\n}\n"
+of_one_field(
+    "closed-enum-with-a-negative-number-to-uint32",
+    "E",
+    "uint32",
+    kind("m.M.a", 1, "closed enum m.E", "uint32", ", which lacks -1"),
+    head=P2 + MINUS,
+)
+of_one_field(
+    "closed-enum-to-sint32",
+    "E",
+    "sint32",
+    kind("m.M.a", 1, "closed enum m.E", "sint32"),
+    head=P2 + E,
+)
+of_one_field(
+    "int32-to-closed-enum",
+    "int32",
+    "E",
+    kind("m.M.a", 1, "int32", "closed enum m.E"),
+    head=P2 + E,
+)
+OF_E = message("optional E a = 1;")
+LOSES = kind("m.M.a", 1, "closed enum m.E", "closed enum m.E", ", which lacks 2")
+told("closed-enum-loses-a-number", P2 + E + OF_E, P2 + E_LESS + OF_E, LOSES)
+kept("closed-enum-gains-a-number", P2 + E + OF_E, P2 + E_MORE + OF_E)
+told_forward(
+    "closed-enum-gains-a-number-forward",
+    P2 + E + OF_E,
+    P2 + E_MORE + OF_E,
+    kind("m.M.a", 1, "closed enum m.E", "closed enum m.E", "; the older one lacks 3"),
+)
+kept(
+    "closed-enum-under-another-name",
+    P2 + E + OF_E,
+    P2 + E.replace("enum E", "enum F") + message("optional F a = 1;"),
+)
+kept("closed-enum-with-renamed-values", P2 + E + OF_E, P2 + E.replace("C =", "Z =") + OF_E)
+kept("closed-enum-opens", P2 + E + OF_E, P3 + E + OF_E)
+told(
+    "open-enum-closes",
+    P3 + E + OF_E,
+    P2 + E + OF_E,
+    kind("m.M.a", 1, "open enum m.E", "closed enum m.E"),
+)
+
+# Texts: those of proto3 are checked to be UTF-8.
+of_one_field("string-to-bytes", "string", "bytes")
+of_one_field("bytes-to-string-of-proto2", "bytes", "string", head=P2)
+of_one_field(
+    "bytes-to-string-of-proto3",
+    "bytes",
+    "string",
+    kind("m.M.a", 1, "bytes", "string of proto3"),
+)
+of_one_field(
+    "string-to-int32",
+    "string",
+    "int32",
+    kind("m.M.a", 1, "string of proto3", "int32"),
+)
+TEXT = message("optional string a = 1;")
+kept("string-of-proto3-to-proto2", P3 + TEXT, P2 + TEXT)
+told(
+    "string-of-proto2-to-proto3",
+    P2 + TEXT,
+    P3 + TEXT,
+    kind("m.M.a", 1, "string of proto2", "string of proto3"),
+)
+
+# Messages: one with the same full name.
+told(
+    "message-to-another",
+    P2 + N + N.replace("message N", "message O") + message("optional N a = 1;"),
+    P2 + N + N.replace("message N", "message O") + message("optional O a = 1;"),
+    kind("m.M.a", 1, "message m.N", "message m.O"),
+)
+told(
+    "message-to-bytes",
+    P2 + N + message("optional N a = 1;"),
+    P2 + N + message("optional bytes a = 1;"),
+    kind("m.M.a", 1, "message m.N", "bytes"),
+)
+told(
+    "group-to-message",
+    P2 + message("optional group A = 1 { optional int32 x = 1; }"),
+    P2 + message("message A { optional int32 x = 1; }", "optional A a = 1;"),
+    Change(
+        "field-kind",
+        "'m.M.a' (1): group m.M.A became message m.M.A",
+        new_number(1),
+        "m.M.a",
+        "m.M.a",
+    ),
+)
+told(
+    "field-of-an-inner-message",
+    P3 + message("int64 x = 1;", name="N") + message("N a = 1;"),
+    P3 + message("int32 x = 1;", name="N") + message("N a = 1;"),
+    kind("m.N.x", 1, "int64", "int32"),
+)
+told(
+    "field-of-a-nested-message",
+    P3 + message("message N {", "  int64 x = 1;", "}", "N a = 1;"),
+    P3 + message("N a = 1;", "message N {", "  int32 x = 1;", "}"),
+    kind("m.M.N.x", 1, "int64", "int32"),
+)
+kept("message-removed-that-no-field-holds", P2 + N + message("optional int32 a = 1;"), P2 + message("optional int32 a = 1;"))
+kept("message-added", P2 + message("optional int32 a = 1;"), P2 + N + message("optional int32 a = 1;", "optional N b = 2;"))
+
+# Maps are repeated messages, each with an entry of its own.
+told(
+    "value-of-a-map",
+    P3 + message("map<string, int64> a = 1;"),
+    P3 + message("map<string, int32> a = 1;"),
+    kind("m.M.AEntry.value", 2, "int64", "int32"),
+)
+kept("value-of-a-map-is-wider", P3 + message("map<string, int32> a = 1;"), P3 + message("map<string, int64> a = 1;"))
+
+kept("map-field-renamed", P3 + message("map<string, int32> a = 1;"), P3 + message("map<string, int64> b = 1;"))
+told(
+    "map-field-renamed-and-its-value-changed",
+    P3 + message("map<string, int64> a = 1;"),
+    P3 + message("map<string, int32> b = 1;"),
+    Change(
+        "field-kind",
+        "'m.M.b' (1): message m.M.AEntry became message m.M.BEntry",
+        new_number(1),
+        "m.M.b",
+        "m.M.a",
+    ),
+)
+
+# How often a field may stand.
+kept("optional-to-repeated", P2 + message("optional int32 a = 1;"), P2 + message("repeated int32 a = 1;"))
+kept("string-to-repeated", P3 + message("string a = 1;"), P3 + message("repeated string a = 1;"))
+told(
+    "repeated-to-optional",
+    P2 + message("repeated int32 a = 1;"),
+    P2 + message("optional int32 a = 1;"),
+    cardinality("m.M.a", 1, "repeated", "optional"),
+)
+told(
+    "optional-message-to-repeated",
+    P2 + N + message("optional N a = 1;"),
+    P2 + N + message("repeated N a = 1;"),
+    cardinality("m.M.a", 1, "optional", "repeated"),
+)
+told(
+    "repeated-message-to-optional",
+    P2 + N + message("repeated N a = 1;"),
+    P2 + N + message("optional N a = 1;"),
+    cardinality("m.M.a", 1, "repeated", "optional"),
+)
+told_forward(
+    "optional-to-repeated-forward",
+    P2 + message("optional int32 a = 1;"),
+    P2 + message("repeated int32 a = 1;"),
+    cardinality("m.M.a", 1, "optional", "repeated"),
+)
+kept("packed-to-unpacked", P3 + message("repeated int32 a = 1;"), P3 + message("repeated int32 a = 1 [packed = false];"))
+kept("presence-added", P3 + message("int32 a = 1;"), P3 + message("optional int32 a = 1;"))
+told(
+    "kind-and-cardinality",
+    P3 + message("repeated int64 a = 1;"),
+    P3 + message("int32 a = 1;"),
+    kind("m.M.a", 1, "int64", "int32"),
+    cardinality("m.M.a", 1, "repeated", "optional"),
+)
+
+# Required fields.
+told(
+    "optional-to-required",
+    P2 + message("optional int32 a = 1;"),
+    P2 + message("required int32 a = 1;"),
+    Change("field-required", "'m.M.a' (1): optional became required", OPTIONAL, "m.M.a", "m.M.a"),
+)
+kept("required-to-optional", P2 + message("required int32 a = 1;"), P2 + message("optional int32 a = 1;"))
+told_forward(
+    "required-to-optional-forward",
+    P2 + message("required int32 a = 1;"),
+    P2 + message("optional int32 a = 1;"),
+    Change("field-required", "'m.M.a' (1): required became optional", REQUIRED, "m.M.a", "m.M.a"),
+)
+told(
+    "new-required-field",
+    P2 + message("optional int32 a = 1;"),
+    P2 + message("optional int32 a = 1;", "required int32 b = 2;"),
+    Change("field-required", "'m.M.b' (2): no field became required", OPTIONAL, "m.M.b", "m.M"),
+)
+kept(
+    "required-field-removed",
+    P2 + message("required int32 a = 1;"),
+    P2 + message("reserved 1;"),
+)
+told_forward(
+    "required-field-removed-forward",
+    P2 + message("required int32 a = 1;"),
+    P2 + message("reserved 1;"),
+    Change("field-required", "'m.M.a' (1): required became no field", REQUIRED, "m.M", "m.M.a"),
+)
+
+# Oneofs.
+INTO = "independent of 'm.M.a' became exclusive with it in the oneof 'm.M.o'"
+OUT = "exclusive with 'm.M.a' in the oneof 'm.M.o' became independent of it"
+APART = P3 + message("int32 a = 1;", "int32 b = 2;", "int32 c = 3;")
+TOGETHER = P3 + message("oneof o {", "  int32 a = 1;", "  int32 b = 2;", "}", "int32 c = 3;")
+told(
+    "fields-into-one-oneof",
+    APART,
+    TOGETHER,
+    Change("field-oneof", f"'m.M.b' (2): {INTO}", OUTSIDE, "m.M.b", "m.M.b"),
+)
+told(
+    "three-fields-into-one-oneof",
+    APART,
+    P3 + message("oneof o {", "  int32 a = 1;", "  int32 b = 2;", "  int32 c = 3;", "}"),
+    Change("field-oneof", f"'m.M.b' (2): {INTO}", OUTSIDE, "m.M.b", "m.M.b"),
+    Change("field-oneof", f"'m.M.c' (3): {INTO}", OUTSIDE, "m.M.c", "m.M.c"),
+)
+kept("fields-out-of-a-oneof", TOGETHER, APART)
+told_forward(
+    "fields-out-of-a-oneof-forward",
+    TOGETHER,
+    APART,
+    Change("field-oneof", f"'m.M.b' (2): {OUT}", INSIDE, "m.M.b", "m.M.b"),
+)
+kept("field-into-a-oneof-alone", APART, P3 + message("oneof o { int32 a = 1; }", "int32 b = 2;", "int32 c = 3;"))
+kept("oneof-gains-a-field", TOGETHER, P3 + message("oneof o {", "  int32 a = 1;", "  int32 b = 2;", "  int32 d = 4;", "}", "int32 c = 3;"))
+kept("oneof-renamed", TOGETHER, TOGETHER.replace("oneof o", "oneof p"))
+
+# Numbers of fields that are removed.
+BOTH = message("optional int32 a = 1;", "optional int32 b = 2;")
+FREE = "int32 became no field, and its number is not reserved"
+told(
+    "field-removed",
+    P2 + BOTH,
+    P2 + message("optional int32 a = 1;"),
+    Change("number-free", f"'m.M.b' (2): {FREE}", reserve(2), "m.M", "m.M.b"),
+)
+kept("field-removed-and-reserved", P2 + BOTH, P2 + message("optional int32 a = 1;", "reserved 2;"))
+kept("field-removed-in-a-reserved-range", P2 + BOTH, P2 + message("optional int32 a = 1;", "reserved 2 to 4;"))
+told(
+    "field-removed-beside-a-reserved-range",
+    P2 + BOTH,
+    P2 + message("optional int32 a = 1;", "reserved 3 to 4;"),
+    Change("number-free", f"'m.M.b' (2): {FREE}", reserve(2), "m.M", "m.M.b"),
+)
+kept("field-removed-for-extensions", P2 + BOTH, P2 + message("optional int32 a = 1;", "extensions 2 to 9;"))
+kept("field-renamed", P2 + BOTH, P2 + BOTH.replace(" b ", " c "))
+kept("field-moved", P2 + BOTH, P2 + message("optional int32 b = 2;", "optional int32 a = 1;"))
+kept("field-added", P2 + message("optional int32 a = 1;"), P2 + BOTH)
+ROWS.append(Row("field-added-in-full", P2 + message("optional int32 a = 1;"), P2 + BOTH, [], []))
+told(
+    "number-of-a-field",
+    P2 + message("optional int32 a = 1;"),
+    P2 + message("optional int32 a = 2;"),
+    Change("number-free", f"'m.M.a' (1): {FREE}", reserve(1), "m.M", "m.M.a"),
+)
+told(
+    "field-renamed-and-of-another-kind",
+    P2 + message("optional int64 a = 1;"),
+    P2 + message("optional int32 b = 1;"),
+    Change("field-kind", "'m.M.b' (1): int64 became int32", new_number(1), "m.M.b", "m.M.a"),
+)
+
+# Extensions are fields of the message that they extend.
+EXTENDED = P2 + message("extensions 100 to 199;")
+told(
+    "extension-of-another-kind",
+    EXTENDED + "extend M {\n  optional int64 x = 100;\n}\n",
+    EXTENDED + "extend M {\n  optional int32 x = 100;\n}\n",
+    kind("m.x", 100, "int64", "int32"),
+)
+told(
+    "extension-of-another-kind-in-a-message",
+    EXTENDED + "message S {\n  extend M {\n    optional int64 x = 100;\n  }\n}\n",
+    EXTENDED + "message S {\n  extend M {\n    optional int32 x = 100;\n  }\n}\n",
+    kind("m.S.x", 100, "int64", "int32"),
+)
+kept("extension-removed", EXTENDED + "extend M {\n  optional int64 x = 100;\n}\n", EXTENDED)
+kept(
+    "extension-becomes-a-field",
+    EXTENDED + "extend M {\n  optional int32 x = 100;\n}\n",
+    P2 + message("optional int64 x = 100;", "extensions 101 to 199;"),
+)
+
+# Several changes at once, in the order of the older messages.
+SEVERAL_OLD = (
+    P2
+    + message("optional int64 b = 2;", "optional string s = 3;", "optional int32 r = 4;")
+    + message("repeated int32 x = 1;", "optional int32 y = 7;", name="N")
+)
+SEVERAL_NEW = (
+    P2
+    + message("optional int32 x = 1;", name="N")
+    + message("optional int32 b = 2;", "optional int64 s = 3;", "required int32 r = 4;")
+)
+SEVERAL = [
+    kind("m.M.b", 2, "int64", "int32"),
+    kind("m.M.s", 3, "string of proto2", "int64"),
+    Change("field-required", "'m.M.r' (4): optional became required", OPTIONAL, "m.M.r", "m.M.r"),
+    cardinality("m.N.x", 1, "repeated", "optional"),
+    Change(
+        "number-free",
+        "'m.N.y' (7): int32 became no field, and its number is not reserved",
+        reserve(7),
+        "m.N",
+        "m.N.y",
+    ),
+]
+told("several-changes", SEVERAL_OLD, SEVERAL_NEW, *SEVERAL)
+ROWS.append(Row("several-changes-and-at-most-two", SEVERAL_OLD, SEVERAL_NEW, SEVERAL, most=2))
+ROWS.append(
+    Row(
+        "changes-in-full",
+        P2 + message("optional int64 a = 1;", "repeated int32 b = 2;"),
+        P2 + message("optional int32 a = 1;", "required int32 c = 3;", "reserved 2;"),
+        backward=[
+            kind("m.M.a", 1, "int64", "int32"),
+            Change("field-required", "'m.M.c' (3): no field became required", OPTIONAL, "m.M.c", "m.M"),
+        ],
+        forward=[],
+    )
+)
+ROWS.append(
+    Row(
+        "kind-in-full",
+        P3 + message("int32 a = 1;"),
+        P3 + message("uint32 a = 1;"),
+        backward=[kind("m.M.a", 1, "int32", "uint32")],
+        forward=[kind("m.M.a", 1, "int32", "uint32")],
+    )
+)
+kept("the-same-schema", SEVERAL_OLD, SEVERAL_OLD)
+
+
+def compiled(source: str) -> bytes:
+    """The set that protoc makes of a source."""
+    with tempfile.TemporaryDirectory() as folder:
+        (Path(folder) / FILE).write_text(source)
+        out = Path(folder) / "set.pb"
+        words = ["protoc", f"-I{folder}", "--include_source_info", f"--descriptor_set_out={out}"]
+        subprocess.run([*words, FILE], check=True, stderr=subprocess.DEVNULL)
+        return out.read_bytes()
+
+
+def record_of(made: bytes) -> descriptor_pb2.FileDescriptorProto:
+    """The one record of a set."""
+    return descriptor_pb2.FileDescriptorSet.FromString(made).file[0]
+
+
+def elements(file: descriptor_pb2.FileDescriptorProto) -> dict[str, list[int]]:
+    """The path of each message, field and extension, by its full name."""
+    found: dict[str, list[int]] = {}
+
+    def see(name: str, path: list[int], item: descriptor_pb2.DescriptorProto) -> None:
+        found[name] = path
+        for tag, items in ((2, item.field), (6, item.extension)):
+            for at, one in enumerate(items):
+                found[f"{name}.{one.name}"] = [*path, tag, at]
+        for at, one in enumerate(item.nested_type):
+            see(f"{name}.{one.name}", [*path, 3, at], one)
+
+    for at, one in enumerate(file.message_type):
+        see(f"{file.package}.{one.name}", [4, at], one)
+    for at, extension in enumerate(file.extension):
+        found[f"{file.package}.{extension.name}"] = [7, at]
+    return found
+
+
+def counts_of(file: descriptor_pb2.FileDescriptorProto) -> list[int]:
+    """How many there are of each kind in a file."""
+    counts = [1, 0, len(file.enum_type), len(file.service), len(file.extension)]
+    waiting = list(file.message_type)
+    while waiting:
+        one = waiting.pop()
+        counts[1] += 1
+        counts[2] += len(one.enum_type)
+        counts[4] += len(one.extension)
+        waiting.extend(one.nested_type)
+    return counts
+
+
+@dataclass
+class Made:
+    """The two versions of a row, as protoc describes them."""
+
+    old: descriptor_pb2.FileDescriptorProto
+    new: descriptor_pb2.FileDescriptorProto
+    against: str
+    places: list[tuple[Records, Place]] = field(default_factory=list)
+
+    def fault(self, change: Change) -> Fault:
+        """A change in the form of a fault, whose second place is in the older version."""
+        at = Place(FILE, elements(self.new)[change.new], change.new)
+        second = Place(FILE, elements(self.old)[change.old], change.old)
+        is_field = change.old in elements(self.old) and len(second.path) > 2 or second.path[0] == 7
+        words = "it was declared at" if is_field else "its message was declared at"
+        if change.code == "field-required" and "no field became" in change.text:
+            words = "its message was declared at"
+        return Fault(change.code, change.text, change.note, at, second, words)
+
+    def lines(self, change: Change) -> str:
+        """The lines of a change: places in the new version, but for the second one."""
+        fault = self.fault(change)
+        second, fault.second = fault.second, None
+        whole = breaks.fault_lines({FILE: self.new}, fault).splitlines(keepends=True)
+        assert second is not None
+        old: Records = {FILE: self.old}
+        words = f"  note: {fault.words} {breaks.place_words(old, second)}"
+        if breaks.position(old, second) is not None:
+            words += f" ('{second.element}')"
+        return whole[0] + words + "\n" + whole[1]
+
+    def object(self, direction: str, change: Change) -> dict[str, object]:
+        """The object of a change."""
+        fault = self.fault(change)
+        second, fault.second = fault.second, None
+        whole = breaks.fault_object({FILE: self.new}, fault)
+        whole["related"] = [breaks.place_members({FILE: self.old}, second)]
+        head = {"level": "wire", "direction": direction, "against": self.against}
+        return {**head, **whole}
+
+
+def counted(number: int, one: str) -> str:
+    """A number of things with their word."""
+    return f"{number} {one}" if number == 1 else f"{number} {one}s"
+
+
+def accepted_line(counts: list[int]) -> str:
+    """The line of an accepted set."""
+    words = ("file", "message", "enum", "service", "extension")
+    return "accepted: " + ", ".join(map(counted, counts, words)) + "\n"
+
+
+def last_line(made: Made, direction: str, changes: list[Change], untold: int) -> str:
+    """The line that counts the changes of a direction."""
+    front = f"changed: {counted(len(changes), 'change')}" if changes else "unchanged"
+    behind = f", of which {untold} are not told" if untold else ""
+    return f"{front} at wire against {made.against}, {direction}{behind}\n"
+
+
+def row_files(row: Row) -> dict[str, bytes]:
+    """The files of a row, by the ends of their names."""
+    old, new = compiled(row.old), compiled(row.new)
+    against = f"{row.name}.old.pb"
+    made = Made(record_of(old), record_of(new), against)
+    directions = [("backward", row.backward), ("forward", row.forward)]
+    compared = [(direction, changes) for direction, changes in directions if changes is not None]
+    text = accepted_line(counts_of(made.new))
+    entries: list[dict[str, object]] = []
+    objects: list[dict[str, object]] = []
+    for direction, changes in compared:
+        assert changes is not None
+        first = changes if row.most is None else changes[: row.most]
+        more = len(changes) - len(first)
+        text += "".join(made.lines(change) for change in first)
+        text += last_line(made, direction, changes, more)
+        head: dict[str, object] = {"against": against, "direction": direction}
+        entries.append({**head, "count": len(changes), "more": more})
+        objects += [made.object(direction, change) for change in first]
+    names = ("files", "messages", "enums", "services", "extensions")
+    whole = {
+        "compared": entries,
+        "changes": objects,
+        "verdict": "accepted",
+        "counts": dict(zip(names, counts_of(made.new))),
+        "too_many": None,
+        "faults": [],
+        "more": 0,
+        "error": None,
+    }
+    words = ["--against", against]
+    if row.forward is not None:
+        words += ["--compatibility", "forward" if row.backward is None else "full"]
+    if row.most is not None:
+        words += ["--max-faults", str(row.most)]
+    files = {
+        "old.pb": old,
+        "new.pb": new,
+        "args": "".join(f"{word}\n" for word in [*words, f"{row.name}.new.pb"]).encode(),
+        "text": text.encode(),
+        "json": (json.dumps(whole, ensure_ascii=False, separators=(",", ":")) + "\n").encode(),
+    }
+    if any(changes for _, changes in compared):
+        files["status"] = b"1\n"
+    return files
+
+
+def main() -> int:
+    """Runs what the arguments ask; the result is the exit status."""
+    parser = argparse.ArgumentParser(
+        description=__doc__, formatter_class=argparse.RawDescriptionHelpFormatter
+    )
+    parser.add_argument("what", choices=("write", "compare"))
+    writes = parser.parse_args().what == "write"
+    wanted = {}
+    for row in ROWS:
+        for end, contents in row_files(row).items():
+            wanted[f"{row.name}.{end}"] = contents
+    if writes:
+        CHANGES.mkdir(exist_ok=True)
+        for name, contents in wanted.items():
+            (CHANGES / name).write_bytes(contents)
+        return 0
+    others = [name for name, contents in wanted.items() if (CHANGES / name).read_bytes() != contents]
+    for name in others:
+        print(f"differs: {name}")
+    print(f"{len(ROWS)} rows, {len(others)} files that differ")
+    return 1 if others else 0
+
+
+if __name__ == "__main__":
+    sys.exit(main())
