@@ -11,12 +11,13 @@
 #include <stdio.h>
 #include <stdlib.h>
 
-/* The bytes of a file, which the caller frees, or NULL. */
+/* The bytes of a file, which the caller frees; or NULL, and errno tells why. */
 static uint8_t *read_whole(const char *name, size_t *len)
 {
     FILE *file = fopen(name, "rb");
     uint8_t *bytes = NULL, *more;
     size_t room = 1 << 15;
+    int why;
     if (file == NULL)
         return NULL;
     *len = 0;
@@ -28,11 +29,13 @@ static uint8_t *read_whole(const char *name, size_t *len)
         bytes = more;
         *len += fread(bytes + *len, 1, room - *len, file);
     } while (*len == room);
+    why = errno;
     if (more == NULL || ferror(file)) {
         free(bytes);
         bytes = NULL;
     }
     fclose(file);
+    errno = why;
     return bytes;
 }
 
@@ -59,6 +62,16 @@ static int print_report(protolink_pool *pool, FILE *to, int status)
     return status;
 }
 
+/* Prints a name on a line. A stranger's name may hold what a terminal obeys, so each byte that is no
+ * letter, digit or sign of ASCII is printed as its number. */
+static void print_name(const uint8_t *name, size_t len)
+{
+    size_t at;
+    for (at = 0; at < len; at++)
+        printf(name[at] > 32 && name[at] < 127 ? "%c" : "\\x%02x", name[at]);
+    putchar('\n');
+}
+
 /* Prints the full names of all messages. */
 static void print_messages(protolink_pool *pool)
 {
@@ -69,7 +82,7 @@ static void print_messages(protolink_pool *pool)
         uint8_t name[512];
         size_t length;
         if (protolink_full_name(pool, &item, name, sizeof name, &length) == PROTOLINK_DONE)
-            printf("%.*s\n", (int)length, (const char *)name);
+            print_name(name, length);
         else
             printf("(a name of %lu bytes)\n", (unsigned long)length);
     }

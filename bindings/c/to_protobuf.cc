@@ -16,6 +16,7 @@
 #include <iostream>
 #include <new>
 #include <string>
+#include <utility>
 #include <vector>
 
 namespace {
@@ -87,16 +88,25 @@ private:
         return reinterpret_cast<const uint8_t *>(bytes.data());
     }
 
+    // Puts a file behind all that it imports. A chain of imports may be long, so this is no call
+    // within a call: `open` has the files of a chain, each with how many of its imports are done.
     void add_behind_imports(uint32_t file, std::vector<bool> *seen, std::vector<uint32_t> *order)
     {
-        if ((*seen)[file])
-            return;
+        std::vector<std::pair<uint32_t, uint32_t>> open;
+        if (!(*seen)[file])
+            open.push_back({file, 0});
         (*seen)[file] = true;
-        uint32_t imported = 0;
-        for (uint32_t n = 0;
-             protolink_file_import(&pool_, file, n, &imported) == PROTOLINK_DONE; n++)
-            add_behind_imports(imported, seen, order);
-        order->push_back(file);
+        while (!open.empty()) {
+            uint32_t last = open.back().first, imported = 0;
+            uint32_t next = open.back().second++;
+            if (protolink_file_import(&pool_, last, next, &imported) != PROTOLINK_DONE) {
+                order->push_back(last);
+                open.pop_back();
+            } else if (!(*seen)[imported]) {
+                (*seen)[imported] = true;
+                open.push_back({imported, 0});
+            }
+        }
     }
 
     // What a call writes to a buffer, or nothing where the pool does not have it.

@@ -1,5 +1,5 @@
 #!/usr/bin/env python3
-"""The tests of protolink.py. PROTOLINK_LIB_DIR names the folder of the library.
+"""The tests of the module protolink. PROTOLINK_LIB_DIR names the folder of the library.
 
     PROTOLINK_LIB_DIR=../../dist/lib python3 test_protolink.py
 
@@ -12,6 +12,9 @@ from __future__ import annotations
 import copy
 import os
 import pickle
+import subprocess
+import sys
+import tempfile
 import threading
 import unittest
 from pathlib import Path
@@ -185,6 +188,33 @@ class Pools(unittest.TestCase):
             thread.join()
         self.assertEqual(wrong, [])
         self.assertEqual(pool.counts()[:2], (600, 600))
+
+    def test_a_pool_is_printed_by_its_counts(self) -> None:
+        told = "<protolink.Pool: files=0, messages=0, enums=0, services=0, extensions=0>"
+        self.assertEqual(repr(protolink.Pool()), told)
+
+    def test_kinds_of_items(self) -> None:
+        pool = shop()
+        for kind in protolink.KINDS[1:]:
+            with self.subTest(kind), self.assertRaises(IndexError):
+                pool.full_name(kind, 1000)
+        with self.assertRaises(ValueError):
+            pool.full_name("nope", 0)
+
+    def test_a_library_that_is_none(self) -> None:
+        """The import fails as that of any module does which is not there."""
+        with tempfile.TemporaryDirectory() as room:
+            (Path(room) / protolink.SONAME).write_bytes(b"none")
+            folder = Path(__file__).resolve().parent
+            done = subprocess.run(
+                [sys.executable, "-B", "-c", "import protolink"],
+                cwd=folder,
+                env={**os.environ, "PROTOLINK_LIB_DIR": room},
+                stderr=subprocess.PIPE,
+                check=False,
+            )
+        self.assertEqual(done.returncode, 1)
+        self.assertIn(b"\nImportError: ", done.stderr)
 
     def test_the_version_is_told(self) -> None:
         self.assertRegex(protolink.version(), r"^\d+\.\d+\.\d+$")

@@ -8,6 +8,7 @@ use std::hash::{Hash, Hasher};
 
 /// The version of the language in which a file is written.
 #[derive(Debug, Clone, Copy, PartialEq, Eq, Hash)]
+#[non_exhaustive]
 pub enum Syntax {
     /// `proto2`, also where a file says nothing.
     Proto2,

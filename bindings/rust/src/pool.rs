@@ -18,7 +18,7 @@ use std::fmt;
 /// may_be_handed_over::<protolink::DescriptorPool>();
 /// ```
 ///
-/// ```compile_fail
+/// ```compile_fail,E0277
 /// fn may_be_shared<T: Sync>() {}
 /// may_be_shared::<protolink::DescriptorPool>();
 /// ```

@@ -13,8 +13,8 @@ use std::cell::UnsafeCell;
 /// How long a text may be that is had by one call.
 const FIRST_ROOM: usize = 128;
 
-/// How long linked files may be that are had by one call: each further call encodes them again.
-const FIRST_ROOM_OF_FILES: usize = 1 << 16;
+/// The first call of two for linked files, which only counts their bytes.
+const NO_ROOM: usize = 0;
 
 /// A pool of the library.
 pub(crate) struct RawPool {
@@ -81,13 +81,15 @@ impl RawPool {
         }
     }
 
-    /// What a call writes to a buffer, or none where the pool does not have it.
+    /// What a call writes to a buffer, or none where the pool does not have it. An error says that
+    /// memory was refused, to the library or for the buffer.
     fn written<T: Clone + Default>(
         &self,
         room: usize,
         call: impl Fn(*mut ffi::Pool, *mut T, usize, *mut usize) -> u8,
     ) -> Result<Option<Vec<T>>, OutOfMemory> {
-        let mut buffer = vec![T::default(); room];
+        let mut buffer = Vec::new();
+        lengthen(&mut buffer, room)?;
         let mut length = 0;
         loop {
             let status = call(
@@ -101,19 +103,20 @@ impl RawPool {
                     buffer.truncate(length);
                     return Ok(Some(buffer));
                 }
-                ffi::SHORT => buffer.resize(length, T::default()),
+                ffi::SHORT => lengthen(&mut buffer, length)?,
                 ffi::NO_MEMORY => return Err(OutOfMemory),
                 _ => return Ok(None),
             }
         }
     }
 
-    /// A text of a call that takes no memory.
+    /// A text of a call for which the library takes no memory. It panics where there is none for the
+    /// text.
     fn text(
         &self,
         call: impl Fn(*mut ffi::Pool, *mut u8, usize, *mut usize) -> u8,
     ) -> Option<String> {
-        let bytes = self.written(FIRST_ROOM, call).ok()??;
+        let bytes = self.written(FIRST_ROOM, call).expect("memory for a text")?;
         Some(String::from_utf8_lossy(&bytes).into_owned())
     }
 
@@ -137,14 +140,14 @@ impl RawPool {
     }
 
     pub fn linked(&self) -> Result<Vec<u8>, OutOfMemory> {
-        let linked = self.written(FIRST_ROOM_OF_FILES, |p, at, room, len| unsafe {
+        let linked = self.written(NO_ROOM, |p, at, room, len| unsafe {
             ffi::protolink_pool_linked(p, at, room, len)
         })?;
         Ok(linked.unwrap_or_default())
     }
 
     pub fn linked_file(&self, file: u32) -> Result<Option<Vec<u8>>, OutOfMemory> {
-        self.written(FIRST_ROOM_OF_FILES, |p, at, room, len| unsafe {
+        self.written(NO_ROOM, |p, at, room, len| unsafe {
             ffi::protolink_pool_linked_file(p, file, at, room, len)
         })
     }
@@ -161,7 +164,7 @@ impl RawPool {
         self.written(16, |p, at, room, len| unsafe {
             ffi::protolink_pool_find_path(p, name.as_ptr(), name.len(), at, room, len)
         })
-        .ok()?
+        .expect("memory for a path")
     }
 
     pub fn counts(&self) -> ffi::Counts {
@@ -275,6 +278,14 @@ impl Drop for RawPool {
     fn drop(&mut self) {
         unsafe { ffi::protolink_pool_clear(self.pool.get_mut()) }
     }
+}
+
+/// Makes a buffer longer.
+fn lengthen<T: Clone + Default>(buffer: &mut Vec<T>, length: usize) -> Result<(), OutOfMemory> {
+    let more = length.saturating_sub(buffer.len());
+    buffer.try_reserve_exact(more).map_err(|_| OutOfMemory)?;
+    buffer.resize(length, T::default());
+    Ok(())
 }
 
 /// The version of the library: a million for the first number, a thousand for the second.

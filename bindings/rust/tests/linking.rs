@@ -97,6 +97,24 @@ fn files_tell_what_they_are() {
 }
 
 #[test]
+fn a_pool_lists_what_it_has() {
+    let pool = shop();
+    let messages: Vec<_> = pool.all_messages().map(|it| it.full_name()).collect();
+    assert_eq!(messages, ["shop.v1.Order", "shop.v1.Order.Line"]);
+    assert!(pool.messages().eq(pool.all_messages()));
+    let enums: Vec<_> = pool.all_enums().map(|it| it.full_name()).collect();
+    assert_eq!(enums, ["shop.v1.Kind", "shop.v1.Status"]);
+    let services: Vec<_> = pool.services().map(|it| it.full_name()).collect();
+    assert_eq!(services, ["shop.v1.Shop"]);
+    let extensions: Vec<_> = pool.all_extensions().map(|it| it.full_name()).collect();
+    assert_eq!(extensions, ["shop.v1.weight"]);
+    let copy = pool.try_clone().unwrap();
+    assert_eq!(copy.counts(), pool.counts());
+    let order = copy.get_message_by_name("shop.v1.Order").unwrap();
+    assert!(std::ptr::eq(order.parent_pool(), &copy));
+}
+
+#[test]
 fn messages_have_their_fields() {
     let pool = shop();
     let order = pool.get_message_by_name(".shop.v1.Order").unwrap();

@@ -10,7 +10,8 @@
 What is refused raises `Refused`, whose `faults` are data. The pool is then what it was.
 
 The library is `libprotolink.so.0`: in the folder that PROTOLINK_LIB_DIR names, else beside this
-file, else where the system finds it. Threads may share a pool: calls on it wait for one another.
+file, else where the system finds it. Without it the import raises an ImportError. Threads may share
+a pool: calls on it wait for one another.
 """
 
 from __future__ import annotations
@@ -21,9 +22,10 @@ import os
 import threading
 from collections.abc import Callable, Iterator
 from pathlib import Path
-from typing import NamedTuple, Optional
+from typing import NamedTuple, Optional, Union
 
 __all__ = [
+    "KINDS",
     "Counts",
     "Definition",
     "Error",
@@ -53,6 +55,9 @@ KINDS = (
     "extension",
 )
 """What kind of thing an item is, by the library's numbers."""
+
+Buffer = Union[bytes, bytearray, memoryview]
+"""What bytes may be handed over in."""
 
 
 class Error(Exception):
@@ -186,14 +191,18 @@ _CALLS = {
 
 
 def _library() -> ctypes.CDLL:
-    """The shared library, with the types of its calls."""
+    """The shared library, with the types of its calls. Raises an ImportError where it is not found,
+    or lacks a call."""
     folders = [os.environ.get("PROTOLINK_LIB_DIR"), str(Path(__file__).resolve().parent)]
     paths = [Path(folder) / SONAME for folder in folders if folder]
     name = next((str(path) for path in paths if path.exists()), SONAME)
-    library = ctypes.CDLL(name)
-    for call, (result, parameters) in _CALLS.items():
-        function = getattr(library, call)
-        function.restype, function.argtypes = result, parameters
+    try:
+        library = ctypes.CDLL(name)
+        for call, (result, parameters) in _CALLS.items():
+            function = getattr(library, call)
+            function.restype, function.argtypes = result, parameters
+    except (OSError, AttributeError) as fault:
+        raise ImportError(f"{fault}; PROTOLINK_LIB_DIR may name the folder of {SONAME}") from fault
     return library
 
 
@@ -228,6 +237,10 @@ class Pool:
         if _lib is not None:
             _lib.protolink_pool_clear(self._pool)
 
+    def __repr__(self) -> str:
+        told = ", ".join(f"{name}={count}" for name, count in self.counts()._asdict().items())
+        return f"<protolink.Pool: {told}>"
+
     def __copy__(self) -> Pool:
         return self.clone()
 
@@ -237,20 +250,20 @@ class Pool:
     def __reduce__(self) -> tuple:
         raise TypeError("a Pool can't be pickled, but the bytes of its linked() can")
 
-    def add_set(self, data: bytes) -> None:
+    def add_set(self, data: Buffer) -> None:
         """Links the files of a FileDescriptorSet in one batch. Those whose names the pool has are
         passed over unread. Raises an `Error` where they are not linked."""
         self._add(_lib.protolink_pool_add_set, data)
 
-    def add_file(self, data: bytes) -> None:
+    def add_file(self, data: Buffer) -> None:
         """Links the file of a FileDescriptorProto, as `add_set` does."""
         self._add(_lib.protolink_pool_add_file, data)
 
-    def add_script(self, script: bytes) -> None:
+    def add_script(self, script: Buffer) -> None:
         """Links the files that a script of lines declares, as `add_set` does."""
         self._add(_lib.protolink_pool_add_script, script)
 
-    def _add(self, call: Callable[..., int], data: bytes) -> None:
+    def _add(self, call: Callable[..., int], data: Buffer) -> None:
         if not isinstance(data, bytes):
             data = memoryview(data).tobytes()
         with self._lock:
@@ -359,7 +372,10 @@ class Pool:
             room = length.value
 
     def full_name(self, kind: str, index: int, position: int = 0) -> str:
-        """The full name of an item. Raises an IndexError where the pool has none."""
+        """The full name of an item, whose kind is one of `KINDS`. Raises an IndexError where the pool
+        has none."""
+        if kind not in KINDS:
+            raise ValueError(f"{kind!r} is none of the kinds of items")
         item = _Item(KINDS.index(kind), _index(index), _index(position))
         return self._written(_lib.protolink_full_name, ctypes.byref(item)).decode()
 
