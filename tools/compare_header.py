@@ -5,7 +5,7 @@
 
 The exports are those of crates/protolink_c, with the structs that they take. Held to them are
 include/protolink.h, the declarations of the Rust crate (bindings/rust/src/ffi.rs) and those of the
-Python module (bindings/python/protolink.py), which may lack some calls. A struct is compared by its
+Python module (bindings/python/protolink), which may lack some calls. A struct is compared by its
 members, in order, with their types; a slice is a pointer and a length.
 
 Constants are compared by name and number: the header's with those by which the Rattle code answers
@@ -28,7 +28,7 @@ TOP = Path(__file__).resolve().parent.parent
 HEADER = TOP / "include/protolink.h"
 RUST = TOP / "bindings/rust/src/ffi.rs"
 DESCRIPTORS = TOP / "bindings/rust/src/descriptors.rs"
-PYTHON = TOP / "bindings/python/protolink.py"
+PYTHON = TOP / "bindings/python/protolink/__init__.py"
 
 
 def sources(crate: str) -> list[Path]:

@@ -41,6 +41,7 @@ from descriptors_to_script import (
     script_bytes,
     write_output,
 )
+from hidden_characters import plain
 
 if TYPE_CHECKING:
     from google.protobuf.descriptor import Descriptor, FieldDescriptor, FileDescriptor
@@ -247,7 +248,7 @@ def script_lines(files: list[FileDescriptorProto]) -> Iterator[str]:
 def text_bytes(files: list[FileDescriptorProto]) -> bytes:
     """The text of a row: what the pool counts, and what it has."""
     text = PoolText(files)
-    return script_bytes([text.counts_line(), *text.lines()])
+    return script_bytes([text.counts_line(), *map(plain, text.lines())])
 
 
 def made() -> Iterator[tuple[Path, bytes]]:

@@ -86,6 +86,18 @@ def coded(ranges: list[tuple[int, int]]) -> str:
     return "        " + "\n            | ".join(patterns) + "\n"
 
 
+def plain(text: str) -> str:
+    """A text in which an escape stands for each of the characters of the table."""
+    ranges = re.findall(r"from_to 0x(\w+) 0x(\w+)", PAGE.read_text())
+    hidden = "".join(rf"\U{int(first, 16):08x}-\U{int(last, 16):08x}" for first, last in ranges)
+    return re.sub(f"[{hidden}]", lambda found: escaped(ord(found[0])), text)
+
+
+def escaped(code: int) -> str:
+    """The escape of a character."""
+    return rf"\u{code:04x}" if code < 0x10000 else rf"\U{code:08x}"
+
+
 def tables() -> dict[Path, str]:
     """What each of the two files is to be."""
     ranges = ranges_of(hidden_codes())

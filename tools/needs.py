@@ -69,6 +69,8 @@ ALL = (
     Need("cargo", lambda: has_tools("cargo")),
     Need("librust-prost-dev", lambda: any(CRATES.glob("prost-[0-9]*"))),
     Need("librust-prost-types-dev", lambda: any(CRATES.glob("prost-types-*"))),
+    Need("groff-base", lambda: has_tools("groff")),
+    Need("dpkg", lambda: has_tools("dpkg", "dpkg-deb")),
 )
 """All that the gate wants besides rt."""
 

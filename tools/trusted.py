@@ -1,111 +1,171 @@
 #!/usr/bin/env python3
-"""Prints docs/TRUSTED.md: what the proofs of the programs and of the library take on trust.
+"""Prints docs/TRUSTED.md: what the proofs of the programs and of the library for C take on trust.
 
     python3 trusted.py > ../docs/TRUSTED.md
     python3 trusted.py --check
 
-`rt check --list-axioms` tells the functions of C whose contracts the proof of a program reaches,
-for each program that ships and for the static library. The page has each of them, the functions
-that are proved by hand, and the calls that are `unsafe`. `--check` tells where the page is another
-than what is printed, with status 1. Needed is `rt`, and that the crates are proved: else it proves
-them first.
+The page has three lists. The first is of the functions of C whose contracts the proof of a program
+or of the library reaches: `rattle check --list-axioms` tells them. The others are of the functions
+that are proved by hand, and of the places where code is `unsafe`: they are read off the files.
+
+`--check` tells where the page is another than what is printed, with status 1. The last line counts:
+`N passed, M failed, K left out`.
+
+The two programs and the library are checked over the libraries of crates that `rt ci` left, which
+takes a few minutes where they were not checked before. Where it left none, the page can't be made:
+that is said, with status 2, or by --check as what is left out.
 """
 
 from __future__ import annotations
 
 import difflib
+import importlib.machinery
+import importlib.util
 import re
 import subprocess
 import sys
 from collections.abc import Iterator
 from pathlib import Path
 
+sys.dont_write_bytecode = True
+
 TOP = Path(__file__).resolve().parent.parent
 CRATES = TOP / "crates"
 PAGE = TOP / "docs" / "TRUSTED.md"
 SHIPPED = ("check_descriptors", "protolink", "protolink_c")
-"""What is handed to users: two programs, and the static library for C."""
+"""What is handed to users: two programs, and the library for C."""
 
-PREFACE = """\
+MARK = re.compile(r"^ +(\S+) +reached$", re.MULTILINE)
+"""A line of the list of the functions of C that are declared, of one that is reached."""
+
+HEAD = """\
 # What is trusted
 
-A proof is worth what it rests on. `tools/trusted.py` prints this page, and `tools/check` compares it with what it prints.
+A proof is worth what it rests on. Those of this repository rest on what this page names, and on nothing else. `tools/trusted.py` prints the page. The gate compares it with what is printed.
 
-- The toolchain: Rattle's checker, its model of what code does, its compiler, and LLVM, which builds the programs.
-- The definitions: that they say what protobuf's rules mean. [PROVED.md](PROVED.md) tells which of them a call promises.
-- Of the library for C: that a caller keeps to what [protolink.h](../include/protolink.h) asks. The bindings of [bindings/](../bindings) are tested, and nothing is proved of them.
-- The contracts of the functions of C below. Rattle's standard library calls them, and each contract says what the C library or the operating system does.
+- **The toolchain.** Its checker judges the proofs, by its model of what code does. Its compiler makes machine code of what was proved, by LLVM or by a back end of its own. No proof of this repository speaks of either ([which line of the toolchain](../README.md#what-is-trusted)).
+- **The definitions.** A contract says that a call does what a definition says. Whether that is what protobuf means, people judge who read it. [PROVED.md](PROVED.md) names the definitions of each call.
+- **Functions of C.** Rattle's standard library calls them. Each has a contract, which says what the C library or the operating system does. Nothing checks that they do so. They are [listed below](#functions-of-c).
+- **Callers in C.** They keep to what [protolink.h](../include/protolink.h) asks of them. The header and the bindings are tested and not proved ([C.md](C.md#what-is-trusted)).
 
-No proof assumes anything else: none has a hole, and the checker admits no axiom of the repository's own.
+Nothing is assumed besides. `rt ci` refuses a proof with a hole, and an axiom or a function of C that this repository declares.
+
+- [Functions of C](#functions-of-c)
+- [Proved by hand](#proved-by-hand)
+- [Unsafe code](#unsafe-code)
+"""
+
+FUNCTIONS = """\
+## Functions of C
+
+The standard library declares many more. What is handed to users reaches these {count}. A column for each program, and one for the library for C (`protolink_c`), says which it reaches.
+"""
+
+BY_HAND = """\
+## Proved by hand
+
+Of any other function the checker makes the frame of the proof, and the files of `proofs/` answer the goals that are left. Of the functions here people wrote the whole proof. They turn a box into a raw pointer, turn a raw pointer into a box, or make a pointer that is null. The checker judges such a proof as it judges all others. Nothing in it is assumed.
+"""
+
+UNSAFE = """\
+## Unsafe code
+
+`unsafe` stands in these places, and in no other. Each is proved. The exports of the library for C bear the word too, in `#[unsafe(no_mangle)]`, since the name of an export could be another's.
 """
 
 
+class NotLeft(Exception):
+    """What is missing, so that the functions of C can't be told."""
+
+
+def library():
+    """tools/library, as a module."""
+    loader = importlib.machinery.SourceFileLoader("library", str(TOP / "tools/library"))
+    module = importlib.util.module_from_spec(importlib.util.spec_from_loader("library", loader))
+    loader.exec_module(module)
+    return module
+
+
 def reached(crate: str) -> set[str]:
-    """The functions of C whose contracts the proof of a program or of a library reaches."""
-    words = ["rt", "check", "--list-axioms"]
+    """The functions of C whose contracts the proof of a program or of the library reaches."""
+    tool = library()
+    lacking = tool.lack_over_ci(crate)
+    if lacking:
+        raise NotLeft(lacking)
+    (CRATES / crate / "out").mkdir(exist_ok=True)
+    words = [*tool.over_ci("check", crate), "--list-axioms"]
     ran = subprocess.run(words, cwd=CRATES / crate, capture_output=True, text=True)
     if ran.returncode != 0:
         sys.exit(f"trusted.py: {crate} is not proved:\n{ran.stdout}{ran.stderr}")
-    return set(re.findall(r"^ +(\S+) +reached$", ran.stdout + ran.stderr, re.MULTILINE))
+    return set(MARK.findall(ran.stdout + ran.stderr))
 
 
 def by_hand() -> list[str]:
-    """The functions that are proved by hand, each as its crate and its name."""
+    """The functions that are proved by hand, each as its crate, its modules and its name."""
     ends = (path.parent.relative_to(CRATES).parts for path in CRATES.glob("*/proofs/**/Proof.antt"))
     return sorted("::".join((crate, *rest)) for crate, _, *rest in ends)
 
 
 def unsafe_places() -> Iterator[str]:
-    """Where code is `unsafe` by itself, but for the exports, which are so by their name alone."""
+    """Where code is `unsafe` by itself: its file, and its line without what indents it."""
     for path in sorted(CRATES.glob("*/src/**/*.rt")):
         for line in path.read_text().splitlines():
             if re.search(r"\bunsafe\b(?!\()", line.split("//")[0]):
-                yield f"`{path.relative_to(CRATES)}`: `{line.strip()}`"
+                yield f"`{path.relative_to(TOP)}`: `{line.strip()}`"
 
 
-def page() -> str:
-    calls = {crate: reached(crate) for crate in SHIPPED}
+def page(calls: dict[str, set[str]]) -> str:
+    """The page, by the functions of C that each crate reaches."""
+    names = sorted(set().union(*calls.values()))
     rows = [
-        f"| `{name}` | " + " | ".join("yes" if name in calls[crate] else "" for crate in SHIPPED) + " |"
-        for name in sorted(set().union(*calls.values()))
+        " | ".join([f"| `{name}`", *("yes" if name in calls[crate] else "" for crate in calls)])
+        + " |"
+        for name in names
     ]
-    heads = ["function", *(f"`{crate}`" for crate in SHIPPED)]
-    table = ["| " + " | ".join(heads) + " |", "|" + "---|" * len(heads), *rows]
-    hand = [f"- `{name}`" for name in by_hand()]
-    unsafe = [f"- {place}" for place in unsafe_places()]
-    return "\n".join([
-        PREFACE,
-        "## Functions of C",
-        "",
-        f"Each is reached by the proof of a program that ships, or of the static library: {len(rows)} in all.",
-        "",
-        *table,
-        "",
-        "## Proved by hand",
-        "",
-        "Of each other function the checker makes the frame of the proof, and the files of `proofs/` answer what is left. Of these the whole proof is written, since they turn a box into a pointer or back, or make a pointer that is null. It is checked as all others are.",
-        "",
-        *hand,
-        "",
-        "## Unsafe code",
-        "",
-        "Each place is proved too. The exports of `protolink_c` bear the word besides, in `#[unsafe(no_mangle)]`.",
-        "",
-        *unsafe,
-        "",
-    ])
+    table = [
+        " | ".join(["| function", *(f"`{crate}`" for crate in calls)]) + " |",
+        "|" + "---|" * (len(calls) + 1),
+        *rows,
+    ]
+    lists = (
+        (FUNCTIONS.format(count=len(names)), table),
+        (BY_HAND, [f"- `{name}`" for name in by_hand()]),
+        (UNSAFE, [f"- {place}" for place in unsafe_places()]),
+    )
+    return "\n".join([HEAD, *("\n".join([words, *lines, ""]) for words, lines in lists)])
 
 
-def main() -> None:
-    printed = page()
-    if sys.argv[1:] != ["--check"]:
+def differences(printed: str) -> str:
+    """Where the stored page is another, or nothing."""
+    stored = PAGE.read_text().splitlines() if PAGE.exists() else []
+    lines = difflib.unified_diff(stored, printed.splitlines(), "docs/TRUSTED.md", "printed", "", "", 3, "")
+    return "\n".join(lines)
+
+
+def main() -> int:
+    """Prints the page or compares it, and answers the exit status."""
+    is_check = sys.argv[1:] == ["--check"]
+    try:
+        printed = page({crate: reached(crate) for crate in SHIPPED})
+    except NotLeft as fault:
+        if is_check:
+            print(f"left out: what docs/TRUSTED.md lists, since {fault}")
+            print("0 passed, 0 failed, 1 left out")
+            return 0
+        print(f"trusted.py: {fault}", file=sys.stderr)
+        return 2
+    if not is_check:
         sys.stdout.write(printed)
-        return
-    there = PAGE.read_text().splitlines() if PAGE.exists() else []
-    told = list(difflib.unified_diff(there, printed.splitlines(), "docs/TRUSTED.md", "printed", lineterm=""))
+        return 0
+    told = differences(printed)
     if told:
-        sys.exit("\n".join(told))
+        print(told)
+    print(f"{int(not told)} passed, {int(bool(told))} failed, 0 left out")
+    return 1 if told else 0
 
 
 if __name__ == "__main__":
-    main()
+    if sys.argv[1:] not in ([], ["--check"]):
+        print((__doc__ or "").strip())
+        sys.exit(0 if sys.argv[1:] in (["-h"], ["--help"]) else 2)
+    sys.exit(main())

@@ -132,8 +132,11 @@ BUILT_BY_HAND = (
     "  message depot.Shelf.Box",
     "  enum depot.Shelf.Size: 2 is depot.Shelf.LARGE, SMALL is 1",
     "  extension depot.Shelf.room",
+    "no pool: shop.proto: name 'Statuss' is not defined",
+    "no set: Truncated at 1",
 )
-"""What crates/example_pool tells of the files in its src/shop.rt and src/depot.rt."""
+"""What crates/example_pool tells of the files in its src/shop.rt and src/depot.rt, and of what it does
+not load."""
 
 REFERENCES = {
     "field": ("type_name",),

@@ -1,0 +1,101 @@
+#!/usr/bin/env python3
+"""Prints the table of the kinds of faults that docs/RULES.md has.
+
+    tools/fault_table.py             prints the table
+    tools/fault_table.py --write     puts it into the page, in place of the one that is there
+
+A row is a kind: its code, its texts, the words before its second place, and what to do. All are
+read off the code: the texts off crates/pool_faults/src/fault.rt, in which `{..}` stands for a part
+of the fault, and the others off crates/verdict_texts/src/fault_kinds.rt.
+"""
+
+from __future__ import annotations
+
+import re
+import sys
+from pathlib import Path
+
+TOP = Path(__file__).resolve().parent.parent
+PAGE = TOP / "docs/RULES.md"
+TEXTS = (TOP / "crates/pool_faults/src/fault.rt").read_text()
+KINDS = (TOP / "crates/verdict_texts/src/fault_kinds.rt").read_text()
+HEAD = "| code | text | second place | what to do |\n|---|---|---|---|\n"
+LITERAL = r'"(?:[^"\\]|\\(?:.|\n))*"'
+
+
+def said(literal: str) -> str:
+    """The text of a literal, which may go on in further lines."""
+    return re.sub(r"\\\n\s*", "", literal[1:-1])
+
+
+def function(source: str, name: str) -> tuple[list[str], str]:
+    """The parameters of a function, and its body."""
+    head, body = re.split(rf"\bfn {name}\b", source)[1].split("\n{\n", 1)
+    parameters = head.split("ensures")[0].split("(", 1)[1]
+    return re.findall(r"(\w+): ", parameters), body.split("\n}\n")[0]
+
+
+def written(body: str, parts: dict[str, str]) -> list[str]:
+    """The texts that code writes, by the texts that are known of its parts."""
+    texts = [said(text) for text in re.findall(rf"write!\(\s*f,\s*({LITERAL})", body)]
+    for name, arguments in re.findall(r"\b(fmt_\w*(?:range|duplicate))\((.*?)\)", body, re.DOTALL):
+        names, inner = function(TEXTS, name)
+        given = [argument.strip() for argument in arguments.split(",")]
+        known = {it: parts.get(text, text) for it, text in zip(names, given)}
+        texts += written(inner, known)
+    for name, text in parts.items():
+        if text.startswith('"'):
+            texts = [it.replace(f"{{{name}}}", said(text)) for it in texts]
+    return [text.replace(":?}", "}") for text in texts]
+
+
+def texts() -> dict[str, list[str]]:
+    """The texts of each kind."""
+    told = {}
+    arms = re.split(r"\n +(?:_ =>|DescriptorErrorKind::)", TEXTS.split("fn fmt_name_fault")[1])
+    for arm in arms:
+        kind = re.match(r"[A-Z]\w+", arm)
+        found = written(arm.split("\n        }\n")[0], {})
+        if kind and found:
+            told[kind.group()] = found
+    return told
+
+
+def remedies(code: str) -> list[str]:
+    """What code of a row says is to be done."""
+    consts = dict(re.findall(rf"const (\w+): &str = ({LITERAL});", KINDS))
+    called = re.search(r"\b(\w+_remedy)\(", code)
+    if called:
+        code = re.sub(rf"== {LITERAL}", "", function(KINDS, called.group(1))[1])
+    found = re.findall(rf"({LITERAL})|\b([A-Z_]+)\b", code)
+    return [said(literal or consts[name]) for literal, name in found if literal or name in consts]
+
+
+def table() -> str:
+    """The table, in the order of the kinds."""
+    told = texts()
+    lines = HEAD
+    for row in function(KINDS, "fault_kind")[1].split("\n        Fault::")[1:]:
+        code = re.match(r"\w+", row).group()
+        made, rest = row.split(f'"{code}"')
+        maker = re.search(r"(\w+)\(\s*$", made)
+        source = function(KINDS, maker.group(1))[1] if maker else rest
+        words = re.findall(rf"words(?: =|:) ({LITERAL})", source)
+        second = said(words[0]).strip() if words else ""
+        told_as = "<br>".join(f"`{text}`" for text in told[code])
+        cells = [f"`{code}`", told_as, second, "<br>".join(remedies(rest.split("remedy:")[-1]))]
+        lines += "| " + " | ".join(cells) + " |\n"
+    return lines
+
+
+def main() -> int:
+    if sys.argv[1:] == ["--write"]:
+        front, rest = PAGE.read_text().split(HEAD)
+        PAGE.write_text(front + table() + re.sub(r"\A(?:\|.*\n)*", "", rest))
+    else:
+        print(table(), end="")
+    return 0
+
+
+if __name__ == "__main__":
+    sys.exit(main())
