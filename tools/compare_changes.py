@@ -22,7 +22,8 @@ it does not show:
   of proto2 are bytes here, to the writer and to the reader; the program is given strings.
 - A field of proto3 without presence that has its default is not written, and is read as the default.
   So what is missing is compared as its default is, but for messages.
-- The entries of a map are compared by their keys.
+- The entries of a map are compared by their keys, which are UTF-8. So of a key that becomes a string
+  of proto3 no message shows what is lost, nor does one of every message that becomes repeated.
 
 The last line counts the messages and the directions: `N passed, M failed`. Exit status: 0 where none
 failed, or protobuf's Python package is missing (python3-protobuf on Debian, for /usr/bin/python3),
@@ -489,20 +490,29 @@ def is_lost(rng: random.Random, writer: Any, reader: Any, many: int) -> bool:
     return not all(alike)
 
 
+def may_be_in_vain(code: str) -> bool:
+    """Whether a change is told of which no message here shows a loss. A key of a map is UTF-8 here,
+    since it can't be bytes; and a message that becomes repeated loses something only where one of
+    its parts lacks a required field."""
+    is_key = "Entry.key' (1): string of proto" in code and " became string of proto" in code
+    return is_key or code.endswith(": optional became repeated")
+
+
 def compare_direction(
     rng: random.Random, pair: Pair, direction: str, codes: list[str], many: int, tally: Tally
 ) -> None:
     """Compares one direction of a pair with what is told of it."""
     classes = [classes_of(schema) for schema in pair]
     writers, readers = classes if direction == "backward" else reversed(classes)
-    changed = {name for name in writers if any(f"'m.{name}." in code for code in codes)}
+    shown = [code for code in codes if not may_be_in_vain(code)]
+    changed = {name for name in writers if any(f"'m.{name}." in code for code in shown)}
     for name in sorted(changed):
         if is_lost(rng, writers[name], readers[name], many * 20):
             tally.found += 1
         else:
             tally.failed += 1
             show(pair, direction, f"told of {name}, and no message is read otherwise: {codes}")
-    if changed:
+    if codes:
         return
     for _ in range(many):
         data = written(rng, writers["M"])
