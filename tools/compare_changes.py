@@ -492,8 +492,8 @@ def is_lost(rng: random.Random, writer: Any, reader: Any, many: int) -> bool:
 
 def may_be_in_vain(code: str) -> bool:
     """Whether a change is told of which no message here shows a loss. A key of a map is UTF-8 here,
-    since it can't be bytes, also where the map's field is renamed; and a message that becomes repeated loses something only where one of
-    its parts lacks a required field."""
+    since it can't be bytes, also where the map's field is renamed. And a message that becomes
+    repeated loses something only where one of its parts lacks a required field."""
     is_key = "Entry.key' (1): string of proto" in code and " became string of proto" in code
     is_renamed_map = "Entry became message m." in code and code.endswith("Entry")
     return is_key or is_renamed_map or code.endswith(": optional became repeated")
