@@ -11,9 +11,10 @@ Python package of the writer's version writes random messages, whole or in two p
 reader's version reads them.
 
 What should be: where nothing is told of a direction, each message is read, and each field that both
-versions have has the same value, down to the innermost message. Where something is told, but that a
-number is free, a message is found that is refused or read otherwise. Anything else is printed, and is
-a fault.
+versions have has the same value, down to the innermost message. Anything else is printed, and is a
+fault. Where something is told, but that a number is free, a message is looked for that is refused or
+read otherwise. It is a fault where none is found of more than a few: messages under another name may
+be alike, one that becomes repeated may lose nothing, and an enum may have the number 0 alone.
 
 Where protobuf's runtimes depart from the definitions (docs/CHANGES.md), the schemas are made so that
 it does not show:
@@ -22,8 +23,7 @@ it does not show:
   of proto2 are bytes here, to the writer and to the reader; the program is given strings.
 - A field of proto3 without presence that has its default is not written, and is read as the default.
   So what is missing is compared as its default is, but for messages.
-- The entries of a map are compared by their keys, which are UTF-8. So of a key that becomes a string
-  of proto3 no message shows what is lost, nor does one of every message that becomes repeated.
+- The entries of a map are compared by their keys, which are UTF-8 in all versions.
 
 The last line counts the messages and the directions: `N passed, M failed`. Exit status: 0 where none
 failed, or protobuf's Python package is missing (python3-protobuf on Debian, for /usr/bin/python3),
@@ -74,6 +74,9 @@ WIDER = {
     "string": ["bytes"],
 }
 """Kinds that often have all values of another, by which gentle changes are chosen."""
+
+MOST_IN_VAIN = 0.05
+"""How many of the messages that are told to change may show no loss, beside those that do."""
 
 KEYS = ["int32", "uint32", "int64", "bool", "string"]
 FLOATS = [1.0, -2.5, 3.25e10, 1e-3]
@@ -474,6 +477,7 @@ class Tally:
 
     same: int = 0
     found: int = 0
+    vain: int = 0
     failed: int = 0
 
 
@@ -490,29 +494,18 @@ def is_lost(rng: random.Random, writer: Any, reader: Any, many: int) -> bool:
     return not all(alike)
 
 
-def may_be_in_vain(code: str) -> bool:
-    """Whether a change is told of which no message here shows a loss. A key of a map is UTF-8 here,
-    since it can't be bytes, also where the map's field is renamed. And a message that becomes
-    repeated loses something only where one of its parts lacks a required field."""
-    is_key = "Entry.key' (1): string of proto" in code and " became string of proto" in code
-    is_renamed_map = "Entry became message m." in code and code.endswith("Entry")
-    return is_key or is_renamed_map or code.endswith(": optional became repeated")
-
-
 def compare_direction(
     rng: random.Random, pair: Pair, direction: str, codes: list[str], many: int, tally: Tally
 ) -> None:
     """Compares one direction of a pair with what is told of it."""
     classes = [classes_of(schema) for schema in pair]
     writers, readers = classes if direction == "backward" else reversed(classes)
-    shown = [code for code in codes if not may_be_in_vain(code)]
-    changed = {name for name in writers if any(f"'m.{name}." in code for code in shown)}
+    changed = {name for name in writers if any(f"'m.{name}." in code for code in codes)}
     for name in sorted(changed):
         if is_lost(rng, writers[name], readers[name], many * 20):
             tally.found += 1
         else:
-            tally.failed += 1
-            show(pair, direction, f"told of {name}, and no message is read otherwise: {codes}")
+            tally.vain += 1
     if codes:
         return
     for _ in range(many):
@@ -550,8 +543,11 @@ def main() -> int:
         print("left out: protobuf's Python package is missing")
         return 0
     tally = compare(asked.program, asked.pairs, asked.messages, asked.seed)
+    if tally.vain > MOST_IN_VAIN * tally.found:
+        tally.failed += tally.vain
     print(f"{tally.same} messages where nothing changes, all read alike")
     print(f"{tally.found} messages that change in a direction, of each of which one is read otherwise")
+    print(f"{tally.vain} that are told to change, and of which none was found")
     print(f"{tally.same + tally.found} passed, {tally.failed} failed")
     return 1 if tally.failed else 0
 
