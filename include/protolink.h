@@ -311,8 +311,14 @@ protolink_status protolink_pool_limit_faults(protolink_pool *pool, size_t most);
  * ALL LINKED FILES, as the canonical encoding of one FileDescriptorSet, in the order of linking. In
  * them each type name that is resolved is a dot and the full name of its definition.
  *
- *   PROTOLINK_DONE, PROTOLINK_SHORT  as said under TEXTS. PROTOLINK_SHORT counts the bytes, and writes
- *                                    none.
+ * Of a pool that protolink_pool_add_script has filled, the bytes have no options: a field that the
+ * script calls packed, and an enum that it gives aliases, are written without them, and are read
+ * otherwise or refused where the bytes are linked again. Messages may be nested 100 levels deep in
+ * the bytes of a file as in those of a set, in which the file is a level itself: so a file that
+ * protolink_pool_add_file has linked may make a set that protolink_pool_add_set refuses.
+ *
+ *   PROTOLINK_DONE, PROTOLINK_SHORT  as said under TEXTS. PROTOLINK_SHORT counts the bytes, and
+ *                                    writes none.
  *   PROTOLINK_NO_MEMORY              memory was refused.
  */
 protolink_status protolink_pool_linked(
