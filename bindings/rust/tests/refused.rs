@@ -42,7 +42,8 @@ fn sparing<T>(ask: impl FnOnce() -> T) -> T {
 #[test]
 fn a_refused_buffer_is_told() {
     let mut pool = DescriptorPool::new();
-    pool.add_script(b"file a.proto\nmessage M\nend\n").unwrap();
+    pool.add_script(b"file of_a_long_name.proto\nmessage M\nend\nend\n")
+        .unwrap();
     let file = pool.files().next().unwrap();
     assert_eq!(sparing(|| pool.try_encode_to_vec()), Err(OutOfMemory));
     assert_eq!(sparing(|| file.try_encode_to_vec()), Err(OutOfMemory));
