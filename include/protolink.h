@@ -20,15 +20,19 @@
  *
  * WHAT A CALLER OWES. Nothing checks these:
  *
- *   - No pointer is null, also where the length beside it is 0. Each points to as much memory as
- *     the length beside it says, or to one value of its type, which lives through the call.
+ *   - No pointer is null, unless the length beside it is 0. Each points to as much memory as the
+ *     length beside it says, or to one value of its type, which lives through the call.
  *   - What a call writes (the pool, a buffer, a value) overlaps nothing else that is passed to it.
  *   - A pool is PROTOLINK_POOL_EMPTY, all bytes zero, or what the library left there. It may be
- *     moved in memory. Of two copies of one only one may be used again.
- *   - One call at a time uses a pool, look-ups included, so that no call takes a const pool.
- *     Different pools are independent.
- *   - A pool may be handed to another thread, by what orders memory between the two: a lock, the
- *     start or the end of a thread, a sequentially consistent atomic.
+ *     moved in memory. Of two copies of one only one may be passed to a call that changes it, and
+ *     after that the other to none.
+ *   - A call that adds files, sets the limit of faults or clears changes its pool, and so does
+ *     protolink_pool_clone the pool that it makes a copy: no other call uses that pool meanwhile.
+ *     All other calls look up. They take a const pool, and any number of them may use one pool at
+ *     once. Different pools are independent.
+ *   - Between a call that changes a pool and a call of another thread with the same pool stands
+ *     what orders memory between the two: a lock, the start or the end of a thread, a sequentially
+ *     consistent atomic. A pool may be handed to another thread so.
  *   - No call is made from a signal handler, nor in the child of a fork of a process with threads.
  *   - malloc, realloc and free are of one allocator, and align as the C library's do.
  *   - There is stack enough: it grows with the nesting of messages (docs/MEMORY.md).
@@ -84,10 +88,10 @@ typedef struct protolink_pool {
 /* The value of an empty pool, as an initializer. */
 #define PROTOLINK_POOL_EMPTY { NULL }
 
-/* How a call ended. */
+/* How a call ended: one of the statuses. */
 typedef uint8_t protolink_status;
 
-enum {
+enum protolink_statuses {
     PROTOLINK_DONE = 0,      /* it did, or found, what was asked */
     PROTOLINK_REFUSED = 1,   /* the files break rules, which the reports tell */
     PROTOLINK_FAULT = 2,     /* the bytes are not what they should be: the reports tell where */
@@ -101,7 +105,7 @@ enum {
 #define PROTOLINK_NONE UINT32_MAX
 
 /* What kind of thing an item is. */
-enum {
+enum protolink_kinds {
     PROTOLINK_PACKAGE = 0,
     PROTOLINK_MESSAGE = 1,
     PROTOLINK_FIELD = 2,
@@ -135,20 +139,20 @@ typedef struct protolink_counts {
 } protolink_counts;
 
 /* The version of the language: of a file. */
-enum {
+enum protolink_syntaxes {
     PROTOLINK_PROTO2 = 2,
     PROTOLINK_PROTO3 = 3
 };
 
 /* How often a field stands in a message: the numbers of FieldDescriptorProto.Label. */
-enum {
+enum protolink_cardinalities {
     PROTOLINK_OPTIONAL = 1,
     PROTOLINK_REQUIRED = 2,
     PROTOLINK_REPEATED = 3
 };
 
 /* The type of a field: the numbers of FieldDescriptorProto.Type. */
-enum {
+enum protolink_types {
     PROTOLINK_TYPE_DOUBLE = 1,
     PROTOLINK_TYPE_FLOAT = 2,
     PROTOLINK_TYPE_INT64 = 3,
@@ -171,72 +175,118 @@ enum {
 
 /* A file. */
 typedef struct protolink_file_info {
-    uint32_t syntax;  /* PROTOLINK_PROTO2 or PROTOLINK_PROTO3 */
-    uint64_t imports; /* how many files it imports */
+    uint32_t syntax;         /* PROTOLINK_PROTO2 or PROTOLINK_PROTO3 */
+    uint64_t imports;        /* how many files it imports */
+    uint64_t public_imports; /* how many of these imports are public */
+    uint64_t messages;       /* how many messages it has that stand in no message */
+    uint64_t enums;          /* how many enums it has that stand in no message */
+    uint64_t services;       /* how many services it has */
+    uint64_t extensions;     /* how many extensions it has that stand in no message */
+    uint32_t is_deprecated;  /* 1 where its options say so, else 0 */
 } protolink_file_info;
 
 /* A message. */
 typedef struct protolink_message_info {
-    uint32_t file;       /* the index of its file */
-    uint32_t parent;     /* the index of the message around it, or PROTOLINK_NONE */
-    uint64_t fields;     /* how many fields it has */
-    uint64_t oneofs;     /* how many oneofs it has, those of optional fields of proto3 too */
-    uint64_t extensions; /* how many extensions of the pool extend it */
+    uint32_t file;              /* the index of its file */
+    uint32_t parent;            /* the index of the message around it, or PROTOLINK_NONE */
+    uint64_t fields;            /* how many fields it has */
+    uint64_t oneofs;            /* how many oneofs it has, those of optional fields of proto3 too */
+    uint64_t extensions;        /* how many extensions of the pool extend it */
+    uint64_t nested_messages;   /* how many messages stand in it, without those in one of these */
+    uint64_t nested_enums;      /* how many enums stand in it */
+    uint64_t nested_extensions; /* how many extensions stand in it, whatever they extend */
+    uint64_t extension_ranges;  /* how many ranges of numbers it leaves to extensions */
+    uint64_t reserved_ranges;   /* how many ranges of numbers it reserves */
+    uint64_t reserved_names;    /* how many names it reserves */
+    uint32_t map_key;           /* of the entry of a map the position of its key: the field with the
+                                   number 1; else PROTOLINK_NONE */
+    uint32_t map_value;         /* the same of its value, which has the number 2 */
+    uint32_t is_map_entry;      /* 1 where its options say that it is the entry of a map, else 0 */
+    uint32_t is_message_set;    /* 1 where its options say that it is a message set, else 0 */
+    uint32_t is_deprecated;     /* 1 where its options say so, else 0 */
 } protolink_message_info;
+
+/* A range of numbers. Of a message `end` is the number behind it, of an enum its last one. */
+typedef struct protolink_range {
+    int32_t start;
+    int32_t end;
+} protolink_range;
 
 /* A field of a message. */
 typedef struct protolink_field_info {
     uint32_t number;
-    uint32_t cardinality;       /* PROTOLINK_OPTIONAL, .._REQUIRED, .._REPEATED */
-    uint32_t kind;              /* its type: PROTOLINK_TYPE_DOUBLE to .._SINT64 */
-    uint32_t type_index;        /* the index of the type's message or enum, or PROTOLINK_NONE */
-    uint32_t oneof;             /* the position of its oneof in the message, or PROTOLINK_NONE */
-    uint32_t is_packed;         /* 1 where its values are encoded as one run of bytes, else 0 */
-    uint32_t supports_presence; /* 1 where a message tells that it is set, else 0 */
-    uint32_t has_default;       /* 1 where a default value was given, else 0 */
+    uint32_t cardinality;        /* PROTOLINK_OPTIONAL, .._REQUIRED, .._REPEATED */
+    uint32_t kind;               /* its type: PROTOLINK_TYPE_DOUBLE to .._SINT64 */
+    uint32_t type_index;         /* the index of the type's message or enum, or PROTOLINK_NONE */
+    uint32_t oneof;              /* the position of its oneof in the message, or PROTOLINK_NONE */
+    uint32_t is_packed;          /* 1 where its values are encoded as one run of bytes, else 0 */
+    uint32_t supports_presence;  /* 1 where a message tells that it is set, else 0 */
+    uint32_t has_default;        /* 1 where a default value was given, else 0 */
+    uint32_t is_map;             /* 1 where it is repeated and its type is the entry of a map */
+    uint32_t is_list;            /* 1 where it is repeated and no map, else 0 */
+    uint32_t is_required;        /* 1 where it must be set, else 0 */
+    uint32_t is_group;           /* 1 where its type is a group, else 0 */
+    uint32_t is_proto3_optional; /* 1 where it is optional by word in proto3, else 0 */
+    uint32_t is_deprecated;      /* 1 where its options say so, else 0 */
 } protolink_field_info;
 
 /* A oneof of a message. */
 typedef struct protolink_oneof_info {
-    uint64_t fields; /* how many fields of the message are in it */
+    uint64_t fields;       /* how many fields of the message are in it */
+    uint32_t is_synthetic; /* 1 where its one field is optional by word in proto3, else 0 */
 } protolink_oneof_info;
 
 /* An enum. */
 typedef struct protolink_enum_info {
-    uint32_t file;        /* the index of its file */
-    uint32_t parent;      /* the index of the message around it, or PROTOLINK_NONE */
-    uint64_t values;      /* how many values it has */
-    uint32_t allow_alias; /* 1 where two values may have one number, else 0 */
+    uint32_t file;            /* the index of its file */
+    uint32_t parent;          /* the index of the message around it, or PROTOLINK_NONE */
+    uint64_t values;          /* how many values it has */
+    uint32_t allow_alias;     /* 1 where two values may have one number, else 0 */
+    uint64_t reserved_ranges; /* how many ranges of numbers it reserves */
+    uint64_t reserved_names;  /* how many names it reserves */
+    uint32_t is_closed;       /* 1 where its file is not one of proto3: it has no other numbers */
+    uint32_t is_deprecated;   /* 1 where its options say so, else 0 */
 } protolink_enum_info;
 
 /* A value of an enum. */
 typedef struct protolink_enum_value_info {
     int32_t number;
+    uint32_t is_deprecated; /* 1 where its options say so, else 0 */
 } protolink_enum_value_info;
 
 /* A service. */
 typedef struct protolink_service_info {
-    uint32_t file;    /* the index of its file */
-    uint64_t methods; /* how many methods it has */
+    uint32_t file;          /* the index of its file */
+    uint64_t methods;       /* how many methods it has */
+    uint32_t is_deprecated; /* 1 where its options say so, else 0 */
 } protolink_service_info;
 
 /* A method of a service. */
 typedef struct protolink_method_info {
-    uint32_t input;  /* the index of the message that it takes */
-    uint32_t output; /* the index of the message that it gives */
+    uint32_t input;            /* the index of the message that it takes */
+    uint32_t output;           /* the index of the message that it gives */
+    uint32_t client_streaming; /* 1 where it takes a stream of them, else 0 */
+    uint32_t server_streaming; /* 1 where it gives a stream of them, else 0 */
+    uint32_t is_deprecated;    /* 1 where its options say so, else 0 */
 } protolink_method_info;
 
 /* An extension: a field of a message that is not declared in it. */
 typedef struct protolink_extension_info {
-    uint32_t file;        /* the index of its file */
-    uint32_t parent;      /* the index of the message around it, or PROTOLINK_NONE */
-    uint32_t extendee;    /* the index of the message whose field it is */
+    uint32_t file;               /* the index of its file */
+    uint32_t parent;             /* the index of the message around it, or PROTOLINK_NONE */
+    uint32_t extendee;           /* the index of the message whose field it is */
     uint32_t number;
-    uint32_t cardinality; /* PROTOLINK_OPTIONAL, .._REQUIRED, .._REPEATED */
-    uint32_t kind;        /* its type: PROTOLINK_TYPE_DOUBLE to .._SINT64 */
-    uint32_t type_index;  /* the index of the type's message or enum, or PROTOLINK_NONE */
-    uint32_t is_packed;   /* 1 where its values are encoded as one run of bytes, else 0 */
-    uint32_t has_default; /* 1 where a default value was given, else 0 */
+    uint32_t cardinality;        /* PROTOLINK_OPTIONAL, .._REQUIRED, .._REPEATED */
+    uint32_t kind;               /* its type: PROTOLINK_TYPE_DOUBLE to .._SINT64 */
+    uint32_t type_index;         /* the index of the type's message or enum, or PROTOLINK_NONE */
+    uint32_t is_packed;          /* 1 where its values are encoded as one run of bytes, else 0 */
+    uint32_t has_default;        /* 1 where a default value was given, else 0 */
+    uint32_t supports_presence;  /* 1 where a message tells that it is set, else 0 */
+    uint32_t is_map;             /* 1 where it is repeated and its type is the entry of a map */
+    uint32_t is_list;            /* 1 where it is repeated and no map, else 0 */
+    uint32_t is_group;           /* 1 where its type is a group, else 0 */
+    uint32_t is_proto3_optional; /* 1 where it is optional by word in proto3, else 0 */
+    uint32_t is_deprecated;      /* 1 where its options say so, else 0 */
 } protolink_extension_info;
 
 /*
@@ -249,6 +299,9 @@ uint32_t protolink_version(void);
  *
  *   protolink_pool_add_set     a FileDescriptorSet, as `protoc --include_imports -o FILE` writes it
  *   protolink_pool_add_file    one FileDescriptorProto
+ *   protolink_pool_add_files   several FileDescriptorProtos behind one another, by their lengths:
+ *                              `lens` has `count` of them; where these are more than the bytes, the
+ *                              files end with the bytes
  *   protolink_pool_add_script  a script (docs/SCRIPT.md) that declares files; its commands are
  *                              passed over
  *
@@ -266,6 +319,8 @@ uint32_t protolink_version(void);
  */
 protolink_status protolink_pool_add_set(protolink_pool *pool, const uint8_t *bytes, size_t len);
 protolink_status protolink_pool_add_file(protolink_pool *pool, const uint8_t *bytes, size_t len);
+protolink_status protolink_pool_add_files(
+    protolink_pool *pool, const uint8_t *bytes, size_t len, const size_t *lens, size_t count);
 protolink_status protolink_pool_add_script(protolink_pool *pool, const uint8_t *script, size_t len);
 
 /*
@@ -426,10 +481,67 @@ protolink_status protolink_oneof_field(
     protolink_pool *pool, uint32_t message, uint32_t oneof, uint32_t position, uint32_t *field);
 
 /*
+ * THE ITEMS OF A KIND THAT STAND IN A FILE, and in no message, and those that stand in a message,
+ * and in none of its messages: their indexes, in rising order. The kind is PROTOLINK_MESSAGE,
+ * .._ENUM, .._EXTENSION or .._SERVICE, of which a message has none. `room` and *length count the
+ * indexes; how many there are is also told by protolink_file_info and protolink_message_info.
+ *
+ * A call goes through all items of the kind that the pool has, and takes memory for its list. What
+ * stands where is also told by each item itself, in one step: by its file and its parent.
+ *
+ *   PROTOLINK_DONE, PROTOLINK_SHORT  as said under TEXTS.
+ *   PROTOLINK_NOT_FOUND              the pool has no such file or message, or the kind is another.
+ *   PROTOLINK_NO_MEMORY              memory was refused.
+ */
+protolink_status protolink_file_items(
+    protolink_pool *pool, uint32_t file, uint32_t kind, uint32_t *indexes, size_t room,
+    size_t *length);
+protolink_status protolink_message_items(
+    protolink_pool *pool, uint32_t message, uint32_t kind, uint32_t *indexes, size_t room,
+    size_t *length);
+
+/*
+ * RANGES OF NUMBERS, by position: those that a message leaves to extensions, and those that a
+ * message or an enum reserves.
+ *
+ *   PROTOLINK_DONE       *range is written.
+ *   PROTOLINK_NOT_FOUND  the pool has no such message or enum, or it no such range. Nothing is
+ *                        written.
+ */
+protolink_status protolink_message_extension_range(
+    protolink_pool *pool, uint32_t message, uint32_t position, protolink_range *range);
+protolink_status protolink_message_reserved_range(
+    protolink_pool *pool, uint32_t message, uint32_t position, protolink_range *range);
+protolink_status protolink_enum_reserved_range(
+    protolink_pool *pool, uint32_t enumeration, uint32_t position, protolink_range *range);
+
+/*
+ * NAMES THAT A MESSAGE OR AN ENUM RESERVES, by position.
+ *
+ *   PROTOLINK_DONE, PROTOLINK_SHORT  as said under TEXTS.
+ *   PROTOLINK_NOT_FOUND              the pool has no such message or enum, or it no such name.
+ */
+protolink_status protolink_message_reserved_name(
+    protolink_pool *pool, uint32_t message, uint32_t position, uint8_t *buffer, size_t room,
+    size_t *length);
+protolink_status protolink_enum_reserved_name(
+    protolink_pool *pool, uint32_t enumeration, uint32_t position, uint8_t *buffer, size_t room,
+    size_t *length);
+
+/*
+ * A FILE by its name.
+ *
+ *   PROTOLINK_DONE       *file is its index.
+ *   PROTOLINK_NOT_FOUND  the pool has no such file, or the bytes are no text. Nothing is written.
+ */
+protolink_status protolink_file_by_name(
+    protolink_pool *pool, const uint8_t *name, size_t name_len, uint32_t *file);
+
+/*
  * A FIELD OF A MESSAGE by its name, by its JSON name, by its number, and a VALUE OF AN ENUM by its
- * name. It is the only one that has it, which is proved of every pool: a batch in which two have one
- * is refused. By the JSON name those fields are found to which one was given, as protoc gives it to
- * all. Names are those that are declared, without a scope.
+ * name. It is the only one that has it, which is proved of every pool: a batch in which two have
+ * one is refused. By the JSON name those fields are found to which one was given, as protoc gives
+ * it to all. Names are those that are declared, without a scope.
  *
  *   PROTOLINK_DONE       *position is the position in the message or the enum.
  *   PROTOLINK_NOT_FOUND  the pool has no such message or enum, which has no such part, or the bytes
@@ -445,6 +557,29 @@ protolink_status protolink_field_by_number(
     protolink_pool *pool, uint32_t message, uint32_t number, uint32_t *position);
 protolink_status protolink_enum_value_by_name(
     protolink_pool *pool, uint32_t enumeration, const uint8_t *name, size_t name_len,
+    uint32_t *position);
+
+/*
+ * THE FIRST VALUE OF AN ENUM THAT HAS A NUMBER, by its position. It is the only one where the enum
+ * does not allow aliases. The call goes through the values by their numbers.
+ *
+ *   PROTOLINK_DONE       *position is the position in the enum.
+ *   PROTOLINK_NOT_FOUND  the pool has no such enum, which has no such value. Nothing is written.
+ */
+protolink_status protolink_enum_value_by_number(
+    protolink_pool *pool, uint32_t enumeration, int32_t number, uint32_t *position);
+
+/*
+ * THE METHOD OF A SERVICE THAT HAS A NAME, without a scope. It is found by its full name, in one
+ * step.
+ *
+ *   PROTOLINK_DONE       *position is the position in the service.
+ *   PROTOLINK_NOT_FOUND  the pool has no such service, which has no such method, or the bytes are
+ *                        no text. Nothing is written.
+ *   PROTOLINK_NO_MEMORY  memory was refused. Nothing is written.
+ */
+protolink_status protolink_method_by_name(
+    protolink_pool *pool, uint32_t service, const uint8_t *name, size_t name_len,
     uint32_t *position);
 
 /*
@@ -487,6 +622,546 @@ protolink_status protolink_json_name(
  */
 protolink_status protolink_default(
     protolink_pool *pool, const protolink_item *item, uint8_t *buffer, size_t room, size_t *length);
+
+/*
+ * THE OPTIONS OF A FILE AND OF AN ITEM, as the bytes of their message of descriptor.proto, also
+ * those that the library does not read. Of what has no options there are no bytes. A script gives
+ * none.
+ *
+ *   PROTOLINK_DONE, PROTOLINK_SHORT  as said under TEXTS.
+ *   PROTOLINK_NOT_FOUND              the pool has no such file or item, or it is a package.
+ */
+protolink_status protolink_file_options(
+    protolink_pool *pool, uint32_t file, uint8_t *buffer, size_t room, size_t *length);
+protolink_status protolink_options(
+    protolink_pool *pool, const protolink_item *item, uint8_t *buffer, size_t room, size_t *length);
+
+/*
+ * THE PATH OF AN ITEM in the record of its file, as SourceCodeInfo of descriptor.proto writes
+ * paths: numbers of fields, and positions from 0. `room` and *length count its numbers.
+ *
+ *   PROTOLINK_DONE, PROTOLINK_SHORT  as said under TEXTS.
+ *   PROTOLINK_NOT_FOUND              the pool has no such item, or it is a package.
+ */
+protolink_status protolink_path(
+    protolink_pool *pool, const protolink_item *item, int32_t *path, size_t room, size_t *length);
+
+/*
+ * WHERE AN ITEM STANDS IN THE SOURCE, as SourceCodeInfo of descriptor.proto writes a span: the line
+ * and the column at which it begins, the line in which it ends, the column behind its end. Where it
+ * ends in its first line, three numbers tell it, without the second line. They count from 0, where
+ * the reports count from 1. They are those of the first location with the path of the item. `room`
+ * and *length count the numbers.
+ *
+ *   PROTOLINK_DONE, PROTOLINK_SHORT  as said under TEXTS.
+ *   PROTOLINK_NOT_FOUND              the pool has no such item, it is a package, or its file does
+ *                                    not tell where it stands, as it does by protoc's
+ *                                    --include_source_info.
+ */
+protolink_status protolink_span(
+    protolink_pool *pool, const protolink_item *item, int32_t *span, size_t room, size_t *length);
+
+/*
+ * THE COMMENTS OF AN ITEM: the one right before it, the one right behind it, and by position those
+ * that stand before it by themselves.
+ *
+ *   PROTOLINK_DONE, PROTOLINK_SHORT  as said under TEXTS.
+ *   PROTOLINK_NOT_FOUND              the pool has no such item, it is a package, or its file tells
+ *                                    no such comment.
+ */
+protolink_status protolink_leading_comments(
+    protolink_pool *pool, const protolink_item *item, uint8_t *buffer, size_t room, size_t *length);
+protolink_status protolink_trailing_comments(
+    protolink_pool *pool, const protolink_item *item, uint8_t *buffer, size_t room, size_t *length);
+protolink_status protolink_detached_comments(
+    protolink_pool *pool, const protolink_item *item, uint32_t position, uint8_t *buffer,
+    size_t room, size_t *length);
+
+/*
+ * A POINTER WITH A LENGTH MAY BE NULL, where the length is 0: it is passed on as one that is not,
+ * by the functions that follow here. Whoever calls the library without this header passes no null
+ * pointer.
+ */
+static inline const uint8_t *protolink_bytes_at(const uint8_t *at)
+{
+    static const uint8_t none = 0;
+    return at != NULL ? at : &none;
+}
+
+static inline uint8_t *protolink_buffer_at(uint8_t *at)
+{
+    static uint8_t none = 0;
+    return at != NULL ? at : &none;
+}
+
+static inline int32_t *protolink_numbers_at(int32_t *at)
+{
+    static int32_t none = 0;
+    return at != NULL ? at : &none;
+}
+
+static inline uint32_t *protolink_indexes_at(uint32_t *at)
+{
+    static uint32_t none = 0;
+    return at != NULL ? at : &none;
+}
+
+static inline const size_t *protolink_lens_at(const size_t *at)
+{
+    static const size_t none = 0;
+    return at != NULL ? at : &none;
+}
+
+static inline protolink_status protolink_pool_add_set_or_null(
+    protolink_pool *pool, const uint8_t *bytes, size_t len)
+{
+    return protolink_pool_add_set(pool, protolink_bytes_at(bytes), len);
+}
+#define protolink_pool_add_set protolink_pool_add_set_or_null
+
+static inline protolink_status protolink_pool_add_file_or_null(
+    protolink_pool *pool, const uint8_t *bytes, size_t len)
+{
+    return protolink_pool_add_file(pool, protolink_bytes_at(bytes), len);
+}
+#define protolink_pool_add_file protolink_pool_add_file_or_null
+
+static inline protolink_status protolink_pool_add_files_or_null(
+    protolink_pool *pool, const uint8_t *bytes, size_t len, const size_t *lens, size_t count)
+{
+    return protolink_pool_add_files(
+        pool, protolink_bytes_at(bytes), len, protolink_lens_at(lens), count);
+}
+#define protolink_pool_add_files protolink_pool_add_files_or_null
+
+static inline protolink_status protolink_pool_add_script_or_null(
+    protolink_pool *pool, const uint8_t *script, size_t len)
+{
+    return protolink_pool_add_script(pool, protolink_bytes_at(script), len);
+}
+#define protolink_pool_add_script protolink_pool_add_script_or_null
+
+/*
+ * LOOK-UPS IN A CONST POOL. A call of the library that only reads a pool has what it is passed as
+ * the pool for itself, and puts back there what it found. So it is not passed the pool but a copy,
+ * by the function of its name that follows here. Whoever calls the library without this header
+ * makes the copy, one for each call; or passes the pool itself, where no other call uses it.
+ *
+ * A pool that is to be a copy of itself stays as it is.
+ */
+static inline protolink_status protolink_pool_report_const(
+    const protolink_pool *pool, uint8_t *buffer, size_t room, size_t *length)
+{
+    protolink_pool view = *pool;
+    return protolink_pool_report(&view, protolink_buffer_at(buffer), room, length);
+}
+#define protolink_pool_report protolink_pool_report_const
+
+static inline protolink_status protolink_pool_report_json_const(
+    const protolink_pool *pool, uint8_t *buffer, size_t room, size_t *length)
+{
+    protolink_pool view = *pool;
+    return protolink_pool_report_json(&view, protolink_buffer_at(buffer), room, length);
+}
+#define protolink_pool_report_json protolink_pool_report_json_const
+
+static inline protolink_status protolink_pool_linked_const(
+    const protolink_pool *pool, uint8_t *buffer, size_t room, size_t *length)
+{
+    protolink_pool view = *pool;
+    return protolink_pool_linked(&view, protolink_buffer_at(buffer), room, length);
+}
+#define protolink_pool_linked protolink_pool_linked_const
+
+static inline protolink_status protolink_pool_linked_file_const(
+    const protolink_pool *pool, uint32_t file, uint8_t *buffer, size_t room, size_t *length)
+{
+    protolink_pool view = *pool;
+    return protolink_pool_linked_file(&view, file, protolink_buffer_at(buffer), room, length);
+}
+#define protolink_pool_linked_file protolink_pool_linked_file_const
+
+static inline protolink_status protolink_pool_find_const(
+    const protolink_pool *pool, const uint8_t *name, size_t name_len, protolink_item *item,
+    uint32_t *file)
+{
+    protolink_pool view = *pool;
+    return protolink_pool_find(&view, protolink_bytes_at(name), name_len, item, file);
+}
+#define protolink_pool_find protolink_pool_find_const
+
+static inline protolink_status protolink_pool_find_path_const(
+    const protolink_pool *pool, const uint8_t *name, size_t name_len, int32_t *path, size_t room,
+    size_t *length)
+{
+    protolink_pool view = *pool;
+    return protolink_pool_find_path(
+        &view, protolink_bytes_at(name), name_len, protolink_numbers_at(path), room, length);
+}
+#define protolink_pool_find_path protolink_pool_find_path_const
+
+static inline void protolink_pool_counts_const(const protolink_pool *pool, protolink_counts *counts)
+{
+    protolink_pool view = *pool;
+    protolink_pool_counts(&view, counts);
+}
+#define protolink_pool_counts protolink_pool_counts_const
+
+static inline protolink_status protolink_pool_extension_const(
+    const protolink_pool *pool, uint32_t message, uint32_t number, uint32_t *extension)
+{
+    protolink_pool view = *pool;
+    return protolink_pool_extension(&view, message, number, extension);
+}
+#define protolink_pool_extension protolink_pool_extension_const
+
+static inline protolink_status protolink_pool_clone_const(
+    const protolink_pool *pool, protolink_pool *copy)
+{
+    if (copy->at == pool->at)
+        return PROTOLINK_DONE;
+    protolink_pool view = *pool;
+    return protolink_pool_clone(&view, copy);
+}
+#define protolink_pool_clone protolink_pool_clone_const
+
+static inline protolink_status protolink_file_const(
+    const protolink_pool *pool, uint32_t file, protolink_file_info *info)
+{
+    protolink_pool view = *pool;
+    return protolink_file(&view, file, info);
+}
+#define protolink_file protolink_file_const
+
+static inline protolink_status protolink_message_const(
+    const protolink_pool *pool, uint32_t message, protolink_message_info *info)
+{
+    protolink_pool view = *pool;
+    return protolink_message(&view, message, info);
+}
+#define protolink_message protolink_message_const
+
+static inline protolink_status protolink_field_const(
+    const protolink_pool *pool, uint32_t message, uint32_t position, protolink_field_info *info)
+{
+    protolink_pool view = *pool;
+    return protolink_field(&view, message, position, info);
+}
+#define protolink_field protolink_field_const
+
+static inline protolink_status protolink_oneof_const(
+    const protolink_pool *pool, uint32_t message, uint32_t position, protolink_oneof_info *info)
+{
+    protolink_pool view = *pool;
+    return protolink_oneof(&view, message, position, info);
+}
+#define protolink_oneof protolink_oneof_const
+
+static inline protolink_status protolink_enum_const(
+    const protolink_pool *pool, uint32_t enumeration, protolink_enum_info *info)
+{
+    protolink_pool view = *pool;
+    return protolink_enum(&view, enumeration, info);
+}
+#define protolink_enum protolink_enum_const
+
+static inline protolink_status protolink_enum_value_const(
+    const protolink_pool *pool, uint32_t enumeration, uint32_t position,
+    protolink_enum_value_info *info)
+{
+    protolink_pool view = *pool;
+    return protolink_enum_value(&view, enumeration, position, info);
+}
+#define protolink_enum_value protolink_enum_value_const
+
+static inline protolink_status protolink_service_const(
+    const protolink_pool *pool, uint32_t service, protolink_service_info *info)
+{
+    protolink_pool view = *pool;
+    return protolink_service(&view, service, info);
+}
+#define protolink_service protolink_service_const
+
+static inline protolink_status protolink_method_const(
+    const protolink_pool *pool, uint32_t service, uint32_t position, protolink_method_info *info)
+{
+    protolink_pool view = *pool;
+    return protolink_method(&view, service, position, info);
+}
+#define protolink_method protolink_method_const
+
+static inline protolink_status protolink_extension_const(
+    const protolink_pool *pool, uint32_t extension, protolink_extension_info *info)
+{
+    protolink_pool view = *pool;
+    return protolink_extension(&view, extension, info);
+}
+#define protolink_extension protolink_extension_const
+
+static inline protolink_status protolink_file_import_const(
+    const protolink_pool *pool, uint32_t file, uint32_t position, uint32_t *imported)
+{
+    protolink_pool view = *pool;
+    return protolink_file_import(&view, file, position, imported);
+}
+#define protolink_file_import protolink_file_import_const
+
+static inline protolink_status protolink_message_extension_const(
+    const protolink_pool *pool, uint32_t message, uint32_t position, uint32_t *extension)
+{
+    protolink_pool view = *pool;
+    return protolink_message_extension(&view, message, position, extension);
+}
+#define protolink_message_extension protolink_message_extension_const
+
+static inline protolink_status protolink_oneof_field_const(
+    const protolink_pool *pool, uint32_t message, uint32_t oneof, uint32_t position,
+    uint32_t *field)
+{
+    protolink_pool view = *pool;
+    return protolink_oneof_field(&view, message, oneof, position, field);
+}
+#define protolink_oneof_field protolink_oneof_field_const
+
+static inline protolink_status protolink_file_items_const(
+    const protolink_pool *pool, uint32_t file, uint32_t kind, uint32_t *indexes, size_t room,
+    size_t *length)
+{
+    protolink_pool view = *pool;
+    return protolink_file_items(&view, file, kind, protolink_indexes_at(indexes), room, length);
+}
+#define protolink_file_items protolink_file_items_const
+
+static inline protolink_status protolink_message_items_const(
+    const protolink_pool *pool, uint32_t message, uint32_t kind, uint32_t *indexes, size_t room,
+    size_t *length)
+{
+    protolink_pool view = *pool;
+    return protolink_message_items(
+        &view, message, kind, protolink_indexes_at(indexes), room, length);
+}
+#define protolink_message_items protolink_message_items_const
+
+static inline protolink_status protolink_message_extension_range_const(
+    const protolink_pool *pool, uint32_t message, uint32_t position, protolink_range *range)
+{
+    protolink_pool view = *pool;
+    return protolink_message_extension_range(&view, message, position, range);
+}
+#define protolink_message_extension_range protolink_message_extension_range_const
+
+static inline protolink_status protolink_message_reserved_range_const(
+    const protolink_pool *pool, uint32_t message, uint32_t position, protolink_range *range)
+{
+    protolink_pool view = *pool;
+    return protolink_message_reserved_range(&view, message, position, range);
+}
+#define protolink_message_reserved_range protolink_message_reserved_range_const
+
+static inline protolink_status protolink_enum_reserved_range_const(
+    const protolink_pool *pool, uint32_t enumeration, uint32_t position, protolink_range *range)
+{
+    protolink_pool view = *pool;
+    return protolink_enum_reserved_range(&view, enumeration, position, range);
+}
+#define protolink_enum_reserved_range protolink_enum_reserved_range_const
+
+static inline protolink_status protolink_message_reserved_name_const(
+    const protolink_pool *pool, uint32_t message, uint32_t position, uint8_t *buffer, size_t room,
+    size_t *length)
+{
+    protolink_pool view = *pool;
+    return protolink_message_reserved_name(
+        &view, message, position, protolink_buffer_at(buffer), room, length);
+}
+#define protolink_message_reserved_name protolink_message_reserved_name_const
+
+static inline protolink_status protolink_enum_reserved_name_const(
+    const protolink_pool *pool, uint32_t enumeration, uint32_t position, uint8_t *buffer,
+    size_t room, size_t *length)
+{
+    protolink_pool view = *pool;
+    return protolink_enum_reserved_name(
+        &view, enumeration, position, protolink_buffer_at(buffer), room, length);
+}
+#define protolink_enum_reserved_name protolink_enum_reserved_name_const
+
+static inline protolink_status protolink_file_by_name_const(
+    const protolink_pool *pool, const uint8_t *name, size_t name_len, uint32_t *file)
+{
+    protolink_pool view = *pool;
+    return protolink_file_by_name(&view, protolink_bytes_at(name), name_len, file);
+}
+#define protolink_file_by_name protolink_file_by_name_const
+
+static inline protolink_status protolink_field_by_name_const(
+    const protolink_pool *pool, uint32_t message, const uint8_t *name, size_t name_len,
+    uint32_t *position)
+{
+    protolink_pool view = *pool;
+    return protolink_field_by_name(&view, message, protolink_bytes_at(name), name_len, position);
+}
+#define protolink_field_by_name protolink_field_by_name_const
+
+static inline protolink_status protolink_field_by_json_name_const(
+    const protolink_pool *pool, uint32_t message, const uint8_t *name, size_t name_len,
+    uint32_t *position)
+{
+    protolink_pool view = *pool;
+    return protolink_field_by_json_name(
+        &view, message, protolink_bytes_at(name), name_len, position);
+}
+#define protolink_field_by_json_name protolink_field_by_json_name_const
+
+static inline protolink_status protolink_field_by_number_const(
+    const protolink_pool *pool, uint32_t message, uint32_t number, uint32_t *position)
+{
+    protolink_pool view = *pool;
+    return protolink_field_by_number(&view, message, number, position);
+}
+#define protolink_field_by_number protolink_field_by_number_const
+
+static inline protolink_status protolink_enum_value_by_name_const(
+    const protolink_pool *pool, uint32_t enumeration, const uint8_t *name, size_t name_len,
+    uint32_t *position)
+{
+    protolink_pool view = *pool;
+    return protolink_enum_value_by_name(
+        &view, enumeration, protolink_bytes_at(name), name_len, position);
+}
+#define protolink_enum_value_by_name protolink_enum_value_by_name_const
+
+static inline protolink_status protolink_enum_value_by_number_const(
+    const protolink_pool *pool, uint32_t enumeration, int32_t number, uint32_t *position)
+{
+    protolink_pool view = *pool;
+    return protolink_enum_value_by_number(&view, enumeration, number, position);
+}
+#define protolink_enum_value_by_number protolink_enum_value_by_number_const
+
+static inline protolink_status protolink_method_by_name_const(
+    const protolink_pool *pool, uint32_t service, const uint8_t *name, size_t name_len,
+    uint32_t *position)
+{
+    protolink_pool view = *pool;
+    return protolink_method_by_name(&view, service, protolink_bytes_at(name), name_len, position);
+}
+#define protolink_method_by_name protolink_method_by_name_const
+
+static inline protolink_status protolink_file_name_const(
+    const protolink_pool *pool, uint32_t file, uint8_t *buffer, size_t room, size_t *length)
+{
+    protolink_pool view = *pool;
+    return protolink_file_name(&view, file, protolink_buffer_at(buffer), room, length);
+}
+#define protolink_file_name protolink_file_name_const
+
+static inline protolink_status protolink_file_package_const(
+    const protolink_pool *pool, uint32_t file, uint8_t *buffer, size_t room, size_t *length)
+{
+    protolink_pool view = *pool;
+    return protolink_file_package(&view, file, protolink_buffer_at(buffer), room, length);
+}
+#define protolink_file_package protolink_file_package_const
+
+static inline protolink_status protolink_name_const(
+    const protolink_pool *pool, const protolink_item *item, uint8_t *buffer, size_t room,
+    size_t *length)
+{
+    protolink_pool view = *pool;
+    return protolink_name(&view, item, protolink_buffer_at(buffer), room, length);
+}
+#define protolink_name protolink_name_const
+
+static inline protolink_status protolink_full_name_const(
+    const protolink_pool *pool, const protolink_item *item, uint8_t *buffer, size_t room,
+    size_t *length)
+{
+    protolink_pool view = *pool;
+    return protolink_full_name(&view, item, protolink_buffer_at(buffer), room, length);
+}
+#define protolink_full_name protolink_full_name_const
+
+static inline protolink_status protolink_json_name_const(
+    const protolink_pool *pool, const protolink_item *item, uint8_t *buffer, size_t room,
+    size_t *length)
+{
+    protolink_pool view = *pool;
+    return protolink_json_name(&view, item, protolink_buffer_at(buffer), room, length);
+}
+#define protolink_json_name protolink_json_name_const
+
+static inline protolink_status protolink_default_const(
+    const protolink_pool *pool, const protolink_item *item, uint8_t *buffer, size_t room,
+    size_t *length)
+{
+    protolink_pool view = *pool;
+    return protolink_default(&view, item, protolink_buffer_at(buffer), room, length);
+}
+#define protolink_default protolink_default_const
+
+static inline protolink_status protolink_file_options_const(
+    const protolink_pool *pool, uint32_t file, uint8_t *buffer, size_t room, size_t *length)
+{
+    protolink_pool view = *pool;
+    return protolink_file_options(&view, file, protolink_buffer_at(buffer), room, length);
+}
+#define protolink_file_options protolink_file_options_const
+
+static inline protolink_status protolink_options_const(
+    const protolink_pool *pool, const protolink_item *item, uint8_t *buffer, size_t room,
+    size_t *length)
+{
+    protolink_pool view = *pool;
+    return protolink_options(&view, item, protolink_buffer_at(buffer), room, length);
+}
+#define protolink_options protolink_options_const
+
+static inline protolink_status protolink_path_const(
+    const protolink_pool *pool, const protolink_item *item, int32_t *path, size_t room,
+    size_t *length)
+{
+    protolink_pool view = *pool;
+    return protolink_path(&view, item, protolink_numbers_at(path), room, length);
+}
+#define protolink_path protolink_path_const
+
+static inline protolink_status protolink_span_const(
+    const protolink_pool *pool, const protolink_item *item, int32_t *span, size_t room,
+    size_t *length)
+{
+    protolink_pool view = *pool;
+    return protolink_span(&view, item, protolink_numbers_at(span), room, length);
+}
+#define protolink_span protolink_span_const
+
+static inline protolink_status protolink_leading_comments_const(
+    const protolink_pool *pool, const protolink_item *item, uint8_t *buffer, size_t room,
+    size_t *length)
+{
+    protolink_pool view = *pool;
+    return protolink_leading_comments(&view, item, protolink_buffer_at(buffer), room, length);
+}
+#define protolink_leading_comments protolink_leading_comments_const
+
+static inline protolink_status protolink_trailing_comments_const(
+    const protolink_pool *pool, const protolink_item *item, uint8_t *buffer, size_t room,
+    size_t *length)
+{
+    protolink_pool view = *pool;
+    return protolink_trailing_comments(&view, item, protolink_buffer_at(buffer), room, length);
+}
+#define protolink_trailing_comments protolink_trailing_comments_const
+
+static inline protolink_status protolink_detached_comments_const(
+    const protolink_pool *pool, const protolink_item *item, uint32_t position, uint8_t *buffer,
+    size_t room, size_t *length)
+{
+    protolink_pool view = *pool;
+    return protolink_detached_comments(
+        &view, item, position, protolink_buffer_at(buffer), room, length);
+}
+#define protolink_detached_comments protolink_detached_comments_const
 
 #ifdef __cplusplus
 }

@@ -5,8 +5,12 @@
 
 The exports are those of crates/protolink_c, with the structs that they take. Held to them are
 include/protolink.h, the declarations of the Rust crate (bindings/rust/src/ffi.rs) and those of the
-Python module (bindings/python/protolink), which may lack some calls. A struct is compared by its
-members, in order, with their types; a slice is a pointer and a length.
+Python module (bindings/python/protolink/_library.py). A struct is compared by its members, in
+order, with their types; a slice is a pointer and a length.
+
+Of each look-up, an export that takes a `View`, the header has a function for a const pool: it
+takes what the look-up takes, passes it a copy of the pool, and stands in for its name. Of each
+other export that takes a slice it has one too. Both pass no null pointer where a slice begins.
 
 Constants are compared by name and number: the header's with those by which the Rattle code answers
 (statuses, kinds of items, types, labels, versions of the language, the version of the library), all
@@ -27,8 +31,8 @@ from typing import NamedTuple, Optional
 TOP = Path(__file__).resolve().parent.parent
 HEADER = TOP / "include/protolink.h"
 RUST = TOP / "bindings/rust/src/ffi.rs"
-DESCRIPTORS = TOP / "bindings/rust/src/descriptors.rs"
-PYTHON = TOP / "bindings/python/protolink/__init__.py"
+KINDS = TOP / "bindings/rust/src/kinds.rs"
+PYTHON = TOP / "bindings/python/protolink/_library.py"
 
 
 def sources(crate: str) -> list[Path]:
@@ -67,10 +71,16 @@ Constants = list[tuple[str, int]]
 
 
 class Declared(NamedTuple):
-    """What one file declares."""
+    """What one file declares. The look-ups are the exports that take a view of a pool; for each the
+    header has a function that takes a const pool. Others take slices and change a pool; for each
+    the header has a function that takes a null pointer."""
 
     calls: dict[str, Call]
     constants: Constants
+    look_ups: frozenset[str] = frozenset()
+    slice_takers: frozenset[str] = frozenset()
+    for_const: dict[str, Call] = {}
+    for_null: dict[str, Call] = {}
 
 
 def pointer(inner: str, is_const: bool) -> str:
@@ -126,6 +136,50 @@ C_TYPES = {
 }
 
 
+INLINE = (
+    r"^static inline (\w+) (protolink_\w+)_(const|or_null)\(([^)]*)\)\n\{\n(.*?)^\}\n"
+    r"#define \2 \2_\3$"
+)
+"""A function of the header for a const pool or for null pointers, and that it stands in for its
+call."""
+
+UNLESS_ITSELF = {
+    "protolink_pool_clone": "if (copy->at == pool->at) return PROTOLINK_DONE;",
+}
+"""What such a function does before it passes the copy on: a pool isn't copied onto itself."""
+
+NOT_NULL = (
+    r"^static inline ((?:const )?\w+) \*(protolink_\w+)\(\1 \*at\)\n\{\n"
+    r"    static \1 none = 0;\n    return at != NULL \? at : &none;\n\}$"
+)
+"""A function of the header that gives a pointer again, or another one where it is null."""
+
+
+def as_passed(declared: list[tuple[str, str]], not_null: dict[str, str]) -> list[str]:
+    """What a function passes on of its parameters: a pointer with a length is made one that isn't
+    null."""
+    following = [type_ for _, type_ in declared[1:]] + [""]
+    return [
+        f"{not_null[type_]}({name})" if type_ in not_null and behind == "usize" else name
+        for (name, type_), behind in zip(declared, following)
+    ]
+
+
+def body(name: str, passed: list[str], result: str, is_const: bool) -> str:
+    """The body of such a function: it passes a copy of a const pool, and all else."""
+    answer = "" if result == "void" else "return "
+    if not is_const:
+        return f"{answer}{name}({', '.join(passed)});"
+    before = UNLESS_ITSELF.get(name, "")
+    call = f"{answer}{name}({', '.join(['&view', *passed[1:]])});"
+    return f"{before} protolink_pool view = *{passed[0]}; {call}"
+
+
+def words(text: str) -> list[str]:
+    """The words of a text in C, however its lines are laid out."""
+    return re.sub(r"\(\s+", "(", text).split()
+
+
 def header() -> Declared:
     """What the header declares."""
     text = re.sub(r"/\*.*?\*/", "", HEADER.read_text(), flags=re.DOTALL)
@@ -140,13 +194,27 @@ def header() -> Declared:
 
     for name, inner, _ in matching(r"typedef struct (\w+) \{(.*?)\} (\w+);", text):
         types[name] = struct([declaration(member) for member in inner.split(";") if member.strip()])
-    calls = {}
-    for result, name, inner in matching(r"^(\w+) (protolink_\w+)\(([^)]*)\);", text):
+    def call(result: str, inner: str) -> Call:
         listed = [] if inner.strip() == "void" else parts(inner)
-        calls[name] = Call(tuple(declaration(part)[1] for part in listed), types[result])
+        return Call(tuple(declaration(part)[1] for part in listed), types[result])
+
+    calls = {
+        name: call(result, inner)
+        for result, name, inner in matching(r"^(\w+) (protolink_\w+)\(([^)]*)\);", text)
+    }
+    not_null = {
+        pointer(types[said.split()[-1]], said.startswith("const ")): name
+        for said, name in matching(NOT_NULL, text)
+    }
+    inlined: dict[str, dict[str, Call]] = {"const": {}, "or_null": {}}
+    for result, name, suffix, inner, said in matching(INLINE, text):
+        passed = as_passed([declaration(part) for part in parts(inner)], not_null)
+        if words(said) == words(body(name, passed, result, suffix == "const")):
+            inlined[suffix][name] = call(result, inner)
     constants = matching(r"PROTOLINK_(\w+)(?: =|(?<=VERSION)) (\d+)", text)
     constants += matching(r"PROTOLINK_(\w+) UINT32(_MAX)", text)
-    return Declared(calls, [constant(name, said.replace("_", "::")) for name, said in constants])
+    constants = [constant(name, said.replace("_", "::")) for name, said in constants]
+    return Declared(calls, constants, for_const=inlined["const"], for_null=inlined["or_null"])
 
 
 # Rust
@@ -173,7 +241,7 @@ def rust() -> Declared:
         parameters = tuple(declaration(part)[1] for part in parts(inner))
         calls[name] = Call(parameters, types[result] if result else "void")
     constants = plain_constants(text)
-    front = DESCRIPTORS.read_text()
+    front = KINDS.read_text()
     arms = matching(r"(\d+) => (Kind|Cardinality|Syntax)::(\w+)", front)
     constants += [constant(name, number, enum) for number, enum, name in arms]
     named = matching(r"const (\w+): u32 = (\d+);", front)
@@ -209,10 +277,14 @@ def exports() -> Declared:
     for name, inner in matching(r"#\[repr\(C\)\][^{]*?pub struct (\w+) \{(.*?)^\}", text):
         members = matching(r"^ *(?:pub )?(\w+): ([^,]+),", re.sub(r"pub ghost .*", "", inner))
         types[name] = struct([(member, plain(type_)) for member, type_ in members])
-    calls = {}
+    calls, look_ups, slice_takers = {}, set(), set()
     pattern = r'#\[unsafe\(no_mangle\)\]\s*pub extern "C" fn (\w+)\((.*?)\)(?: -> (\w+))?\s'
     for name, inner, result in matching(pattern, text):
         said = [part.split(": ", 1)[1] for part in parts(inner)]
+        if "&mut View" in said:
+            look_ups.add(name)
+        elif any("[" in words for words in said):
+            slice_takers.add(name)
         parameters = tuple(type_ for words in said for type_ in passed(words))
         calls[name] = Call(parameters, types[result] if result else "void")
     constants = plain_constants(text)
@@ -221,7 +293,7 @@ def exports() -> Declared:
     (kinds,) = matching(r"let kinds = \[(.*?)\];", text)
     named = re.findall(r"DefinitionKind::(\w+)", kinds[0])
     constants += [constant(name, str(number)) for number, name in enumerate(named)]
-    return Declared(calls, constants)
+    return Declared(calls, constants, frozenset(look_ups), frozenset(slice_takers))
 
 
 # Python
@@ -237,10 +309,11 @@ PYTHON_TYPES = {
 
 
 def python() -> Declared:
-    """What the Python module declares. It cannot say that what a pointer leads to is constant."""
+    """What the Python module declares. ctypes cannot say that what a pointer leads to is constant,
+    nor tell a size from a u64."""
     front = PYTHON.read_text().split("\n_lib = ")[0]
-    names: dict = {"__name__": "protolink", "__file__": str(PYTHON)}
-    sys.modules.setdefault("protolink", type(sys)("protolink"))
+    names: dict = {"__name__": "protolink._library", "__file__": str(PYTHON)}
+    sys.modules.setdefault(names["__name__"], type(sys)(names["__name__"]))
     exec(compile(front, str(PYTHON), "exec"), names)  # pylint: disable=exec-used
 
     def type_of(said: Optional[type]) -> str:
@@ -260,25 +333,57 @@ def python() -> Declared:
             for name, (result, parameters) in names["_CALLS"].items()
         },
         [constant(name, str(names[name])) for name in statuses]
-        + [constant(name, str(number)) for number, name in enumerate(names["KINDS"])],
+        + [constant(name, str(number)) for number, name in enumerate(names["KINDS"])]
+        + [constant(name, str(number), "Kind") for number, name in enumerate(names["TYPES"], 1)]
+        + [constant(name, str(number)) for number, name in enumerate(names["LABELS"], 1)],
     )
 
 
-def without_const(call: Call) -> Call:
-    return Call(tuple(type_.replace("const ", "") for type_ in call.parameters), call.result)
+def as_ctypes(exported: Declared) -> Declared:
+    """What is exported, as ctypes tells it: nothing is constant, and a size is a u64."""
+
+    def told(type_: str) -> str:
+        return re.sub(r"\bu64\b", "usize", type_.replace("const ", ""))
+
+    return exported._replace(
+        calls={
+            name: Call(tuple(map(told, call.parameters)), told(call.result))
+            for name, call in exported.calls.items()
+        }
+    )
 
 
-def differences(where: str, declared: Declared, wanted: Declared, is_whole: bool) -> list[str]:
+def differences(where: str, declared: Declared, wanted: Declared) -> list[str]:
     """What is declared otherwise than it is exported."""
     found = []
     for name in sorted(declared.calls.keys() | wanted.calls.keys()):
         said, exported = declared.calls.get(name), wanted.calls.get(name)
         if exported is None:
             found.append(f"{where}: {name} is not exported")
-        elif said is None and is_whole:
+        elif said is None:
             found.append(f"{where}: {name} is missing")
-        elif said is not None and said != (exported if is_whole else without_const(exported)):
+        elif said != exported:
             found.append(f"{where}: {name} is {said}, and exported as {exported}")
+    return found
+
+
+def const_differences(in_c: Declared, exported: Declared) -> list[str]:
+    """What calls lack their function for a const pool or for null pointers, and what has one
+    otherwise."""
+    found = []
+    for said, called, first, suffix in (
+        (in_c.for_const, exported.look_ups, "const ", "const"),
+        (in_c.for_null, exported.slice_takers, "", "or_null"),
+    ):
+        for name in sorted(said.keys() | called):
+            export = exported.calls.get(name, Call(("",), ""))
+            wanted = export._replace(
+                parameters=(f"{first}{export.parameters[0]}", *export.parameters[1:])
+            )
+            if name not in said:
+                found.append(f"{HEADER.name}: {name} has no function {name}_{suffix}")
+            elif name not in called or said[name] != wanted:
+                found.append(f"{HEADER.name}: {name}_{suffix} is {said[name]}, and for {wanted}")
     return found
 
 
@@ -301,9 +406,10 @@ def lost_constants(constants: Constants, wanted: Constants) -> list[str]:
 def all_differences() -> list[str]:
     """What is declared otherwise than it is exported, in any of the three."""
     exported, in_c, in_rust, in_python = exports(), header(), rust(), python()
-    found = differences(HEADER.name, in_c, exported, True)
-    found += differences(RUST.name, in_rust, exported, True)
-    found += differences(PYTHON.name, in_python, exported, False)
+    found = differences(HEADER.name, in_c, exported)
+    found += const_differences(in_c, exported)
+    found += differences(RUST.name, in_rust, exported)
+    found += differences(PYTHON.name, in_python, as_ctypes(exported))
     found += lost_constants(exported.constants, in_c.constants)
     for where, declared in (
         ("the library", exported),
@@ -320,7 +426,9 @@ def main() -> int:
     for line in found:
         print(line)
     told = header()
-    print(f"{len(told.calls)} calls, {len(told.constants)} constants, {len(found)} differ")
+    counts = f"{len(told.calls)} calls, {len(told.for_const)} of them for a const pool"
+    counts += f", {len(told.for_null)} more for null pointers"
+    print(f"{counts}, {len(told.constants)} constants, {len(found)} differ")
     return 1 if found else 0
 
 

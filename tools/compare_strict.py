@@ -1,12 +1,18 @@
 #!/usr/bin/env python3
 """Asks of each rule in strict_rules.txt whether protobuf refuses what breaks it, and nothing else.
 
-    python3 compare_strict.py ../crates/check_descriptors/out/check_descriptors
+    python3 compare_strict.py [--changes N] [--seed S] CHECK
+
+CHECK is the program check_descriptors, as `rt run` builds it.
 
 For each rule there are sets that break it alone, and sets that nearly do. protobuf's own pool and
 `protoc` must refuse the first and accept the second. The program, with `--strict`, must refuse the
 first with faults of that rule alone, and accept the second; without it, it must accept both. Without
 a program protobuf is asked alone.
+
+Then N random changes of real sets (500 where nothing is said; random_changes.py makes them) are asked
+of protobuf's own pool and of the program with `--strict`: both must refuse them, or both accept
+them, but for the ways that docs/RULES.md states. How often each of these was met is printed.
 
 Each difference is printed. The last line counts the sets: `N passed, M failed, K left out`. Exit
 status: 0 where none failed, or protobuf's Python package is missing (python3-protobuf on Debian, for
@@ -17,18 +23,61 @@ from __future__ import annotations
 
 import argparse
 import json
+import random
+import re
 import subprocess
 import sys
 import tempfile
+from collections import Counter
 from pathlib import Path
 from typing import Iterator, NamedTuple, Optional
 
 try:
     from google.protobuf import descriptor_pb2, descriptor_pool, text_format
+
+    import random_changes
 except ImportError:
     descriptor_pb2 = None
 
-ROWS = Path(__file__).resolve().parent / "strict_rules.txt"
+TOOLS = Path(__file__).resolve().parent
+ROWS = TOOLS / "strict_rules.txt"
+SOURCES = TOOLS.parent / "crates/test_rows/data/checks/sources"
+ROOTS = (
+    "shop/order.proto",
+    "depot/shelf.proto",
+    "depot/crate.proto",
+    "depot/parcel.proto",
+    "depot/routes.proto",
+    "google/protobuf/api.proto",
+    "google/protobuf/struct.proto",
+    "google/protobuf/descriptor.proto",
+)
+"""The sources whose sets are changed at random."""
+
+REFUSED_BY_PROTOBUF = {
+    "a name of a package": r"Missing name|is not a valid identifier|Exceeds Maximum Package Depth",
+    "two values of an enum": r"has the same name as .* if you ignore case",
+    "a JSON name of an extension": r"option json_name is not allowed on extension fields",
+    "a default of double or float": r"Couldn't parse default value",
+    "the order of oneofs": r"Synthetic oneofs must be after all other oneofs",
+    "lazy": r"\[lazy = true\] can only be specified|\[unverified_lazy",
+    "jstype": r"jstype is only allowed on|Illegal jstype",
+    "light files": r"LITE_RUNTIME|non-lite",
+    "nested messages": r"Reached maximum recursion limit",
+    "custom options": r"[Oo]ption",
+}
+"""What docs/RULES.md leaves out, by the words of protobuf's pool."""
+
+REFUSED_HERE = {
+    "DuplicateFieldJsonName",
+    "DuplicateExtensionNumber",
+    "FileNotFound",
+    "ImportCycle",
+    "InvalidFieldDefault",
+    "InvalidFieldNumber",
+    "UnknownSyntax",
+}
+"""What docs/RULES.md says that protobuf's pool accepts: the codes of the check."""
 
 
 class Row(NamedTuple):
@@ -48,15 +97,20 @@ def rows() -> Iterator[Row]:
             yield Row(code, lines[begin] == "breaks", "\n".join(lines[begin + 1 : end]))
 
 
+def pool_words(files) -> Optional[str]:
+    """What protobuf's pool says of the first of some files that it refuses, one after another."""
+    pool = descriptor_pool.DescriptorPool()
+    for file in files:
+        try:
+            pool.AddSerializedFile(file.SerializeToString())
+        except TypeError as error:
+            return str(error)
+    return None
+
+
 def pool_accepts(files) -> bool:
     """Whether protobuf's pool takes the files, one after another."""
-    pool = descriptor_pool.DescriptorPool()
-    try:
-        for file in files.file:
-            pool.AddSerializedFile(file.SerializeToString())
-    except TypeError:
-        return False
-    return True
+    return pool_words(files.file) is None
 
 
 def protoc_accepts(path: Path, files) -> bool:
@@ -91,11 +145,77 @@ def differences(row: Row, path: Path, program: Optional[str]) -> Iterator[str]:
         yield "the check"
 
 
+def real_sets() -> Iterator[object]:
+    """The sets that are changed: of real sources, and those that nearly break a rule."""
+    words = ["protoc", f"-I{SOURCES}", "-I/usr/include", "--include_imports", "-o", "/dev/stdout"]
+    for root in ROOTS:
+        done = subprocess.run([*words, root], capture_output=True, check=False)
+        if done.returncode == 0:
+            yield descriptor_pb2.FileDescriptorSet.FromString(done.stdout)
+    for row in rows():
+        if not row.breaks:
+            yield text_format.Parse(row.text, descriptor_pb2.FileDescriptorSet())
+
+
+def imports_first(files) -> list:
+    """The files of a set, each behind those that it imports, as far as there is no cycle."""
+    named = {file.name: file for file in files.file}
+    begun: set[int] = set()
+    ordered: list = []
+
+    def add(file) -> None:
+        if id(file) not in begun:
+            begun.add(id(file))
+            for name in file.dependency:
+                if name in named:
+                    add(named[name])
+            ordered.append(file)
+
+    for file in list(files.file):
+        add(file)
+    return ordered
+
+
+def left_out(line: str) -> Optional[str]:
+    """What docs/RULES.md leaves out, of which protobuf's pool tells a line, if it is such."""
+    ways = (way for way, said in REFUSED_BY_PROTOBUF.items() if re.search(said, line))
+    return next(ways, None)
+
+
+def stated(words: Optional[str], codes: set[str]) -> Optional[str]:
+    """The way in which the two judge otherwise, if all that the pool says, or each code, is stated."""
+    if words is None:
+        return f"accepted by the pool: {min(codes)}" if codes <= REFUSED_HERE else None
+    ways = [left_out(line) for line in words.strip().split("\n")[2:]]
+    return f"left out: {ways[0]}" if ways and None not in ways else None
+
+
+def compare_changes(program: str, path: Path, count: int, seed: int) -> tuple[int, int]:
+    """Asks both of random changes; how many passed, and how many failed."""
+    chance, sets, met, failed = random.Random(seed), list(real_sets()), Counter(), 0
+    for _ in range(count):
+        files = random_changes.changed(chance.choice(sets), chance)
+        path.write_bytes(files.SerializeToString())
+        words, codes = pool_words(imports_first(files)), told(program, path, "--strict")
+        if (words is None) == (not codes):
+            continue
+        way = stated(words, codes)
+        if way is None:
+            failed += 1
+            print(f"differs: the pool says {words}; the check {sorted(codes)}: {files}")
+        met[way] += 1
+    for way, times in sorted(met.items(), key=str):
+        print(f"{times} times {way}")
+    return count - failed, failed
+
+
 def main() -> int:
     parser = argparse.ArgumentParser(
         description=__doc__, formatter_class=argparse.RawDescriptionHelpFormatter
     )
     parser.add_argument("program", nargs="?", help="check_descriptors, as `rt run` builds it")
+    parser.add_argument("--changes", type=int, default=500, help="how many random changes (500)")
+    parser.add_argument("--seed", type=int, default=1, help="what the changes are made by (1)")
     chosen = parser.parse_args()
     if descriptor_pb2 is None:
         print("left out: all, since protobuf's Python package is missing (python3-protobuf)")
@@ -108,6 +228,10 @@ def main() -> int:
             for name in found:
                 print(f"{row.code}: {name} judges otherwise: {row.text}")
             passed, failed = passed + (not found), failed + bool(found)
+        if chosen.program is not None:
+            path = Path(folder) / "set.pb"
+            counts = compare_changes(chosen.program, path, chosen.changes, chosen.seed)
+            passed, failed = passed + counts[0], failed + counts[1]
     print(f"{passed} passed, {failed} failed, 0 left out")
     return 1 if failed else 0
 

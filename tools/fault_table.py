@@ -1,12 +1,14 @@
 #!/usr/bin/env python3
-"""Prints the table of the kinds of faults that docs/RULES.md has.
+"""Prints the tables of the kinds of faults and of the rules of protoc that docs/RULES.md has.
 
-    tools/fault_table.py             prints the table
-    tools/fault_table.py --write     puts it into the page, in place of the one that is there
+    tools/fault_table.py             prints the table of the kinds of faults
+    tools/fault_table.py --strict    prints the table of the rules of protoc
+    tools/fault_table.py --write     puts both into the page, in place of those that are there
 
 A row is a kind: its code, its texts, the words before its second place, and what to do. All are
 read off the code: the texts off crates/pool_faults/src/fault.rt, in which `{..}` stands for a part
-of the fault, and the others off crates/verdict_texts/src/fault_kinds.rt.
+of the fault, and the others off crates/verdict_texts/src/fault_kinds.rt; those of a rule of protoc
+off crates/strict_texts/src/rules.rt.
 """
 
 from __future__ import annotations
@@ -19,7 +21,9 @@ TOP = Path(__file__).resolve().parent.parent
 PAGE = TOP / "docs/RULES.md"
 TEXTS = (TOP / "crates/pool_faults/src/fault.rt").read_text()
 KINDS = (TOP / "crates/verdict_texts/src/fault_kinds.rt").read_text()
+RULES = (TOP / "crates/strict_texts/src/rules.rt").read_text()
 HEAD = "| code | text | second place | what to do |\n|---|---|---|---|\n"
+STRICT_HEAD = "| rule | text | second place | what to do |\n|---|---|---|---|\n"
 LITERAL = r'"(?:[^"\\]|\\(?:.|\n))*"'
 
 
@@ -88,12 +92,30 @@ def table() -> str:
     return lines
 
 
+def strict_table() -> str:
+    """The table of the rules of protoc, in the order of the code."""
+    consts = dict(re.findall(rf"const (\w+): &str =\s*({LITERAL});", RULES))
+    lines = STRICT_HEAD
+    for row in function(RULES, "strict_rule")[1].split("\n        StrictKind::")[1:]:
+        found = re.findall(rf"({LITERAL})|\b([A-Z_]{{2,}})\b", row)
+        words = [said(literal or consts[name]) for literal, name in found]
+        code, text, second, remedy = words if len(words) == 4 else [*words[:2], "", words[2]]
+        lines += f"| `{code}` | `'{{name}}' {text}` | {second.strip()} | {remedy} |\n"
+    return lines
+
+
+def replaced(page: str, head: str, made: str) -> str:
+    """A page with the table that begins with a head in place of the one that is there."""
+    front, rest = page.split(head)
+    return front + made + re.sub(r"\A(?:\|.*\n)*", "", rest)
+
+
 def main() -> int:
     if sys.argv[1:] == ["--write"]:
-        front, rest = PAGE.read_text().split(HEAD)
-        PAGE.write_text(front + table() + re.sub(r"\A(?:\|.*\n)*", "", rest))
+        page = replaced(PAGE.read_text(), HEAD, table())
+        PAGE.write_text(replaced(page, STRICT_HEAD, strict_table()))
     else:
-        print(table(), end="")
+        print(strict_table() if sys.argv[1:] == ["--strict"] else table(), end="")
     return 0
 
 

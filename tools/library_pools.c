@@ -18,18 +18,75 @@ static int add(protolink_pool *pool, const char *script)
 }
 
 /* What the pool has, by each call that reads it. */
-static int look_up(protolink_pool *pool)
+static int look_up(const protolink_pool *pool)
 {
     protolink_item item = { PROTOLINK_FIELD, 0, 0 };
     uint8_t text[64];
+    uint32_t list[4];
     size_t length;
     WANT(protolink_full_name(pool, &item, text, 6, &length) == PROTOLINK_SHORT && length == 7);
     WANT(protolink_default(pool, &item, text, 64, &length) == PROTOLINK_DONE && length == 1);
+    WANT(protolink_file_items(pool, 0, PROTOLINK_MESSAGE, list, 4, &length) == PROTOLINK_DONE);
+    WANT(length == 2 && list[0] == 0 && list[1] == 1);
+    WANT(protolink_message_items(pool, 0, PROTOLINK_ENUM, list, 4, &length) == PROTOLINK_DONE);
+    WANT(length == 0);
+    WANT(protolink_method_by_name(pool, 0, as_bytes("T"), 1, list) == PROTOLINK_DONE);
+    WANT(list[0] == 0);
     return read_all(pool);
 }
 
+/* Whether the report of the last call, as an object of JSON, has a part. */
+static int is_told(const protolink_pool *pool, const char *part)
+{
+    static char text[16384];
+    uint8_t *front = (uint8_t *)text;
+    size_t length;
+    if (protolink_pool_report_json(pool, front, sizeof text - 1, &length) != PROTOLINK_DONE)
+        return 0;
+    text[length] = 0;
+    return strstr(text, part) != NULL;
+}
+
+/* Two files behind one another, the one that imports first, as one batch; and one with a fault. */
+static int add_both(const protolink_pool *pool)
+{
+    protolink_pool other = PROTOLINK_POOL_EMPTY;
+    uint8_t bytes[2048];
+    size_t lens[2], room = sizeof bytes;
+    int status;
+    WANT(protolink_pool_linked_file(pool, 1, bytes, room, &lens[0]) == PROTOLINK_DONE);
+    room -= lens[0];
+    WANT(protolink_pool_linked_file(pool, 0, bytes + lens[0], room, &lens[1]) == PROTOLINK_DONE);
+    WANT(protolink_pool_add_files(&other, bytes, lens[0] + lens[1], lens, 2) == PROTOLINK_DONE);
+    status = is_told(&other, "error") ? __LINE__ % 256 : 0;
+    lens[0]--;
+    WANT(protolink_pool_add_files(&other, bytes, lens[0], lens, 1) == PROTOLINK_FAULT);
+    WANT(is_told(&other, "\"error\":\"file 1: byte "));
+    protolink_pool_clear(&other);
+    return status;
+}
+
+/* Null pointers beside lengths of 0: nothing to read, and no room. */
+static int pass_null(const protolink_pool *pool)
+{
+    protolink_pool other = PROTOLINK_POOL_EMPTY;
+    protolink_item item = { PROTOLINK_FIELD, 0, 0 };
+    uint32_t at;
+    size_t length;
+    WANT(protolink_pool_add_set(&other, NULL, 0) == PROTOLINK_DONE);
+    WANT(protolink_pool_add_script(&other, NULL, 0) == PROTOLINK_DONE);
+    WANT(protolink_pool_add_files(&other, NULL, 0, NULL, 0) == PROTOLINK_DONE);
+    WANT(protolink_pool_linked(&other, NULL, 0, &length) == PROTOLINK_DONE && length == 0);
+    protolink_pool_clear(&other);
+    WANT(protolink_pool_find(pool, NULL, 0, &item, &at) == PROTOLINK_NOT_FOUND);
+    WANT(protolink_full_name(pool, &item, NULL, 0, &length) == PROTOLINK_SHORT && length == 7);
+    WANT(protolink_path(pool, &item, NULL, 0, &length) == PROTOLINK_SHORT && length == 4);
+    WANT(protolink_file_items(pool, 0, PROTOLINK_MESSAGE, NULL, 0, &length) == PROTOLINK_SHORT);
+    return length == 2 ? 0 : __LINE__ % 256;
+}
+
 /* The linked set of one pool, taken in by another. */
-static int hand_over(protolink_pool *pool)
+static int hand_over(const protolink_pool *pool)
 {
     protolink_pool other = PROTOLINK_POOL_EMPTY;
     uint8_t set[1024];
@@ -42,18 +99,6 @@ static int hand_over(protolink_pool *pool)
     status = look_up(&other);
     protolink_pool_clear(&other);
     return status;
-}
-
-/* Whether the report of the last call, as an object of JSON, has a part. */
-static int is_told(protolink_pool *pool, const char *part)
-{
-    static char text[16384];
-    uint8_t *front = (uint8_t *)text;
-    size_t length;
-    if (protolink_pool_report_json(pool, front, sizeof text - 1, &length) != PROTOLINK_DONE)
-        return 0;
-    text[length] = 0;
-    return strstr(text, part) != NULL;
 }
 
 /* A file whose name the pool has is passed over: no fault is told by its record. */
@@ -115,6 +160,13 @@ static int one_pool(void)
     status = look_up(&copy);
     if (status == 0)
         status = hand_over(&copy);
+    if (status == 0)
+        status = add_both(&copy);
+    if (status == 0)
+        status = pass_null(&copy);
+    WANT(protolink_pool_clone(&copy, &copy) == PROTOLINK_DONE);
+    if (status == 0)
+        status = look_up(&copy);
     protolink_pool_clear(&copy);
     return status;
 }

@@ -1,22 +1,7 @@
 /* Calls that read a pool, each at least once: all of protolink.h but those that add files, hand
-   linked files on, copy and free, and protolink_default, which asks for memory. */
-#include <protolink.h>
-
-#include <string.h>
-
-#define WANT(condition)       \
-    do {                      \
-        if (!(condition))     \
-            return __LINE__ % 256; \
-    } while (0)
-
-#define WANT_TEXT(call, wanted)                                              \
-    do {                                                                     \
-        uint8_t text[64];                                                    \
-        size_t length;                                                       \
-        WANT((call) == PROTOLINK_DONE && length == strlen(wanted));          \
-        WANT(memcmp(text, wanted, length) == 0);                             \
-    } while (0)
+   linked files on, copy and free, and those that ask for memory: protolink_default, .._file_items,
+   .._message_items and .._method_by_name. */
+#include "library_wants.h"
 
 /* Two files with an item of each kind, as a script. */
 static const char read_first[] =
@@ -25,12 +10,7 @@ static const char read_first[] =
     "end\nservice S\nmethod T .p.q.M .p.q.N\nend\nmessage N\nend\nend\n";
 static const char read_second[] = "file b.proto\nimport a.proto\nsyntax proto3\nend\n";
 
-static const uint8_t *as_bytes(const char *text)
-{
-    return (const uint8_t *)text;
-}
-
-static int read_names(protolink_pool *pool)
+static int read_names(const protolink_pool *pool)
 {
     protolink_item item;
     uint32_t number;
@@ -50,7 +30,7 @@ static int read_names(protolink_pool *pool)
     return 0;
 }
 
-static int read_messages(protolink_pool *pool)
+static int read_messages(const protolink_pool *pool)
 {
     protolink_message_info message;
     protolink_field_info field;
@@ -74,7 +54,7 @@ static int read_messages(protolink_pool *pool)
     return 0;
 }
 
-static int read_others(protolink_pool *pool)
+static int read_others(const protolink_pool *pool)
 {
     protolink_counts counts;
     protolink_file_info file;
@@ -97,8 +77,37 @@ static int read_others(protolink_pool *pool)
     return 0;
 }
 
+/* What the records of a script tell: no options and no places. */
+static int read_records(const protolink_pool *pool)
+{
+    protolink_item field = { PROTOLINK_FIELD, 0, 0 };
+    protolink_range range;
+    uint8_t text[1];
+    int32_t path[8];
+    uint32_t number;
+    size_t count;
+    WANT(protolink_message_extension_range(pool, 0, 0, &range) == PROTOLINK_DONE);
+    WANT(range.start == 100);
+    WANT(protolink_message_reserved_range(pool, 0, 0, &range) == PROTOLINK_NOT_FOUND);
+    WANT(protolink_enum_reserved_range(pool, 0, 0, &range) == PROTOLINK_NOT_FOUND);
+    WANT(protolink_message_reserved_name(pool, 0, 0, text, 0, &count) == PROTOLINK_NOT_FOUND);
+    WANT(protolink_enum_reserved_name(pool, 0, 0, text, 0, &count) == PROTOLINK_NOT_FOUND);
+    WANT(protolink_file_by_name(pool, as_bytes("b.proto"), 7, &number) == PROTOLINK_DONE);
+    WANT(number == 1);
+    WANT(protolink_enum_value_by_number(pool, 0, -1, &number) == PROTOLINK_DONE && number == 0);
+    WANT(protolink_path(pool, &field, path, 8, &count) == PROTOLINK_DONE);
+    WANT(count == 4 && path[0] == 4 && path[1] == 0 && path[2] == 2 && path[3] == 0);
+    WANT(protolink_span(pool, &field, path, 8, &count) == PROTOLINK_NOT_FOUND);
+    WANT_TEXT(protolink_options(pool, &field, text, 64, &length), "");
+    WANT_TEXT(protolink_file_options(pool, 0, text, 64, &length), "");
+    WANT(protolink_leading_comments(pool, &field, text, 0, &count) == PROTOLINK_NOT_FOUND);
+    WANT(protolink_trailing_comments(pool, &field, text, 0, &count) == PROTOLINK_NOT_FOUND);
+    WANT(protolink_detached_comments(pool, &field, 0, text, 0, &count) == PROTOLINK_NOT_FOUND);
+    return 0;
+}
+
 /* The reports behind a batch that was accepted. */
-static int read_reports(protolink_pool *pool)
+static int read_reports(const protolink_pool *pool)
 {
     WANT_TEXT(protolink_pool_report(pool, text, 64, &length), "");
     WANT_TEXT(protolink_pool_report_json(pool, text, 64, &length), "");
@@ -106,12 +115,14 @@ static int read_reports(protolink_pool *pool)
 }
 
 /* Reads a pool that has the two files: 0, or the line at which an answer was wrong. */
-static int read_all(protolink_pool *pool)
+static int read_all(const protolink_pool *pool)
 {
     int status = read_names(pool);
     if (status == 0)
         status = read_messages(pool);
     if (status == 0)
         status = read_others(pool);
+    if (status == 0)
+        status = read_records(pool);
     return status != 0 ? status : read_reports(pool);
 }

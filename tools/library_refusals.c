@@ -47,7 +47,8 @@ void __wrap_free(void *block)
 
 static const char first[] =
     "file a.proto\npackage p.q\nmessage M\nfield f 1 optional string ~ ~\ndefault seven\n"
-    "extensions 100 200\nend\nextend x 100 optional int32 ~ .p.q.M\nenum E\nvalue A 0\nend\nend\n";
+    "extensions 100 200\nend\nextend x 100 optional int32 ~ .p.q.M\nenum E\nvalue A 0\nend\n"
+    "service R\nmethod U .p.q.M .p.q.M\nend\nend\n";
 static const char second[] =
     "file b.proto\npackage p.q\nimport a.proto\nmessage N\nfield f 1 optional message .p.q.M ~\n"
     "end\nextend y 101 optional enum .p.q.E .p.q.M\nservice S\nmethod T .p.q.M .p.q.N\nend\nend\n";
@@ -118,6 +119,26 @@ static int default_value(protolink_pool *pool)
     return protolink_default(pool, &item, buffer, sizeof buffer, &length);
 }
 
+static int file_items(protolink_pool *pool)
+{
+    uint32_t list[4];
+    size_t length;
+    return protolink_file_items(pool, 0, PROTOLINK_MESSAGE, list, 4, &length);
+}
+
+static int message_items(protolink_pool *pool)
+{
+    uint32_t list[4];
+    size_t length;
+    return protolink_message_items(pool, 0, PROTOLINK_ENUM, list, 4, &length);
+}
+
+static int method_by_name(protolink_pool *pool)
+{
+    uint32_t position;
+    return protolink_method_by_name(pool, 0, (const uint8_t *)"U", 1, &position);
+}
+
 static int has(protolink_pool *pool, const char *name)
 {
     protolink_item item;
@@ -182,6 +203,9 @@ static const struct trial {
     { "linked", linked, PROTOLINK_DONE, 0 },
     { "linked_file", linked_file, PROTOLINK_DONE, 0 },
     { "default", default_value, PROTOLINK_DONE, 0 },
+    { "file_items", file_items, PROTOLINK_DONE, 0 },
+    { "message_items", message_items, PROTOLINK_DONE, 0 },
+    { "method_by_name", method_by_name, PROTOLINK_DONE, 0 },
     { "clone", clone, PROTOLINK_DONE, 0 },
     { "clone into a full pool", clone_into_a_full_one, PROTOLINK_DONE, 0 },
     { "limit_faults", limit_faults, PROTOLINK_DONE, 0 },
@@ -219,7 +243,8 @@ static int is_right(const struct trial *trial, long request)
     return right && blocks == before;
 }
 
-/* Whether calls on an empty pool find nothing and ask for no memory, but for those that add files. */
+/* Whether calls on an empty pool find nothing and ask for no memory, but for those that add
+   files. */
 static int asks_for_nothing(void)
 {
     protolink_pool pool = PROTOLINK_POOL_EMPTY, copy = PROTOLINK_POOL_EMPTY;

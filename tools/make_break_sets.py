@@ -798,13 +798,16 @@ ROWS.append(
         lambda records: None,
         [
             Fault(
-                "DuplicateFileName",
-                "a different file named 'shop/money.proto' has already been added",
-                "the sets have unequal files of that name: give one of them",
-                Place(MONEY, [1], None),
+                "UnequalFile",
+                "file-twice-and-not-equal.pb and file-twice-and-not-equal.pb have unequal copies: "
+                "import 1 'shop/item.proto'",
+                "give one of them",
+                Place(MONEY, [3, 0], None),
             )
         ],
-        extra=lambda records: [descriptor_pb2.FileDescriptorProto(name=MONEY)],
+        extra=lambda records: [
+            descriptor_pb2.FileDescriptorProto(name=MONEY, package="shop.money", dependency=[ITEM])
+        ],
     )
 )
 ROWS.append(
@@ -1398,11 +1401,23 @@ def small_set(text: str) -> bytes:
     return files.SerializeToString()
 
 
+def with_option(records: Records) -> None:
+    """An option that the source does not have."""
+    records[MONEY].options.go_package = "other"
+
+
 def broken_files(records: Records) -> None:
     """Three faults in two files."""
     records[MONEY].message_type[0].field[1].number = 1
     records[ITEM].message_type[0].field[2].number = 19000
     records[ITEM].message_type[0].field[3].number = 7
+
+
+def strict_files(records: Records) -> None:
+    """A field that breaks two rules of protoc, and none of the linker."""
+    field = records[ITEM].message_type[0].field[2]
+    field.name = "colour"
+    field.label = field.LABEL_REQUIRED
 
 
 BUF_FIELD = b"\xd2\xf6\x03\x02\x08\x01"
@@ -1422,6 +1437,14 @@ def run_sets() -> dict[str, bytes]:
     whole = compiled_set([ORDER, SHELF], "--include_source_info")
     broken = compiled([ITEM])
     broken_files(broken)
+    strict = compiled([ITEM])
+    strict_files(strict)
+    bare = compiled([ITEM])
+    broken_files(bare)
+    for file in bare.values():
+        file.ClearField("source_code_info")
+    options = compiled([MONEY])
+    with_option(options)
     return {
         "shop": whole,
         "cut": whole[:-1],
@@ -1430,6 +1453,14 @@ def run_sets() -> dict[str, bytes]:
         "large-tag": b"\x8a\x80\x80\x80\x10\x00",
         "money": compiled_set([MONEY], "--include_source_info"),
         "broken": descriptor_pb2.FileDescriptorSet(file=broken.values()).SerializeToString(),
+        "strict": descriptor_pb2.FileDescriptorSet(file=strict.values()).SerializeToString(),
+        "broken-without-places": descriptor_pb2.FileDescriptorSet(
+            file=bare.values()
+        ).SerializeToString(),
+        "money-without-places": compiled_set([MONEY]),
+        "money-with-options": descriptor_pb2.FileDescriptorSet(
+            file=options.values()
+        ).SerializeToString(),
         "first-pass": small_set(FIRST_PASS),
         "second-pass": small_set(SECOND_PASS),
         "odd-names": small_set(ODD_NAMES),

@@ -65,18 +65,22 @@ REQUIRED = "an older reader refuses what a writer leaves out: leave it required"
 
 @dataclass
 class Change:
-    """What is told of a change. The elements are full names, of the new version and of the older one."""
+    """What is told of a change. The elements are full names, of the new version and of the older one,
+    or the name of a file. The words stand before the place in the older version, where others do."""
 
     code: str
     text: str
     note: str
     new: str
     old: str
+    level: str = "wire"
+    words: str = ""
 
 
 @dataclass
 class Row:
-    """A row: both sources, and the changes of each direction that is tried."""
+    """A row: both sources, and the changes of each direction that is tried. The new version's source
+    stands in a file with a name of its own, if that is given."""
 
     name: str
     old: str
@@ -84,6 +88,8 @@ class Row:
     backward: Optional[list[Change]] = None
     forward: Optional[list[Change]] = None
     most: Optional[int] = None
+    level: Optional[str] = None
+    file: str = FILE
 
 
 ROWS: list[Row] = []
@@ -516,14 +522,477 @@ ROWS.append(
 )
 kept("the-same-schema", SEVERAL_OLD, SEVERAL_OLD)
 
+# Services, whose changes are told at wire: calls go by the full names of methods.
+CALLS = "a server that lacks it refuses its calls: keep it, and mark it as deprecated"
+METHOD = "one side of a call expects another: leave the method, and add a new one"
+AROUND = "what is around it was declared at"
+A_AND_B = P3 + message("int32 x = 1;", name="A") + message("int32 x = 1;", name="B")
 
-def compiled(source: str) -> bytes:
-    """The set that protoc makes of a source."""
+
+def service(*methods: str, name: str = "S") -> str:
+    """The source of a service."""
+    return f"service {name} {{\n" + "".join(f"  rpc {line};\n" for line in methods) + "}\n"
+
+
+GET = "Get(A) returns (B)"
+told(
+    "service-removed",
+    A_AND_B + service(GET),
+    A_AND_B,
+    Change("service-removed", "'m.S': service became no service", CALLS, FILE, "m.S"),
+)
+told_forward(
+    "service-added-forward",
+    A_AND_B,
+    A_AND_B + service(GET),
+    Change("service-removed", "'m.S': no service became service", CALLS, "m.S", FILE, words=AROUND),
+)
+kept("service-added", A_AND_B, A_AND_B + service(GET))
+told(
+    "method-removed",
+    A_AND_B + service(GET, "List(A) returns (B)"),
+    A_AND_B + service(GET),
+    Change("method-removed", "'m.S.List': method became no method", CALLS, "m.S", "m.S.List"),
+)
+told_forward(
+    "method-added-forward",
+    A_AND_B + service(GET),
+    A_AND_B + service(GET, "List(A) returns (B)"),
+    Change(
+        "method-removed", "'m.S.List': no method became method", CALLS, "m.S.List", "m.S", words=AROUND
+    ),
+)
+kept("method-moved", A_AND_B + service(GET, "List(A) returns (B)"), A_AND_B + service("List(A) returns (B)", GET))
+told(
+    "method-input",
+    A_AND_B + service(GET),
+    A_AND_B + service("Get(B) returns (B)"),
+    Change("method-input", "'m.S.Get': input m.A became input m.B", METHOD, "m.S.Get", "m.S.Get"),
+)
+told(
+    "method-output",
+    A_AND_B + service(GET),
+    A_AND_B + service("Get(A) returns (A)"),
+    Change("method-output", "'m.S.Get': output m.B became output m.A", METHOD, "m.S.Get", "m.S.Get"),
+)
+for name, before, after, old_words, new_words in (
+    ("server", GET, "Get(A) returns (stream B)", "unary call", "stream of responses"),
+    ("client", GET, "Get(stream A) returns (B)", "unary call", "stream of requests"),
+    (
+        "both",
+        "Get(stream A) returns (stream B)",
+        GET,
+        "stream of requests and responses",
+        "unary call",
+    ),
+):
+    told(
+        f"method-streaming-{name}",
+        A_AND_B + service(before),
+        A_AND_B + service(after),
+        Change(
+            "method-streaming",
+            f"'m.S.Get': {old_words} became {new_words}",
+            METHOD,
+            "m.S.Get",
+            "m.S.Get",
+        ),
+    )
+ROWS.append(
+    Row(
+        "method-in-full",
+        A_AND_B + service(GET),
+        A_AND_B + service("Get(B) returns (B)"),
+        [Change("method-input", "'m.S.Get': input m.A became input m.B", METHOD, "m.S.Get", "m.S.Get")],
+        [Change("method-input", "'m.S.Get': input m.A became input m.B", METHOD, "m.S.Get", "m.S.Get")],
+    )
+)
+
+# Texts of JSON: names, and the forms of values.
+REFUSED = "a parser of JSON refuses its name: keep it, and mark it as deprecated"
+NAMED = "a parser of JSON refuses the other name: give it the same by json_name"
+FORMED = "a parser of JSON refuses the other form: leave it, and add a new field"
+ALIAS = "a parser of JSON refuses its name: keep it, if only as an alias"
+
+
+def at_level(level: str, name: str, old: str, new: str, *changes: Change) -> None:
+    """A row at a level behind wire."""
+    ROWS.append(Row(name, old, new, backward=list(changes), level=level))
+
+
+def between(level: str, code: str, element: str, before: str, after: str, note: str) -> Change:
+    """A change of an element that has one name in both versions."""
+    return Change(code, f"'{element}': {before} became {after}", note, element, element, level)
+
+
+def form(before: str, after: str) -> Change:
+    """A field whose values have another form in JSON."""
+    return between("json", "field-json", "m.M.a", before, after, FORMED)
+
+
+def json_name(before: str, after: str, new: str = "m.M.b", old: str = "m.M.a") -> Change:
+    """A field with another JSON name."""
+    text = f"'{new}': JSON name {before} became JSON name {after}"
+    return Change("field-json-name", text, NAMED, new, old, "json")
+
+
+def gone(level: str, code: str, word: str, element: str, around: str, note: str) -> Change:
+    """An element that the new version lacks, and what is around it there."""
+    text = f"'{element}': {word} became no {word}"
+    return Change(code, text, note, around, element, level)
+
+
+A_IS = "optional {} a = 1;"
+at_level(
+    "json",
+    "json-field-removed-and-reserved",
+    P2 + BOTH,
+    P2 + message("optional int32 a = 1;", "reserved 2;"),
+    gone("json", "field-removed", "field", "m.M.b", "m.M", REFUSED),
+)
+at_level(
+    "json",
+    "json-field-removed",
+    P2 + BOTH,
+    P2 + message("optional int32 a = 1;"),
+    Change("number-free", f"'m.M.b' (2): {FREE}", reserve(2), "m.M", "m.M.b"),
+)
+ROWS.append(
+    Row(
+        "json-field-added-forward",
+        P2 + message("optional int32 a = 1;"),
+        P2 + BOTH,
+        forward=[
+            Change(
+                "field-removed",
+                "'m.M.b': no field became field",
+                REFUSED,
+                "m.M.b",
+                "m.M",
+                "json",
+                AROUND,
+            )
+        ],
+        level="json",
+    )
+)
+at_level(
+    "json",
+    "json-extension-removed",
+    EXTENDED + "extend M {\n  optional int64 x = 100;\n}\n",
+    EXTENDED,
+    gone("json", "field-removed", "field", "m.x", "m.M", REFUSED),
+)
+at_level(
+    "json",
+    "json-extension-renamed",
+    EXTENDED + "extend M {\n  optional int64 x = 100;\n}\n",
+    EXTENDED + "extend M {\n  optional int64 y = 100;\n}\n",
+    json_name("[m.x]", "[m.y]", "m.y", "m.x"),
+)
+at_level("json", "json-field-renamed", P3 + message("int32 a = 1;"), P3 + message("int32 b = 1;"), json_name("a", "b"))
+at_level(
+    "json",
+    "json-name-of-a-field",
+    P3 + message("int32 a = 1;"),
+    P3 + message('int32 a = 1 [json_name = "z"];'),
+    json_name("a", "z", "m.M.a"),
+)
+at_level("json", "json-name-that-stays", P3 + message("int32 a = 1;"), P3 + message('int32 b = 1 [json_name = "a"];'))
+for before, after, old_words, new_words in (
+    ("bool", "int32", "true or false", "number"),
+    ("E", "int32", "name of a value of m.E", "number"),
+    ("E", "F", "name of a value of m.E", "name of a value of m.F"),
+    ("bytes", "string", "text in base64", "text"),
+    ("string", "bytes", "text", "text in base64"),
+):
+    head = P2 + E + E.replace("enum E", "enum F").replace("A =", "FA =").replace("B =", "FB =").replace("C =", "FC =")
+    at_level(
+        "json",
+        f"json-{before.lower()}-to-{after.lower()}",
+        head + message(A_IS.format(before)),
+        head + message(A_IS.format(after)),
+        form(old_words, new_words),
+    )
+for before, after in (("int32", "int64"), ("int32", "E"), ("uint32", "int64")):
+    at_level(
+        "json",
+        f"json-{before}-to-{after.lower()}",
+        P3 + E + message(f"{before} a = 1;"),
+        P3 + E + message(f"{after} a = 1;"),
+    )
+at_level(
+    "json",
+    "json-one-to-repeated",
+    P3 + message("int32 a = 1;"),
+    P3 + message("repeated int32 a = 1;"),
+    between("json", "field-repeated", "m.M.a", "one value", "list", FORMED),
+)
+at_level(
+    "json",
+    "json-key-of-a-map",
+    P3 + message("map<bool, int32> a = 1;"),
+    P3 + message("map<int32, int32> a = 1;"),
+    between("json", "field-json", "m.M.AEntry.key", "true or false", "number", FORMED),
+)
+at_level(
+    "json",
+    "json-value-removed",
+    P3 + E,
+    P3 + E_LESS,
+    gone("json", "value-removed", "value", "m.C", "m.E", ALIAS),
+)
+at_level(
+    "json",
+    "json-value-renamed",
+    P3 + E,
+    P3 + E.replace("C =", "Z ="),
+    Change("value-name", "'m.Z': name m.C became name m.Z", ALIAS, "m.Z", "m.C", "json"),
+)
+TWO_NAMES = "enum E {\n  option allow_alias = true;\n  A = 0;\n  B = 1;\n  C = 1;\n}\n"
+at_level(
+    "json",
+    "json-alias-removed",
+    P3 + TWO_NAMES,
+    P3 + E_LESS,
+    Change("value-name", "'m.B': name m.C became name m.B", ALIAS, "m.B", "m.C", "json"),
+)
+at_level("json", "json-alias-added", P3 + E_LESS, P3 + TWO_NAMES)
+at_level(
+    "json",
+    "json-value-with-another-number",
+    P3 + E_LESS,
+    P3 + E_LESS.replace("B = 1", "B = 2"),
+    gone("json", "value-removed", "value", "m.B", "m.E", ALIAS),
+)
+at_level(
+    "json",
+    "json-and-wire",
+    P3 + message("int64 a = 1;", "int32 b = 2;"),
+    P3 + message("int32 a = 1;", "int32 c = 2;"),
+    kind("m.M.a", 1, "int64", "int32"),
+    json_name("b", "c", "m.M.c", "m.M.b"),
+)
+at_level("json", "json-message-removed", P2 + N + message(), P2 + message())
+
+# Code that is made of the schema.
+CODE = "code names it: keep it, and mark it as deprecated"
+MISSING = "code goes by what it reads where nothing was written: leave it"
+OF_FILE = "code that is made of the file is another: leave it"
+
+
+def source(code: str, before: str, after: str, note: str, element: str = "m.M.a") -> Change:
+    """A change at the level source of an element that has one name in both versions."""
+    return between("source", code, element, before, after, note)
+
+
+at_level(
+    "source",
+    "source-message-removed",
+    P2 + N + message(),
+    P2 + message(),
+    gone("source", "message-removed", "message", "m.N", FILE, CODE),
+)
+at_level(
+    "source",
+    "source-nested-message-removed",
+    P2 + message("message N {}"),
+    P2 + message(),
+    gone("source", "message-removed", "message", "m.M.N", FILE, CODE),
+)
+ROWS.append(
+    Row(
+        "source-message-added-forward",
+        P2 + message(),
+        P2 + N + message(),
+        forward=[
+            Change(
+                "message-removed",
+                "'m.N': no message became message",
+                CODE,
+                "m.N",
+                FILE,
+                "source",
+                AROUND,
+            )
+        ],
+        level="source",
+    )
+)
+at_level(
+    "source",
+    "source-enum-removed",
+    P3 + E + message(),
+    P3 + message(),
+    gone("source", "enum-removed", "enum", "m.E", FILE, CODE),
+)
+at_level(
+    "source",
+    "source-oneof-removed",
+    P3 + message("oneof o { int32 a = 1; }"),
+    P3 + message("optional int32 a = 1;"),
+    source("field-moved", "part of m.M.o", "part of no oneof", MISSING),
+    gone("source", "oneof-removed", "oneof", "m.M.o", "m.M", CODE),
+)
+at_level(
+    "source",
+    "source-field-into-a-oneof",
+    P3 + message("optional int32 a = 1;", "oneof o { int32 b = 2; }"),
+    P3 + message("oneof o { int32 b = 2; int32 a = 1; }"),
+    Change(
+        "field-oneof",
+        "'m.M.a' (1): independent of 'm.M.b' became exclusive with it in the oneof 'm.M.o'",
+        OUTSIDE,
+        "m.M.a",
+        "m.M.a",
+    ),
+)
+at_level(
+    "source",
+    "source-presence",
+    P3 + message("optional int32 a = 1;"),
+    P3 + message("int32 a = 1;"),
+    source("field-presence", "explicit presence", "implicit presence", MISSING),
+)
+at_level(
+    "source",
+    "source-required-to-optional",
+    P2 + message("required int32 a = 1;"),
+    P2 + message("optional int32 a = 1;"),
+    source("field-presence", "required", "explicit presence", MISSING),
+)
+at_level(
+    "source",
+    "source-name-of-a-field",
+    P3 + message("int32 a = 1;"),
+    P3 + message('int32 b = 1 [json_name = "a"];'),
+    Change(
+        "field-name",
+        "'m.M.b': name m.M.a became name m.M.b",
+        "code names it: leave the name",
+        "m.M.b",
+        "m.M.a",
+        "source",
+    ),
+)
+TYPE = "code has values of the other type: leave it"
+at_level(
+    "source",
+    "source-int32-to-int64",
+    P3 + message("int32 a = 1;"),
+    P3 + message("int64 a = 1;"),
+    source("field-type", "int32", "int64", TYPE),
+)
+at_level(
+    "source",
+    "source-int32-to-enum",
+    P3 + E + message("int32 a = 1;"),
+    P3 + E + message("E a = 1;"),
+    source("field-type", "int32", "enum m.E", TYPE),
+)
+at_level(
+    "source",
+    "source-map-renamed",
+    P3 + message("map<string, int32> a = 1;"),
+    P3 + message("map<string, int32> b = 1;"),
+    json_name("a", "b"),
+)
+at_level(
+    "source",
+    "source-default",
+    P2 + message("optional int32 a = 1 [default = 5];"),
+    P2 + message("optional int32 a = 1 [default = 6];"),
+    source("field-default", "default value 5", "default value 6", MISSING),
+)
+at_level(
+    "source",
+    "source-default-removed",
+    P2 + message('optional string a = 1 [default = "x"];'),
+    P2 + message("optional string a = 1;"),
+    source("field-default", "default value x", "no default value", MISSING),
+)
+at_level(
+    "source",
+    "source-default-of-an-extension",
+    EXTENDED + "extend M {\n  optional int64 x = 100;\n}\n",
+    EXTENDED + "extend M {\n  optional int64 x = 100 [default = 7];\n}\n",
+    source("field-default", "no default value", "default value 7", MISSING, "m.x"),
+)
+at_level(
+    "source",
+    "source-syntax",
+    P2 + E + message(),
+    P3 + E + message(),
+    Change("file-syntax", "'m.proto': proto2 became proto3", OF_FILE, FILE, FILE, "source"),
+    source("enum-open", "closed", "open", MISSING, "m.E"),
+)
+at_level(
+    "source",
+    "source-package",
+    P3 + message(),
+    P3.replace("package m", "package k") + message(),
+    Change("file-package", "'m.proto': package m became package k", OF_FILE, FILE, FILE, "source"),
+    gone("source", "message-removed", "message", "m.M", FILE, CODE),
+)
+at_level(
+    "source",
+    "source-package-removed",
+    P3,
+    P3.replace("package m;\n", ""),
+    Change("file-package", "'m.proto': package m became no package", OF_FILE, FILE, FILE, "source"),
+)
+ROWS.append(
+    Row(
+        "source-file-removed",
+        P3 + message("int32 a = 1;"),
+        P3 + message("int32 a = 1;"),
+        backward=[
+            Change(
+                "file-removed",
+                "'m.proto': file became no file",
+                "sources import it: keep it, if only with public imports of other files",
+                "",
+                FILE,
+                "source",
+            )
+        ],
+        level="source",
+        file="n.proto",
+    )
+)
+at_level("source", "source-unchanged", SEVERAL_OLD, SEVERAL_OLD)
+at_level(
+    "source",
+    "source-and-all-levels",
+    P3 + message("int64 a = 1;", "bool b = 2;", "int32 c = 3;") + message(name="N"),
+    P3 + message("int32 a = 1;", "int32 b = 2;", "int64 c = 3;"),
+    kind("m.M.a", 1, "int64", "int32"),
+    between("json", "field-json", "m.M.b", "true or false", "number", FORMED),
+    source("field-type", "int32", "int64", TYPE, "m.M.c"),
+    gone("source", "message-removed", "message", "m.N", FILE, CODE),
+)
+ROWS.append(
+    Row(
+        "source-and-at-most-one",
+        P3 + message("bool b = 2;", "int32 c = 3;"),
+        P3 + message("int32 b = 2;", "int64 c = 3;"),
+        backward=[
+            between("json", "field-json", "m.M.b", "true or false", "number", FORMED),
+            source("field-type", "int32", "int64", TYPE, "m.M.c"),
+        ],
+        most=1,
+        level="source",
+    )
+)
+
+
+def compiled(source: str, file: str) -> bytes:
+    """The set that protoc makes of a source in a file with a name."""
     with tempfile.TemporaryDirectory() as folder:
-        (Path(folder) / FILE).write_text(source)
+        (Path(folder) / file).write_text(source)
         out = Path(folder) / "set.pb"
         words = ["protoc", f"-I{folder}", "--include_source_info", f"--descriptor_set_out={out}"]
-        subprocess.run([*words, FILE], check=True, stderr=subprocess.DEVNULL)
+        subprocess.run([*words, file], check=True, stderr=subprocess.DEVNULL)
         return out.read_bytes()
 
 
@@ -533,12 +1002,12 @@ def record_of(made: bytes) -> descriptor_pb2.FileDescriptorProto:
 
 
 def elements(file: descriptor_pb2.FileDescriptorProto) -> dict[str, list[int]]:
-    """The path of each message, field and extension, by its full name."""
-    found: dict[str, list[int]] = {}
+    """The path of each declaration by its full name, and that of the file by its name."""
+    found: dict[str, list[int]] = {file.name: []}
 
     def see(name: str, path: list[int], item: descriptor_pb2.DescriptorProto) -> None:
         found[name] = path
-        for tag, items in ((2, item.field), (6, item.extension)):
+        for tag, items in ((2, item.field), (6, item.extension), (8, item.oneof_decl)):
             for at, one in enumerate(items):
                 found[f"{name}.{one.name}"] = [*path, tag, at]
         for at, one in enumerate(item.nested_type):
@@ -548,6 +1017,14 @@ def elements(file: descriptor_pb2.FileDescriptorProto) -> dict[str, list[int]]:
         see(f"{file.package}.{one.name}", [4, at], one)
     for at, extension in enumerate(file.extension):
         found[f"{file.package}.{extension.name}"] = [7, at]
+    for at, enumeration in enumerate(file.enum_type):
+        found[f"{file.package}.{enumeration.name}"] = [5, at]
+        for position, value in enumerate(enumeration.value):
+            found[f"{file.package}.{value.name}"] = [5, at, 2, position]
+    for at, service in enumerate(file.service):
+        found[f"{file.package}.{service.name}"] = [6, at]
+        for position, method in enumerate(service.method):
+            found[f"{file.package}.{service.name}.{method.name}"] = [6, at, 2, position]
     return found
 
 
@@ -564,6 +1041,15 @@ def counts_of(file: descriptor_pb2.FileDescriptorProto) -> list[int]:
     return counts
 
 
+def place_in(file: descriptor_pb2.FileDescriptorProto, name: str) -> Place:
+    """The place of a declaration of a file, or of the file."""
+    return Place(file.name, elements(file)[name], None if name == file.name else name)
+
+
+# The changes whose place in an older version may be that of a message.
+OF_MESSAGES = ("field-kind", "field-cardinality", "field-oneof", "field-required", "number-free")
+
+
 @dataclass
 class Made:
     """The two versions of a row, as protoc describes them."""
@@ -575,8 +1061,11 @@ class Made:
 
     def fault(self, change: Change) -> Fault:
         """A change in the form of a fault, whose second place is in the older version."""
-        at = Place(FILE, elements(self.new)[change.new], change.new)
-        second = Place(FILE, elements(self.old)[change.old], change.old)
+        at = place_in(self.new, change.new) if change.new else None
+        second = place_in(self.old, change.old)
+        if change.words or change.code not in OF_MESSAGES:
+            words = change.words or "it was declared at"
+            return Fault(change.code, change.text, change.note, at, second, words)
         is_field = change.old in elements(self.old) and len(second.path) > 2 or second.path[0] == 7
         words = "it was declared at" if is_field else "its message was declared at"
         if change.code == "field-required" and "no field became" in change.text:
@@ -587,11 +1076,11 @@ class Made:
         """The lines of a change: places in the new version, but for the second one."""
         fault = self.fault(change)
         second, fault.second = fault.second, None
-        whole = breaks.fault_lines({FILE: self.new}, fault).splitlines(keepends=True)
+        whole = breaks.fault_lines({self.new.name: self.new}, fault).splitlines(keepends=True)
         assert second is not None
         old: Records = {FILE: self.old}
         words = f"  note: {fault.words} {breaks.place_words(old, second)}"
-        if breaks.position(old, second) is not None:
+        if breaks.position(old, second) is not None and second.element is not None:
             words += f" ('{second.element}')"
         return whole[0] + words + "\n" + whole[1]
 
@@ -599,9 +1088,9 @@ class Made:
         """The object of a change."""
         fault = self.fault(change)
         second, fault.second = fault.second, None
-        whole = breaks.fault_object({FILE: self.new}, fault)
+        whole = breaks.fault_object({self.new.name: self.new}, fault)
         whole["related"] = [breaks.place_members({FILE: self.old}, second)]
-        head = {"level": "wire", "direction": direction, "against": self.against}
+        head = {"level": change.level, "direction": direction, "against": self.against}
         return {**head, **whole}
 
 
@@ -616,16 +1105,17 @@ def accepted_line(counts: list[int]) -> str:
     return "accepted: " + ", ".join(map(counted, counts, words)) + "\n"
 
 
-def last_line(made: Made, direction: str, changes: list[Change], untold: int) -> str:
+def last_line(made: Made, row: Row, direction: str, changes: list[Change], untold: int) -> str:
     """The line that counts the changes of a direction."""
+    level = row.level or "wire"
     front = f"changed: {counted(len(changes), 'change')}" if changes else "unchanged"
     behind = f", of which {untold} are not told" if untold else ""
-    return f"{front} at wire against {made.against}, {direction}{behind}\n"
+    return f"{front} at {level} against {made.against}, {direction}{behind}\n"
 
 
 def row_files(row: Row) -> dict[str, bytes]:
     """The files of a row, by the ends of their names."""
-    old, new = compiled(row.old), compiled(row.new)
+    old, new = compiled(row.old, FILE), compiled(row.new, row.file)
     against = f"{row.name}.old.pb"
     made = Made(record_of(old), record_of(new), against)
     directions = [("backward", row.backward), ("forward", row.forward)]
@@ -638,7 +1128,7 @@ def row_files(row: Row) -> dict[str, bytes]:
         first = changes if row.most is None else changes[: row.most]
         more = len(changes) - len(first)
         text += "".join(made.lines(change) for change in first)
-        text += last_line(made, direction, changes, more)
+        text += last_line(made, row, direction, changes, more)
         head: dict[str, object] = {"against": against, "direction": direction}
         entries.append({**head, "count": len(changes), "more": more})
         objects += [made.object(direction, change) for change in first]
@@ -656,6 +1146,8 @@ def row_files(row: Row) -> dict[str, bytes]:
     words = ["--against", against]
     if row.forward is not None:
         words += ["--compatibility", "forward" if row.backward is None else "full"]
+    if row.level is not None:
+        words += ["--level", row.level]
     if row.most is not None:
         words += ["--max-faults", str(row.most)]
     files = {

@@ -1,5 +1,5 @@
 """Trials of the packages, as a user meets them: the archive and the wheel unpacked in folders, and
-the packages for Debian installed. Each is then used: both programs, the library by pkg-config and as an archive,
+the packages for Debian installed. Each is then used: the programs, the library by pkg-config and as an archive,
 the Python module, the example of the Rust crate, the manual pages, the completions of bash.
 
 As root they run where what is mounted nobody else sees: the repository and the toolchain are hidden
@@ -163,7 +163,7 @@ class Trial(NamedTuple):
 
 
 def try_programs(trial: Trial) -> None:
-    """Both programs, on a set and on a script."""
+    """The programs: on a set, on a script, and as a plugin of protoc."""
     bin_ = trial.place.prefix / "bin"
     check = str(bin_ / "check_descriptors")
     trial.tells("check_descriptors accepts", [check, "set.pb"], f"accepted: {COUNTS}\n")
@@ -171,6 +171,10 @@ def try_programs(trial: Trial) -> None:
     is_right = said.returncode == 1 and said.stdout.endswith("refused: 1 fault\n")
     trial.trials.tell(f"{trial.place.name}: check_descriptors refuses", "" if is_right else said.stdout)
     trial.tells("protolink", [str(bin_ / "protolink")], REPORT, SCRIPT)
+    if trial.trials.has(f"{trial.place.name}: the plugin", "protoc"):
+        path = f"{bin_}:/usr/bin:/bin"
+        words = ["protoc", "--protolink_out=.", "google/protobuf/timestamp.proto"]
+        trial.tells("protoc finds the plugin", words, "", PATH=path)
 
 
 def try_c(trial: Trial) -> None:

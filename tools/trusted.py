@@ -64,7 +64,7 @@ The standard library declares many more. What is handed to users reaches these {
 BY_HAND = """\
 ## Proved by hand
 
-Of any other function the checker makes the frame of the proof, and the files of `proofs/` answer the goals that are left. Of the functions here people wrote the whole proof. They turn a box into a raw pointer, turn a raw pointer into a box, or make a pointer that is null. The checker judges such a proof as it judges all others. Nothing in it is assumed.
+Of any other function the checker makes the frame of the proof, and the files of `proofs/` answer the goals that are left. Of the functions here people wrote the whole proof. They turn a box into a raw pointer, turn a raw pointer into a box, make a pointer that is null, or copy and follow a pointer by a part of the right to read. The checker judges such a proof as it judges all others. Nothing in it is assumed.
 """
 
 UNSAFE = """\

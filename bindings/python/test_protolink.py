@@ -3,20 +3,26 @@
 
     PROTOLINK_LIB_DIR=../../dist/lib python3 test_protolink.py
 
-Those that hand linked files to protobuf's package (on Debian python3-protobuf) are left out where
-it is missing. PROTOLINK_SETS may name a folder of descriptor sets, which are handed over too.
+Those that need protobuf's package (on Debian python3-protobuf) are left out where it is missing.
+PROTOLINK_SETS may name a folder of descriptor sets, of which protobuf's own pool has to tell what
+this one tells.
 """
 
 from __future__ import annotations
 
+import base64
 import copy
+import math
 import os
 import pickle
+import re
 import subprocess
 import sys
 import tempfile
+import textwrap
 import threading
 import unittest
+import weakref
 from pathlib import Path
 
 import protolink
@@ -43,6 +49,44 @@ end
 end
 """
 
+TRIPS = base64.b64decode(
+    """
+Cp8ECgp0b3VyLnByb3RvEgR0b3VyIuUBCgRUcmlwEisKBXN0b3BzGAEgAygLMhUudG91ci5UcmlwLlN0b3BzRW50cnlSBXN0
+b3BzEhcKBGRheXMYAiABKAVIAFIEZGF5c4gBARIUCgVtaWxlcxgDIAMoBVIFbWlsZXMSFgoEZG9uZRgEIAEoCEICGAFSBGRv
+bmUaRAoKU3RvcHNFbnRyeRIQCgNrZXkYASABKAlSA2tleRIgCgV2YWx1ZRgCIAEoCzIKLnRvdXIuU3RvcFIFdmFsdWU6AjgB
+OgIYAUIHCgVfZGF5c0oECAcQCEoECAoQDVIDb2xkUgVvbGRlciIGCgRTdG9wKkYKBVN0YXRlEgsKB1VOS05PV04QABIMCgRP
+UEVOEAEaAggBIgQIAxAFIhYI////////////ARD///////////8BKgRHT05FMnAKBVRyaXBzEh0KA0dldBIKLnRvdXIuU3Rv
+cBoKLnRvdXIuVHJpcBIhCgVXYXRjaBIKLnRvdXIuU3RvcBoKLnRvdXIuVHJpcDABEiUKBFRlbGwSCi50b3VyLlRyaXAaCi50
+b3VyLlN0b3AiA4gCASgBSlkKIwoCBAASBAMACwEaCSBBIHRyaXAuCiIMIEJlaGluZCBpdC4KCgsKBAQAAgASAwcCHgoYCgIE
+ARIDDwAPMg0gT24gaXRzIG93bi4KCgsKBAYAAgESAxMCKGIGcHJvdG8z
+"""
+)
+"""A set of one file, as protoc made it of the source below, with the locations of both messages, of
+the field `stops` and of the method `Watch`."""
+
+# syntax = "proto3";
+# package tour;
+# // A trip.
+# message Trip { // Behind it.
+#   option deprecated = true;
+#   reserved 7, 10 to 12;
+#   reserved "old", "older";
+#   map<string, Stop> stops = 1;
+#   optional int32 days = 2;
+#   repeated int32 miles = 3;
+#   bool done = 4 [deprecated = true];
+# }
+#
+# // On its own.
+#
+# message Stop {}
+# enum State { reserved 3 to 5, -1; reserved "GONE"; UNKNOWN = 0; OPEN = 1 [deprecated = true]; }
+# service Trips {
+#   rpc Get(Stop) returns (Trip);
+#   rpc Watch(Stop) returns (stream Trip);
+#   rpc Tell(stream Trip) returns (Stop) { option deprecated = true; }
+# }
+
 FAULTY = b"""\
 file a.proto
 package p
@@ -59,6 +103,268 @@ def shop() -> protolink.Pool:
     pool = protolink.Pool()
     pool.add_script(SHOP)
     return pool
+
+
+TOUR = b"""\
+file tour.proto
+package tour
+syntax proto2
+message Outer
+field id 1 required int64 ~ ~
+field many_sizes 2 repeated int32 ~ ~
+packed true
+json sizes
+field inner_one 3 optional message .tour.Outer.Inner ~
+field state 4 optional enum .tour.Outer.State ~
+default DONE
+field note 5 optional string ~ 0
+default none
+field raw 6 optional bytes ~ 0
+default a\\001
+field ratio 7 optional float ~ ~
+default 0.1
+field share 8 optional double ~ ~
+default -inf
+field flag 9 optional bool ~ ~
+default true
+field count 10 optional uint32 ~ ~
+oneof choice
+extensions 100 200
+message Inner
+end
+enum State
+value OPEN 0
+value DONE 2
+end
+extend within 101 repeated int32 ~ .tour.Outer
+end
+extend weight 100 optional double ~ .tour.Outer
+default 1.5
+enum Kind
+value PLAIN 0
+end
+service Shop
+method Get .tour.Outer .tour.Outer.Inner
+end
+end
+"""
+
+
+def tour() -> protolink.Pool:
+    pool = protolink.Pool()
+    pool.add_script(TOUR)
+    return pool
+
+
+class Descriptors(unittest.TestCase):
+    """What a pool has, as descriptors."""
+
+    def test_a_file_lists_what_it_declares(self) -> None:
+        pool = shop()
+        order, base = pool.files()
+        self.assertEqual((order.name, order.package, order.index), ("shop/order.proto", "shop", 0))
+        self.assertEqual((order.syntax, order.dependencies), ("proto2", [base]))
+        self.assertEqual([it.full_name for it in order.message_types], ["shop.Order"])
+        self.assertEqual(list(base.enum_types_by_name), ["Status"])
+        self.assertEqual((base.services, base.extensions, base.message_types), ([], [], []))
+        self.assertEqual(pool.file("shop/base.proto"), base)
+        self.assertEqual(base.serialized_pb, pool.linked_file(1))
+        self.assertEqual(list(pool), [order, base])
+
+    def test_a_message_lists_what_it_declares(self) -> None:
+        pool = tour()
+        outer, inner = pool.messages()
+        self.assertEqual((outer.name, outer.full_name), ("Outer", "tour.Outer"))
+        self.assertEqual((outer.containing_type, inner.containing_type), (None, outer))
+        self.assertEqual((outer.path, inner.path), ((4, 0), (4, 0, 3, 0)))
+        self.assertEqual((outer.nested_types, inner.nested_types), ([inner], []))
+        self.assertEqual(outer.nested_types_by_name, {"Inner": inner})
+        state = outer.enum_types_by_name["State"]
+        self.assertEqual(list(outer.enum_values_by_name), ["OPEN", "DONE"])
+        self.assertEqual(outer.EnumValueName("State", 2), "DONE")
+        self.assertEqual((state.containing_type, state.allow_alias), (outer, False))
+        self.assertEqual(outer.fields_by_number[1], outer.fields_by_name["id"])
+        self.assertEqual(outer.field(1), outer.fields[0])
+        self.assertEqual(outer.field_named("many_sizes"), outer.fields[1])
+        self.assertEqual(outer.field_json_named("sizes"), outer.fields[1])
+        self.assertEqual(outer.field_json_named("innerOne"), outer.fields[2])
+        self.assertEqual(outer.fields_by_camelcase_name["innerOne"], outer.fields[2])
+        for missing in (lambda: outer.field(11), lambda: outer.field(-1)):
+            with self.assertRaises(KeyError):
+                missing()
+        for missing in (lambda: outer.field_named("x"), lambda: outer.field_json_named("x")):
+            with self.assertRaises(KeyError):
+                missing()
+
+    def test_fields_tell_their_types_and_defaults(self) -> None:
+        outer = tour().message("tour.Outer")
+        by_name = outer.fields_by_name
+        self.assertEqual(by_name["id"].label, protolink.FieldDescriptor.LABEL_REQUIRED)
+        self.assertEqual(by_name["id"].type, protolink.FieldDescriptor.TYPE_INT64)
+        self.assertEqual(by_name["id"].cpp_type, protolink.FieldDescriptor.CPPTYPE_INT64)
+        self.assertTrue(by_name["many_sizes"].is_packed)
+        self.assertFalse(by_name["many_sizes"].has_presence)
+        self.assertEqual(by_name["inner_one"].message_type.full_name, "tour.Outer.Inner")
+        self.assertEqual(by_name["state"].enum_type.name, "State")
+        self.assertIsNone(by_name["state"].message_type)
+        choice = outer.oneofs_by_name["choice"]
+        self.assertEqual(choice.fields, [by_name["note"], by_name["raw"]])
+        self.assertEqual(by_name["note"].containing_oneof, choice)
+        defaults = {name: field.default_value for name, field in by_name.items()}
+        self.assertAlmostEqual(defaults.pop("ratio"), 0.1)
+        wanted = {"id": 0, "many_sizes": [], "inner_one": None, "state": 2, "note": "none"}
+        wanted |= {"raw": b"a\1", "share": -math.inf, "flag": True, "count": 0}
+        self.assertEqual(defaults, wanted)
+        self.assertFalse(by_name["id"].has_default_value)
+        self.assertTrue(by_name["note"].has_default_value)
+
+    def test_extensions(self) -> None:
+        pool = tour()
+        outer, weight = pool.message("tour.Outer"), pool.extension("tour.weight")
+        within = pool["tour.Outer.within"]
+        self.assertEqual(outer.all_extensions, [within, weight])
+        self.assertEqual((outer.extensions, within.extension_scope), ([within], outer))
+        self.assertEqual((weight.extension_scope, weight.containing_type), (None, outer))
+        self.assertEqual(outer.extension(100), weight)
+        self.assertTrue(weight.is_extension and not outer.fields[0].is_extension)
+        self.assertEqual(pool.file("tour.proto").extensions_by_name, {"weight": weight})
+        with self.assertRaises(KeyError):
+            outer.extension(102)
+
+    def test_services(self) -> None:
+        pool = tour()
+        service = pool.service("tour.Shop")
+        (get,) = service.methods
+        self.assertEqual((get.full_name, get.index), ("tour.Shop.Get", 0))
+        self.assertEqual((get.input_type.name, get.output_type.name), ("Outer", "Inner"))
+        self.assertEqual((get.containing_service, get.file.name), (service, "tour.proto"))
+        self.assertEqual(service.FindMethodByName("Get"), pool.method("tour.Shop.Get"))
+
+    def test_maps_streams_and_optional_fields(self) -> None:
+        pool = protolink.Pool()
+        pool.add_set(TRIPS)
+        trip = pool.message("tour.Trip")
+        stops, days, miles, done = trip.fields
+        self.assertEqual((stops.is_map, stops.is_list, miles.is_list), (True, False, True))
+        entry = stops.message_type
+        self.assertEqual(trip.nested_types, [entry])
+        self.assertTrue(entry.is_map_entry and not trip.is_map_entry)
+        self.assertEqual(entry.map_entry_key_field, entry.field(1))
+        self.assertEqual(entry.map_entry_value_field.message_type.name, "Stop")
+        self.assertIsNone(trip.map_entry_key_field)
+        self.assertTrue(days.is_proto3_optional and days.containing_oneof.is_synthetic)
+        self.assertFalse(done.is_proto3_optional or done.is_required or done.is_group)
+        trips = pool.service("tour.Trips")
+        streams = [(it.name, it.client_streaming, it.server_streaming) for it in trips.methods]
+        wanted = [("Get", False, False), ("Watch", False, True), ("Tell", True, False)]
+        self.assertEqual(streams, wanted)
+        with self.assertRaises(KeyError):
+            trips.method("Put")
+
+    def test_what_is_reserved_or_deprecated(self) -> None:
+        pool = protolink.Pool()
+        pool.add_set(TRIPS)
+        trip, state = pool.message("tour.Trip"), pool.enum("tour.State")
+        self.assertEqual(trip.reserved_ranges, [(7, 8), (10, 13)])
+        self.assertEqual(trip.reserved_names, ["old", "older"])
+        self.assertEqual((trip.extension_ranges, trip.is_extendable), ([], False))
+        self.assertEqual(state.reserved_ranges, [(3, 5), (-1, -1)])
+        self.assertEqual((state.reserved_names, state.is_closed), (["GONE"], False))
+        self.assertEqual(trip.options, b"\x18\1")
+        self.assertEqual((trip.has_options, trip.is_deprecated), (True, True))
+        stop = pool.message("tour.Stop")
+        self.assertEqual((stop.options, stop.has_options, stop.is_deprecated), (b"", False, False))
+        self.assertEqual((state.value(1), state.value_named("OPEN")), (state.values[1],) * 2)
+        self.assertTrue(state.value(1).is_deprecated and trip.field(4).is_deprecated)
+        self.assertTrue(pool.method("tour.Trips.Tell").is_deprecated)
+        self.assertEqual((trip.file.options, trip.file.is_deprecated), (b"", False))
+        for missing in (2, 2**40):
+            with self.assertRaises(KeyError):
+                state.value(missing)
+        ranges = [(tour().message("tour.Outer").extension_ranges)]
+        self.assertEqual(ranges, [[(100, 200)]])
+
+    def test_places_and_comments(self) -> None:
+        pool = protolink.Pool()
+        pool.add_set(TRIPS)
+        trip, stop = pool.message("tour.Trip"), pool.message("tour.Stop")
+        wanted = ((4, 0), (3, 0, 11, 1), " A trip.\n", " Behind it.\n", [])
+        self.assertEqual(trip.location, wanted)
+        self.assertEqual(stop.location, ((4, 1), (15, 0, 15), None, None, [" On its own.\n"]))
+        self.assertIsNone(trip.field(4).location)
+
+    def test_public_imports(self) -> None:
+        pool = protolink.Pool()
+        pool.add_script("file a.proto\nimport b.proto\nimport c.proto\npublic 1\nend\n"
+                        "file b.proto\nend\nfile c.proto\nend\n")
+        self.assertEqual(pool.file("a.proto").public_dependencies, [pool.file("c.proto")])
+
+    def test_names_mean_descriptors(self) -> None:
+        pool = tour()
+        for name, kind in (
+            ("tour.Outer", protolink.Descriptor),
+            ("tour.Outer.id", protolink.FieldDescriptor),
+            ("tour.Outer.choice", protolink.OneofDescriptor),
+            ("tour.Outer.DONE", protolink.EnumValueDescriptor),
+            ("tour.Kind", protolink.EnumDescriptor),
+            ("tour.weight", protolink.ExtensionDescriptor),
+            ("tour.Shop.Get", protolink.MethodDescriptor),
+        ):
+            with self.subTest(name):
+                self.assertIs(type(pool[name]), kind)
+                self.assertEqual(pool[name].full_name, name)
+                self.assertIn(name, pool)
+                self.assertEqual(repr(pool[name]), f"<protolink.{kind.__name__} {name!r}>")
+        self.assertNotIn("tour.None", pool)
+        self.assertNotIn(5, pool)
+        for missing in ("tour", "tour.None", "tour.Outer.Inner.id", "\ud800"):
+            with self.assertRaises(KeyError):
+                pool[missing]
+        with self.assertRaisesRegex(KeyError, "the pool has no message 'tour.Kind'"):
+            pool.message("tour.Kind")
+        with self.assertRaisesRegex(TypeError, "a name is a str"):
+            pool.message(5)
+
+    def test_equal_are_those_of_one_place(self) -> None:
+        pool, other = tour(), tour()
+        self.assertEqual(pool["tour.Outer"], pool.messages()[0])
+        self.assertNotEqual(pool["tour.Outer"], other["tour.Outer"])
+        self.assertNotEqual(pool["tour.Outer"], pool["tour.Kind"])
+        self.assertEqual(len({pool["tour.Outer"], pool["tour.Outer"], other["tour.Outer"]}), 2)
+        self.assertIs(copy.deepcopy(pool["tour.Outer"]).pool, pool)
+
+    def test_descriptors_hold_when_files_are_added(self) -> None:
+        pool = shop()
+        order = pool.message("shop.Order")
+        pool.add_script(TOUR)
+        self.assertEqual(order, pool.message("shop.Order"))
+        self.assertEqual(len(pool), 3)
+        self.assertEqual(pool.file("tour.proto").message_types, [pool["tour.Outer"]])
+
+    def test_a_descriptor_keeps_what_its_pool_has(self) -> None:
+        outer = tour().message("tour.Outer")
+        self.assertEqual(outer.field(1).name, "id")
+        self.assertIs(outer.pool, outer.fields[0].pool)
+        self.assertEqual(outer.pool.message("tour.Outer"), outer)
+
+    def test_names_that_were_found_go_with_their_pool(self) -> None:
+        pool = tour()
+        found = pool.message("tour.Outer")
+        self.assertIs(pool.message("tour.Outer"), found)
+        self.assertTrue(found.fields and found.fields_by_name)
+        gone = weakref.ref(pool._core)
+        del pool, found
+        self.assertIsNone(gone())
+
+    def test_a_pool_that_is_closed_has_nothing(self) -> None:
+        with tour() as pool:
+            outer = pool.message("tour.Outer")
+            self.assertEqual(len(pool), 1)
+        self.assertEqual(len(pool), 0)
+        with self.assertRaises(LookupError):
+            outer.fields
+        with self.assertRaises(KeyError):
+            pool.file("tour.proto")
 
 
 class Pools(unittest.TestCase):
@@ -130,17 +436,59 @@ class Pools(unittest.TestCase):
         pool, again, apart = shop(), protolink.Pool(), protolink.Pool()
         again.add_set(pool.linked())
         self.assertEqual(again.linked(), pool.linked())
-        for file in pool.files():
+        for file in pool.linked_files():
             apart.add_file(file)
         self.assertEqual(apart.counts(), pool.counts())
+
+    def test_files_of_protobuf_go_in_one_by_one(self) -> None:
+        pool = shop()
+        apart = protolink.Pool()
+        base, order = (apart.AddSerializedFile(file) for file in pool.linked_files())
+        self.assertEqual((base.name, order.name), ("shop/base.proto", "shop/order.proto"))
+        self.assertEqual(apart.AddSerializedFile(pool.linked_file(1)), base)
+
+    def test_several_files_are_one_batch(self) -> None:
+        pool = shop()
+        together = protolink.Pool()
+        together.add_files(pool.linked_file(index) for index in range(len(pool)))
+        self.assertEqual(together.linked(), pool.linked())
+        together.add_files([])
+        self.assertEqual(len(together), 2)
+        with self.assertRaises(protolink.Unreadable):
+            together.add_files([b"\x0a\x05"])
+
+    def test_a_path_is_read(self) -> None:
+        with tempfile.TemporaryDirectory() as room:
+            path = Path(room) / "set.pb"
+            path.write_bytes(shop().linked())
+            pool = protolink.Pool()
+            pool.add_set(path)
+            self.assertEqual(len(pool), 2)
+
+    def test_the_code_of_the_page_runs(self) -> None:
+        page = (Path(__file__).resolve().parent / "README.md").read_text()
+        blocks = re.findall(r"(?:^    .*\n|^\n)+", page, re.MULTILINE)
+        code = [textwrap.dedent(block) for block in blocks if "protolink.Pool()" in block]
+        self.assertTrue(code)
+        with tempfile.TemporaryDirectory() as room:
+            (Path(room) / "set.pb").write_bytes(shop().linked())
+            for block in code:
+                words = [sys.executable, "-B", "-c", block]
+                folder = str(Path(__file__).resolve().parent)
+                environment = {**os.environ, "PYTHONPATH": folder}
+                done = subprocess.run(words, cwd=room, env=environment, check=False)
+                self.assertEqual(done.returncode, 0)
 
     def test_only_bytes_are_taken(self) -> None:
         pool = protolink.Pool()
         data = shop().linked()
-        for other in (5, "file a.proto", None, [10, 0]):
+        for other in (5, None, [10, 0]):
             for call in (pool.add_set, pool.add_file, pool.add_script):
-                with self.assertRaises(TypeError):
+                with self.assertRaisesRegex(TypeError, "is bytes, a path or a message"):
                     call(other)
+        for call in (pool.add_set, pool.add_file):
+            with self.assertRaisesRegex(TypeError, "give a path as pathlib.Path"):
+                call("set.pb")
         self.assertEqual(pool.counts().files, 0)
         for same in (bytearray(data), memoryview(data), memoryview(data * 2)[: len(data)]):
             again = protolink.Pool()
@@ -150,7 +498,7 @@ class Pools(unittest.TestCase):
     def test_a_copy_is_apart(self) -> None:
         pool = shop()
         copies = (pool.clone(), copy.copy(pool), copy.deepcopy(pool))
-        pool.add_script(b"file c.proto\nend\n")
+        pool.add_script("file c.proto\nend\n")
         self.assertEqual(pool.counts().files, 3)
         self.assertEqual([copied.counts().files for copied in copies], [2, 2, 2])
 
@@ -189,6 +537,33 @@ class Pools(unittest.TestCase):
         self.assertEqual(wrong, [])
         self.assertEqual(pool.counts()[:2], (600, 600))
 
+    def test_threads_look_up_and_add_while_a_pool_is_copied(self) -> None:
+        pool, wrong = shop(), []
+
+        def copy_it(_: int) -> None:
+            for _ in range(60):
+                copy, again = pool.clone(), protolink.Pool()
+                again.add_set(pool.linked())
+                wrong.extend(it for it in (copy, again) if it.find("shop.Order") is None)
+
+        def look_up(_: int) -> None:
+            for _ in range(600):
+                if pool.full_name(*pool.find("shop.Order")[:2]) != "shop.Order":
+                    wrong.append(pool)
+
+        def add(thread: int) -> None:
+            for number in range(60):
+                pool.add_script(f"file n{thread}x{number}.proto\nend\n")
+
+        tasks = [copy_it, look_up, add] * 2
+        threads = [threading.Thread(target=it, args=(n,)) for n, it in enumerate(tasks)]
+        for thread in threads:
+            thread.start()
+        for thread in threads:
+            thread.join()
+        self.assertEqual(wrong, [])
+        self.assertEqual(len(pool), 122)
+
     def test_a_pool_is_printed_by_its_counts(self) -> None:
         told = "<protolink.Pool: files=0, messages=0, enums=0, services=0, extensions=0>"
         self.assertEqual(repr(protolink.Pool()), told)
@@ -220,35 +595,186 @@ class Pools(unittest.TestCase):
         self.assertRegex(protolink.version(), r"^\d+\.\d+\.\d+$")
 
 
+SAME = {
+    "FileDescriptor": ("name", "package", "syntax"),
+    "Descriptor": ("name", "full_name", "syntax", "is_extendable", "extension_ranges"),
+    "FieldDescriptor": (
+        *("name", "full_name", "index", "number", "type", "cpp_type", "label", "has_presence"),
+        *("has_default_value", "is_extension", "json_name", "camelcase_name", "default_value"),
+    ),
+    "OneofDescriptor": ("name", "full_name", "index"),
+    "EnumDescriptor": ("name", "full_name"),
+    "EnumValueDescriptor": ("name", "index", "number"),
+    "ServiceDescriptor": ("name", "full_name", "index"),
+    "MethodDescriptor": (
+        *("name", "full_name", "index", "client_streaming", "server_streaming"),
+    ),
+}
+"""What descriptors tell that are to be the same, by the names of protobuf's classes."""
+
+ONE = {
+    "Descriptor": ("file", "containing_type"),
+    "FieldDescriptor": (
+        *("file", "containing_type", "message_type", "enum_type", "containing_oneof"),
+        "extension_scope",
+    ),
+    "OneofDescriptor": ("containing_type",),
+    "EnumDescriptor": ("file", "containing_type"),
+    "EnumValueDescriptor": ("type",),
+    "ServiceDescriptor": ("file",),
+    "MethodDescriptor": ("containing_service", "input_type", "output_type"),
+}
+"""The descriptors that a descriptor tells, which are to have one name, or to be None in both."""
+
+MANY = {
+    "FileDescriptor": ("dependencies", "public_dependencies"),
+    "Descriptor": ("fields", "oneofs", "nested_types", "enum_types", "extensions"),
+    "OneofDescriptor": ("fields",),
+    "EnumDescriptor": ("values",),
+    "ServiceDescriptor": ("methods",),
+}
+"""The lists of descriptors."""
+
+BY_KEY = {
+    "FileDescriptor": (
+        *("message_types_by_name", "enum_types_by_name", "extensions_by_name"),
+        "services_by_name",
+    ),
+    "Descriptor": (
+        *("fields_by_name", "fields_by_number", "fields_by_camelcase_name", "oneofs_by_name"),
+        *("nested_types_by_name", "enum_types_by_name", "enum_values_by_name"),
+        "extensions_by_name",
+    ),
+    "EnumDescriptor": ("values_by_name", "values_by_number"),
+    "ServiceDescriptor": ("methods_by_name",),
+}
+"""The dictionaries of descriptors."""
+
+
+def name_of(descriptor: object) -> object:
+    """The name by which a descriptor is compared."""
+    return getattr(descriptor, "full_name", getattr(descriptor, "name", None))
+
+
+def is_same(ours: object, theirs: object) -> bool:
+    """Whether two values are one, or both are no number."""
+    return ours == theirs or (ours != ours and theirs != theirs)
+
+
 @unittest.skipIf(descriptor_pb2 is None, "protobuf's package is missing")
 class Protobuf(unittest.TestCase):
-    """protobuf's own pool takes the linked files, and has the same."""
+    """protobuf's own pool takes the linked files, and tells the same."""
 
     def hand_over(self, data: bytes) -> None:
         pool = protolink.Pool()
-        pool.add_set(data)
+        pool.add_set(descriptor_pb2.FileDescriptorSet.FromString(data))
         theirs = descriptor_pool.DescriptorPool()
-        for file in pool.files():
+        for file in pool.linked_files():
             theirs.AddSerializedFile(file)
-        linked = descriptor_pb2.FileDescriptorSet.FromString(pool.linked())
-        self.assertEqual(len(linked.file), pool.counts().files)
-        for file in linked.file:
-            self.assertEqual(theirs.FindFileByName(file.name).package, file.package)
-            self.compare_messages(pool, theirs, file.package, file.message_type)
+        for file in pool.files():
+            self.compare_file(file, theirs.FindFileByName(file.name), theirs)
+        self.compare_missing(pool, theirs)
 
-    def compare_messages(self, pool, theirs, scope, messages) -> None:
-        for message in messages:
-            name = f"{scope}.{message.name}" if scope else message.name
-            self.assertEqual(pool.find(name).kind, "message")
-            found = theirs.FindMessageTypeByName(name)
-            self.assertEqual(len(found.fields), len(message.field))
-            for number, field in enumerate(found.fields):
-                definition = pool.find(f"{name}.{field.name}")
-                self.assertEqual((definition.kind, definition.position), ("field", number))
-            self.compare_messages(pool, theirs, name, message.nested_type)
+    def compare(self, ours: object, theirs: object) -> None:
+        """Compares all that two descriptors tell."""
+        kind = type(ours).__name__.replace("Extension", "Field")
+        self.assertEqual(ours.GetOptions(), theirs.GetOptions(), ours)
+        for name in SAME[kind]:
+            told, wanted = getattr(ours, name), getattr(theirs, name)
+            self.assertTrue(is_same(told, wanted), (ours, name, told, wanted))
+        for name in ONE.get(kind, ()):
+            told, wanted = getattr(ours, name), getattr(theirs, name)
+            self.assertEqual(name_of(told), name_of(wanted), (ours, name))
+        for name in MANY.get(kind, ()):
+            told, wanted = getattr(ours, name), getattr(theirs, name)
+            self.assertEqual([it.name for it in told], [it.name for it in wanted], (ours, name))
+        for name in BY_KEY.get(kind, ()):
+            told, wanted = getattr(ours, name), getattr(theirs, name)
+            named = {key: value.name for key, value in wanted.items()}
+            self.assertEqual({key: it.name for key, it in told.items()}, named, (ours, name))
 
-    def test_a_set_that_is_made_by_hand(self) -> None:
-        self.hand_over(shop().linked())
+    def compare_file(self, ours, theirs, pool) -> None:
+        self.compare(ours, theirs)
+        own = ours.pool
+        for message in ours.message_types:
+            self.compare_message(message, pool)
+        for enum in ours.enum_types:
+            self.compare_enum(enum, pool)
+        for extension in ours.extensions:
+            self.compare_extension(extension, pool)
+        for service in ours.services:
+            found = own.FindServiceByName(service.full_name)
+            self.compare(found, pool.FindServiceByName(service.full_name))
+            for method in service.methods:
+                found = own.FindMethodByName(method.full_name)
+                self.compare(found, pool.FindMethodByName(method.full_name))
+
+    def compare_message(self, message, pool) -> None:
+        own, name = message.pool, message.full_name
+        self.assertEqual(own.FindMessageTypeByName(name), message)
+        self.compare(message, pool.FindMessageTypeByName(name))
+        file = pool.FindFileContainingSymbol(name).name
+        self.assertEqual(own.FindFileContainingSymbol(name).name, file)
+        for field in message.fields:
+            found = own.FindFieldByName(field.full_name)
+            self.compare(found, pool.FindFieldByName(field.full_name))
+        for oneof in message.oneofs:
+            found = own.FindOneofByName(oneof.full_name)
+            self.compare(found, pool.FindOneofByName(oneof.full_name))
+        for nested in message.nested_types:
+            self.compare_message(nested, pool)
+        for enum in message.enum_types:
+            self.compare_enum(enum, pool)
+        for extension in message.extensions:
+            self.compare_extension(extension, pool)
+        told = {it.full_name for it in own.FindAllExtensions(message)}
+        wanted = pool.FindAllExtensions(pool.FindMessageTypeByName(name))
+        self.assertEqual(told, {it.full_name for it in wanted})
+
+    def compare_enum(self, enum, pool) -> None:
+        theirs = pool.FindEnumTypeByName(enum.full_name)
+        self.compare(enum.pool.FindEnumTypeByName(enum.full_name), theirs)
+        for ours, value in zip(enum.values, theirs.values):
+            self.compare(ours, value)
+
+    def compare_extension(self, extension, pool) -> None:
+        own, name = extension.pool, extension.full_name
+        self.compare(own.FindExtensionByName(name), pool.FindExtensionByName(name))
+        extended = extension.containing_type
+        found = own.FindExtensionByNumber(extended, extension.number)
+        theirs = pool.FindMessageTypeByName(extended.full_name)
+        wanted = pool.FindExtensionByNumber(theirs, extension.number)
+        self.assertEqual(found.full_name, wanted.full_name)
+
+    def compare_missing(self, ours, theirs) -> None:
+        """What neither pool has raises the same in both."""
+        for name in (
+            *("FindFileByName", "FindFileContainingSymbol", "FindMessageTypeByName"),
+            *("FindFieldByName", "FindOneofByName", "FindEnumTypeByName", "FindServiceByName"),
+            *("FindMethodByName", "FindExtensionByName"),
+        ):
+            for pool in (ours, theirs):
+                with self.assertRaises(KeyError):
+                    getattr(pool, name)("no.such.name")
+
+    def test_sets_that_are_made_by_hand(self) -> None:
+        for data in (shop().linked(), tour().linked(), TRIPS):
+            self.hand_over(data)
+
+    def test_records_are_copied(self) -> None:
+        pool = protolink.Pool()
+        pool.add_set(TRIPS)
+        (file,) = descriptor_pb2.FileDescriptorSet.FromString(pool.linked()).file
+        for ours, proto in (
+            (pool.file("tour.proto"), file),
+            (pool.message("tour.Trip"), file.message_type[0]),
+            (pool.message("tour.Trip").fields[0].message_type, file.message_type[0].nested_type[0]),
+            (pool.enum("tour.State"), file.enum_type[0]),
+            (pool.method("tour.Trips.Tell"), file.service[0].method[2]),
+        ):
+            copied = type(proto)()
+            ours.CopyToProto(copied)
+            self.assertEqual(copied, proto)
 
     def test_sets_from_disk(self) -> None:
         folder = os.environ.get("PROTOLINK_SETS")
@@ -259,6 +785,45 @@ class Protobuf(unittest.TestCase):
         for path in sets:
             with self.subTest(path.name):
                 self.hand_over(path.read_bytes())
+
+
+    def test_the_registry_judges_two_hundred_versions(self) -> None:
+        """Every fifth version has a type that is not there, or another type for a field."""
+        common = descriptor_pb2.FileDescriptorSet()
+        common.file.add(name="common.proto", package="shop").message_type.add(name="Page")
+        with tempfile.TemporaryDirectory() as name:
+            room = Path(name)
+            (room / "common.pb").write_bytes(common.SerializeToString())
+            versions = [room / f"{number:03}.pb" for number in range(200)]
+            for number, path in enumerate(versions):
+                path.write_bytes(self.version(number).SerializeToString())
+            folder = Path(__file__).resolve().parent
+            words = [sys.executable, "-B", folder / "examples/registry.py", room / "common.pb"]
+            said = subprocess.run(
+                [*words, *versions],
+                env={**os.environ, "PYTHONPATH": str(folder)},
+                stdout=subprocess.PIPE,
+                text=True,
+                check=False,
+            )
+        lines = said.stdout.splitlines()
+        self.assertEqual((said.returncode, lines[-1]), (1, "160 taken, 40 not taken"))
+        self.assertIn("  order.proto: shop.Order.field0: name '.shop.None' is not defined", lines)
+        self.assertIn("  shop.Order.field0 was optional int32, and is optional string", lines)
+
+    @staticmethod
+    def version(number: int):
+        """A version of a schema, which has one field more than the one before it."""
+        made = descriptor_pb2.FileDescriptorSet()
+        file = made.file.add(name="order.proto", package="shop", dependency=["common.proto"])
+        order = file.message_type.add(name="Order")
+        for at in range(number + 1):
+            order.field.add(name=f"field{at}", number=at + 1, label=1, type=5)
+        if number % 10 == 4:
+            order.field[0].type, order.field[0].type_name = 11, ".shop.None"
+        if number % 10 == 9:
+            order.field[0].type = 9
+        return made
 
 
 if __name__ == "__main__":

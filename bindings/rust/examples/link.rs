@@ -2,7 +2,7 @@
 //!
 //!     cargo run --example link -- set.pb
 
-use protolink::{DescriptorError, DescriptorPool, Kind};
+use protolink::{DescriptorError, DescriptorPool};
 use std::error::Error;
 use std::{env, fs, process};
 
@@ -23,23 +23,9 @@ fn main() -> Result<(), Box<dyn Error>> {
     for message in pool.all_messages() {
         println!("{}", message.full_name());
         for field in message.fields() {
-            println!(
-                "  {} = {}: {}",
-                field.name(),
-                field.number(),
-                words(field.kind())
-            );
+            println!("  {} = {}: {}", field.name(), field.number(), field.kind());
         }
     }
     println!("{:?}", pool.counts());
     Ok(())
-}
-
-/// The type of a field, as a `.proto` file has it.
-fn words(kind: Kind) -> String {
-    match kind {
-        Kind::Message(message) => message.full_name(),
-        Kind::Enum(enumeration) => enumeration.full_name(),
-        plain => format!("{plain:?}").to_lowercase(),
-    }
 }

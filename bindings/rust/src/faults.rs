@@ -38,6 +38,7 @@ pub enum DescriptorError {
 pub struct Faults {
     told: Vec<Fault>,
     more: u64,
+    report: String,
 }
 
 /// A rule that files break, and where.
@@ -131,13 +132,14 @@ fn path(value: &Value) -> Option<Vec<i32>> {
 
 impl Faults {
     /// The faults of a report of JSON, or none where it is not what was expected.
-    fn read(json: &str) -> Option<Faults> {
-        let report = parse(json)?;
-        let told = report.member("faults")?.items();
-        let more = report.member("more")?.as_number()?;
+    fn read(json: &str, report: &str) -> Option<Faults> {
+        let object = parse(json)?;
+        let told = object.member("faults")?.items();
+        let more = object.member("more")?.as_number()?;
         Some(Faults {
             told: told.iter().map(Fault::new).collect(),
             more: u64::try_from(more).ok()?,
+            report: report.to_owned(),
         })
     }
 
@@ -150,6 +152,7 @@ impl Faults {
         Faults {
             told: vec![fault],
             more: 0,
+            report: text.to_owned(),
         }
     }
 
@@ -157,6 +160,12 @@ impl Faults {
     #[must_use]
     pub fn more(&self) -> u64 {
         self.more
+    }
+
+    /// The faults in lines for people, with notes, as `check_descriptors` writes them.
+    #[must_use]
+    pub fn report(&self) -> &str {
+        &self.report
     }
 }
 
@@ -187,9 +196,11 @@ impl<'f> IntoIterator for &'f Faults {
 }
 
 impl DescriptorError {
-    /// The faults of a report of JSON. Where it is not what was expected, its text is a fault.
-    pub(crate) fn refused(json: &str) -> DescriptorError {
-        DescriptorError::Refused(Faults::read(json).unwrap_or_else(|| Faults::of_text(json)))
+    /// The faults of a report of JSON, with the same report in lines. Where the object is not what
+    /// was expected, the lines are a fault.
+    pub(crate) fn refused(json: &str, report: &str) -> DescriptorError {
+        let faults = Faults::read(json, report).unwrap_or_else(|| Faults::of_text(report));
+        DescriptorError::Refused(faults)
     }
 
     pub(crate) fn unreadable(json: &str) -> DescriptorError {
@@ -198,6 +209,16 @@ impl DescriptorError {
 
     pub(crate) fn too_many(json: &str) -> DescriptorError {
         DescriptorError::TooMany(member_or_all(json, "too_many"))
+    }
+
+    /// The error in lines for people, each ended by a line feed: the faults with their notes, else
+    /// one line.
+    #[must_use]
+    pub fn report(&self) -> String {
+        match self {
+            DescriptorError::Refused(faults) => faults.report.clone(),
+            other => format!("{other}\n"),
+        }
     }
 
     /// The faults of files that break rules, as `Refused` has them, or none where it is another

@@ -3,6 +3,9 @@
 //! `tools/compare_header.py` of the repository compares these declarations, name by name and type
 //! by type, with the header and with the library's own source.
 
+// All calls and all members are declared, also those that the crate does not use.
+#![allow(dead_code)]
+
 use std::ffi::c_void;
 use std::ptr;
 
@@ -16,6 +19,11 @@ impl Pool {
     pub const EMPTY: Pool = Pool {
         at: ptr::null_mut(),
     };
+
+    /// A copy of the pointer, for a reader.
+    pub const fn view(&self) -> Pool {
+        Pool { at: self.at }
+    }
 }
 
 #[repr(C)]
@@ -41,6 +49,12 @@ pub struct Counts {
 pub struct FileInfo {
     pub syntax: u32,
     pub imports: u64,
+    pub public_imports: u64,
+    pub messages: u64,
+    pub enums: u64,
+    pub services: u64,
+    pub extensions: u64,
+    pub is_deprecated: u32,
 }
 
 #[repr(C)]
@@ -51,6 +65,17 @@ pub struct MessageInfo {
     pub fields: u64,
     pub oneofs: u64,
     pub extensions: u64,
+    pub nested_messages: u64,
+    pub nested_enums: u64,
+    pub nested_extensions: u64,
+    pub extension_ranges: u64,
+    pub reserved_ranges: u64,
+    pub reserved_names: u64,
+    pub map_key: u32,
+    pub map_value: u32,
+    pub is_map_entry: u32,
+    pub is_message_set: u32,
+    pub is_deprecated: u32,
 }
 
 #[repr(C)]
@@ -64,12 +89,19 @@ pub struct FieldInfo {
     pub is_packed: u32,
     pub supports_presence: u32,
     pub has_default: u32,
+    pub is_map: u32,
+    pub is_list: u32,
+    pub is_required: u32,
+    pub is_group: u32,
+    pub is_proto3_optional: u32,
+    pub is_deprecated: u32,
 }
 
 #[repr(C)]
 #[derive(Clone, Copy, Default)]
 pub struct OneofInfo {
     pub fields: u64,
+    pub is_synthetic: u32,
 }
 
 #[repr(C)]
@@ -79,12 +111,17 @@ pub struct EnumInfo {
     pub parent: u32,
     pub values: u64,
     pub allow_alias: u32,
+    pub reserved_ranges: u64,
+    pub reserved_names: u64,
+    pub is_closed: u32,
+    pub is_deprecated: u32,
 }
 
 #[repr(C)]
 #[derive(Clone, Copy, Default)]
 pub struct EnumValueInfo {
     pub number: i32,
+    pub is_deprecated: u32,
 }
 
 #[repr(C)]
@@ -92,6 +129,7 @@ pub struct EnumValueInfo {
 pub struct ServiceInfo {
     pub file: u32,
     pub methods: u64,
+    pub is_deprecated: u32,
 }
 
 #[repr(C)]
@@ -99,6 +137,9 @@ pub struct ServiceInfo {
 pub struct MethodInfo {
     pub input: u32,
     pub output: u32,
+    pub client_streaming: u32,
+    pub server_streaming: u32,
+    pub is_deprecated: u32,
 }
 
 #[repr(C)]
@@ -113,6 +154,19 @@ pub struct ExtensionInfo {
     pub type_index: u32,
     pub is_packed: u32,
     pub has_default: u32,
+    pub supports_presence: u32,
+    pub is_map: u32,
+    pub is_list: u32,
+    pub is_group: u32,
+    pub is_proto3_optional: u32,
+    pub is_deprecated: u32,
+}
+
+#[repr(C)]
+#[derive(Clone, Copy, Default)]
+pub struct Range {
+    pub start: i32,
+    pub end: i32,
 }
 
 /// Where an index may be missing: none.
@@ -138,6 +192,13 @@ extern "C" {
     pub fn protolink_version() -> u32;
     pub fn protolink_pool_add_set(pool: *mut Pool, bytes: *const u8, len: usize) -> u8;
     pub fn protolink_pool_add_file(pool: *mut Pool, bytes: *const u8, len: usize) -> u8;
+    pub fn protolink_pool_add_files(
+        pool: *mut Pool,
+        bytes: *const u8,
+        len: usize,
+        lens: *const usize,
+        count: usize,
+    ) -> u8;
     pub fn protolink_pool_add_script(pool: *mut Pool, script: *const u8, len: usize) -> u8;
     pub fn protolink_pool_limit_faults(pool: *mut Pool, most: usize) -> u8;
     pub fn protolink_pool_report(
@@ -302,6 +363,125 @@ extern "C" {
     pub fn protolink_default(
         pool: *mut Pool,
         item: *const Item,
+        buffer: *mut u8,
+        room: usize,
+        length: *mut usize,
+    ) -> u8;
+    pub fn protolink_file_items(
+        pool: *mut Pool,
+        file: u32,
+        kind: u32,
+        indexes: *mut u32,
+        room: usize,
+        length: *mut usize,
+    ) -> u8;
+    pub fn protolink_message_items(
+        pool: *mut Pool,
+        message: u32,
+        kind: u32,
+        indexes: *mut u32,
+        room: usize,
+        length: *mut usize,
+    ) -> u8;
+    pub fn protolink_message_extension_range(
+        pool: *mut Pool,
+        message: u32,
+        position: u32,
+        range: *mut Range,
+    ) -> u8;
+    pub fn protolink_message_reserved_range(
+        pool: *mut Pool,
+        message: u32,
+        position: u32,
+        range: *mut Range,
+    ) -> u8;
+    pub fn protolink_enum_reserved_range(
+        pool: *mut Pool,
+        enumeration: u32,
+        position: u32,
+        range: *mut Range,
+    ) -> u8;
+    pub fn protolink_message_reserved_name(
+        pool: *mut Pool,
+        message: u32,
+        position: u32,
+        buffer: *mut u8,
+        room: usize,
+        length: *mut usize,
+    ) -> u8;
+    pub fn protolink_enum_reserved_name(
+        pool: *mut Pool,
+        enumeration: u32,
+        position: u32,
+        buffer: *mut u8,
+        room: usize,
+        length: *mut usize,
+    ) -> u8;
+    pub fn protolink_file_by_name(
+        pool: *mut Pool,
+        name: *const u8,
+        name_len: usize,
+        file: *mut u32,
+    ) -> u8;
+    pub fn protolink_enum_value_by_number(
+        pool: *mut Pool,
+        enumeration: u32,
+        number: i32,
+        position: *mut u32,
+    ) -> u8;
+    pub fn protolink_method_by_name(
+        pool: *mut Pool,
+        service: u32,
+        name: *const u8,
+        name_len: usize,
+        position: *mut u32,
+    ) -> u8;
+    pub fn protolink_file_options(
+        pool: *mut Pool,
+        file: u32,
+        buffer: *mut u8,
+        room: usize,
+        length: *mut usize,
+    ) -> u8;
+    pub fn protolink_options(
+        pool: *mut Pool,
+        item: *const Item,
+        buffer: *mut u8,
+        room: usize,
+        length: *mut usize,
+    ) -> u8;
+    pub fn protolink_path(
+        pool: *mut Pool,
+        item: *const Item,
+        path: *mut i32,
+        room: usize,
+        length: *mut usize,
+    ) -> u8;
+    pub fn protolink_span(
+        pool: *mut Pool,
+        item: *const Item,
+        span: *mut i32,
+        room: usize,
+        length: *mut usize,
+    ) -> u8;
+    pub fn protolink_leading_comments(
+        pool: *mut Pool,
+        item: *const Item,
+        buffer: *mut u8,
+        room: usize,
+        length: *mut usize,
+    ) -> u8;
+    pub fn protolink_trailing_comments(
+        pool: *mut Pool,
+        item: *const Item,
+        buffer: *mut u8,
+        room: usize,
+        length: *mut usize,
+    ) -> u8;
+    pub fn protolink_detached_comments(
+        pool: *mut Pool,
+        item: *const Item,
+        position: u32,
         buffer: *mut u8,
         room: usize,
         length: *mut usize,

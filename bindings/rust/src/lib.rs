@@ -22,7 +22,7 @@
 //! }
 //! let order = pool.get_message_by_name("shop.Order").expect("it is in the set");
 //! for field in order.fields() {
-//!     println!("{} = {}: {:?}", field.name(), field.number(), field.kind());
+//!     println!("{} = {}: {}", field.name(), field.number(), field.kind());
 //! }
 //! # assert_eq!(order.get_field(1).unwrap().name(), "id");
 //! # Ok::<(), Box<dyn std::error::Error>>(())
@@ -38,13 +38,23 @@ mod descriptors;
 mod faults;
 mod ffi;
 mod json;
+mod kinds;
+mod lists;
+mod once;
 mod pool;
 mod raw;
+mod records;
+mod shared;
 
 pub use descriptors::{
-    Cardinality, DefaultValue, EnumDescriptor, EnumValueDescriptor, ExtensionDescriptor,
-    FieldDescriptor, FileDescriptor, Kind, MessageDescriptor, MethodDescriptor, OneofDescriptor,
-    ServiceDescriptor, Syntax,
+    EnumDescriptor, EnumValueDescriptor, ExtensionDescriptor, FieldDescriptor, FileDescriptor,
+    MessageDescriptor, MethodDescriptor, OneofDescriptor, ServiceDescriptor,
 };
 pub use faults::{DescriptorError, Fault, Faults, OutOfMemory, Place};
+pub use kinds::{Cardinality, Kind, Location, Syntax, Value};
 pub use pool::{Counts, Definition, DescriptorPool, Found};
+
+/// The code of `README.md`, which is compiled with the tests.
+#[cfg(doctest)]
+#[doc = include_str!("../README.md")]
+struct Readme;

@@ -7,23 +7,28 @@ use crate::descriptors::{
 use crate::faults::{DescriptorError, OutOfMemory};
 use crate::ffi;
 use crate::raw::{version, Added, RawPool};
+use crate::shared::Shared;
 use std::fmt;
+use std::hash::{Hash, Hasher};
+use std::sync::Arc;
 
 /// Linked files, and what they declare, by full name and by index.
 ///
-/// A pool may be handed to another thread. To share one, put it behind a lock.
+/// A clone costs nothing: it shares what it was made of, as each descriptor does. When files are
+/// added to a pool that is shared, it is copied first, so clones and descriptors keep what they had.
+/// Two pools are equal where they share their files.
+///
+/// Pools and descriptors may be kept in structs and statics, and may be used by many threads at
+/// once.
 ///
 /// ```
-/// fn may_be_handed_over<T: Send>() {}
-/// may_be_handed_over::<protolink::DescriptorPool>();
+/// fn may_be_kept_and_shared<T: Send + Sync + 'static>() {}
+/// may_be_kept_and_shared::<protolink::DescriptorPool>();
+/// may_be_kept_and_shared::<protolink::MessageDescriptor>();
 /// ```
-///
-/// ```compile_fail,E0277
-/// fn may_be_shared<T: Sync>() {}
-/// may_be_shared::<protolink::DescriptorPool>();
-/// ```
+#[derive(Clone, Default)]
 pub struct DescriptorPool {
-    pub(crate) raw: RawPool,
+    pub(crate) shared: Arc<Shared>,
 }
 
 /// How much a pool has of each kind that has indexes.
@@ -43,48 +48,46 @@ pub struct Counts {
 }
 
 /// What a full name means.
-#[derive(Debug, Clone, Copy, PartialEq, Eq, Hash)]
+#[derive(Debug, Clone, PartialEq, Eq, Hash)]
 #[non_exhaustive]
-pub enum Definition<'p> {
+pub enum Definition {
     /// A package.
     Package,
     /// A message.
-    Message(MessageDescriptor<'p>),
+    Message(MessageDescriptor),
     /// A field of a message.
-    Field(FieldDescriptor<'p>),
+    Field(FieldDescriptor),
     /// A oneof of a message.
-    Oneof(OneofDescriptor<'p>),
+    Oneof(OneofDescriptor),
     /// A service.
-    Service(ServiceDescriptor<'p>),
+    Service(ServiceDescriptor),
     /// A method of a service.
-    Method(MethodDescriptor<'p>),
+    Method(MethodDescriptor),
     /// An enum.
-    Enum(EnumDescriptor<'p>),
+    Enum(EnumDescriptor),
     /// A value of an enum.
-    EnumValue(EnumValueDescriptor<'p>),
+    EnumValue(EnumValueDescriptor),
     /// An extension.
-    Extension(ExtensionDescriptor<'p>),
+    Extension(ExtensionDescriptor),
 }
 
 /// What a full name means, and where it is declared.
 #[derive(Debug, Clone, PartialEq, Eq, Hash)]
 #[non_exhaustive]
-pub struct Found<'p> {
+pub struct Found {
     /// What it means.
-    pub definition: Definition<'p>,
+    pub definition: Definition,
     /// The file that declares it; of a package, which several may declare, the first.
-    pub file: FileDescriptor<'p>,
+    pub file: FileDescriptor,
     /// The path of the name in the record of the file: numbers of fields, and positions from 0.
     pub path: Vec<i32>,
 }
 
 impl DescriptorPool {
-    /// A pool without files, which takes no memory.
+    /// A pool without files.
     #[must_use]
-    pub const fn new() -> DescriptorPool {
-        DescriptorPool {
-            raw: RawPool::new(),
-        }
+    pub fn new() -> DescriptorPool {
+        DescriptorPool::default()
     }
 
     /// A pool with the files of a `FileDescriptorSet`, linked in one batch.
@@ -106,8 +109,7 @@ impl DescriptorPool {
         &mut self,
         bytes: impl AsRef<[u8]>,
     ) -> Result<(), DescriptorError> {
-        let added = self.raw.add_set(bytes.as_ref());
-        self.answer(added)
+        self.add(|raw| raw.add_set(bytes.as_ref()))
     }
 
     /// Links the file of a `FileDescriptorProto`, as a batch of its own. Where the pool has a file
@@ -119,8 +121,7 @@ impl DescriptorPool {
         &mut self,
         bytes: impl AsRef<[u8]>,
     ) -> Result<(), DescriptorError> {
-        let added = self.raw.add_file(bytes.as_ref());
-        self.answer(added)
+        self.add(|raw| raw.add_file(bytes.as_ref()))
     }
 
     /// As [`decode_file_descriptor_set`](Self::decode_file_descriptor_set): a record is handed over
@@ -157,14 +158,12 @@ impl DescriptorPool {
         I: IntoIterator,
         I::Item: AsRef<[u8]>,
     {
-        let mut set = Vec::new();
+        let (mut bytes, mut lens) = (Vec::new(), Vec::new());
         for file in files {
-            let file = file.as_ref();
-            set.push(FILE_OF_SET);
-            push_varint(&mut set, file.len());
-            set.extend_from_slice(file);
+            bytes.extend_from_slice(file.as_ref());
+            lens.push(file.as_ref().len());
         }
-        self.decode_file_descriptor_set(&set)
+        self.add(|raw| raw.add_files(&bytes, &lens))
     }
 
     /// Links the files that a script of lines declares, in one batch. Its commands are passed over.
@@ -172,34 +171,38 @@ impl DescriptorPool {
     /// # Errors
     /// Why they are not linked. The pool is then what it was.
     pub fn add_script(&mut self, script: impl AsRef<[u8]>) -> Result<(), DescriptorError> {
-        let added = self.raw.add_script(script.as_ref());
-        self.answer(added)
+        self.add(|raw| raw.add_script(script.as_ref()))
     }
 
-    fn answer(&self, added: Added) -> Result<(), DescriptorError> {
-        match added {
-            Added::Done => Ok(()),
-            Added::Refused => Err(DescriptorError::refused(&self.raw.report_json())),
-            Added::Fault => Err(DescriptorError::unreadable(&self.raw.report_json())),
-            Added::TooMany => Err(DescriptorError::too_many(&self.raw.report_json())),
-            Added::OutOfMemory => Err(DescriptorError::OutOfMemory),
+    /// Links files. A pool that is shared is copied, and takes the place of the copied one where
+    /// there are more files in it.
+    fn add(&mut self, call: impl FnOnce(&mut RawPool) -> Added) -> Result<(), DescriptorError> {
+        if let Some(shared) = Arc::get_mut(&mut self.shared) {
+            let added = shared.change(call);
+            return answer(&shared.raw, added);
         }
+        let mut copy = self.shared.raw.try_clone()?;
+        let added = call(&mut copy);
+        answer(&copy, added)?;
+        if copy.counts().files > self.shared.raw.counts().files {
+            self.shared = Arc::new(Shared::new(copy));
+        }
+        Ok(())
     }
 
     /// Sets how many faults are told at most where files break rules, from the next call on: a
-    /// hundred where this was never called. A copy of the pool has the same limit.
+    /// hundred where this was never called. Clones that are made later have the same limit.
     ///
     /// # Errors
-    /// Where memory was refused, as it can be for a pool without files. The limit stays then.
+    /// Where memory was refused. The limit stays then.
     pub fn limit_faults(&mut self, most: usize) -> Result<(), OutOfMemory> {
-        self.raw.limit_faults(most)
-    }
-
-    /// What the last call tells that was to link files, in lines for people, with notes; empty
-    /// where it linked them, or memory was refused.
-    #[must_use]
-    pub fn report(&self) -> String {
-        self.raw.report()
+        if let Some(shared) = Arc::get_mut(&mut self.shared) {
+            return shared.change(|raw| raw.limit_faults(most));
+        }
+        let mut copy = self.shared.raw.try_clone()?;
+        copy.limit_faults(most)?;
+        self.shared = Arc::new(Shared::new(copy));
+        Ok(())
     }
 
     /// The linked files, as the bytes of one `FileDescriptorSet`.
@@ -216,43 +219,38 @@ impl DescriptorPool {
     /// # Errors
     /// Where memory was refused.
     pub fn try_encode_to_vec(&self) -> Result<Vec<u8>, OutOfMemory> {
-        self.raw.linked()
-    }
-
-    /// A pool with equal contents, which shares nothing with this one.
-    ///
-    /// # Errors
-    /// Where memory was refused.
-    pub fn try_clone(&self) -> Result<DescriptorPool, OutOfMemory> {
-        Ok(DescriptorPool {
-            raw: self.raw.try_clone()?,
-        })
+        self.shared.raw.linked()
     }
 
     /// What a full name means, which may have one leading dot.
     #[must_use]
-    pub fn find(&self, full_name: &str) -> Option<Found<'_>> {
-        let (item, file) = self.raw.find(full_name)?;
+    pub fn find(&self, full_name: &str) -> Option<Found> {
+        let (item, file) = self.shared.raw.find(full_name)?;
         Some(Found {
             definition: self.definition(item),
             file: FileDescriptor::new(self, file),
-            path: self.raw.find_path(full_name)?,
+            path: self.shared.raw.find_path(full_name)?,
         })
     }
 
-    fn definition(&self, item: ffi::Item) -> Definition<'_> {
+    fn definition(&self, item: ffi::Item) -> Definition {
         let ffi::Item {
-            index, position, ..
+            kind,
+            index,
+            position,
         } = item;
-        match item.kind {
-            ffi::MESSAGE => Definition::Message(MessageDescriptor::new(self, index)),
-            ffi::FIELD => Definition::Field(FieldDescriptor::new(self, index, position)),
-            ffi::ONEOF => Definition::Oneof(OneofDescriptor::new(self, index, position)),
-            ffi::SERVICE => Definition::Service(ServiceDescriptor::new(self, index)),
-            ffi::METHOD => Definition::Method(MethodDescriptor::new(self, index, position)),
-            ffi::ENUM => Definition::Enum(EnumDescriptor::new(self, index)),
+        let message = || MessageDescriptor::new(self, index);
+        let enumeration = || EnumDescriptor::new(self, index);
+        let service = || ServiceDescriptor::new(self, index);
+        match kind {
+            ffi::MESSAGE => Definition::Message(message()),
+            ffi::FIELD => Definition::Field(FieldDescriptor::new(&message(), position)),
+            ffi::ONEOF => Definition::Oneof(OneofDescriptor::new(&message(), position)),
+            ffi::SERVICE => Definition::Service(service()),
+            ffi::METHOD => Definition::Method(MethodDescriptor::new(&service(), position)),
+            ffi::ENUM => Definition::Enum(enumeration()),
             ffi::ENUM_VALUE => {
-                Definition::EnumValue(EnumValueDescriptor::new(self, index, position))
+                Definition::EnumValue(EnumValueDescriptor::new(&enumeration(), position))
             }
             ffi::EXTENSION => Definition::Extension(ExtensionDescriptor::new(self, index)),
             _ => Definition::Package,
@@ -261,8 +259,8 @@ impl DescriptorPool {
 
     /// The message with a full name.
     #[must_use]
-    pub fn get_message_by_name(&self, name: &str) -> Option<MessageDescriptor<'_>> {
-        match self.definition(self.raw.find(name)?.0) {
+    pub fn get_message_by_name(&self, name: &str) -> Option<MessageDescriptor> {
+        match self.definition(self.shared.raw.find(name)?.0) {
             Definition::Message(message) => Some(message),
             _ => None,
         }
@@ -270,8 +268,8 @@ impl DescriptorPool {
 
     /// The enum with a full name.
     #[must_use]
-    pub fn get_enum_by_name(&self, name: &str) -> Option<EnumDescriptor<'_>> {
-        match self.definition(self.raw.find(name)?.0) {
+    pub fn get_enum_by_name(&self, name: &str) -> Option<EnumDescriptor> {
+        match self.definition(self.shared.raw.find(name)?.0) {
             Definition::Enum(enumeration) => Some(enumeration),
             _ => None,
         }
@@ -279,8 +277,8 @@ impl DescriptorPool {
 
     /// The service with a full name.
     #[must_use]
-    pub fn get_service_by_name(&self, name: &str) -> Option<ServiceDescriptor<'_>> {
-        match self.definition(self.raw.find(name)?.0) {
+    pub fn get_service_by_name(&self, name: &str) -> Option<ServiceDescriptor> {
+        match self.definition(self.shared.raw.find(name)?.0) {
             Definition::Service(service) => Some(service),
             _ => None,
         }
@@ -288,23 +286,24 @@ impl DescriptorPool {
 
     /// The extension with a full name.
     #[must_use]
-    pub fn get_extension_by_name(&self, name: &str) -> Option<ExtensionDescriptor<'_>> {
-        match self.definition(self.raw.find(name)?.0) {
+    pub fn get_extension_by_name(&self, name: &str) -> Option<ExtensionDescriptor> {
+        match self.definition(self.shared.raw.find(name)?.0) {
             Definition::Extension(extension) => Some(extension),
             _ => None,
         }
     }
 
-    /// The file with a name. It is looked for among all files, one after another.
+    /// The file with a name.
     #[must_use]
-    pub fn get_file_by_name(&self, name: &str) -> Option<FileDescriptor<'_>> {
-        self.files().find(|file| file.name() == name)
+    pub fn get_file_by_name(&self, name: &str) -> Option<FileDescriptor> {
+        let index = self.shared.raw.file_named(name)?;
+        Some(FileDescriptor::new(self, index))
     }
 
     /// How much the pool has of each kind.
     #[must_use]
     pub fn counts(&self) -> Counts {
-        let counts = self.raw.counts();
+        let counts = self.shared.raw.counts();
         Counts {
             files: counts.files,
             messages: counts.messages,
@@ -315,32 +314,44 @@ impl DescriptorPool {
     }
 
     /// The files, in the order of linking.
-    pub fn files(&self) -> impl ExactSizeIterator<Item = FileDescriptor<'_>> {
+    pub fn files(
+        &self,
+    ) -> impl ExactSizeIterator<Item = FileDescriptor> + DoubleEndedIterator + '_ {
         (0..self.counts().files).map(move |index| FileDescriptor::new(self, index))
     }
 
     /// The messages, nested ones too, in the order of linking.
-    pub fn all_messages(&self) -> impl ExactSizeIterator<Item = MessageDescriptor<'_>> {
+    pub fn all_messages(
+        &self,
+    ) -> impl ExactSizeIterator<Item = MessageDescriptor> + DoubleEndedIterator + '_ {
         (0..self.counts().messages).map(move |index| MessageDescriptor::new(self, index))
     }
 
     /// As [`all_messages`](Self::all_messages).
-    pub fn messages(&self) -> impl ExactSizeIterator<Item = MessageDescriptor<'_>> {
+    pub fn messages(
+        &self,
+    ) -> impl ExactSizeIterator<Item = MessageDescriptor> + DoubleEndedIterator + '_ {
         self.all_messages()
     }
 
     /// The enums, nested ones too, in the order of linking.
-    pub fn all_enums(&self) -> impl ExactSizeIterator<Item = EnumDescriptor<'_>> {
+    pub fn all_enums(
+        &self,
+    ) -> impl ExactSizeIterator<Item = EnumDescriptor> + DoubleEndedIterator + '_ {
         (0..self.counts().enums).map(move |index| EnumDescriptor::new(self, index))
     }
 
     /// The services, in the order of linking.
-    pub fn services(&self) -> impl ExactSizeIterator<Item = ServiceDescriptor<'_>> {
+    pub fn services(
+        &self,
+    ) -> impl ExactSizeIterator<Item = ServiceDescriptor> + DoubleEndedIterator + '_ {
         (0..self.counts().services).map(move |index| ServiceDescriptor::new(self, index))
     }
 
     /// The extensions, nested ones too, in the order of linking.
-    pub fn all_extensions(&self) -> impl ExactSizeIterator<Item = ExtensionDescriptor<'_>> {
+    pub fn all_extensions(
+        &self,
+    ) -> impl ExactSizeIterator<Item = ExtensionDescriptor> + DoubleEndedIterator + '_ {
         (0..self.counts().extensions).map(move |index| ExtensionDescriptor::new(self, index))
     }
 
@@ -353,28 +364,28 @@ impl DescriptorPool {
     }
 }
 
-/// The tag of a file in a `FileDescriptorSet`: field 1, a run of bytes.
-const FILE_OF_SET: u8 = 0x0a;
-
-/// A length, seven bits a byte, the lowest first.
-fn push_varint(bytes: &mut Vec<u8>, mut number: usize) {
-    while number >= 0x80 {
-        bytes.push(number as u8 | 0x80);
-        number >>= 7;
-    }
-    bytes.push(number as u8);
-}
-
-impl Clone for DescriptorPool {
-    /// A pool with equal contents. It panics where memory was refused; `try_clone` does not.
-    fn clone(&self) -> DescriptorPool {
-        self.try_clone().expect("a copy of the pool")
+/// How a call ended that was to link files.
+fn answer(raw: &RawPool, added: Added) -> Result<(), DescriptorError> {
+    match added {
+        Added::Done => Ok(()),
+        Added::Refused => Err(DescriptorError::refused(&raw.report_json(), &raw.report())),
+        Added::Fault => Err(DescriptorError::unreadable(&raw.report_json())),
+        Added::TooMany => Err(DescriptorError::too_many(&raw.report_json())),
+        Added::OutOfMemory => Err(DescriptorError::OutOfMemory),
     }
 }
 
-impl Default for DescriptorPool {
-    fn default() -> DescriptorPool {
-        DescriptorPool::new()
+impl PartialEq for DescriptorPool {
+    fn eq(&self, other: &DescriptorPool) -> bool {
+        Arc::ptr_eq(&self.shared, &other.shared)
+    }
+}
+
+impl Eq for DescriptorPool {}
+
+impl Hash for DescriptorPool {
+    fn hash<H: Hasher>(&self, state: &mut H) {
+        Arc::as_ptr(&self.shared).hash(state);
     }
 }
 

@@ -1,28 +1,35 @@
-//! The calls of the library, each as a safe function. All `unsafe` code of the crate stands here.
+//! The calls of the library, each as a safe function. All `unsafe` code of the crate stands here and
+//! in `once.rs`.
 //!
 //! Of each call the same is to be seen, and is not said again below. The pool is null or what the
-//! library left there. It is not `Sync`, and no reference into it is ever lent, so one call at a
-//! time uses it. Each other pointer is that of a slice or a value that is borrowed for the call, so
-//! it is not null, and it is passed with the slice's own length. What is written is borrowed by
-//! `&mut`, so it overlaps nothing. The calls take any numbers.
+//! library left there. A call that changes it has it by `&mut`, so no other call uses it meanwhile.
+//! A reader is passed a view by `RawPool::with`. Each other pointer is that of a slice or a value
+//! that is borrowed for the call, so it is not null, and it is passed with the slice's own length.
+//! What is written is borrowed by `&mut`, so it overlaps nothing. The calls take any numbers.
 
 use crate::faults::OutOfMemory;
 use crate::ffi;
-use std::cell::UnsafeCell;
 
 /// How long a text may be that is had by one call.
 const FIRST_ROOM: usize = 128;
+
+/// How long a path may be that is had by one call.
+const FIRST_PATH: usize = 16;
 
 /// The first call of two for linked files, which only counts their bytes.
 const NO_ROOM: usize = 0;
 
 /// A pool of the library.
 pub(crate) struct RawPool {
-    pool: UnsafeCell<ffi::Pool>,
+    pool: ffi::Pool,
 }
 
 // SAFETY: that a pool may be handed to another thread is proved of the library's handle.
 unsafe impl Send for RawPool {}
+
+// SAFETY: a shared pool is only read, by views. It is proved of the library that a view may be
+// handed to another thread, and that many readers may use one pool at once.
+unsafe impl Sync for RawPool {}
 
 /// How a call ended that was to link files. The pool is as it was after all but `Done`.
 #[derive(Debug, Clone, Copy, PartialEq, Eq)]
@@ -47,27 +54,45 @@ fn added(status: u8) -> Added {
 impl RawPool {
     pub const fn new() -> RawPool {
         RawPool {
-            pool: UnsafeCell::new(ffi::Pool::EMPTY),
+            pool: ffi::Pool::EMPTY,
         }
     }
 
+    /// Calls a reader. A reader is passed a copy of the pool's pointer, as the header does it, so
+    /// that any number of threads may read at once.
+    fn with<T>(&self, read: impl FnOnce(*mut ffi::Pool) -> T) -> T {
+        read(&mut self.pool.view())
+    }
+
+    /// The pool for a call that changes it.
+    fn alone(&mut self) -> *mut ffi::Pool {
+        &mut self.pool
+    }
+
     pub fn add_set(&mut self, bytes: &[u8]) -> Added {
-        let pool = self.pool.get_mut();
+        let pool = self.alone();
         added(unsafe { ffi::protolink_pool_add_set(pool, bytes.as_ptr(), bytes.len()) })
     }
 
     pub fn add_file(&mut self, bytes: &[u8]) -> Added {
-        let pool = self.pool.get_mut();
+        let pool = self.alone();
         added(unsafe { ffi::protolink_pool_add_file(pool, bytes.as_ptr(), bytes.len()) })
     }
 
+    /// Links files whose bytes stand behind one another, each with its length.
+    pub fn add_files(&mut self, bytes: &[u8], lens: &[usize]) -> Added {
+        let (pool, count) = (self.alone(), lens.len());
+        let (at, len) = (bytes.as_ptr(), bytes.len());
+        added(unsafe { ffi::protolink_pool_add_files(pool, at, len, lens.as_ptr(), count) })
+    }
+
     pub fn add_script(&mut self, script: &[u8]) -> Added {
-        let pool = self.pool.get_mut();
+        let pool = self.alone();
         added(unsafe { ffi::protolink_pool_add_script(pool, script.as_ptr(), script.len()) })
     }
 
     pub fn limit_faults(&mut self, most: usize) -> Result<(), OutOfMemory> {
-        match unsafe { ffi::protolink_pool_limit_faults(self.pool.get_mut(), most) } {
+        match unsafe { ffi::protolink_pool_limit_faults(self.alone(), most) } {
             ffi::DONE => Ok(()),
             _ => Err(OutOfMemory),
         }
@@ -75,7 +100,8 @@ impl RawPool {
 
     pub fn try_clone(&self) -> Result<RawPool, OutOfMemory> {
         let mut copy = RawPool::new();
-        match unsafe { ffi::protolink_pool_clone(self.pool.get(), copy.pool.get_mut()) } {
+        let to = copy.alone();
+        match self.with(|pool| unsafe { ffi::protolink_pool_clone(pool, to) }) {
             ffi::DONE => Ok(copy),
             _ => Err(OutOfMemory),
         }
@@ -92,13 +118,8 @@ impl RawPool {
         lengthen(&mut buffer, room)?;
         let mut length = 0;
         loop {
-            let status = call(
-                self.pool.get(),
-                buffer.as_mut_ptr(),
-                buffer.len(),
-                &mut length,
-            );
-            match status {
+            let (at, room) = (buffer.as_mut_ptr(), buffer.len());
+            match self.with(|pool| call(pool, at, room, &mut length)) {
                 ffi::DONE => {
                     buffer.truncate(length);
                     return Ok(Some(buffer));
@@ -110,31 +131,31 @@ impl RawPool {
         }
     }
 
-    /// A text of a call for which the library takes no memory. It panics where there is none for the
-    /// text.
+    /// A text of a call for which the library takes no memory. It panics where there is none for
+    /// the text.
     fn text(
         &self,
         call: impl Fn(*mut ffi::Pool, *mut u8, usize, *mut usize) -> u8,
-    ) -> Option<String> {
+    ) -> Option<Box<str>> {
         let bytes = self.written(FIRST_ROOM, call).expect("memory for a text")?;
-        Some(String::from_utf8_lossy(&bytes).into_owned())
+        Some(String::from_utf8_lossy(&bytes).into())
     }
 
     /// A value that a call writes, or none where the pool does not have it.
     fn value<T: Default>(&self, call: impl FnOnce(*mut ffi::Pool, *mut T) -> u8) -> Option<T> {
         let mut value = T::default();
-        match call(self.pool.get(), &mut value) {
+        match self.with(|pool| call(pool, &mut value)) {
             ffi::DONE => Some(value),
             _ => None,
         }
     }
 
-    pub fn report(&self) -> String {
+    pub fn report(&self) -> Box<str> {
         self.text(|p, at, room, len| unsafe { ffi::protolink_pool_report(p, at, room, len) })
             .unwrap_or_default()
     }
 
-    pub fn report_json(&self) -> String {
+    pub fn report_json(&self) -> Box<str> {
         self.text(|p, at, room, len| unsafe { ffi::protolink_pool_report_json(p, at, room, len) })
             .unwrap_or_default()
     }
@@ -161,15 +182,14 @@ impl RawPool {
     }
 
     pub fn find_path(&self, name: &str) -> Option<Vec<i32>> {
-        self.written(16, |p, at, room, len| unsafe {
+        self.numbers(|p, at, room, len| unsafe {
             ffi::protolink_pool_find_path(p, name.as_ptr(), name.len(), at, room, len)
         })
-        .expect("memory for a path")
     }
 
     pub fn counts(&self) -> ffi::Counts {
         let mut counts = ffi::Counts::default();
-        unsafe { ffi::protolink_pool_counts(self.pool.get(), &mut counts) };
+        self.with(|pool| unsafe { ffi::protolink_pool_counts(pool, &mut counts) });
         counts
     }
 
@@ -225,6 +245,40 @@ impl RawPool {
         self.value(|p, at| unsafe { ffi::protolink_oneof_field(p, message, oneof, position, at) })
     }
 
+    pub fn file_named(&self, name: &str) -> Option<u32> {
+        self.value(|p, at| unsafe { ffi::protolink_file_by_name(p, name.as_ptr(), name.len(), at) })
+    }
+
+    pub fn extension_range(&self, message: u32, position: u32) -> Option<ffi::Range> {
+        self.value(|p, range| unsafe {
+            ffi::protolink_message_extension_range(p, message, position, range)
+        })
+    }
+
+    pub fn message_reserved_range(&self, message: u32, position: u32) -> Option<ffi::Range> {
+        self.value(|p, range| unsafe {
+            ffi::protolink_message_reserved_range(p, message, position, range)
+        })
+    }
+
+    pub fn enum_reserved_range(&self, enumeration: u32, position: u32) -> Option<ffi::Range> {
+        self.value(|p, range| unsafe {
+            ffi::protolink_enum_reserved_range(p, enumeration, position, range)
+        })
+    }
+
+    pub fn message_reserved_name(&self, message: u32, position: u32) -> Option<Box<str>> {
+        self.text(|p, at, room, len| unsafe {
+            ffi::protolink_message_reserved_name(p, message, position, at, room, len)
+        })
+    }
+
+    pub fn enum_reserved_name(&self, enumeration: u32, position: u32) -> Option<Box<str>> {
+        self.text(|p, at, room, len| unsafe {
+            ffi::protolink_enum_reserved_name(p, enumeration, position, at, room, len)
+        })
+    }
+
     pub fn field_named(&self, message: u32, name: &str) -> Option<u32> {
         self.value(|p, at| unsafe {
             ffi::protolink_field_by_name(p, message, name.as_ptr(), name.len(), at)
@@ -247,24 +301,91 @@ impl RawPool {
         })
     }
 
-    pub fn file_name(&self, file: u32) -> Option<String> {
+    pub fn enum_value_numbered(&self, enumeration: u32, number: i32) -> Option<u32> {
+        self.value(|p, at| unsafe {
+            ffi::protolink_enum_value_by_number(p, enumeration, number, at)
+        })
+    }
+
+    /// It panics where memory was refused.
+    pub fn method_named(&self, service: u32, name: &str) -> Option<u32> {
+        let mut at = 0;
+        let status = self.with(|p| unsafe {
+            ffi::protolink_method_by_name(p, service, name.as_ptr(), name.len(), &mut at)
+        });
+        assert_ne!(status, ffi::NO_MEMORY, "memory for the name of a method");
+        if status == ffi::DONE {
+            Some(at)
+        } else {
+            None
+        }
+    }
+
+    pub fn file_name(&self, file: u32) -> Option<Box<str>> {
         self.text(|p, at, room, len| unsafe { ffi::protolink_file_name(p, file, at, room, len) })
     }
 
-    pub fn file_package(&self, file: u32) -> Option<String> {
+    pub fn file_package(&self, file: u32) -> Option<Box<str>> {
         self.text(|p, at, room, len| unsafe { ffi::protolink_file_package(p, file, at, room, len) })
     }
 
-    pub fn name(&self, item: ffi::Item) -> Option<String> {
+    pub fn name(&self, item: ffi::Item) -> Option<Box<str>> {
         self.text(|p, at, room, len| unsafe { ffi::protolink_name(p, &item, at, room, len) })
     }
 
-    pub fn full_name(&self, item: ffi::Item) -> Option<String> {
+    pub fn full_name(&self, item: ffi::Item) -> Option<Box<str>> {
         self.text(|p, at, room, len| unsafe { ffi::protolink_full_name(p, &item, at, room, len) })
     }
 
-    pub fn json_name(&self, item: ffi::Item) -> Option<String> {
+    pub fn json_name(&self, item: ffi::Item) -> Option<Box<str>> {
         self.text(|p, at, room, len| unsafe { ffi::protolink_json_name(p, &item, at, room, len) })
+    }
+
+    /// The numbers of a call for which the library takes no memory. It panics where there is none
+    /// for them.
+    fn numbers(
+        &self,
+        call: impl Fn(*mut ffi::Pool, *mut i32, usize, *mut usize) -> u8,
+    ) -> Option<Vec<i32>> {
+        self.written(FIRST_PATH, call).expect("memory for numbers")
+    }
+
+    pub fn path(&self, item: ffi::Item) -> Option<Vec<i32>> {
+        self.numbers(|p, at, room, len| unsafe { ffi::protolink_path(p, &item, at, room, len) })
+    }
+
+    pub fn span(&self, item: ffi::Item) -> Option<Vec<i32>> {
+        self.numbers(|p, at, room, len| unsafe { ffi::protolink_span(p, &item, at, room, len) })
+    }
+
+    pub fn leading_comments(&self, item: ffi::Item) -> Option<Box<str>> {
+        self.text(|p, at, room, len| unsafe {
+            ffi::protolink_leading_comments(p, &item, at, room, len)
+        })
+    }
+
+    pub fn trailing_comments(&self, item: ffi::Item) -> Option<Box<str>> {
+        self.text(|p, at, room, len| unsafe {
+            ffi::protolink_trailing_comments(p, &item, at, room, len)
+        })
+    }
+
+    pub fn detached_comments(&self, item: ffi::Item, position: u32) -> Option<Box<str>> {
+        self.text(|p, at, room, len| unsafe {
+            ffi::protolink_detached_comments(p, &item, position, at, room, len)
+        })
+    }
+
+    pub fn file_options(&self, file: u32) -> Result<Option<Vec<u8>>, OutOfMemory> {
+        self.written(NO_ROOM, |p, at, room, len| unsafe {
+            ffi::protolink_file_options(p, file, at, room, len)
+        })
+    }
+
+    pub fn options(&self, item: ffi::Item) -> Result<Option<Vec<u8>>, OutOfMemory> {
+        self.written(NO_ROOM, |p, at, room, len| unsafe {
+            ffi::protolink_options(p, &item, at, room, len)
+        })
     }
 
     pub fn default(&self, item: ffi::Item) -> Result<Option<Vec<u8>>, OutOfMemory> {
@@ -274,9 +395,15 @@ impl RawPool {
     }
 }
 
+impl Default for RawPool {
+    fn default() -> RawPool {
+        RawPool::new()
+    }
+}
+
 impl Drop for RawPool {
     fn drop(&mut self) {
-        unsafe { ffi::protolink_pool_clear(self.pool.get_mut()) }
+        unsafe { ffi::protolink_pool_clear(self.alone()) }
     }
 }
 

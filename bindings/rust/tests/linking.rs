@@ -1,9 +1,8 @@
 //! A pool from its files to what it has, and why files are not linked.
 
-use protolink::{
-    Cardinality, DefaultValue, Definition, DescriptorError, DescriptorPool, Kind, Syntax,
-};
-use std::sync::Mutex;
+use protolink::{Cardinality, Definition, DescriptorError, DescriptorPool, Kind, Syntax, Value};
+use std::fmt::Debug;
+use std::sync::Barrier;
 use std::thread;
 
 /// Two files, the second of which the first imports, with one declaration of each kind.
@@ -61,10 +60,18 @@ at 4,0,2,0,6 7,8,9
 end
 ";
 
+/// The full names of descriptors, as `Debug` shows them.
+fn names<D: Debug>(descriptors: impl Iterator<Item = D>) -> Vec<String> {
+    let shown = descriptors.map(|descriptor| format!("{descriptor:?}"));
+    shown
+        .map(|shown| shown.split('"').nth(1).unwrap().to_string())
+        .collect()
+}
+
 fn shop() -> DescriptorPool {
     let mut pool = DescriptorPool::new();
     if let Err(error) = pool.add_script(SHOP) {
-        panic!("{error}\n{}", pool.report());
+        panic!("{}", error.report());
     }
     pool
 }
@@ -76,15 +83,17 @@ fn an_empty_pool_has_nothing() {
     assert!(pool.find("p").is_none());
     assert!(pool.get_message_by_name("p.M").is_none());
     assert_eq!(pool.encode_to_vec(), b"");
-    assert_eq!(pool.report(), "");
-    assert_eq!(pool.clone().counts(), pool.counts());
+    assert_eq!(pool.clone(), pool);
+    assert_ne!(DescriptorPool::new(), pool);
 }
 
 #[test]
 fn files_tell_what_they_are() {
     let pool = shop();
-    let names: Vec<_> = pool.files().map(|file| file.name()).collect();
-    assert_eq!(names, ["shop/order.proto", "shop/base.proto"]);
+    let files: Vec<_> = pool.files().collect();
+    assert_eq!(files[0].name(), "shop/order.proto");
+    assert_eq!(files[1].name(), "shop/base.proto");
+    assert!(pool.files().rev().eq(files.into_iter().rev()));
     let order = pool.get_file_by_name("shop/order.proto").unwrap();
     assert_eq!(order.package_name(), "shop.v1");
     assert_eq!(order.syntax(), Syntax::Proto2);
@@ -94,34 +103,55 @@ fn files_tell_what_they_are() {
         [pool.get_file_by_name("shop/base.proto").unwrap()]
     );
     assert!(pool.get_file_by_name("none.proto").is_none());
+    let mut pool = DescriptorPool::new();
+    pool.add_script(
+        "file a.proto\nimport b.proto\nimport c.proto\npublic 1\nend\nfile b.proto\nend\n\
+        file c.proto\nend\n",
+    )
+    .unwrap();
+    let mut files = pool.files();
+    let public: Vec<_> = files.next().unwrap().public_dependencies().collect();
+    assert_eq!(public, [files.next_back().unwrap()]);
 }
 
 #[test]
 fn a_pool_lists_what_it_has() {
     let pool = shop();
-    let messages: Vec<_> = pool.all_messages().map(|it| it.full_name()).collect();
-    assert_eq!(messages, ["shop.v1.Order", "shop.v1.Order.Line"]);
-    assert!(pool.messages().eq(pool.all_messages()));
-    let enums: Vec<_> = pool.all_enums().map(|it| it.full_name()).collect();
-    assert_eq!(enums, ["shop.v1.Kind", "shop.v1.Status"]);
-    let services: Vec<_> = pool.services().map(|it| it.full_name()).collect();
-    assert_eq!(services, ["shop.v1.Shop"]);
-    let extensions: Vec<_> = pool.all_extensions().map(|it| it.full_name()).collect();
-    assert_eq!(extensions, ["shop.v1.weight"]);
-    let copy = pool.try_clone().unwrap();
-    assert_eq!(copy.counts(), pool.counts());
-    let order = copy.get_message_by_name("shop.v1.Order").unwrap();
-    assert!(std::ptr::eq(order.parent_pool(), &copy));
+    assert_eq!(
+        names(pool.all_messages()),
+        ["shop.v1.Order", "shop.v1.Order.Line"]
+    );
+    assert_eq!(names(pool.all_enums()), ["shop.v1.Kind", "shop.v1.Status"]);
+    assert_eq!(names(pool.services()), ["shop.v1.Shop"]);
+    assert_eq!(names(pool.all_extensions()), ["shop.v1.weight"]);
+}
+
+#[test]
+fn files_and_messages_list_what_is_declared_in_them() {
+    let pool = shop();
+    let file = pool.get_file_by_name("shop/order.proto").unwrap();
+    assert_eq!(names(file.messages()), ["shop.v1.Order"]);
+    assert_eq!(names(file.enums()), ["shop.v1.Kind"]);
+    assert_eq!(names(file.services()), ["shop.v1.Shop"]);
+    assert_eq!(names(file.extensions()), ["shop.v1.weight"]);
+    let base = pool.get_file_by_name("shop/base.proto").unwrap();
+    assert_eq!(names(base.messages()), [""; 0]);
+    assert_eq!(names(base.enums()), ["shop.v1.Status"]);
+    let order = pool.get_message_by_name("shop.v1.Order").unwrap();
+    assert_eq!(names(order.child_messages()), ["shop.v1.Order.Line"]);
+    assert_eq!(order.child_enums().len(), 0);
+    assert_eq!(order.child_extensions().len(), 0);
 }
 
 #[test]
 fn messages_have_their_fields() {
     let pool = shop();
     let order = pool.get_message_by_name(".shop.v1.Order").unwrap();
-    assert_eq!((order.name(), order.index()), ("Order".to_string(), 0));
+    assert_eq!((order.name(), order.index()), ("Order", 0));
     assert_eq!(order.parent_file().name(), "shop/order.proto");
     assert_eq!(order.parent_message(), None);
-    let fields: Vec<_> = order.fields().map(|f| (f.name(), f.number())).collect();
+    let fields: Vec<_> = order.fields().collect();
+    let fields: Vec<_> = fields.iter().map(|f| (f.name(), f.number())).collect();
     let wanted = [
         ("id", 1),
         ("lines", 2),
@@ -129,30 +159,28 @@ fn messages_have_their_fields() {
         ("note", 4),
         ("raw", 5),
     ];
-    assert_eq!(
-        fields,
-        wanted.map(|(name, number)| (name.to_string(), number))
-    );
+    assert_eq!(fields, wanted);
     let line = pool.get_message_by_name("shop.v1.Order.Line").unwrap();
-    assert_eq!(line.parent_message(), Some(order));
+    assert_eq!(line.parent_message(), Some(order.clone()));
     let lines = order.get_field(2).unwrap();
-    assert_eq!(lines.kind(), Kind::Message(line));
+    assert_eq!(lines.kind(), Kind::Message(line.clone()));
+    assert_eq!(lines.kind().to_string(), "shop.v1.Order.Line");
+    assert_eq!(lines.kind().as_message(), Some(&line));
     assert_eq!(lines.cardinality(), Cardinality::Repeated);
     assert!(!lines.supports_presence() && !lines.is_packed() && !lines.is_group());
     assert_eq!(lines.full_name(), "shop.v1.Order.lines");
-    assert_eq!(lines.parent_message(), order);
-    assert_eq!(order.get_field_by_name("lines"), Some(lines));
+    assert_eq!(lines.parent_message(), &order);
+    assert_eq!(lines.path(), [4, 0, 2, 1]);
+    assert_eq!(order.get_field_by_name("lines"), Some(lines.clone()));
     assert!(order.get_field_by_name("raw").unwrap().is_packed());
     assert!(order.get_field(1).unwrap().supports_presence());
     assert_eq!(order.get_field(6), None);
     assert_eq!(order.get_field_by_name("line"), None);
     assert_eq!(order.get_field_by_json_name("id"), order.get_field(1));
     assert_eq!(line.get_field_by_json_name("amount"), line.get_field(1));
-    assert_eq!(
-        line.get_field(1).unwrap().json_name().as_deref(),
-        Some("amount")
-    );
-    assert_eq!(lines.json_name(), None);
+    assert_eq!(line.get_field(1).unwrap().json_name(), "amount");
+    assert_eq!(lines.json_name(), "lines");
+    assert_eq!(order.get_field_by_json_name("lines"), Some(lines));
 }
 
 #[test]
@@ -160,17 +188,19 @@ fn fields_have_defaults() {
     let pool = shop();
     let order = pool.get_message_by_name("shop.v1.Order").unwrap();
     let default = |number| order.get_field(number).unwrap().default_value();
-    assert_eq!(default(1), None);
-    assert_eq!(default(3), Some(DefaultValue::EnumNumber(5)));
-    assert_eq!(default(4), Some(DefaultValue::String("none".to_string())));
+    let has_default = |number| order.get_field(number).unwrap().has_default_value();
+    assert!(!has_default(1) && has_default(3));
+    assert_eq!(default(1), Value::I64(0));
+    assert_eq!(default(2), Value::List(Vec::new()));
+    assert_eq!(default(3).as_enum_number(), Some(5));
+    assert_eq!(default(4).as_str(), Some("none"));
     let line = pool.get_message_by_name("shop.v1.Order.Line").unwrap();
     let count = line.get_field(1).unwrap();
-    assert_eq!(count.default_value(), Some(DefaultValue::Number(-7)));
+    assert_eq!(count.default_value().as_i32(), Some(-7));
     let weight = order.get_extension(100).unwrap();
-    assert_eq!(
-        weight.default_value(),
-        Some(DefaultValue::Float("1.5".to_string()))
-    );
+    assert_eq!(weight.default_value().as_f64(), Some(1.5));
+    let status = pool.get_enum_by_name("shop.v1.Status").unwrap();
+    assert_eq!(status.default_value().name(), "UNKNOWN");
 }
 
 #[test]
@@ -180,12 +210,20 @@ fn oneofs_and_extensions_belong_to_messages() {
     let choice = order.oneofs().next().unwrap();
     assert_eq!(choice.name(), "choice");
     let note = order.get_field_by_name("note").unwrap();
-    assert_eq!(choice.fields().collect::<Vec<_>>(), [note]);
-    assert_eq!(note.containing_oneof(), Some(choice));
+    assert!(choice.fields().eq([note.clone()]));
+    assert_eq!(note.containing_oneof(), Some(choice.clone()));
+    assert_eq!(choice.parent_message(), &order);
     assert_eq!(order.get_field(1).unwrap().containing_oneof(), None);
     let weight = pool.get_extension_by_name("shop.v1.weight").unwrap();
-    assert_eq!(order.extensions().collect::<Vec<_>>(), [weight]);
-    assert_eq!(order.get_extension(100), Some(weight));
+    assert!(order.extensions().eq([weight.clone()]));
+    assert_eq!(order.get_extension(100), Some(weight.clone()));
+    for found in [
+        order.get_extension_by_full_name("shop.v1.weight"),
+        order.get_extension_by_json_name("[shop.v1.weight]"),
+    ] {
+        assert_eq!(found.as_ref(), Some(&weight));
+    }
+    assert_eq!(order.get_extension_by_json_name("shop.v1.weight"), None);
     assert_eq!(order.get_extension(101), None);
     assert_eq!(weight.containing_message(), order);
     assert_eq!((weight.number(), weight.kind()), (100, Kind::Double));
@@ -197,22 +235,22 @@ fn oneofs_and_extensions_belong_to_messages() {
 fn enums_and_services_have_their_parts() {
     let pool = shop();
     let status = pool.get_enum_by_name("shop.v1.Status").unwrap();
-    let values: Vec<_> = status.values().map(|v| (v.name(), v.number())).collect();
-    assert_eq!(
-        values,
-        [("UNKNOWN".to_string(), 0), ("PAID".to_string(), 5)]
-    );
+    let values: Vec<_> = status.values().collect();
+    let values: Vec<_> = values.iter().map(|v| (v.name(), v.number())).collect();
+    assert_eq!(values, [("UNKNOWN", 0), ("PAID", 5)]);
     assert_eq!(status.get_value(5), status.get_value_by_name("PAID"));
     assert_eq!(status.get_value(6), None);
     assert_eq!(status.get_value(5).unwrap().full_name(), "shop.v1.PAID");
-    assert_eq!(status.get_value(5).unwrap().parent_enum(), status);
+    assert_eq!(status.get_value(5).unwrap().parent_enum(), &status);
     assert!(!status.allows_alias());
     let shop = pool.get_service_by_name("shop.v1.Shop").unwrap();
     let get = shop.methods().next().unwrap();
     assert_eq!(get.full_name(), "shop.v1.Shop.Get");
     assert_eq!(get.input().full_name(), "shop.v1.Order");
     assert_eq!(get.output().full_name(), "shop.v1.Order.Line");
-    assert_eq!(get.parent_service(), shop);
+    assert_eq!(get.parent_service(), &shop);
+    assert_eq!(shop.get_method_by_name("Get"), Some(get.clone()));
+    assert_eq!(shop.get_method_by_name("Put"), None);
     assert_eq!(get.parent_file().name(), "shop/order.proto");
 }
 
@@ -261,7 +299,8 @@ fn a_refusal_tells_faults_and_changes_nothing() {
         faults[1].to_string(),
         format!("a.proto: p.M.g: {}", first.message)
     );
-    assert!(pool.report().starts_with(&format!("{first}\n")));
+    assert!(error.report().starts_with(&format!("{first}\n")));
+    assert!(error.report().contains("note: "));
     assert_eq!(pool.encode_to_vec(), before);
     assert!(pool.find("p").is_none());
 }
@@ -302,7 +341,7 @@ fn a_hundred_faults_are_told_or_as_many_as_are_wanted() {
     let error = pool.add_script(&script).unwrap_err();
     assert_eq!(told_and_more(&error), (100, 150));
     assert!(error.to_string().ends_with("(and 249 more)"), "{error}");
-    assert!(pool.report().contains("and 150 more\n"));
+    assert!(error.report().contains("and 150 more\n"));
     for (most, told) in [
         (0, (0, 250)),
         (3, (3, 247)),
@@ -359,34 +398,106 @@ fn linked_files_are_linked_again() {
 }
 
 #[test]
-fn a_copy_is_apart() {
+fn a_clone_keeps_what_it_had() {
     let mut pool = shop();
-    let copy = pool.clone();
+    let clone = pool.clone();
+    let order = pool.get_message_by_name("shop.v1.Order").unwrap();
     pool.add_script("file c.proto\nmessage C\nend\nend\n")
         .unwrap();
     assert!(pool.get_message_by_name("C").is_some());
-    assert!(copy.get_message_by_name("C").is_none());
-    assert_eq!(copy.files().len(), 2);
+    assert!(clone.get_message_by_name("C").is_none());
+    assert_eq!(clone.files().len(), 2);
+    assert_eq!(order.parent_pool(), &clone);
+    assert_ne!(pool, clone);
+    assert_ne!(pool.get_message_by_name("shop.v1.Order").unwrap(), order);
 }
 
 #[test]
-fn a_pool_may_be_handed_over_and_shared_by_a_lock() {
+fn a_pool_to_which_nothing_is_added_stays_the_one_it_was() {
+    let mut pool = shop();
+    let order = pool.get_message_by_name("shop.v1.Order").unwrap();
+    pool.add_script(FAULTY).unwrap_err();
+    pool.add_script(SHOP).unwrap();
+    assert_eq!(order.parent_pool(), &pool);
+    assert_eq!(pool.get_message_by_name("shop.v1.Order"), Some(order));
+}
+
+#[test]
+fn names_that_were_asked_for_are_those_of_the_pool() {
+    let mut pool = DescriptorPool::new();
+    for number in 0..3 {
+        let script = format!("file {number}.proto\nmessage M{number}\nend\nend\n");
+        pool.add_script(script).unwrap();
+        let last = pool.all_messages().next_back().unwrap();
+        assert_eq!(last.name(), format!("M{number}"));
+        let file = pool.get_file_by_name(&format!("{number}.proto")).unwrap();
+        assert_eq!(file.messages().next(), Some(last));
+        assert_eq!(pool.all_messages().next().unwrap().full_name(), "M0");
+    }
+}
+
+#[test]
+fn threads_share_a_pool() {
     let pool = shop();
-    let pool = thread::spawn(move || {
-        assert!(pool.get_message_by_name("shop.v1.Order").is_some());
-        pool
-    });
-    let shared = Mutex::new(pool.join().unwrap());
-    thread::scope(|scope| {
-        for _ in 0..4 {
-            scope.spawn(|| {
+    let order = pool.get_message_by_name("shop.v1.Order").unwrap();
+    let threads: Vec<_> = (0..4)
+        .map(|_| {
+            let (pool, order) = (pool.clone(), order.clone());
+            thread::spawn(move || {
                 for _ in 0..100 {
-                    let pool = shared.lock().unwrap();
-                    assert!(pool.find("shop.v1.Order.id").is_some());
+                    let found = pool.get_message_by_name("shop.v1.Order").unwrap();
+                    assert_eq!(found, order);
+                    assert_eq!(
+                        found.fields().last().unwrap().full_name(),
+                        "shop.v1.Order.raw"
+                    );
                 }
-            });
-        }
+            })
+        })
+        .collect();
+    drop(pool);
+    for thread in threads {
+        thread.join().unwrap();
+    }
+    assert_eq!(order.parent_file().name(), "shop/order.proto");
+}
+
+/// What a pool tells of its messages, as texts and numbers.
+fn told(pool: &DescriptorPool) -> Vec<String> {
+    let fields = pool.all_messages().flat_map(|message| {
+        let fields = message.fields().map(|field| {
+            let kind = field.kind().to_string();
+            let path = field.path().to_vec();
+            format!("{} {} {kind} {path:?}", field.full_name(), field.number())
+        });
+        fields.collect::<Vec<_>>()
     });
+    let found = pool.find("shop.v1.Order.id").map(|found| found.path);
+    fields
+        .chain([format!("{found:?} {} bytes", pool.encode_to_vec().len())])
+        .collect()
+}
+
+#[test]
+fn threads_read_at_once_while_one_adds_to_a_clone() {
+    let alone = told(&shop());
+    for _ in 0..25 {
+        let (pool, start) = (shop(), Barrier::new(8));
+        thread::scope(|scope| {
+            for number in 0..8 {
+                let (mut clone, alone, start) = (pool.clone(), &alone, &start);
+                scope.spawn(move || {
+                    start.wait();
+                    assert_eq!(told(&clone), *alone);
+                    let file = format!("file more{number}.proto\nend\n");
+                    clone.add_script(file).unwrap();
+                    assert_eq!(clone.counts().files, 3);
+                });
+            }
+        });
+        assert_eq!(told(&pool), alone);
+        assert_eq!(pool.counts().files, 2);
+    }
 }
 
 #[test]

@@ -1,3 +1,3 @@
 pub mod Linked
-pub mod First
 pub mod NotRead
+mod Judged

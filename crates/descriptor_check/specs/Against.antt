@@ -1,23 +1,25 @@
 -- What the check of some inputs answers against older versions: the verdict, and behind it what an
 -- accepted batch changes of each.
-use Rattle.std.specs.Prelude.{ℕ, Bool, not, ◌==◌, List, [], ◌∷◌, ◌++◌, Result, Ok, Err, map, if◌then◌else◌}
+use Rattle.std.specs.Prelude.{ℕ, Bool, not, ◌==◌, List, [], ◌∷◌, ◌++◌, Result, Ok, Err, map, unwrap_or, if◌then◌else◌}
 use Rattle.std.specs.List.{flat_map, list_any}
 use Rattle.std.specs.declared.option.Option.{Option}
 use Rattle.std.specs.declared.option.Option.TheVariants.{None, Some}
 use Rattle.pool_types.specs.Contents.{Contents}
-use Rattle.proto_types.specs.declared.file.FileDescriptorProto.{FileDescriptorProto}
-use Rattle.change_texts.specs.Comparing.{told_changes}
-use Rattle.change_texts.specs.Texts.{changes_lines, untold_changes, with_changes}
-use Rattle.change_texts.specs.declared.changes.ToldChanges.{ToldChanges}
-use Rattle.change_texts.specs.declared.direction.Direction.{Direction}
-use Rattle.change_texts.specs.declared.direction.Direction.TheVariants as direction
+use Rattle.joined_files.specs.declared.joining.JoinedFiles.{JoinedFiles}
+use Rattle.pool_changes.specs.Comparing.{told_changes}
+use Rattle.pool_changes.specs.Texts.{changes_lines, untold_changes, with_changes}
+use Rattle.pool_changes.specs.declared.told.ToldChanges.{ToldChanges}
+use Rattle.pool_changes.specs.declared.direction.Direction.{Direction}
+use Rattle.pool_changes.specs.declared.direction.Direction.TheVariants as direction
+use Rattle.pool_changes.specs.declared.kinds.Level.{Level}
+use Rattle.pool_changes.specs.declared.kinds.Level.TheVariants.{Wire}
 use Rattle.verdict_formats.specs.Annotations.{annotations}
 use Rattle.verdict_formats.specs.declared.formats.Format.{Format}
 use Rattle.verdict_formats.specs.declared.formats.Format.TheVariants.{Text, Json, GitHub, GitLab, Sarif}
-use Rattle.descriptor_check.specs.Answers.{answer, unread_answer, verdict_answer}
+use Rattle.descriptor_check.specs.Answers.{answer, judged_answer, passed_over, unread_answer, with_complaints}
 use Rattle.descriptor_check.specs.Batches.{batch_of}
 use Rattle.descriptor_check.specs.Olders.{olders_of}
-use Rattle.descriptor_check.specs.Verdicts.{verdict_of}
+use Rattle.descriptor_check.specs.Strict.{judgement_of}
 use Rattle.descriptor_check.specs.declared.answer.Answer.{Answer}
 use Rattle.descriptor_check.specs.declared.answer.Compatibility.{Compatibility}
 use Rattle.descriptor_check.specs.declared.answer.Compatibility.TheVariants.{Backward, Forward, Full}
@@ -28,8 +30,9 @@ use Rattle.descriptor_check.specs.declared.answer.Wanted.{Wanted}
 use Rattle.descriptor_check.specs.declared.batches.NotASet.{NotASet}
 use Rattle.descriptor_check.specs.declared.inputs.Input.{Input}
 use Rattle.descriptor_check.specs.declared.olders.Older.{Older}
+use Rattle.descriptor_check.specs.declared.strict.Judgement.{Judgement}
 use Rattle.descriptor_check.specs.declared.verdicts.Verdict.{Verdict}
-use Rattle.descriptor_check.specs.declared.verdicts.Verdict.TheVariants.{Accepted, Refused, TooMany}
+use Rattle.descriptor_check.specs.declared.verdicts.Verdict.TheVariants.{Accepted, Refused, TooMany, Unequal}
 
 -- the directions that are wanted, in order
 abbrev pub directions : Option Compatibility → List Direction
@@ -38,10 +41,18 @@ directions (Some Backward) = direction.Backward ∷ []
 directions (Some Forward) = direction.Forward ∷ []
 directions (Some Full) = direction.Backward ∷ direction.Forward ∷ []
 
+-- the level that is wanted: wire, where none is said
+abbrev pub level_wanted : Wanted → Level
+level_wanted w = unwrap_or w.level Wire
+
+-- what a pool changes of an older version in a direction
+abbrev pub told_against_older : Wanted → Contents → Older → Direction → ToldChanges
+told_against_older w p o d =
+    told_changes (record { direction = d; old = o.pool; new = p }) (level_wanted w) o.name w.most
+
 -- what a pool changes of an older version, in each direction that is wanted
 abbrev pub compared_with : Wanted → Contents → Older → List ToldChanges
-compared_with w p o =
-    map (λ d. told_changes d o.name w.most o.pool p) (directions w.compatibility)
+compared_with w p o = map (told_against_older w p o) (directions w.compatibility)
 
 -- what the pool of an accepted batch changes of older versions, if the answer to it is a verdict
 abbrev pub compared_if : Wanted → List Older → Contents → Status → List ToldChanges
@@ -53,6 +64,7 @@ abbrev pub compared_for : Wanted → List Older → Verdict → Status → List 
 compared_for w olders (Accepted p) st = compared_if w olders p st
 compared_for w olders (Refused _) st = []
 compared_for w olders (TooMany _) st = []
+compared_for w olders (Unequal _) st = []
 
 -- whether something changes
 abbrev pub some_change : List ToldChanges → Bool
@@ -94,13 +106,18 @@ with_told w told a = record {
 abbrev pub told_against : Wanted → List Older → Verdict → Answer → Answer
 told_against w olders v a = with_told w (compared_for w olders v a.status) a
 
--- the answer for a verdict on a batch
-abbrev pub verdict_against : Wanted → List Older → Verdict → Answer
-verdict_against w olders v = told_against w olders v (verdict_answer w v)
+-- the answer for a judgement
+abbrev pub judged_against : Wanted → List Older → Judgement → Answer
+judged_against w olders j = told_against w olders j.verdict (judged_answer w j)
+
+-- the answer for the files of sets
+abbrev pub joined_against : Wanted → List Older → JoinedFiles → Answer
+joined_against w olders joined = with_complaints (passed_over w joined.unequal)
+    (judged_against w olders (judgement_of w joined))
 
 -- the answer for a batch, or for an input that is no set
-abbrev pub batch_against : Wanted → List Older → Result (List FileDescriptorProto) NotASet → Answer
-batch_against w olders (Ok batch) = verdict_against w olders (verdict_of w.most batch)
+abbrev pub batch_against : Wanted → List Older → Result JoinedFiles NotASet → Answer
+batch_against w olders (Ok joined) = joined_against w olders joined
 batch_against w olders (Err n) = with_told w [] (unread_answer w n)
 
 -- the answer for some inputs by their older versions, or what is answered where one is none

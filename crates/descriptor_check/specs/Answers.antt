@@ -1,14 +1,19 @@
 -- What the check of some inputs answers: a status, what is written to the standard output and to the
 -- standard error, and the set of the linked files.
 use Rattle.std.specs.Prelude.{ℕ, List, [], ◌∷◌, ◌++◌, Result, Ok, Err, if◌then◌else◌}
+use Rattle.std.specs.List.{flat_map}
 use Rattle.std.specs.Option.{option_map}
 use Rattle.std.specs.declared.option.Option.{Option}
 use Rattle.std.specs.declared.option.Option.TheVariants.{None}
+use Rattle.joined_files.specs.Telling.{passed_words, told_unequal}
+use Rattle.joined_files.specs.declared.joining.JoinedFiles.{JoinedFiles}
+use Rattle.joined_files.specs.declared.unequal.UnequalFile.{UnequalFile}
 use Rattle.pool_types.specs.Contents.{Contents, files_of}
-use Rattle.proto_types.specs.declared.file.FileDescriptorProto.{FileDescriptorProto}
+use Rattle.protoc_rules.specs.declared.faults.StrictFault.{StrictFault}
 use Rattle.record_walk.specs.Counts.{counts_in}
 use Rattle.record_walk.specs.declared.counts.CountKind.{CountKind}
 use Rattle.descriptor_encoding.specs.Encoding.{set_encoding}
+use Rattle.strict_texts.specs.Telling as strict
 use Rattle.verdict_texts.specs.Accepted.{accepted_text}
 use Rattle.descriptor_check.specs.Batches.{batch_of}
 use Rattle.descriptor_check.specs.Complaints.{complaint, no_answer}
@@ -18,7 +23,7 @@ use Rattle.verdict_formats.specs.Formats as formats
 use Rattle.verdict_formats.specs.Formats.{is_for_people, refused_report, too_many_report, unread_report}
 use Rattle.verdict_texts.specs.Refused.{told_refusal}
 use Rattle.descriptor_check.specs.Unread.{unread_words}
-use Rattle.descriptor_check.specs.Verdicts.{verdict_of}
+use Rattle.descriptor_check.specs.Strict.{judgement_of}
 use Rattle.descriptor_check.specs.declared.answer.Answer.{Answer}
 use Rattle.descriptor_check.specs.declared.answer.LinkedSet.{LinkedSet}
 use Rattle.descriptor_check.specs.declared.answer.Status.{Status}
@@ -26,9 +31,10 @@ use Rattle.descriptor_check.specs.declared.answer.Status.TheVariants as status
 use Rattle.descriptor_check.specs.declared.answer.Wanted.{Wanted}
 use Rattle.descriptor_check.specs.declared.batches.NotASet.{NotASet}
 use Rattle.descriptor_check.specs.declared.inputs.Input.{Input}
+use Rattle.descriptor_check.specs.declared.strict.Judgement.{Judgement}
 use Rattle.descriptor_check.specs.declared.verdicts.Refusal.{Refusal}
 use Rattle.descriptor_check.specs.declared.verdicts.Verdict.{Verdict}
-use Rattle.descriptor_check.specs.declared.verdicts.Verdict.TheVariants.{Accepted, Refused, TooMany}
+use Rattle.descriptor_check.specs.declared.verdicts.Verdict.TheVariants.{Accepted, Refused, TooMany, Unequal}
 
 -- a verdict, told by a text, and the set of the linked files
 abbrev pub told_with : Status → List ℕ → Option LinkedSet → Answer
@@ -80,19 +86,48 @@ refused_answer w refusal = told status.Refused
 abbrev pub too_many_answer : Wanted → CountKind → Answer
 too_many_answer w kind = told status.Refused (too_many_report w.format kind)
 
+-- of one whose sets have unequal files of one name
+abbrev pub unequal_answer : Wanted → List UnequalFile → Answer
+unequal_answer w us = told status.Refused (refused_report w.format (told_unequal us w.most))
+
 -- where an input is no set: a line on the standard error, and what the format has for it
 abbrev pub unread_answer : Wanted → NotASet → Answer
 unread_answer w n = no_answer (unread_report w.format (unread_words n)) (complaint (unread_words n))
 
--- the answer for a verdict on a batch
-abbrev pub verdict_answer : Wanted → Verdict → Answer
-verdict_answer w (Accepted p) = accepted_answer w p
-verdict_answer w (Refused refusal) = refused_answer w refusal
-verdict_answer w (TooMany kind) = too_many_answer w kind
+-- of one that breaks no rule of the linker, by what protoc refuses besides: where there is such, it
+-- is refused with that alone
+abbrev pub linked_answer : Wanted → Contents → List StrictFault → Answer
+linked_answer w p [] = accepted_answer w p
+linked_answer w p (f ∷ fs) = told status.Refused
+    (refused_report w.format (strict.told_refusal p.files (f ∷ fs) w.most))
+
+-- the answer for a verdict on a batch, by what protoc refuses besides
+abbrev pub verdict_answer : Wanted → List StrictFault → Verdict → Answer
+verdict_answer w strict (Accepted p) = linked_answer w p strict
+verdict_answer w strict (Refused refusal) = refused_answer w refusal
+verdict_answer w strict (TooMany kind) = too_many_answer w kind
+verdict_answer w strict (Unequal us) = unequal_answer w us
+
+-- the answer for a judgement
+abbrev pub judged_answer : Wanted → Judgement → Answer
+judged_answer w j = verdict_answer w j.strict j.verdict
+
+-- a line for each unequal file that is passed over, where the first of a name counts
+unfoldable pub passed_over : Wanted → List UnequalFile → List ℕ
+passed_over w us = if w.first_counts then flat_map (λ u. complaint (passed_words u)) us else []
+
+-- an answer, with further lines for the standard error in front
+abbrev pub with_complaints : List ℕ → Answer → Answer
+with_complaints lines a = record a { complaint = lines ++ a.complaint }
+
+-- the answer for a batch
+abbrev pub joined_answer : Wanted → JoinedFiles → Answer
+joined_answer w joined =
+    with_complaints (passed_over w joined.unequal) (judged_answer w (judgement_of w joined))
 
 -- the answer for a batch, or for an input that is no set
-abbrev pub answer_for : Wanted → Result (List FileDescriptorProto) NotASet → Answer
-answer_for w (Ok batch) = verdict_answer w (verdict_of w.most batch)
+abbrev pub answer_for : Wanted → Result JoinedFiles NotASet → Answer
+answer_for w (Ok joined) = joined_answer w joined
 answer_for w (Err n) = unread_answer w n
 
 -- the answer for some inputs

@@ -1,6 +1,7 @@
 -- The arguments: words, read from left to right.
-use Rattle.std.specs.Prelude.{ℕ, Bool, true, false, not, ◌&&◌, ◌||◌, ◌==◌, nat_eq, is_some, List, [], ◌∷◌, ◌++◌, codes, fold, length, if◌then◌else◌}
-use Rattle.std.specs.Option.{option_and_then}
+use Rattle.std.specs.Prelude.{ℕ, Bool, true, false, not, ◌&&◌, ◌||◌, ◌==◌, nat_eq, nat_lt, is_some, List, [], ◌∷◌, ◌++◌, codes, fold, length, if◌then◌else◌}
+use Rattle.std.specs.List.{after_first, before_first, position_or_len}
+use Rattle.std.specs.Option.{option_and_then, option_map}
 use Rattle.std.specs.Str.{bytes_eq}
 use Rattle.std.specs.declared.option.Option.{Option}
 use Rattle.std.specs.declared.option.Option.TheVariants.{None, Some}
@@ -17,6 +18,8 @@ use Rattle.descriptor_check.specs.declared.arguments.Request.TheVariants.{Check,
 use Rattle.descriptor_check.specs.declared.arguments.Valued.{Valued}
 use Rattle.descriptor_check.specs.declared.arguments.Valued.TheVariants as valued
 use Rattle.descriptor_check.specs.declared.arguments.Valued.TheVariants.{MaxFaults, Describe, Linked}
+use Rattle.pool_changes.specs.declared.kinds.Level.{Level}
+use Rattle.pool_changes.specs.declared.kinds.Level.TheVariants as level
 use Rattle.verdict_formats.specs.Formats.{is_for_people}
 use Rattle.verdict_formats.specs.declared.formats.Format.{Format}
 use Rattle.verdict_formats.specs.declared.formats.Format.TheVariants.{Text, Json, GitHub, GitLab, Sarif}
@@ -31,10 +34,13 @@ no_job = record {
   wanted = record {
     format = Text;
     most = 100;
+    strict = false;
+    first_counts = false;
     lists = false;
     names = [];
     linked = None;
     compatibility = None;
+    level = None;
   };
   against = [];
   files = [];
@@ -104,10 +110,20 @@ with_compatibility job word (Some c) =
 with_compatibility job word None = reading.Done (Wrong
     (codes "--compatibility '" ++ (word ++ codes "': give backward, forward or full")))
 
--- the value of `--level`: there is one level
-abbrev pub with_level : Job → List ℕ → Reading
-with_level job word = if bytes_eq word (codes "wire") then reading.Reads job
-    else reading.Done (Wrong (codes "--level '" ++ (word ++ codes "': give wire")))
+-- the level that a word names
+abbrev pub level_named : List ℕ → Option Level
+level_named word =
+    if bytes_eq word (codes "wire") then Some level.Wire
+    else (if bytes_eq word (codes "json") then Some level.Json
+    else (if bytes_eq word (codes "source") then Some level.Source
+    else None))
+
+-- the value of `--level`, if it names one
+abbrev pub with_level : Job → List ℕ → Option Level → Reading
+with_level job word (Some l) =
+    reading.Reads (record job { wanted = record job.wanted { level = Some l } })
+with_level job word None = reading.Done (Wrong
+    (codes "--level '" ++ (word ++ codes "': give wire, json or source")))
 
 -- the value of an option
 abbrev pub with_value : Valued → Job → List ℕ → Reading
@@ -117,11 +133,19 @@ with_value Describe job word = reading.Reads (with_name job word)
 with_value Linked job word = reading.Reads (with_linked job word)
 with_value valued.Against job word = reading.Reads (with_older job word)
 with_value valued.Compatibility job word = with_compatibility job word (compatibility word)
-with_value valued.Level job word = with_level job word
+with_value valued.Level job word = with_level job word (level_named word)
+
+-- what protoc refuses besides refused too
+abbrev pub with_strict : Job → Job
+with_strict job = record job { wanted = record job.wanted { strict = true } }
 
 -- each declaration told
 abbrev pub with_list : Job → Job
 with_list job = record job { wanted = record job.wanted { lists = true } }
+
+-- the first of unequal files of one name counts
+abbrev pub with_first : Job → Job
+with_first job = record job { wanted = record job.wanted { first_counts = true } }
 
 -- the name of a file, or `-` for the standard input
 abbrev pub with_file : Job → List ℕ → Job
@@ -145,10 +169,26 @@ with_other job word = if is_option word
     then reading.Done (Wrong (codes "unknown option '" ++ (word ++ codes "'")))
     else reading.Reads (with_file job word)
 
+-- whether a byte is `=`
+abbrev pub is_equals : ℕ → Bool
+is_equals c = nat_eq c 61
+
+-- the option and the value of a word that has both, with a `=` between them
+abbrev pub assigned : List ℕ → Option (Valued × List ℕ)
+assigned word = if nat_lt (position_or_len is_equals word) (length word)
+    then option_map (λ option. (option, after_first is_equals word))
+    (valued_named (before_first is_equals word))
+    else None
+
+-- an option with its value, or another word
+abbrev pub with_assigned : Job → List ℕ → Option (Valued × List ℕ) → Reading
+with_assigned job word (Some (option, value)) = with_value option job value
+with_assigned job word None = with_other job word
+
 -- an option whose value is the next word, or another word
 abbrev pub with_named : Job → List ℕ → Option Valued → Reading
 with_named job word (Some option) = reading.Awaits option job
-with_named job word None = with_other job word
+with_named job word None = with_assigned job word (assigned word)
 
 -- a word
 abbrev pub with_word : Job → List ℕ → Reading
@@ -157,8 +197,10 @@ with_word job word =
     else (if bytes_eq word (codes "-h") || bytes_eq word (codes "--help") then reading.Done Help
     else (if bytes_eq word (codes "--version") then reading.Done Version
     else (if bytes_eq word (codes "--json") then reading.Reads (with_format job Json)
+    else (if bytes_eq word (codes "--strict") then reading.Reads (with_strict job)
     else (if bytes_eq word (codes "--list") then reading.Reads (with_list job)
-    else with_named job word (valued_named word)))))
+    else (if bytes_eq word (codes "--first") then reading.Reads (with_first job)
+    else with_named job word (valued_named word)))))))
 
 -- one word further: behind `--` the name of a file; what is done stays
 abbrev pub step : Reading → List ℕ → Reading
@@ -175,7 +217,7 @@ awaited_words Describe = codes "--describe: give a full name or the name of a fi
 awaited_words Linked = codes "--linked: give the name of the file to write"
 awaited_words valued.Against = codes "--against: give the name of the set of an older version"
 awaited_words valued.Compatibility = codes "--compatibility: give backward, forward or full"
-awaited_words valued.Level = codes "--level: give wire"
+awaited_words valued.Level = codes "--level: give wire, json or source"
 
 -- whether a format for programs is wanted, and something that it does not tell: declarations, or
 -- what names mean
@@ -190,9 +232,10 @@ tells_changes GitHub = true
 tells_changes GitLab = false
 tells_changes Sarif = false
 
--- whether it is said which version is to read, and there is none to compare with
+-- whether it is said which version is to read, or at which level, and there is none to compare with
 abbrev pub compares_nothing : Job → Bool
-compares_nothing job = is_some job.wanted.compatibility && length job.against == 0
+compares_nothing job =
+    (is_some job.wanted.compatibility || is_some job.wanted.level) && length job.against == 0
 
 -- whether older versions are given, and a format that tells no changes
 abbrev pub tells_no_changes : Job → Bool
@@ -205,7 +248,7 @@ with_files job = if length job.files == 0 then Wrong (codes "no file is named")
     else (if asks_too_much job.wanted
     then Wrong (codes "a format for programs tells the verdict alone: leave out --list and --describe")
     else (if compares_nothing job
-    then Wrong (codes "--compatibility is about older versions: give --against")
+    then Wrong (codes "--compatibility and --level are about older versions: give --against")
     else (if tells_no_changes job
     then Wrong (codes "--against is told as text, json or github: give one of these formats")
     else Check job)))

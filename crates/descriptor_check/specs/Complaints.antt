@@ -22,7 +22,7 @@ no_verdict words = no_answer [] (complaint words)
 abbrev pub usage : List ℕ
 usage = codes "usage: check_descriptors [--json] [--max-faults N] [--linked OUT] FILE...\n"
     ++ (codes "       check_descriptors [--list] [--describe NAME]... [--linked OUT] FILE...\n"
-    ++ codes "       check_descriptors --against OLD... [--compatibility WHICH] [--level wire] .. FILE...\n")
+    ++ codes "       check_descriptors --against OLD... [--compatibility WHICH] [--level LEVEL] .. FILE...\n")
 
 -- no verdict since arguments are wrong, and why, with those that there are
 abbrev pub wrong_arguments : List ℕ → Answer

@@ -1,5 +1,7 @@
+pub mod Guises
 pub mod Batches
 pub mod Verdicts
+pub mod Strict
 pub mod Unread
 pub mod Complaints
 pub mod Listed

@@ -1,13 +1,14 @@
 -- The older versions with which a new one is compared: each a set by itself, linked alone.
-use Rattle.std.specs.Prelude.{◌≡◌, ℕ, List, [], ◌∷◌, ◌++◌, Result, Ok, Err, codes, if◌then◌else◌}
-use Rattle.proto_types.specs.declared.file.FileDescriptorProto.{FileDescriptorProto}
-use Rattle.record_walk.specs.declared.counts.CountKind.{CountKind}
+use Rattle.std.specs.Prelude.{◌≡◌, ℕ, false, List, [], ◌∷◌, ◌++◌, Result, Ok, Err, codes}
+use Rattle.joined_files.specs.Telling.{told_unequal}
+use Rattle.joined_files.specs.declared.joining.JoinedFiles.{JoinedFiles}
+use Rattle.joined_files.specs.declared.unequal.UnequalFile.{UnequalFile}
 use Rattle.verdict_formats.specs.Formats.{unread_report}
 use Rattle.verdict_texts.specs.Refused.{refused_text, told_refusal, too_many_text}
 use Rattle.descriptor_check.specs.Answers.{unread_answer}
 use Rattle.descriptor_check.specs.Batches.{and_then, batch_of}
 use Rattle.descriptor_check.specs.Complaints.{complaint, no_answer}
-use Rattle.descriptor_check.specs.Verdicts.{verdict_of}
+use Rattle.descriptor_check.specs.Verdicts.{verdict_of_joined}
 use Rattle.descriptor_check.specs.declared.answer.Answer.{Answer}
 use Rattle.descriptor_check.specs.declared.answer.Wanted.{Wanted}
 use Rattle.descriptor_check.specs.declared.batches.NotASet.{NotASet}
@@ -17,7 +18,7 @@ use Rattle.descriptor_check.specs.declared.olders.OlderError.{OlderError}
 use Rattle.descriptor_check.specs.declared.olders.OlderError.TheVariants as error
 use Rattle.descriptor_check.specs.declared.verdicts.Refusal.{Refusal}
 use Rattle.descriptor_check.specs.declared.verdicts.Verdict.{Verdict}
-use Rattle.descriptor_check.specs.declared.verdicts.Verdict.TheVariants.{Accepted, Refused, TooMany}
+use Rattle.descriptor_check.specs.declared.verdicts.Verdict.TheVariants.{Accepted, Refused, TooMany, Unequal}
 
 -- that an older version is refused, by its name
 abbrev pub refused_words : List ℕ → List ℕ
@@ -33,16 +34,20 @@ refused_older w name text =
 abbrev pub older_faults : Wanted → Refusal → List ℕ
 older_faults w r = refused_text (told_refusal [] r.files r.faults r.rest w.most)
 
+-- the unequal files of an older version
+abbrev pub unequal_text : Wanted → List UnequalFile → List ℕ
+unequal_text w us = refused_text (told_unequal us w.most)
+
 -- an older version by its name and the verdict on it, or what is answered where it is refused
 abbrev pub older_judged : Wanted → List ℕ → Verdict → Result Older Answer
 older_judged w name (Accepted p) = Ok (record { name = name; pool = p })
 older_judged w name (Refused r) = Err (refused_older w name (older_faults w r))
 older_judged w name (TooMany kind) = Err (refused_older w name (too_many_text kind))
+older_judged w name (Unequal us) = Err (refused_older w name (unequal_text w us))
 
 -- an older version by its name and its files, or what is answered where it is no set
-abbrev pub older_read : Wanted → List ℕ → Result (List FileDescriptorProto) NotASet
-    → Result Older Answer
-older_read w name (Ok batch) = older_judged w name (verdict_of w.most batch)
+abbrev pub older_read : Wanted → List ℕ → Result JoinedFiles NotASet → Result Older Answer
+older_read w name (Ok joined) = older_judged w name (verdict_of_joined false w.most joined)
 older_read w name (Err n) = Err (unread_answer w n)
 
 -- the older version of an input, or what is answered where there is none

@@ -1,7 +1,9 @@
 -- The verdict on a batch, linked into a pool without files.
-use Rattle.std.specs.Prelude.{ℕ, List, [], ◌∷◌, Result, Ok, Err}
+use Rattle.std.specs.Prelude.{ℕ, Bool, List, [], ◌∷◌, Result, Ok, Err, if◌then◌else◌}
 use Rattle.std.specs.declared.option.Option.{Option}
 use Rattle.std.specs.declared.option.Option.TheVariants.{None, Some}
+use Rattle.joined_files.specs.declared.joining.JoinedFiles.{JoinedFiles}
+use Rattle.joined_files.specs.declared.unequal.UnequalFile.{UnequalFile}
 use Rattle.pool_faults.specs.declared.fault.DescriptorErrorKind.{DescriptorErrorKind}
 use Rattle.pool_types.specs.Contents.{no_contents}
 use Rattle.record_walk.specs.declared.counts.Counts.{Counts}
@@ -13,7 +15,7 @@ use Rattle.descriptor_pool.specs.declared.error.BuildError.TheVariants as build
 use Rattle.proto_types.specs.declared.file.FileDescriptorProto.{FileDescriptorProto}
 use Rattle.descriptor_check.specs.declared.verdicts.Refusal.{Refusal}
 use Rattle.descriptor_check.specs.declared.verdicts.Verdict.{Verdict}
-use Rattle.descriptor_check.specs.declared.verdicts.Verdict.TheVariants.{Accepted, Refused, TooMany}
+use Rattle.descriptor_check.specs.declared.verdicts.Verdict.TheVariants.{Accepted, Refused, TooMany, Unequal}
 
 -- a batch that breaks rules, by all its faults: so many are kept, and the others counted
 abbrev pub refusal : ℕ → Batch → List DescriptorErrorKind → Refusal
@@ -37,6 +39,17 @@ by_counts most batch (Err kind) = TooMany kind
 -- else that it is accepted
 unfoldable pub verdict_of : ℕ → Batch → Verdict
 verdict_of most batch = by_counts most batch (counts_after no_contents batch)
+
+-- unequal files of one name, or a verdict where there are none
+abbrev pub unless_unequal : List UnequalFile → Verdict → Verdict
+unless_unequal [] verdict = verdict
+unless_unequal (u ∷ us) verdict = Unequal (u ∷ us)
+
+-- the verdict on the files of sets: unequal ones of one name before all faults, unless the first of
+-- them counts
+unfoldable pub verdict_of_joined : Bool → ℕ → JoinedFiles → Verdict
+verdict_of_joined first_counts most joined = if first_counts then verdict_of most joined.files
+    else unless_unequal joined.unequal (verdict_of most joined.files)
 
 -- the verdict that an error of linking tells, by the files that came back; none where memory was
 -- refused

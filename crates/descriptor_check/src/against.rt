@@ -2,20 +2,24 @@
 
 ghost use Rattle.std.specs.Prelude.{◌≡◌, ◌++◌, IfOk, OnOk, map, string_bytes};
 ghost use Rattle.std.specs.List.{flat_map};
-ghost use Rattle.change_texts.specs.Comparing.{told_changes};
-ghost use Rattle.change_texts.specs.Texts.{changes_lines};
+ghost use Rattle.pool_changes.specs.Comparing.{told_changes};
+ghost use Rattle.pool_changes.specs.Texts.{changes_lines};
 ghost use Rattle.descriptor_check.specs.Against as spec;
 ghost use Rattle.descriptor_check.specs.Batches.{batch_of};
 
 use crate::answer::{Answer, Compatibility, LinkedSet, Status, Wanted};
 use crate::batches::{BatchError, read_batch};
-use crate::checking::{check, tell_unread, tell_verdict};
+use crate::checking::{check, passed_over, tell_judgement, tell_unread, with_complaints};
 use crate::inputs::Input;
 use crate::olders::{Older, OlderError, read_olders};
-use crate::verdicts::{Verdict, verdict_on};
-use change_texts::{Comparison, Direction, ToldChanges, tell_changes, with_changes, write_changes};
+use crate::strict::{Judgement, judge};
+use crate::verdicts::Verdict;
 use descriptor_pool::DescriptorPool;
+use joined_files::JoinedFiles;
 use plain_data::Text;
+use pool_changes::{
+    Comparison, Direction, Level, ToldChanges, tell_changes, with_changes, write_changes,
+};
 use std::alloc::{AllocError, Global};
 use verdict_formats::{Format, annotations_text};
 
@@ -56,10 +60,7 @@ fn check_batch(
         (batch_of inputs.now)) }
 {
     match read_batch(alloc, inputs) {
-        Ok(batch) => {
-            let verdict = verdict_on(alloc, batch, wanted.most)?;
-            tell_against(alloc, wanted, olders, &verdict)
-        }
+        Ok(joined) => check_joined(alloc, wanted, olders, joined),
         Err(BatchError::NotASet(input)) => {
             let answer = tell_unread(alloc, wanted, &input)?;
             with_told(alloc, wanted, &[], answer)
@@ -68,18 +69,34 @@ fn check_batch(
     }
 }
 
-/// What is told of a verdict, and of what changes.
+/// The verdict on the files of sets, and what they change of older versions.
+fn check_joined(
+    alloc: Global,
+    wanted: &Wanted,
+    olders: &[Older],
+    joined: JoinedFiles,
+) -> Result<Answer, AllocError>
+    ensures { IfOk result (λ answer. answer
+        ≡ spec.joined_against wanted.now olders.now joined) }
+{
+    let lines = passed_over(alloc, wanted, joined.unequal.as_slice())?;
+    let judgement = judge(alloc, wanted, joined)?;
+    let answer = tell_against(alloc, wanted, olders, &judgement)?;
+    with_complaints(lines, answer)
+}
+
+/// What is told of a judgement, and of what changes.
 fn tell_against(
     alloc: Global,
     wanted: &Wanted,
     olders: &[Older],
-    verdict: &Verdict,
+    judgement: &Judgement,
 ) -> Result<Answer, AllocError>
     ensures { IfOk result (λ answer. answer
-        ≡ spec.verdict_against wanted.now olders.now verdict.now) }
+        ≡ spec.judged_against wanted.now olders.now judgement.now) }
 {
-    let answer = tell_verdict(alloc, wanted, verdict)?;
-    let told = compared_for(alloc, wanted, olders, verdict, answer.status)?;
+    let answer = tell_judgement(alloc, wanted, judgement)?;
+    let told = compared_for(alloc, wanted, olders, &judgement.verdict, answer.status)?;
     with_told(alloc, wanted, told.as_slice(), answer)
 }
 
@@ -92,6 +109,13 @@ fn directions(compatibility: Option<Compatibility>) -> &'static [Direction]
         Some(Compatibility::Forward) => &[Direction::Forward],
         Some(Compatibility::Full) => &[Direction::Backward, Direction::Forward],
     }
+}
+
+/// The level that is wanted: wire, where none is said.
+fn level_wanted(wanted: &Wanted) -> Level
+    ensures { result ≡ spec.level_wanted wanted.now }
+{
+    wanted.level.unwrap_or(Level::Wire)
 }
 
 /// Appends what a pool changes of an older version, in each direction that is wanted.
@@ -108,6 +132,7 @@ fn tell_older(
     for direction in directions(wanted.compatibility) {
         let comparison = Comparison {
             direction: *direction,
+            level: level_wanted(wanted),
             old: &older.pool,
             new: pool,
         };
@@ -130,7 +155,7 @@ fn compared_for(
 {
     match verdict {
         Verdict::Accepted(pool) => compared_if(alloc, wanted, olders, pool, status),
-        Verdict::Refused(_) | Verdict::TooMany(_) => Ok(Vec::new(alloc)),
+        Verdict::Refused(_) | Verdict::TooMany(_) | Verdict::Unequal(_) => Ok(Vec::new(alloc)),
     }
 }
 

@@ -4,6 +4,7 @@ ghost use Rattle.std.specs.Prelude.{◌≡◌};
 ghost use Rattle.descriptor_check.specs.Statuses as spec;
 
 use plain_data::{Items, Text};
+use pool_changes::Level;
 use verdict_formats::Format;
 
 /// How the verdict is told, and what is told of an accepted batch besides.
@@ -13,6 +14,10 @@ pub struct Wanted {
     pub format: Format,
     /// The most faults that are told.
     pub most: usize,
+    /// What `protoc` refuses besides is refused too.
+    pub strict: bool,
+    /// Of unequal files of one name the first counts, and the others are passed over.
+    pub first_counts: bool,
     /// Each declaration is told.
     pub lists: bool,
     /// The names of which is told what they mean, in order.
@@ -21,6 +26,8 @@ pub struct Wanted {
     pub linked: Option<Text>,
     /// Which version is to read what the other writes, if that is said: the new one where it isn't.
     pub compatibility: Option<Compatibility>,
+    /// The level at which versions are compared, if that is said: wire where it isn't.
+    pub level: Option<Level>,
 }
 
 /// Which version is to read what the other writes.

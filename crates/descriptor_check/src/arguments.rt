@@ -1,11 +1,12 @@
 //! The arguments of the program.
 
 ghost use Rattle.std.specs.Prelude.{◌≡◌, ℕ, IfOk, IfSome};
-ghost use Rattle.std.specs.Option.{option_copied};
+ghost use Rattle.std.specs.Option.{option_copied, option_map};
 ghost use Rattle.descriptor_check.specs.Arguments as spec;
 
 use crate::answer::{Compatibility, Wanted};
 use plain_data::{Items, Text, parse_int32};
+use pool_changes::Level;
 use std::alloc::{AllocError, Global};
 use verdict_formats::Format;
 
@@ -14,29 +15,35 @@ pub const VERSION: &str = "check_descriptors 0.2.0\n";
 
 /// What the program does, and its arguments.
 pub const HELP: &str = "\
-usage: check_descriptors [--json] [--max-faults N] [--linked OUT] FILE...
+usage: check_descriptors [--strict] [--json] [--max-faults N] [--linked OUT] FILE...
        check_descriptors [--list] [--describe NAME]... [--linked OUT] FILE...
-       check_descriptors --against OLD... [--compatibility WHICH] [--level wire] .. FILE...
+       check_descriptors --against OLD... [--compatibility WHICH] [--level LEVEL] .. FILE...
 
 Links descriptor sets as one batch, and tells whether they break a rule, and what they change of older
-versions, so that bytes are read otherwise.
+versions.
 
     protoc --include_imports --include_source_info -o set.pb shop/order.proto
     check_descriptors set.pb
     check_descriptors --against main.pb set.pb
 
-FILE             a descriptor set, as protoc writes it; - is the standard input. A file that is
-                 equal to the first of its name in the sets counts once
+FILE             a descriptor set, as protoc writes it; - is the standard input. Files of one name
+                 that are equal but for their source info count once
 --format FORMAT  one of text, json, github, gitlab, sarif: how the verdict is told (text)
 --json           the same as --format json
+--strict         refuse besides what protoc refuses by its own rules, where the rules of the linker
+                 are kept
 --max-faults N   tell at most N faults, and as many changes of each older version (100)
+--first          of files of one name that differ take the first, as protoc does, and tell on the
+                 standard error which are passed over
 --list           of an accepted batch, tell each declaration: its kind and its full name
 --describe NAME  tell what a full name, or the name of a file, means in it; may be repeated
 --linked OUT     write the set of its linked files to OUT, whole or not at all
 --against OLD    tell what it changes of an older version, the set OLD; may be repeated, each by itself
 --compatibility WHICH  backward (the default): it reads what the older version writes; forward:
                  the older version reads what it writes; full: both
---level wire     tell changes by which bytes are read otherwise, as is done where nothing is said
+--level LEVEL    tell changes by which bytes are read otherwise, or calls: wire (the default);
+                 texts of JSON besides: json; code that is made of the schema besides: source
+--OPTION=VALUE   is the same as --OPTION VALUE
 --               what stands behind it is a FILE, also if it begins with a dash
 --help           tell this, as -h does
 --version        tell the version
@@ -112,10 +119,13 @@ fn no_job(alloc: Global) -> Job
         wanted: Wanted {
             format: Format::Text,
             most: 100,
+            strict: false,
+            first_counts: false,
             lists: false,
             names: Items::new(alloc),
             linked: None,
             compatibility: None,
+            level: None,
         },
         against: Items::new(alloc),
         files: Items::new(alloc),
@@ -143,11 +153,33 @@ fn with_word(alloc: Global, job: Job, word: &str) -> Result<Reading, AllocError>
         "-h" | "--help" => Ok(Reading::Done(Request::Help)),
         "--version" => Ok(Reading::Done(Request::Version)),
         "--json" => Ok(Reading::Reads(with_format(job, Format::Json))),
+        "--strict" => Ok(Reading::Reads(with_strict(job))),
         "--list" => Ok(Reading::Reads(with_list(job))),
+        "--first" => Ok(Reading::Reads(with_first(job))),
         _ => match valued_named(word) {
             Some(option) => Ok(Reading::Awaits(option, job)),
-            None => with_other(alloc, job, word),
+            None => with_assigned(alloc, job, word),
         },
+    }
+}
+
+/// The option and the value of a word that has both, with a `=` between them.
+fn assigned(word: &str) -> Option<(Valued, &str)>
+    ensures { option_map (λ x. (x.0, x.1.now)) result ≡ spec.assigned word.now }
+{
+    let (name, value) = word.split_once('=')?;
+    let option = valued_named(name)?;
+    Some((option, value))
+}
+
+/// An option with its value, or another word.
+fn with_assigned(alloc: Global, job: Job, word: &str) -> Result<Reading, AllocError>
+    ensures { IfOk result (λ further. further
+        ≡ spec.with_assigned job word.now (spec.assigned word.now)) }
+{
+    match assigned(word) {
+        Some((option, value)) => with_value(alloc, option, job, value),
+        None => with_other(alloc, job, word),
     }
 }
 
@@ -175,11 +207,27 @@ fn with_format(mut job: Job, format: Format) -> Job
     job
 }
 
+/// A job that refuses besides what `protoc` refuses.
+fn with_strict(mut job: Job) -> Job
+    ensures { result ≡ spec.with_strict job }
+{
+    job.wanted.strict = true;
+    job
+}
+
 /// A job of which each declaration is told.
 fn with_list(mut job: Job) -> Job
     ensures { result ≡ spec.with_list job }
 {
     job.wanted.lists = true;
+    job
+}
+
+/// A job in which the first of unequal files of one name counts.
+fn with_first(mut job: Job) -> Job
+    ensures { result ≡ spec.with_first job }
+{
+    job.wanted.first_counts = true;
     job
 }
 
@@ -308,14 +356,29 @@ fn with_compatibility(alloc: Global, mut job: Job, word: &str) -> Result<Reading
     Ok(Reading::Done(Request::Wrong(Text::from_string(words))))
 }
 
-/// A word that is to be the value of `--level`: there is one level.
-fn with_level(alloc: Global, job: Job, word: &str) -> Result<Reading, AllocError>
-    ensures { IfOk result (λ further. further ≡ spec.with_level job word.now) }
+/// The level that a word names.
+fn level_named(word: &str) -> Option<Level>
+    ensures { result ≡ spec.level_named word.now }
 {
-    if word == "wire" {
+    match word {
+        "wire" => Some(Level::Wire),
+        "json" => Some(Level::Json),
+        "source" => Some(Level::Source),
+        _ => None,
+    }
+}
+
+/// A word that is to be the value of `--level`.
+fn with_level(alloc: Global, mut job: Job, word: &str) -> Result<Reading, AllocError>
+    ensures { IfOk result (λ further. further ≡ spec.with_level job word.now
+        (spec.level_named word.now)) }
+{
+    let level = level_named(word);
+    if level.is_some() {
+        job.wanted.level = level;
         return Ok(Reading::Reads(job));
     }
-    let words = format!(in alloc; "--level '{word}': give wire")?;
+    let words = format!(in alloc; "--level '{word}': give wire, json or source")?;
     Ok(Reading::Done(Request::Wrong(Text::from_string(words))))
 }
 
@@ -369,7 +432,7 @@ fn awaited_words(option: Valued) -> &'static str
         Valued::Linked => "--linked: give the name of the file to write",
         Valued::Against => "--against: give the name of the set of an older version",
         Valued::Compatibility => "--compatibility: give backward, forward or full",
-        Valued::Level => "--level: give wire",
+        Valued::Level => "--level: give wire, json or source",
     }
 }
 
@@ -380,11 +443,13 @@ fn asks_too_much(wanted: &Wanted) -> bool
     !wanted.format.is_for_people() && (wanted.lists || !wanted.names.as_slice().is_empty())
 }
 
-/// Whether it is said which version is to read, and there is none to compare with.
+/// Whether it is said which version is to read, or at which level, and there is none to compare
+/// with.
 fn compares_nothing(job: &Job) -> bool
     ensures { result ≡ spec.compares_nothing job.now }
 {
-    job.wanted.compatibility.is_some() && job.against.as_slice().is_empty()
+    (job.wanted.compatibility.is_some() || job.wanted.level.is_some())
+        && job.against.as_slice().is_empty()
 }
 
 /// Whether older versions are given, and a format that tells no changes.
@@ -412,7 +477,7 @@ fn with_files(alloc: Global, job: Job) -> Result<Request, AllocError>
     if compares_nothing(&job) {
         return wrong(
             alloc,
-            "--compatibility is about older versions: give --against",
+            "--compatibility and --level are about older versions: give --against",
         );
     }
     if tells_no_changes(&job) {

@@ -1,9 +1,12 @@
 //! The check: from inputs to what is told of them.
 
 ghost use Rattle.std.specs.Prelude.{◌≡◌, ◌++◌, IfOk, OnOk, string_bytes};
+ghost use Rattle.std.specs.List.{flat_map};
+ghost use Rattle.joined_files.specs.Telling.{passed_words};
 ghost use Rattle.record_walk.specs.Counts.{counts_in};
 ghost use Rattle.verdict_formats.specs.Formats as formats;
 ghost use Rattle.descriptor_check.specs.Answers as spec;
+ghost use Rattle.descriptor_check.specs.Complaints.{complaint};
 ghost use Rattle.descriptor_check.specs.declared.answer.Status.TheVariants.{Accepted};
 
 use crate::answer::{Answer, LinkedSet, Status, Wanted};
@@ -12,19 +15,23 @@ use crate::complaints::{no_answer, write_complaint};
 use crate::described::{unknown_names, write_names};
 use crate::inputs::Input;
 use crate::listed::write_list;
+use crate::strict::{Judgement, judge};
 use crate::unread::unread_words;
-use crate::verdicts::{Refusal, Verdict, verdict_on};
+use crate::verdicts::{Refusal, Verdict};
 use descriptor_encoding::encode_linked;
 use descriptor_pool::DescriptorPool;
+use joined_files::{JoinedFiles, UnequalFile, tell_unequal};
 use plain_data::{Items, Text};
+use protoc_rules::StrictFault;
 use record_walk::CountKind;
 use std::alloc::{AllocError, Global};
+use strict_texts::tell_strict_faults;
 use verdict_formats::{Format, refused_report, too_many_report, unread_report};
 use verdict_texts::{RefusedBatch, accepted_text, tell_refusal};
 
 /// The verdict on the files of some inputs, linked as one batch, as text and as a status, and what
-/// is wanted of an accepted batch besides. Where a name is to be told that means nothing in it, there
-/// is no verdict.
+/// is wanted of an accepted batch besides. Where that is wanted, what `protoc` refuses besides is
+/// refused. Where a name is to be told that means nothing in the batch, there is no verdict.
 ///
 /// # Errors
 /// `AllocError` where memory was refused.
@@ -32,27 +39,90 @@ pub fn check(alloc: Global, wanted: &Wanted, inputs: &[Input]) -> Result<Answer,
     ensures { IfOk result (λ answer. answer ≡ spec.answer wanted.now inputs.now) }
 {
     match read_batch(alloc, inputs) {
-        Ok(batch) => {
-            let verdict = verdict_on(alloc, batch, wanted.most)?;
-            tell_verdict(alloc, wanted, &verdict)
-        }
+        Ok(joined) => tell_joined(alloc, wanted, joined),
         Err(BatchError::NotASet(input)) => tell_unread(alloc, wanted, &input),
         Err(BatchError::OutOfMemory) => Err(AllocError),
     }
 }
 
-/// What is told of a verdict.
-pub(crate) fn tell_verdict(
+/// What is told of the files of sets.
+fn tell_joined(alloc: Global, wanted: &Wanted, joined: JoinedFiles) -> Result<Answer, AllocError>
+    ensures { IfOk result (λ answer. answer ≡ spec.joined_answer wanted.now joined) }
+{
+    let lines = passed_over(alloc, wanted, joined.unequal.as_slice())?;
+    let judgement = judge(alloc, wanted, joined)?;
+    let answer = tell_judgement(alloc, wanted, &judgement)?;
+    with_complaints(lines, answer)
+}
+
+/// A line for each unequal file that is passed over, where the first of a name counts.
+#[tactic(auto, unfolding(crate::specs::Answers::passed_over))]
+pub(crate) fn passed_over(
     alloc: Global,
     wanted: &Wanted,
-    verdict: &Verdict,
-) -> Result<Answer, AllocError>
-    ensures { IfOk result (λ answer. answer ≡ spec.verdict_answer wanted.now verdict.now) }
+    unequal: &[UnequalFile],
+) -> Result<String, AllocError>
+    ensures { IfOk result (λ s. string_bytes s ≡ spec.passed_over wanted.now unequal.now) }
 {
-    match verdict {
-        Verdict::Accepted(pool) => tell_accepted(alloc, wanted, pool),
+    let mut lines = String::new(alloc);
+    if wanted.first_counts {
+        write_passed(alloc, &mut lines, unequal)?;
+    }
+    Ok(lines)
+}
+
+/// Writes a line for each unequal file that is passed over.
+fn write_passed(
+    alloc: Global,
+    lines: &mut String,
+    unequal: &[UnequalFile],
+) -> Result<(), AllocError>
+    ensures { OnOk result (string_bytes lines.new ≡ string_bytes lines.old
+        ++ flat_map (λ u. complaint (passed_words u)) unequal.now) }
+{
+    for file in unequal {
+        write_passed_file(alloc, lines, file)?;
+    }
+    Ok(())
+}
+
+/// Writes a line that tells of an unequal file that it is passed over.
+fn write_passed_file(
+    alloc: Global,
+    lines: &mut String,
+    file: &UnequalFile,
+) -> Result<(), AllocError>
+    ensures { OnOk result (string_bytes lines.new ≡ string_bytes lines.old
+        ++ complaint (passed_words file.now)) }
+{
+    let words = joined_files::passed_words(alloc, file)?;
+    write_complaint(alloc, lines, words.as_str())
+}
+
+/// An answer, with further lines for the standard error in front.
+pub(crate) fn with_complaints(lines: String, answer: Answer) -> Result<Answer, AllocError>
+    ensures { IfOk result (λ a. a ≡ spec.with_complaints (string_bytes lines) answer) }
+{
+    let mut complaint = lines;
+    complaint.push_str(answer.complaint.as_str())?;
+    let mut answer = answer;
+    answer.complaint = Text::from_string(complaint);
+    Ok(answer)
+}
+
+/// What is told of a judgement.
+pub(crate) fn tell_judgement(
+    alloc: Global,
+    wanted: &Wanted,
+    judgement: &Judgement,
+) -> Result<Answer, AllocError>
+    ensures { IfOk result (λ answer. answer ≡ spec.judged_answer wanted.now judgement.now) }
+{
+    match &judgement.verdict {
+        Verdict::Accepted(pool) => { tell_linked(alloc, wanted, pool, judgement.strict.as_slice()) }
         Verdict::Refused(refusal) => tell_refused(alloc, wanted, refusal),
         Verdict::TooMany(kind) => tell_too_many(alloc, wanted, *kind),
+        Verdict::Unequal(unequal) => tell_unequal_files(alloc, wanted, unequal.as_slice()),
     }
 }
 
@@ -66,6 +136,24 @@ fn told_by(alloc: Global, status: Status, report: String) -> Answer
         complaint: Text::new(alloc),
         linked: None,
     }
+}
+
+/// What is told of a batch that breaks no rule of the linker, by what `protoc` refuses besides.
+fn tell_linked(
+    alloc: Global,
+    wanted: &Wanted,
+    pool: &DescriptorPool,
+    strict: &[StrictFault],
+) -> Result<Answer, AllocError>
+    ensures { IfOk result (λ answer. answer
+        ≡ spec.linked_answer wanted.now pool.now strict.now) }
+{
+    if strict.is_empty() {
+        return tell_accepted(alloc, wanted, pool);
+    }
+    let refusal = tell_strict_faults(alloc, pool.files(), strict, wanted.most)?;
+    let report = refused_report(alloc, wanted.format, &refusal)?;
+    Ok(told_by(alloc, Status::Refused, report))
 }
 
 fn tell_accepted(
@@ -184,6 +272,19 @@ fn tell_too_many(alloc: Global, wanted: &Wanted, kind: CountKind) -> Result<Answ
     ensures { IfOk result (λ answer. answer ≡ spec.too_many_answer wanted.now kind) }
 {
     let report = too_many_report(alloc, wanted.format, kind)?;
+    Ok(told_by(alloc, Status::Refused, report))
+}
+
+/// What is told of a batch whose sets have unequal files of one name: the first of them.
+fn tell_unequal_files(
+    alloc: Global,
+    wanted: &Wanted,
+    unequal: &[UnequalFile],
+) -> Result<Answer, AllocError>
+    ensures { IfOk result (λ answer. answer ≡ spec.unequal_answer wanted.now unequal.now) }
+{
+    let refusal = tell_unequal(alloc, unequal, wanted.most)?;
+    let report = refused_report(alloc, wanted.format, &refusal)?;
     Ok(told_by(alloc, Status::Refused, report))
 }
 

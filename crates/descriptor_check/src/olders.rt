@@ -10,8 +10,9 @@ use crate::batches::{BatchError, NotASet, read_batch};
 use crate::checking::tell_unread;
 use crate::complaints::{no_answer, write_complaint};
 use crate::inputs::Input;
-use crate::verdicts::{Refusal, Verdict, verdict_on};
+use crate::verdicts::{Refusal, Verdict, verdict_on_joined};
 use descriptor_pool::DescriptorPool;
+use joined_files::{UnequalFile, tell_unequal};
 use plain_data::{Items, Text};
 use std::alloc::{AllocError, Global};
 use std::slice::from_ref;
@@ -92,6 +93,18 @@ fn older_faults(alloc: Global, wanted: &Wanted, refusal: &Refusal) -> Result<Str
     refused_text(alloc, &told)
 }
 
+/// The unequal files of an older version.
+fn unequal_text(
+    alloc: Global,
+    wanted: &Wanted,
+    unequal: &[UnequalFile],
+) -> Result<String, AllocError>
+    ensures { IfOk result (λ s. string_bytes s ≡ spec.unequal_text wanted.now unequal.now) }
+{
+    let told = tell_unequal(alloc, unequal, wanted.most)?;
+    refused_text(alloc, &told)
+}
+
 /// An older version by its name and the verdict on it.
 fn older_judged(
     alloc: Global,
@@ -114,6 +127,10 @@ fn older_judged(
             let text = too_many_text(alloc, kind)?;
             Err(refused_older(alloc, wanted, name.as_str(), text)?)
         }
+        Verdict::Unequal(unequal) => {
+            let text = unequal_text(alloc, wanted, unequal.as_slice())?;
+            Err(refused_older(alloc, wanted, name.as_str(), text)?)
+        }
     }
 }
 
@@ -122,8 +139,8 @@ fn older_of(alloc: Global, wanted: &Wanted, input: &Input) -> Result<Older, Olde
     ensures { spec.Gives result (spec.older_of wanted.now input.now) }
 {
     match read_batch(alloc, from_ref(input)) {
-        Ok(batch) => {
-            let verdict = verdict_on(alloc, batch, wanted.most)?;
+        Ok(joined) => {
+            let verdict = verdict_on_joined(alloc, joined, false, wanted.most)?;
             older_judged(alloc, wanted, &input.name, verdict)
         }
         Err(BatchError::NotASet(flawed)) => Err(unread_older(alloc, wanted, &flawed)?),

@@ -13,6 +13,11 @@ fn flaw_words(alloc: Global, flaw: Flaw) -> Result<String, AllocError>
 {
     match flaw {
         Flaw::Bytes(fault) => bytes_words(alloc, fault),
+        Flaw::Foreign(guise, fault) => {
+            let words = bytes_words(alloc, fault)?;
+            let guise = guise.words();
+            format!(in alloc; "{words}; it looks like {guise}")
+        }
         Flaw::NoFiles => String::from_str(alloc, "there is no file in it"),
     }
 }

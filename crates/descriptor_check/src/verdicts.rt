@@ -4,6 +4,7 @@ ghost use Rattle.std.specs.Prelude.{◌≡◌, IfOk, Some};
 ghost use Rattle.descriptor_check.specs.Verdicts as spec;
 
 use descriptor_pool::{BuildError, DescriptorPool};
+use joined_files::{JoinedFiles, UnequalFile};
 use plain_data::Items;
 use pool_faults::{DescriptorError, DescriptorErrorKind};
 use proto_types::FileDescriptorProto;
@@ -17,6 +18,8 @@ pub enum Verdict {
     Accepted(DescriptorPool),
     /// It breaks rules.
     Refused(Refusal),
+    /// Its sets have unequal files of one name: the further ones.
+    Unequal(Items<UnequalFile>),
     /// No pool has room for it: the first kind of which there is too much.
     TooMany(CountKind),
 }
@@ -50,6 +53,43 @@ pub fn verdict_on(
         Ok(()) => Ok(Verdict::Accepted(pool)),
         Err(error) => by_error(Items::from_vec(files), error),
     }
+}
+
+/// The verdict on the files of sets. Unequal files of one name are told before all other faults;
+/// where the first of them counts, they are passed over.
+///
+/// # Errors
+/// `AllocError` where memory was refused.
+#[tactic(auto, unfolding(crate::specs::Verdicts::verdict_of_joined))]
+pub fn verdict_on_joined(
+    alloc: Global,
+    joined: JoinedFiles,
+    first_counts: bool,
+    most: usize,
+) -> Result<Verdict, AllocError>
+    ensures { IfOk result (λ verdict. verdict ≡ spec.verdict_of_joined first_counts most joined) }
+{
+    let JoinedFiles { files, unequal } = joined;
+    if first_counts {
+        return verdict_on(alloc, files, most);
+    }
+    unless_unequal(alloc, files, unequal, most)
+}
+
+/// The verdict on a batch, unless there are files that differ from some of it.
+fn unless_unequal(
+    alloc: Global,
+    batch: Items<FileDescriptorProto>,
+    unequal: Items<UnequalFile>,
+    most: usize,
+) -> Result<Verdict, AllocError>
+    ensures { IfOk result (λ verdict. verdict
+        ≡ spec.unless_unequal unequal (spec.verdict_of most batch)) }
+{
+    if unequal.as_slice().is_empty() {
+        return verdict_on(alloc, batch, most);
+    }
+    Ok(Verdict::Unequal(unequal))
 }
 
 /// The verdict that an error of linking tells, by the files that came back.

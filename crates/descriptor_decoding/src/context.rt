@@ -14,8 +14,8 @@ pub struct Context {
 }
 
 impl Context {
-    /// The same for a message in the message, of these bytes, which end at offset `ends` of the
-    /// input.
+    /// Where a message inside the message is read, of these bytes, which end at offset `ends` of
+    /// the input.
     ///
     /// # Errors
     /// `TooDeep` where no level is left.

@@ -77,14 +77,18 @@ pub fn merge_texts(
 }
 
 /// Takes room for packed numbers where none came yet: each ends with a byte below 128. Those of
-/// further parts find room by leaps.
+/// further parts find room by leaps. Up to six bytes are not counted, since room for six numbers is
+/// in the least block of memory that is handed out.
 fn take_room(items: &mut Items<i32>, bytes: &[u8]) -> Result<(), AllocError>
     ensures { items.new ≡ items.old }
 {
-    if items.as_slice().is_empty() {
-        return items.reserve_exact(bytes.iter().filter(|b| **b < 128).count());
+    if !items.as_slice().is_empty() {
+        return Ok(());
     }
-    Ok(())
+    if bytes.len() <= 6 {
+        return items.reserve_exact(bytes.len());
+    }
+    items.reserve_exact(bytes.iter().filter(|b| **b < 128).count())
 }
 
 /// Reads packed numbers.

@@ -14,4 +14,7 @@ mod sources;
 mod wire;
 
 pub use encoding::{encode, encode_file, file_len};
+pub use front::FrontBuffer;
 pub use linked::{encode_linked, linked_len};
+pub use parts::put_text;
+pub use wire::{put_bytes_field, put_number_field};

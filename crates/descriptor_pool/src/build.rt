@@ -183,7 +183,7 @@ fn show_names(
     shown
 }
 
-/// The same, where the table of names stands beside its open scopes.
+/// Shows the new files of a pool to the first pass, with the table of names and its open scopes.
 fn show_scoped(
     base: Counts,
     names: &mut ScopedNames,

@@ -1,22 +1,25 @@
 -- The set of the linked files that a check answers makes the pool with which the check accepts.
-use Rattle.std.proofs.Common.{◌≡◌, ◌≢◌, ◌<◌, ◌^◌, ℕ, IsOk, IfSome, List, [], ◌∷◌, length, MatchOption, Option, None, Some, Result, Ok, Err, refl, ap, subst, sym, ◌∙◌}
+use Rattle.std.proofs.Common.{◌≡◌, ◌≢◌, ◌<◌, ◌^◌, ℕ, Bool, true, false, IsOk, IfSome, List, [], ◌∷◌, length, MatchOption, Option, None, Some, Result, Ok, Err, refl, ap, subst, sym, ◌∙◌}
 use Rattle.std.specs.Option.{option_map}
-use Rattle.proto_types.specs.declared.file.FileDescriptorProto.{FileDescriptorProto}
+use Rattle.joined_files.specs.declared.joining.JoinedFiles.{JoinedFiles}
+use Rattle.joined_files.specs.declared.unequal.UnequalFile.{UnequalFile}
 use Rattle.proto_types.specs.declared.file.FileDescriptorSet.{FileDescriptorSet}
 use Rattle.pool_types.specs.Contents.{Contents, no_contents}
 use Rattle.pool_faults.specs.declared.fault.DescriptorErrorKind.{DescriptorErrorKind}
 use Rattle.record_walk.specs.declared.counts.Counts.{Counts}
 use Rattle.record_walk.specs.declared.counts.CountKind.{CountKind}
 use Rattle.descriptor_decoding.specs.Decoding.{file_set_of}
+use Rattle.protoc_rules.specs.declared.faults.StrictFault.{StrictFault}
 use Rattle.descriptor_laws.specs.Whole.{IsFile, IsSet, Within}
 use Rattle.descriptor_pool.specs.Build.{first_of_both}
 use Rattle.descriptor_pool.specs.Outcome.{IsLinked}
 use Rattle.descriptor_pool.specs.Pool.{Batch, counts_after, faults, faults_of_names, faults_of_references, link}
 use Rattle.stored_pools.specs.Stored.{AreWhole, LinkedIsLoaded, MakesPool}
-use Rattle.descriptor_check.specs.Answers.{accepted_unless, answer, answer_for, set_for, verdict_answer}
+use Rattle.descriptor_check.specs.Answers.{accepted_unless, answer, answer_for, linked_answer, passed_over, set_for, verdict_answer, with_complaints}
 use Rattle.descriptor_check.specs.Batches.{batch_of}
 use Rattle.descriptor_check.specs.Described.{unknown_names}
-use Rattle.descriptor_check.specs.Verdicts.{by_counts, by_faults, verdict_of}
+use Rattle.descriptor_check.specs.Strict.{judgement_of, verdict_wanted}
+use Rattle.descriptor_check.specs.Verdicts.{by_counts, by_faults, unless_unequal, verdict_of, verdict_of_joined}
 use Rattle.descriptor_check.specs.declared.answer.Answer.{Answer}
 use Rattle.descriptor_check.specs.declared.answer.LinkedSet.{LinkedSet}
 use Rattle.descriptor_check.specs.declared.answer.Status.TheVariants as status
@@ -24,7 +27,7 @@ use Rattle.descriptor_check.specs.declared.answer.Wanted.{Wanted}
 use Rattle.descriptor_check.specs.declared.batches.NotASet.{NotASet}
 use Rattle.descriptor_check.specs.declared.inputs.Input.{Input}
 use Rattle.descriptor_check.specs.declared.verdicts.Verdict.{Verdict}
-use Rattle.descriptor_check.specs.declared.verdicts.Verdict.TheVariants.{Accepted, Refused, TooMany}
+use Rattle.descriptor_check.specs.declared.verdicts.Verdict.TheVariants.{Accepted, Refused, TooMany, Unequal}
 use Rattle.example_check.specs.Checked.{AcceptedAs, CheckedIsLoaded, IsLoadedAs}
 use Rattle.example_check.proofs.Whole.{batch-all}
 
@@ -54,6 +57,16 @@ module _ (most : ℕ) (batch : Batch) (p : Contents) where
   unfolding verdict_of
   accepted-linked is = by-counts (counts_after no_contents batch) refl is
 
+-- the verdict on the files of sets that is accepted is that on their batch
+unless-accepted : (us : List UnequalFile) (v : Verdict) (p : Contents) → unless_unequal us v ≡ Accepted p → v ≡ Accepted p
+unless-accepted [] v p is = is
+unless-accepted (u ∷ us) v p is = absurd (cc)
+
+joined-accepted : (first : Bool) (most : ℕ) (j : JoinedFiles) (p : Contents) → verdict_of_joined first most j ≡ Accepted p → verdict_of most j.files ≡ Accepted p
+unfolding verdict_of_joined
+joined-accepted true most j p is = is
+joined-accepted false most j p is = unless-accepted j.unequal (verdict_of most j.files) p is
+
 module _ (read : (bytes : List ℕ) (set : FileDescriptorSet) → file_set_of bytes ≡ Ok set → IsSet 100 set) (loaded : LinkedIsLoaded)
     (w : Wanted) (inputs : List Input) (a : Answer) (short : IfSome a.linked (λ set. length set.bytes < 2 ^ 64)) where
   abbrev Handed : Option LinkedSet → Type 0
@@ -64,30 +77,37 @@ module _ (read : (bytes : List ℕ) (set : FileDescriptorSet) → file_set_of by
   nothing other is none refuses =
       subst Handed (sym (ap (λ (b : Answer). b.linked) is ∙ none)) (λ accepted. absurd (refuses (sym (ap (λ (b : Answer). b.status) is) ∙ accepted)))
 
-  module _ (batch : Batch) (reads : batch_of inputs ≡ Ok batch) where
-    by-wanted : (p : Contents) → verdict_of w.most batch ≡ Accepted p → (wanted : Option (List ℕ)) → w.linked ≡ wanted
+  module _ (joined : JoinedFiles) (reads : batch_of inputs ≡ Ok joined) where
+    by-wanted : (p : Contents) → verdict_wanted w joined ≡ Accepted p → (wanted : Option (List ℕ)) → w.linked ≡ wanted
         → a.linked ≡ option_map (λ name. set_for name p) wanted → Handed a.linked
     by-wanted p accepts None wants is = subst Handed (sym is) (λ _. wants)
     by-wanted p accepts (Some name) wants is =
-        let whole : AreWhole batch = record { file = batch-all (Within 100 IsFile) (λ bytes set reads. (read bytes set reads).file) inputs batch reads } in
+        let batch : Batch = joined.files in
+        let linked : IsLinked no_contents batch p = accepted-linked w.most batch p (joined-accepted w.first_counts w.most joined p accepts) in
+        let whole : AreWhole batch = record { file = batch-all (Within 100 IsFile) (λ bytes set reads. (read bytes set reads).file) inputs joined reads } in
         subst Handed (sym is) (record {
           named = wants;
           pool = p;
-          accepted = record { batch = batch; read = reads; accepted = accepts };
-          makes = loaded batch whole p (accepted-linked w.most batch p accepts) (subst (λ linked. IfSome linked (λ set. length set.bytes < 2 ^ 64)) is short);
+          accepted = record { joined = joined; read = reads; accepted = accepts };
+          makes = loaded batch whole p linked (subst (λ linked. IfSome linked (λ set. length set.bytes < 2 ^ 64)) is short);
         })
 
-    by-names : (p : Contents) → verdict_of w.most batch ≡ Accepted p → (unknown : List ℕ) → a ≡ accepted_unless w p unknown → Handed a.linked
-    by-names p accepts [] is = by-wanted p accepts w.linked refl (ap (λ (b : Answer). b.linked) is)
-    by-names p accepts (c ∷ cs) is = nothing (accepted_unless w p (c ∷ cs)) is refl (λ same. cc)
+    by-names : (lines : List ℕ) (p : Contents) → verdict_wanted w joined ≡ Accepted p → (unknown : List ℕ) → a ≡ with_complaints lines (accepted_unless w p unknown) → Handed a.linked
+    by-names lines p accepts [] is = by-wanted p accepts w.linked refl (ap (λ (b : Answer). b.linked) is)
+    by-names lines p accepts (c ∷ cs) is = nothing (with_complaints lines (accepted_unless w p (c ∷ cs))) is refl (λ same. cc)
 
-    by-verdict : (v : Verdict) → verdict_of w.most batch ≡ v → a ≡ verdict_answer w v → Handed a.linked
-    by-verdict (Accepted p) found is = by-names p found (unknown_names p w.names) is
-    by-verdict (Refused refusal) found is = nothing (verdict_answer w (Refused refusal)) is refl (λ same. cc)
-    by-verdict (TooMany kind) found is = nothing (verdict_answer w (TooMany kind)) is refl (λ same. cc)
+    by-strict : (lines : List ℕ) (p : Contents) → verdict_wanted w joined ≡ Accepted p → (strict : List StrictFault) → a ≡ with_complaints lines (linked_answer w p strict) → Handed a.linked
+    by-strict lines p accepts [] is = by-names lines p accepts (unknown_names p w.names) is
+    by-strict lines p accepts (f ∷ fs) is = nothing (with_complaints lines (linked_answer w p (f ∷ fs))) is refl (λ same. cc)
 
-  by-batch : (r : Result (List FileDescriptorProto) NotASet) → batch_of inputs ≡ r → a ≡ answer_for w r → Handed a.linked
-  by-batch (Ok batch) reads is = by-verdict batch reads (verdict_of w.most batch) refl is
+    by-verdict : (lines : List ℕ) (strict : List StrictFault) (v : Verdict) → verdict_wanted w joined ≡ v → a ≡ with_complaints lines (verdict_answer w strict v) → Handed a.linked
+    by-verdict lines strict (Accepted p) found is = by-strict lines p found strict is
+    by-verdict lines strict (Refused refusal) found is = nothing (with_complaints lines (verdict_answer w strict (Refused refusal))) is refl (λ same. cc)
+    by-verdict lines strict (TooMany kind) found is = nothing (with_complaints lines (verdict_answer w strict (TooMany kind))) is refl (λ same. cc)
+    by-verdict lines strict (Unequal us) found is = nothing (with_complaints lines (verdict_answer w strict (Unequal us))) is refl (λ same. cc)
+
+  by-batch : (r : Result JoinedFiles NotASet) → batch_of inputs ≡ r → a ≡ answer_for w r → Handed a.linked
+  by-batch (Ok joined) reads is = by-verdict joined reads (passed_over w joined.unequal) (judgement_of w joined).strict (verdict_wanted w joined) refl is
   by-batch (Err n) reads is = nothing (answer_for w (Err n)) is refl (λ same. cc)
 
   pub checked-loaded : CheckedIsLoaded w inputs a

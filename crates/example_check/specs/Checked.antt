@@ -2,11 +2,11 @@
 use Rattle.std.specs.Prelude.{◌≡◌, MatchOption, List, Ok}
 use Rattle.std.specs.declared.option.Option.TheVariants.{None, Some}
 use Rattle.pool_types.specs.Contents.{Contents}
-use Rattle.descriptor_pool.specs.Pool.{Batch}
+use Rattle.joined_files.specs.declared.joining.JoinedFiles.{JoinedFiles}
 use Rattle.stored_pools.specs.Stored.{MakesPool}
 use Rattle.descriptor_check.specs.Answers.{answer}
 use Rattle.descriptor_check.specs.Batches.{batch_of}
-use Rattle.descriptor_check.specs.Verdicts.{verdict_of}
+use Rattle.descriptor_check.specs.Strict.{verdict_wanted}
 use Rattle.descriptor_check.specs.declared.answer.Answer.{Answer}
 use Rattle.descriptor_check.specs.declared.answer.LinkedSet.{LinkedSet}
 use Rattle.descriptor_check.specs.declared.answer.Status.TheVariants as status
@@ -14,11 +14,11 @@ use Rattle.descriptor_check.specs.declared.answer.Wanted.{Wanted}
 use Rattle.descriptor_check.specs.declared.inputs.Input.{Input}
 use Rattle.descriptor_check.specs.declared.verdicts.Verdict.TheVariants.{Accepted}
 
--- the verdict on the batch of some inputs is that it is accepted, with a pool
+-- the verdict that is wanted on the files of some inputs is that they are accepted, with a pool
 pub record AcceptedAs (w : Wanted) (inputs : List Input) (p : Contents) : Type 0 where
-  pub batch : Batch
-  pub read : batch_of inputs ≡ Ok batch
-  pub accepted : verdict_of w.most batch ≡ Accepted p
+  pub joined : JoinedFiles
+  pub read : batch_of inputs ≡ Ok joined
+  pub accepted : verdict_wanted w joined ≡ Accepted p
 
 -- a set is for the file that is wanted, and its files, read from its bytes and linked at once from
 -- nothing, make a pool equal to the one with which some inputs are accepted

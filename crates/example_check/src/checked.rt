@@ -93,9 +93,12 @@ fn linked_wanted(alloc: Global) -> Result<Wanted, AllocError> {
     Ok(Wanted {
         format: Format::Text,
         most: 100,
+        strict: false,
+        first_counts: false,
         lists: false,
         names: Items::new(alloc),
         linked: Some(linked),
         compatibility: None,
+        level: None,
     })
 }

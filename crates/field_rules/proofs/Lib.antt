@@ -1,5 +1,6 @@
 pub mod NamesBegin
 pub mod Differing
+pub mod Behind
 pub mod Each
 pub mod Tells
 pub mod First
@@ -11,6 +12,5 @@ pub mod Ascending
 pub mod Positions
 pub mod Rising
 pub mod Sorting
-pub mod Told
 pub mod Earlier
 pub mod ValueFaults

@@ -14,7 +14,7 @@ ghost use Rattle.record_walk.specs.Faults.{Tells, named_files};
 ghost use Rattle.field_rules.specs.EnumItems.{allows_alias};
 ghost use Rattle.field_rules.specs.EnumValues.{NumbersRise, values_faults};
 
-use crate::enum_ranges::check_reserved;
+use crate::enum_ranges::{check_reserved, enum_ranges};
 use pool_faults::{DescriptorErrorKind, Label};
 use proto_types::{EnumDescriptorProto, EnumValueDescriptorProto, tag};
 use record_walk::{Faults, Place};
@@ -42,11 +42,12 @@ pub fn check_values(
     if allows_alias(enumeration) || numbers_rise(enumeration.value.as_slice()) {
         return check_all_reserved(faults, place, enumeration);
     }
+    let ranges = enum_ranges(faults.alloc, enumeration.reserved_range.as_slice())?;
     let mut positions = BTreeMap::new(faults.alloc);
     for (position, value) in enumeration.value.as_slice().iter().enumerate() {
         let number = value.number();
         let earlier = earlier_position(&mut positions, number, position)?;
-        check_reserved(faults, place, enumeration, position, number)?;
+        check_reserved(faults, place, enumeration, &ranges, (position, number))?;
         check_duplicate(faults, place, number, earlier, position)?;
     }
     Ok(())
@@ -78,8 +79,15 @@ fn check_all_reserved(
         (values_faults (named_files faults.old)
         (enum_at place.entry enumeration.now) enumeration.now)) }
 {
+    let ranges = enum_ranges(faults.alloc, enumeration.reserved_range.as_slice())?;
     for (position, value) in enumeration.value.as_slice().iter().enumerate() {
-        check_reserved(faults, place, enumeration, position, value.number())?;
+        check_reserved(
+            faults,
+            place,
+            enumeration,
+            &ranges,
+            (position, value.number()),
+        )?;
     }
     Ok(())
 }

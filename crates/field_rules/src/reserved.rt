@@ -62,8 +62,8 @@ pub(crate) fn check_reserved_ranges(
     Ok(())
 }
 
-/// The same as `check_reserved_ranges`, by the ranges in order: only those are looked at that hold
-/// the number.
+/// Does what `check_reserved_ranges` does, by the ranges in order: only those are looked at that
+/// hold the number.
 pub(crate) fn check_reserved_by(
     faults: &mut Faults,
     owner: Owner,
@@ -91,6 +91,7 @@ pub(crate) fn check_reserved_by(
 
 /// Appends to `faults` that of a reserved range of a message, given with its position, that holds
 /// the number.
+#[inline(always)]
 fn check_reserved_range(
     faults: &mut Faults,
     owner: Place,
@@ -112,6 +113,7 @@ fn check_reserved_range(
 
 /// Appends to `faults` that a reserved range of a message, given with its position, holds a number.
 /// Where no further fault is kept, none is made.
+#[inline(never)]
 fn tell_reserved(
     faults: &mut Faults,
     owner: Place,

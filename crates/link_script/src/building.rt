@@ -103,7 +103,7 @@ impl Open {
         }
     }
 
-    /// The same record, which gives back the room of its lists in which nothing stands.
+    /// Gives back the room of the record's lists in which nothing stands. The record is the same.
     pub fn shrunk(mut self) -> Open
         ensures { result ≡ self }
     {

@@ -203,7 +203,8 @@ impl<'a> ResolveNameResult<'a> {
         self.labelled_fault(alloc, orig_name, &mut labels, found_file, path)
     }
 
-    /// The same, with labels that are made by an index of the locations of files, whose files stay.
+    /// The fault of a reference, with labels that are made by an index of the locations of files. The
+    /// files of the index stay.
     ///
     /// # Errors
     /// `AllocError` where memory was refused.
@@ -243,7 +244,7 @@ impl<'a> ResolveNameResult<'a> {
         Ok(Some(fault))
     }
 
-    /// The same, or the other where this is that nothing has the name.
+    /// This answer, or the other one if nothing has the name by this.
     fn or(self, other: ResolveNameResult<'a>) -> ResolveNameResult<'a>
         ensures { resolution_in result ≡ (if is_not_found (resolution_in self.entry)
             then resolution_in other.entry else resolution_in self.entry) }
@@ -254,7 +255,7 @@ impl<'a> ResolveNameResult<'a> {
         }
     }
 
-    /// The same, or where nothing has the full name, that this shadows the name as it is written.
+    /// This answer; but where nothing has the full name, that it shadows the name as it is written.
     fn or_shadowed(
         self,
         alloc: Global,

@@ -126,7 +126,7 @@ pub(crate) fn insert_part(tree: &mut NameTree, from: u32, part: &str) -> Result<
     Ok(at)
 }
 
-/// The same part by part.
+/// The branch that a name leads to from a branch, part by part. Missing branches are inserted.
 ///
 /// # Errors
 /// `AllocError` where memory was refused.

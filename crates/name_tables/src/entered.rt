@@ -188,7 +188,7 @@ impl<T: InFile> Entered<T> {
         }
     }
 
-    /// The same values.
+    /// A copy of the values.
     ///
     /// # Errors
     /// `AllocError` where memory was refused.

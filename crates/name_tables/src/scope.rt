@@ -75,7 +75,7 @@ impl<'a, 't> Scope<'a, 't> {
         self.branches.definitions.get(at as usize)
     }
 
-    /// The same of a name without a dot, which is found faster. One with a dot has none.
+    /// What a name without a dot means inside it, which is found faster. A name with one has none.
     pub fn find_part(&self, part: &str) -> Option<&'a Definition>
         ensures { parts part.now ≡ part.now ∷ [] → option_copied result
             ≡ map.get self.now.0 (join self.now.1 part.now) }

@@ -26,7 +26,7 @@ pub(crate) fn first_in(stretch: Stretch, levels: usize, from: usize, number: i32
     let Some(below) = levels.checked_sub(1) else {
         return first_listed(stretch.ranges, from, number);
     };
-    // As many have ended as have begun, so none holds the number.
+    // Where as many have ended as have begun, none holds the number.
     if count_to(&stretch.ends[..count], number) == count_to(&stretch.starts[..count], number) {
         return None;
     }

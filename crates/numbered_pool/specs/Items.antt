@@ -1,10 +1,14 @@
 -- What stands in a pool at an index, and at a position there.
-use Rattle.std.specs.Prelude.{ℕ, List, drop, slice_get}
+use Rattle.std.specs.Prelude.{ℕ, ℤ, ◌==◌, Bool, false, List, drop, find, slice_get, if◌then◌else◌}
 use Rattle.std.specs.FinMap as finite
 use Rattle.std.specs.Option.{option_and_then, option_map}
+use Rattle.std.specs.Ordering.{int_eq}
 use Rattle.std.specs.declared.option.Option.{Option}
-use Rattle.std.specs.declared.option.Option.TheVariants.{None}
+use Rattle.std.specs.declared.option.Option.TheVariants.{None, Some}
+use Rattle.proto_types.specs.Names.{join}
+use Rattle.pool_contents.specs.LookUps.{definition_named}
 use Rattle.pool_types.specs.Contents.{Contents}
+use Rattle.pool_types.specs.declared.contents.definition.Definition.{Definition}
 use Rattle.pool_types.specs.declared.contents.definition.DefinitionKind.{DefinitionKind}
 use Rattle.pool_types.specs.declared.contents.definition.DefinitionKind.TheVariants as kind
 use Rattle.pool_types.specs.declared.contents.definition.Identity.{Identity}
@@ -13,8 +17,10 @@ use Rattle.pool_types.specs.declared.contents.field.FieldDescriptorInner.{FieldD
 use Rattle.pool_types.specs.declared.contents.oneof.OneofDescriptorInner.{OneofDescriptorInner}
 use Rattle.pool_types.specs.declared.contents.service.MethodDescriptorInner.{MethodDescriptorInner}
 use Rattle.pool_types.specs.declared.default_value.DefaultValue.{DefaultValue}
-use Rattle.numbered_pool.specs.Numbers.{definition_kind}
+use Rattle.numbered_pool.specs.Numbers.{definition_kind, part_position}
+use Rattle.numbered_pool.specs.Numbers as numbers
 use Rattle.numbered_pool.specs.declared.numbers.Item.{Item}
+use Rattle.numbered_pool.specs.declared.numbers.OneofItem.{OneofItem}
 
 -- a part, by its position, of what stands at an index
 abbrev pub part_at : {A B : Type 0} → (A → List B) → List A → ℕ → ℕ → Option B
@@ -28,6 +34,12 @@ field_at p = part_at (λ m. m.fields) p.messages
 -- the oneof at a position of a message
 abbrev pub oneof_at : Contents → ℕ → ℕ → Option OneofDescriptorInner
 oneof_at p = part_at (λ m. m.oneofs) p.messages
+
+-- the oneof at a position of a message, with what its message tells of it
+abbrev pub oneof_item : Contents → ℕ → ℕ → Option OneofItem
+oneof_item p message position =
+    option_and_then (λ m. option_map (numbers.oneof_item p m.fields) (slice_get m.oneofs position))
+    (slice_get p.messages message)
 
 -- the value at a position of an enum
 abbrev pub value_at : Contents → ℕ → ℕ → Option EnumValueDescriptorInner
@@ -69,6 +81,30 @@ field_json_named p message name =
 abbrev pub value_named : Contents → ℕ → List ℕ → Option ℕ
 value_named p enumeration name =
     option_and_then (λ e. finite.get e.value_names name) (slice_get p.enums enumeration)
+
+-- the position that stands first beside a number
+abbrev pub first_numbered : List (ℤ × ℕ) → ℤ → Option ℕ
+first_numbered numbers number = option_map (λ v. v.1) (find (λ v. int_eq v.0 number) numbers)
+
+-- the position of the first value of an enum that has a number, among those by number
+abbrev pub value_numbered : Contents → ℕ → ℤ → Option ℕ
+value_numbered p enumeration number =
+    option_and_then (λ e. first_numbered e.value_numbers number) (slice_get p.enums enumeration)
+
+-- whether a definition is a method of the service with an index
+abbrev pub is_method_of : ℕ → DefinitionKind → Bool
+is_method_of service (kind.Method s) = s == service
+is_method_of service _ = false
+
+-- the position of a method, where a definition is a method of the service with an index
+abbrev pub method_of : ℕ → Definition → Option ℕ
+method_of service d = if is_method_of service d.kind then Some (part_position d.path) else None
+
+-- the position of the method of a service that has a name: what the pool has under the full name
+abbrev pub method_named : Contents → ℕ → List ℕ → Option ℕ
+method_named p service name =
+    option_and_then (λ s. option_and_then (method_of service)
+    (definition_named p (join s.id.full_name name))) (slice_get p.services service)
 
 -- where something is declared, and its name, by its kind and its position; packages have none
 abbrev pub identity_at : Contents → ℕ → DefinitionKind → Option Identity

@@ -5,3 +5,6 @@ pub mod Added
 pub mod Numbers
 pub mod Items
 pub mod Defaults
+pub mod Ranges
+pub mod Lists
+pub mod Sources

@@ -1,9 +1,11 @@
 -- What a pool has, as plain numbers.
-use Rattle.std.specs.Prelude.{ℕ, ℤ, ◌-◌, Bool, List, [], ◌∷◌, length, slice_get, unwrap_or, is_some, if◌then◌else◌}
+use Rattle.std.specs.Prelude.{ℕ, ℤ, ◌-◌, Bool, not, List, [], ◌∷◌, length, slice_get, unwrap_or, is_some, if◌then◌else◌}
+use Rattle.std.specs.FinMap as finite
 use Rattle.std.specs.Option.{option_and_then}
 use Rattle.std.specs.declared.option.Option.{Option}
 use Rattle.record_walk.specs.declared.counts.Counts.{Counts}
 use Rattle.pool_faults.specs.Labels.{non_negative}
+use Rattle.pool_types.specs.Contents.{Contents}
 use Rattle.pool_types.specs.Kinds.{type_number}
 use Rattle.pool_types.specs.declared.contents.definition.Definition.{Definition}
 use Rattle.pool_types.specs.declared.contents.definition.DefinitionKind.{DefinitionKind}
@@ -23,6 +25,9 @@ use Rattle.pool_types.specs.declared.kinds.KindIndex.{KindIndex}
 use Rattle.pool_types.specs.declared.kinds.KindIndex.TheVariants as kind
 use Rattle.pool_types.specs.declared.kinds.Syntax.{Syntax}
 use Rattle.pool_types.specs.declared.kinds.Syntax.TheVariants.{Proto2, Proto3}
+use Rattle.item_records.specs.Flags.{is_closed, is_group, is_list, is_map, is_repeated, is_required, is_synthetic}
+use Rattle.item_records.specs.Records.{enum_parts, field_parts, is_service_deprecated, is_value_deprecated, message_parts, method_parts, says}
+use Rattle.item_records.specs.declared.records.MessageParts.{MessageParts}
 use Rattle.numbered_pool.specs.declared.numbers.EnumItem.{EnumItem}
 use Rattle.numbered_pool.specs.declared.numbers.ExtensionItem.{ExtensionItem}
 use Rattle.numbered_pool.specs.declared.numbers.FieldItem.{FieldItem}
@@ -123,23 +128,52 @@ kinds index =
 abbrev pub definition_kind : Item → Option DefinitionKind
 definition_kind i = slice_get (kinds i.index) i.kind
 
+-- the position of the field with a number, where a message is the entry of a map
+abbrev pub entry_field : Bool → MessageDescriptorInner → ℕ → ℕ
+entry_field is_entry m number =
+    if is_entry then or_none (finite.get m.field_numbers number) else none
+
 -- a file
 abbrev pub file_item : FileDescriptorInner → FileItem
-file_item f = record { syntax = syntax_number f.syntax; imports = length f.dependencies }
+file_item f = record {
+  syntax = syntax_number f.syntax;
+  imports = length f.dependencies;
+  public_imports = length f.raw.public_dependency;
+  messages = length f.raw.message_type;
+  enums = length f.raw.enum_type;
+  services = length f.raw.service;
+  extensions = length f.raw.extension;
+  is_deprecated = flag (says 23 f.raw.options);
+}
 
--- a message
-abbrev pub message_item : MessageDescriptorInner → MessageItem
-message_item m = record {
+-- a message, and what its record has
+abbrev pub message_numbers : MessageDescriptorInner → MessageParts → MessageItem
+message_numbers m r = record {
   file = m.id.file;
   parent = or_none m.parent;
   fields = length m.fields;
   oneofs = length m.oneofs;
   extensions = length m.extensions;
+  nested_messages = r.nested_messages;
+  nested_enums = r.nested_enums;
+  nested_extensions = r.nested_extensions;
+  extension_ranges = r.extension_ranges;
+  reserved_ranges = r.reserved_ranges;
+  reserved_names = r.reserved_names;
+  map_key = entry_field r.is_map_entry m 1;
+  map_value = entry_field r.is_map_entry m 2;
+  is_map_entry = flag r.is_map_entry;
+  is_message_set = flag r.is_message_set;
+  is_deprecated = flag r.is_deprecated;
 }
 
--- a field
-abbrev pub field_item : FieldDescriptorInner → FieldItem
-field_item f = record {
+-- a message of a pool
+abbrev pub message_item : Contents → MessageDescriptorInner → MessageItem
+message_item p m = message_numbers m (message_parts p.files m.id)
+
+-- a field of a pool, and what its record says
+abbrev pub field_item : Contents → FieldDescriptorInner → FieldItem
+field_item p f = record {
   number = f.number;
   cardinality = cardinality_number f.cardinality;
   kind = type_number f.kind;
@@ -148,11 +182,17 @@ field_item f = record {
   is_packed = flag f.is_packed;
   supports_presence = flag f.supports_presence;
   has_default = flag (is_some f.default);
+  is_map = flag (is_map p.files p.messages f.cardinality f.kind);
+  is_list = flag (is_list p.files p.messages f.cardinality f.kind);
+  is_required = flag (is_required f.cardinality);
+  is_group = flag (is_group f.kind);
+  is_proto3_optional = flag (field_parts p.files f.id).is_proto3_optional;
+  is_deprecated = flag (field_parts p.files f.id).is_deprecated;
 }
 
--- an extension
-abbrev pub extension_item : ExtensionDescriptorInner → ExtensionItem
-extension_item x = record {
+-- an extension of a pool, and what its record says
+abbrev pub extension_item : Contents → ExtensionDescriptorInner → ExtensionItem
+extension_item p x = record {
   file = x.id.file;
   parent = or_none x.parent;
   extendee = x.extendee;
@@ -162,29 +202,55 @@ extension_item x = record {
   type_index = type_index x.kind;
   is_packed = flag x.is_packed;
   has_default = flag (is_some x.default);
+  supports_presence = flag (not (is_repeated x.cardinality));
+  is_map = flag (is_map p.files p.messages x.cardinality x.kind);
+  is_list = flag (is_list p.files p.messages x.cardinality x.kind);
+  is_group = flag (is_group x.kind);
+  is_proto3_optional = flag (field_parts p.files x.id).is_proto3_optional;
+  is_deprecated = flag (field_parts p.files x.id).is_deprecated;
 }
 
--- a oneof
-abbrev pub oneof_item : OneofDescriptorInner → OneofItem
-oneof_item o = record { fields = length o.fields }
+-- a oneof of a pool, among the fields of its message
+abbrev pub oneof_item : Contents → List FieldDescriptorInner → OneofDescriptorInner → OneofItem
+oneof_item p fields o = record {
+  fields = length o.fields;
+  is_synthetic = flag (is_synthetic p.files fields o.fields);
+}
 
--- an enum
-abbrev pub enum_item : EnumDescriptorInner → EnumItem
-enum_item e = record {
+-- an enum of a pool, and what its record has
+abbrev pub enum_item : Contents → EnumDescriptorInner → EnumItem
+enum_item p e = record {
   file = e.id.file;
   parent = or_none e.parent;
   values = length e.values;
   allow_alias = flag e.allow_alias;
+  reserved_ranges = (enum_parts p.files e.id).reserved_ranges;
+  reserved_names = (enum_parts p.files e.id).reserved_names;
+  is_closed = flag (is_closed p.files e);
+  is_deprecated = flag (enum_parts p.files e.id).is_deprecated;
 }
 
--- a value of an enum
-abbrev pub value_item : EnumValueDescriptorInner → ValueItem
-value_item v = record { number = v.number }
+-- a value of an enum of a pool
+abbrev pub value_item : Contents → EnumValueDescriptorInner → ValueItem
+value_item p v = record {
+  number = v.number;
+  is_deprecated = flag (is_value_deprecated p.files v.id);
+}
 
--- a service
-abbrev pub service_item : ServiceDescriptorInner → ServiceItem
-service_item s = record { file = s.id.file; methods = length s.methods }
+-- a service of a pool
+abbrev pub service_item : Contents → ServiceDescriptorInner → ServiceItem
+service_item p s = record {
+  file = s.id.file;
+  methods = length s.methods;
+  is_deprecated = flag (is_service_deprecated p.files s.id);
+}
 
--- a method
-abbrev pub method_item : MethodDescriptorInner → MethodItem
-method_item m = record { input = m.input; output = m.output }
+-- a method of a pool, and what its record says
+abbrev pub method_item : Contents → MethodDescriptorInner → MethodItem
+method_item p m = record {
+  input = m.input;
+  output = m.output;
+  client_streaming = flag (method_parts p.files m.id).client_streaming;
+  server_streaming = flag (method_parts p.files m.id).server_streaming;
+  is_deprecated = flag (method_parts p.files m.id).is_deprecated;
+}

@@ -1,6 +1,6 @@
 ghost use Rattle.std.specs.Prelude.{◌≡◌, IfOk};
 
-use crate::reading::{ReadError, Source, read_files};
+use crate::reading::{ReadError, Source, read_each, read_files};
 use crate::report::{Report, fault_report, refused_report, too_many_report};
 use crate::status::Status;
 use descriptor_pool::{BuildError, DescriptorPool};
@@ -23,7 +23,7 @@ pub struct Answers {
 
 impl Answers {
     ghost use Rattle.numbered_pool.specs.Added.{AddedAs, LinkedAs, ToldAs, no_answers, unreported};
-    ghost use Rattle.numbered_pool.specs.Reading.{file_read, files_read, script_read, set_read};
+    ghost use Rattle.numbered_pool.specs.Reading.{Read, Reads, each_read, file_read, files_read, script_read, set_read};
     ghost use Rattle.numbered_pool.specs.Reports.{no_report};
 
     /// A pool without files and an empty report, which takes no memory. It tells a hundred faults at
@@ -71,6 +71,15 @@ impl Answers {
         self.add(alloc, Source::File, bytes)
     }
 
+    /// Links several files in one batch, in any order, as `add_set` does. They are encoded
+    /// `FileDescriptorProto`s that stand behind one another in the bytes, by their lengths.
+    pub fn add_files(&mut self, alloc: Global, bytes: &[u8], lengths: &[usize]) -> Status
+        ensures { AddedAs (each_read bytes.now lengths.now) self.old self.new result }
+    {
+        let read = read_each(alloc, bytes, lengths);
+        self.add_read(alloc, read)
+    }
+
     /// Links the files that a script declares as `add_set` does. Its commands are passed over.
     pub fn add_script(&mut self, alloc: Global, bytes: &[u8]) -> Status
         ensures { AddedAs (script_read bytes.now) self.old self.new result }
@@ -82,8 +91,20 @@ impl Answers {
     fn add(&mut self, alloc: Global, source: Source, bytes: &[u8]) -> Status
         ensures { AddedAs (files_read source bytes.now) self.old self.new result }
     {
+        let read = read_files(alloc, source, bytes);
+        self.add_read(alloc, read)
+    }
+
+    /// Links files that were read.
+    fn add_read(
+        &mut self,
+        alloc: Global,
+        read: Result<Items<FileDescriptorProto>, ReadError>,
+    ) -> Status
+        ensures { (said : Read) → Reads read said → AddedAs said self.old self.new result }
+    {
         self.report = Report::new(alloc);
-        match read_files(alloc, source, bytes) {
+        match read {
             Ok(files) => self.link(alloc, files),
             Err(ReadError::Fault(words)) => {
                 let report = fault_report(alloc, words.as_str());

@@ -1,6 +1,7 @@
 //! What a pool has under names and numbers.
 
-ghost use Rattle.std.specs.Prelude.{◌≡◌, IsNone, IsUtf8, MatchOption};
+ghost use Rattle.std.specs.Prelude.{◌≡◌, IfOk, IsNone, IsUtf8, MatchOption};
+ghost use Rattle.std.specs.FinMap as finite;
 ghost use Rattle.std.specs.Option.{option_copied, option_map};
 ghost use Rattle.pool_types.specs.Extension.{extension_numbered};
 ghost use Rattle.pool_contents.specs.LookUps.{definition_named};
@@ -9,8 +10,12 @@ ghost use Rattle.numbered_pool.specs.Items as spec;
 ghost use Rattle.numbered_pool.specs.Numbers as numbers;
 
 use crate::answers::Answers;
-use crate::numbers::{Found, PoolCounts, found_item, pool_counts};
-use pool_types::{EnumDescriptor, MessageDescriptor};
+use crate::numbers::{Found, PoolCounts, found_item, part_position, pool_counts};
+use pool_types::{
+    Definition, DefinitionKind, EnumDescriptor, MessageDescriptor, ServiceDescriptor,
+};
+use proto_types::join;
+use std::alloc::{AllocError, Global};
 use std::str;
 
 /// Bytes as a text, where they are one.
@@ -19,6 +24,25 @@ fn text_of(bytes: &[u8]) -> Option<&str>
         (λ text. (text.now ≡ bytes.now) × IsUtf8 bytes.now) }
 {
     str::from_utf8(bytes).ok()
+}
+
+/// The position that stands first beside a number.
+fn first_numbered(numbers: &[(i32, u32)], number: i32) -> Option<u32>
+    ensures { result ≡ spec.first_numbered numbers.now number }
+{
+    Some(numbers.iter().find(|value| value.0 == number)?.1)
+}
+
+/// The position of a method, where a definition is a method of the service with an index.
+fn method_of(service: u32, definition: &Definition) -> Option<u32>
+    ensures { result ≡ spec.method_of service definition.now }
+{
+    match definition.kind {
+        DefinitionKind::Method(holder) if holder == service => {
+            Some(part_position(definition.path.as_slice()))
+        }
+        _ => None,
+    }
 }
 
 impl Answers {
@@ -79,7 +103,8 @@ impl Answers {
         message.field_names.get(name)
     }
 
-    /// The same with the JSON name that a field was given.
+    /// The position of the field of a message that was given a JSON name; none where there is none,
+    /// the index is past the end, or the bytes are no text.
     pub fn field_json_named(&self, message: u32, name: &[u8]) -> Option<u32>
         ensures text { IsUtf8 name.now → result
             ≡ spec.field_json_named self.now.pool message name.now }
@@ -100,5 +125,51 @@ impl Answers {
         let name = text_of(name)?;
         let enumeration = self.pool.enum_(EnumDescriptor::new(enumeration))?;
         enumeration.value_names.get(name)
+    }
+
+    /// The index of the file that has a name; none where the pool has no such file, or the bytes are
+    /// no text.
+    pub fn file_named(&self, name: &[u8]) -> Option<u32>
+        ensures text { IsUtf8 name.now → result ≡ finite.get self.now.pool.file_names name.now }
+        ensures no_text { ¬ (IsUtf8 name.now) → IsNone result }
+    {
+        Some(self.pool.get_file_by_name(text_of(name)?)?.index())
+    }
+
+    /// The position of the first value of an enum that has a number; none where there is none, or
+    /// the index is past the end.
+    pub fn value_numbered(&self, enumeration: u32, number: i32) -> Option<u32>
+        ensures { result ≡ spec.value_numbered self.now.pool enumeration number }
+    {
+        let enumeration = self.pool.enum_(EnumDescriptor::new(enumeration))?;
+        first_numbered(enumeration.value_numbers.as_slice(), number)
+    }
+
+    /// The position of the method of a service that has a name, without its scope; none where there
+    /// is none, the index is past the end, or the bytes are no text.
+    ///
+    /// # Errors
+    /// `AllocError` where memory was refused.
+    pub fn method_named(
+        &self,
+        alloc: Global,
+        service: u32,
+        name: &[u8],
+    ) -> Result<Option<u32>, AllocError>
+        ensures text { IsUtf8 name.now → IfOk result (λ found. found
+            ≡ spec.method_named self.now.pool service name.now) }
+        ensures no_text { ¬ (IsUtf8 name.now) → IfOk result (λ found. IsNone found) }
+    {
+        let Some(name) = text_of(name) else {
+            return Ok(None);
+        };
+        let Some(found) = self.pool.service(ServiceDescriptor::new(service)) else {
+            return Ok(None);
+        };
+        let full_name = join(alloc, found.id.full_name(), name)?;
+        match self.pool.get_by_name(full_name.as_str()) {
+            Some(definition) => Ok(method_of(service, definition)),
+            None => Ok(None),
+        }
     }
 }

@@ -78,64 +78,81 @@ impl Answers {
     /// The message with an index, or none past the end.
     pub fn message(&self, index: u32) -> Option<MessageItem>
         ensures { result
-            ≡ option_map numbers.message_item (slice_get self.now.pool.messages index) }
+            ≡ option_map (numbers.message_item self.now.pool)
+            (slice_get self.now.pool.messages index) }
     {
-        Some(message_item(self.pool.message(MessageDescriptor::new(index))?))
+        Some(message_item(
+            &self.pool,
+            self.pool.message(MessageDescriptor::new(index))?,
+        ))
     }
 
     /// The field at a position of a message, or none where either is past the end.
     pub fn field(&self, message: u32, position: u32) -> Option<FieldItem>
         ensures { result
-            ≡ option_map numbers.field_item (spec.field_at self.now.pool message position) }
+            ≡ option_map (numbers.field_item self.now.pool)
+            (spec.field_at self.now.pool message position) }
     {
-        Some(field_item(field_at(&self.pool, message, position)?))
+        Some(field_item(&self.pool, field_at(&self.pool, message, position)?))
     }
 
     /// The oneof at a position of a message, or none where either is past the end.
     pub fn oneof(&self, message: u32, position: u32) -> Option<OneofItem>
-        ensures { result
-            ≡ option_map numbers.oneof_item (spec.oneof_at self.now.pool message position) }
+        ensures { result ≡ spec.oneof_item self.now.pool message position }
     {
-        Some(oneof_item(oneof_at(&self.pool, message, position)?))
+        let message = self.pool.message(MessageDescriptor::new(message))?;
+        let oneof = message.oneofs.as_slice().get(position as usize)?;
+        Some(oneof_item(&self.pool, message.fields.as_slice(), oneof))
     }
 
     /// The enum with an index, or none past the end.
     pub fn enumeration(&self, index: u32) -> Option<EnumItem>
-        ensures { result ≡ option_map numbers.enum_item (slice_get self.now.pool.enums index) }
+        ensures { result ≡ option_map (numbers.enum_item self.now.pool)
+            (slice_get self.now.pool.enums index) }
     {
-        Some(enum_item(self.pool.enum_(EnumDescriptor::new(index))?))
+        Some(enum_item(&self.pool, self.pool.enum_(EnumDescriptor::new(index))?))
     }
 
     /// The value at a position of an enum, or none where either is past the end.
     pub fn value(&self, enumeration: u32, position: u32) -> Option<ValueItem>
         ensures { result
-            ≡ option_map numbers.value_item (spec.value_at self.now.pool enumeration position) }
+            ≡ option_map (numbers.value_item self.now.pool)
+            (spec.value_at self.now.pool enumeration position) }
     {
-        Some(value_item(value_at(&self.pool, enumeration, position)?))
+        Some(value_item(&self.pool, value_at(&self.pool, enumeration, position)?))
     }
 
     /// The service with an index, or none past the end.
     pub fn service(&self, index: u32) -> Option<ServiceItem>
         ensures { result
-            ≡ option_map numbers.service_item (slice_get self.now.pool.services index) }
+            ≡ option_map (numbers.service_item self.now.pool)
+            (slice_get self.now.pool.services index) }
     {
-        Some(service_item(self.pool.service(ServiceDescriptor::new(index))?))
+        Some(service_item(
+            &self.pool,
+            self.pool.service(ServiceDescriptor::new(index))?,
+        ))
     }
 
     /// The method at a position of a service, or none where either is past the end.
     pub fn method(&self, service: u32, position: u32) -> Option<MethodItem>
         ensures { result
-            ≡ option_map numbers.method_item (spec.method_at self.now.pool service position) }
+            ≡ option_map (numbers.method_item self.now.pool)
+            (spec.method_at self.now.pool service position) }
     {
-        Some(method_item(method_at(&self.pool, service, position)?))
+        Some(method_item(&self.pool, method_at(&self.pool, service, position)?))
     }
 
     /// The extension with an index, or none past the end.
     pub fn extension(&self, index: u32) -> Option<ExtensionItem>
         ensures { result
-            ≡ option_map numbers.extension_item (slice_get self.now.pool.extensions index) }
+            ≡ option_map (numbers.extension_item self.now.pool)
+            (slice_get self.now.pool.extensions index) }
     {
-        Some(extension_item(self.pool.extension(ExtensionDescriptor::new(index))?))
+        Some(extension_item(
+            &self.pool,
+            self.pool.extension(ExtensionDescriptor::new(index))?,
+        ))
     }
 
     /// The index of the file that a file imports at a position, or none where either is past the

@@ -6,16 +6,19 @@ mod answers;
 mod finding;
 mod items;
 mod linked;
+mod lists;
 mod names;
 mod numbers;
+mod ranges;
 mod reading;
 mod report;
+mod sources;
 mod status;
 
 pub use answers::Answers;
 pub use numbers::{
     EnumItem, ExtensionItem, FieldItem, FileItem, Found, Item, MessageItem, MethodItem, NONE,
-    OneofItem, PoolCounts, ServiceItem, ValueItem,
+    NumberRange, OneofItem, PoolCounts, ServiceItem, ValueItem,
 };
 pub use report::Report;
 pub use status::Status;

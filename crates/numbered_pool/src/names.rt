@@ -38,7 +38,7 @@ fn identity_at(pool: &DescriptorPool, position: u32, kind: DefinitionKind) -> Op
 }
 
 /// Where an item is declared, and its name.
-fn identity(pool: &DescriptorPool, item: Item) -> Option<&Identity>
+pub(crate) fn identity(pool: &DescriptorPool, item: Item) -> Option<&Identity>
     ensures identity { option_copied result ≡ spec.identity_of pool.now item }
     ensures name { IfSome result (λ id. BeginsAtBoundary id.now) }
 {

@@ -4,6 +4,12 @@
 ghost use Rattle.std.specs.Prelude.{◌≡◌};
 ghost use Rattle.numbered_pool.specs.Numbers as spec;
 
+use descriptor_pool::DescriptorPool;
+use item_records::{
+    enum_parts, field_parts, is_closed, is_deprecated, is_group, is_list, is_map, is_repeated,
+    is_required, is_service_deprecated, is_synthetic, is_value_deprecated, message_parts,
+    method_parts,
+};
 use pool_types::{
     Cardinality, Definition, DefinitionKind, EnumDescriptorInner, EnumValueDescriptorInner,
     ExtensionDescriptorInner, FieldDescriptorInner, FileDescriptorInner, KindIndex,
@@ -57,6 +63,18 @@ pub struct FileItem {
     pub syntax: u32,
     /// How many files it imports.
     pub imports: u64,
+    /// How many of these imports are public.
+    pub public_imports: u64,
+    /// How many messages it has that stand in no message.
+    pub messages: u64,
+    /// How many enums it has that stand in no message.
+    pub enums: u64,
+    /// How many services it has.
+    pub services: u64,
+    /// How many extensions it declares that stand in no message.
+    pub extensions: u64,
+    /// Whether its options say so.
+    pub is_deprecated: u32,
 }
 
 /// A message.
@@ -73,6 +91,28 @@ pub struct MessageItem {
     pub oneofs: u64,
     /// How many extensions of the pool extend it.
     pub extensions: u64,
+    /// How many messages stand in it, without those in one of these.
+    pub nested_messages: u64,
+    /// How many enums stand in it.
+    pub nested_enums: u64,
+    /// How many extensions stand in it, whatever they extend.
+    pub nested_extensions: u64,
+    /// How many ranges of numbers it leaves to extensions.
+    pub extension_ranges: u64,
+    /// How many ranges of numbers it reserves.
+    pub reserved_ranges: u64,
+    /// How many names it reserves.
+    pub reserved_names: u64,
+    /// The position of the key, where it is the entry of a map and has one, or `NONE`.
+    pub map_key: u32,
+    /// The position of the value, where it is the entry of a map and has one, or `NONE`.
+    pub map_value: u32,
+    /// Whether its options say that it is the entry of a map.
+    pub is_map_entry: u32,
+    /// Whether its options say that it is a message set on the wire.
+    pub is_message_set: u32,
+    /// Whether its options say so.
+    pub is_deprecated: u32,
 }
 
 /// A field of a message.
@@ -81,9 +121,9 @@ pub struct MessageItem {
 pub struct FieldItem {
     /// Its field number.
     pub number: u32,
-    /// As descriptor.proto has labels: 1 optional, 2 required, 3 repeated.
+    /// A label of descriptor.proto: 1 optional, 2 required, 3 repeated.
     pub cardinality: u32,
-    /// As descriptor.proto numbers types, from 1 double to 18 sint64.
+    /// A type by its number in descriptor.proto, from 1 double to 18 sint64.
     pub kind: u32,
     /// The index of the message or the enum that is its type, or `NONE`.
     pub type_index: u32,
@@ -95,6 +135,18 @@ pub struct FieldItem {
     pub supports_presence: u32,
     /// Whether a default value was given.
     pub has_default: u32,
+    /// Whether it is repeated, and its type is the entry of a map.
+    pub is_map: u32,
+    /// Whether it is repeated and no map.
+    pub is_list: u32,
+    /// Whether it must be set.
+    pub is_required: u32,
+    /// Whether its type is a group.
+    pub is_group: u32,
+    /// Whether it is optional by word in proto3.
+    pub is_proto3_optional: u32,
+    /// Whether its options say so.
+    pub is_deprecated: u32,
 }
 
 /// An extension.
@@ -109,9 +161,9 @@ pub struct ExtensionItem {
     pub extendee: u32,
     /// Its field number there.
     pub number: u32,
-    /// As descriptor.proto has labels: 1 optional, 2 required, 3 repeated.
+    /// A label of descriptor.proto: 1 optional, 2 required, 3 repeated.
     pub cardinality: u32,
-    /// As descriptor.proto numbers types, from 1 double to 18 sint64.
+    /// A type by its number in descriptor.proto, from 1 double to 18 sint64.
     pub kind: u32,
     /// The index of the message or the enum that is its type, or `NONE`.
     pub type_index: u32,
@@ -119,6 +171,18 @@ pub struct ExtensionItem {
     pub is_packed: u32,
     /// Whether a default value was given.
     pub has_default: u32,
+    /// Whether a message tells that it is set: it is not repeated.
+    pub supports_presence: u32,
+    /// Whether it is repeated, and its type is the entry of a map.
+    pub is_map: u32,
+    /// Whether it is repeated and no map.
+    pub is_list: u32,
+    /// Whether its type is a group.
+    pub is_group: u32,
+    /// Whether it is optional by word in proto3.
+    pub is_proto3_optional: u32,
+    /// Whether its options say so.
+    pub is_deprecated: u32,
 }
 
 /// A oneof of a message.
@@ -127,6 +191,8 @@ pub struct ExtensionItem {
 pub struct OneofItem {
     /// How many fields it has.
     pub fields: u64,
+    /// Whether it was made for one field that is optional by word in proto3.
+    pub is_synthetic: u32,
 }
 
 /// An enum.
@@ -141,6 +207,14 @@ pub struct EnumItem {
     pub values: u64,
     /// Whether two values may have one number.
     pub allow_alias: u32,
+    /// How many ranges of numbers it reserves.
+    pub reserved_ranges: u64,
+    /// How many names it reserves.
+    pub reserved_names: u64,
+    /// Whether it has its values alone: its file is not of proto3.
+    pub is_closed: u32,
+    /// Whether its options say so.
+    pub is_deprecated: u32,
 }
 
 /// A value of an enum.
@@ -148,6 +222,8 @@ pub struct EnumItem {
 #[derive(Clone, Copy)]
 pub struct ValueItem {
     pub number: i32,
+    /// Whether its options say so.
+    pub is_deprecated: u32,
 }
 
 /// A service.
@@ -158,6 +234,8 @@ pub struct ServiceItem {
     pub file: u32,
     /// How many methods it has.
     pub methods: u64,
+    /// Whether its options say so.
+    pub is_deprecated: u32,
 }
 
 /// A method of a service.
@@ -168,6 +246,21 @@ pub struct MethodItem {
     pub input: u32,
     /// The index of the message that it gives.
     pub output: u32,
+    /// Whether it takes a stream of them.
+    pub client_streaming: u32,
+    /// Whether it gives a stream of them.
+    pub server_streaming: u32,
+    /// Whether its options say so.
+    pub is_deprecated: u32,
+}
+
+/// A range of numbers, by the two numbers of its record: of a message the last one is behind the
+/// range, of an enum it is in the range.
+#[repr(C)]
+#[derive(Clone, Copy)]
+pub struct NumberRange {
+    pub start: i32,
+    pub end: i32,
 }
 
 /// A flag as a number.
@@ -246,7 +339,7 @@ pub(crate) fn pool_counts(counts: Counts) -> PoolCounts
 }
 
 /// The position of a part in what it stands in, by the path of its name: the last number but one.
-fn part_position(path: &[i32]) -> u32
+pub(crate) fn part_position(path: &[i32]) -> u32
     ensures { result ≡ spec.part_position path.now }
 {
     let Some(position) = path.get(path.len().saturating_sub(2)) else {
@@ -307,29 +400,60 @@ pub(crate) fn definition_kind(item: Item) -> Option<DefinitionKind>
 pub(crate) fn file_item(file: &FileDescriptorInner) -> FileItem
     ensures { result ≡ spec.file_item file.now }
 {
+    let raw = &file.raw;
     FileItem {
         syntax: syntax_number(file.syntax),
         imports: file.dependencies.as_slice().len() as u64,
+        public_imports: raw.public_dependency.as_slice().len() as u64,
+        messages: raw.message_type.as_slice().len() as u64,
+        enums: raw.enum_type.as_slice().len() as u64,
+        services: raw.service.as_slice().len() as u64,
+        extensions: raw.extension.as_slice().len() as u64,
+        is_deprecated: flag(is_deprecated(raw)),
     }
 }
 
-/// A message as plain numbers.
-pub(crate) fn message_item(message: &MessageDescriptorInner) -> MessageItem
-    ensures { result ≡ spec.message_item message.now }
+/// The position of the field with a number, where a message is the entry of a map.
+fn entry_field(is_entry: bool, message: &MessageDescriptorInner, number: u32) -> u32
+    ensures { result ≡ spec.entry_field is_entry message.now number }
 {
+    if is_entry {
+        or_none(message.field_numbers.get(number))
+    } else {
+        NONE
+    }
+}
+
+/// A message as plain numbers, with what its record has.
+pub(crate) fn message_item(pool: &DescriptorPool, message: &MessageDescriptorInner) -> MessageItem
+    ensures { result ≡ spec.message_item pool.now message.now }
+{
+    let parts = message_parts(pool.files(), &message.id);
     MessageItem {
         file: message.id.file,
         parent: or_none(message.parent),
         fields: message.fields.as_slice().len() as u64,
         oneofs: message.oneofs.as_slice().len() as u64,
         extensions: message.extensions.as_slice().len() as u64,
+        nested_messages: parts.nested_messages,
+        nested_enums: parts.nested_enums,
+        nested_extensions: parts.nested_extensions,
+        extension_ranges: parts.extension_ranges,
+        reserved_ranges: parts.reserved_ranges,
+        reserved_names: parts.reserved_names,
+        map_key: entry_field(parts.is_map_entry, message, 1),
+        map_value: entry_field(parts.is_map_entry, message, 2),
+        is_map_entry: flag(parts.is_map_entry),
+        is_message_set: flag(parts.is_message_set),
+        is_deprecated: flag(parts.is_deprecated),
     }
 }
 
-/// A field as plain numbers.
-pub(crate) fn field_item(field: &FieldDescriptorInner) -> FieldItem
-    ensures { result ≡ spec.field_item field.now }
+/// A field as plain numbers, with what its record says.
+pub(crate) fn field_item(pool: &DescriptorPool, field: &FieldDescriptorInner) -> FieldItem
+    ensures { result ≡ spec.field_item pool.now field.now }
 {
+    let parts = field_parts(pool.files(), &field.id);
     FieldItem {
         number: field.number,
         cardinality: cardinality_number(field.cardinality),
@@ -339,13 +463,23 @@ pub(crate) fn field_item(field: &FieldDescriptorInner) -> FieldItem
         is_packed: flag(field.is_packed),
         supports_presence: flag(field.supports_presence),
         has_default: flag(field.default.is_some()),
+        is_map: flag(is_map(pool.files(), pool.messages(), field.cardinality, field.kind)),
+        is_list: flag(is_list(pool.files(), pool.messages(), field.cardinality, field.kind)),
+        is_required: flag(is_required(field.cardinality)),
+        is_group: flag(is_group(field.kind)),
+        is_proto3_optional: flag(parts.is_proto3_optional),
+        is_deprecated: flag(parts.is_deprecated),
     }
 }
 
-/// An extension as plain numbers.
-pub(crate) fn extension_item(extension: &ExtensionDescriptorInner) -> ExtensionItem
-    ensures { result ≡ spec.extension_item extension.now }
+/// An extension as plain numbers, with what its record says.
+pub(crate) fn extension_item(
+    pool: &DescriptorPool,
+    extension: &ExtensionDescriptorInner,
+) -> ExtensionItem
+    ensures { result ≡ spec.extension_item pool.now extension.now }
 {
+    let parts = field_parts(pool.files(), &extension.id);
     ExtensionItem {
         file: extension.id.file,
         parent: or_none(extension.parent),
@@ -356,55 +490,87 @@ pub(crate) fn extension_item(extension: &ExtensionDescriptorInner) -> ExtensionI
         type_index: type_index(extension.kind),
         is_packed: flag(extension.is_packed),
         has_default: flag(extension.default.is_some()),
+        supports_presence: flag(!is_repeated(extension.cardinality)),
+        is_map: flag(is_map(
+            pool.files(),
+            pool.messages(),
+            extension.cardinality,
+            extension.kind,
+        )),
+        is_list: flag(is_list(
+            pool.files(),
+            pool.messages(),
+            extension.cardinality,
+            extension.kind,
+        )),
+        is_group: flag(is_group(extension.kind)),
+        is_proto3_optional: flag(parts.is_proto3_optional),
+        is_deprecated: flag(parts.is_deprecated),
     }
 }
 
-/// A oneof as plain numbers.
-pub(crate) fn oneof_item(oneof: &OneofDescriptorInner) -> OneofItem
-    ensures { result ≡ spec.oneof_item oneof.now }
+/// A oneof as plain numbers, among the fields of its message.
+pub(crate) fn oneof_item(
+    pool: &DescriptorPool,
+    fields: &[FieldDescriptorInner],
+    oneof: &OneofDescriptorInner,
+) -> OneofItem
+    ensures { result ≡ spec.oneof_item pool.now fields.now oneof.now }
 {
     OneofItem {
         fields: oneof.fields.as_slice().len() as u64,
+        is_synthetic: flag(is_synthetic(pool.files(), fields, oneof.fields.as_slice())),
     }
 }
 
-/// An enum as plain numbers.
-pub(crate) fn enum_item(enumeration: &EnumDescriptorInner) -> EnumItem
-    ensures { result ≡ spec.enum_item enumeration.now }
+/// An enum as plain numbers, with what its record has.
+pub(crate) fn enum_item(pool: &DescriptorPool, enumeration: &EnumDescriptorInner) -> EnumItem
+    ensures { result ≡ spec.enum_item pool.now enumeration.now }
 {
+    let parts = enum_parts(pool.files(), &enumeration.id);
     EnumItem {
         file: enumeration.id.file,
         parent: or_none(enumeration.parent),
         values: enumeration.values.as_slice().len() as u64,
         allow_alias: flag(enumeration.allow_alias),
+        reserved_ranges: parts.reserved_ranges,
+        reserved_names: parts.reserved_names,
+        is_closed: flag(is_closed(pool.files(), enumeration)),
+        is_deprecated: flag(parts.is_deprecated),
     }
 }
 
-/// A value as plain numbers.
-pub(crate) fn value_item(value: &EnumValueDescriptorInner) -> ValueItem
-    ensures { result ≡ spec.value_item value.now }
+/// A value as plain numbers, with what its record says.
+pub(crate) fn value_item(pool: &DescriptorPool, value: &EnumValueDescriptorInner) -> ValueItem
+    ensures { result ≡ spec.value_item pool.now value.now }
 {
     ValueItem {
         number: value.number,
+        is_deprecated: flag(is_value_deprecated(pool.files(), &value.id)),
     }
 }
 
-/// A service as plain numbers.
-pub(crate) fn service_item(service: &ServiceDescriptorInner) -> ServiceItem
-    ensures { result ≡ spec.service_item service.now }
+/// A service as plain numbers, with what its record says.
+pub(crate) fn service_item(pool: &DescriptorPool, service: &ServiceDescriptorInner) -> ServiceItem
+    ensures { result ≡ spec.service_item pool.now service.now }
 {
     ServiceItem {
         file: service.id.file,
         methods: service.methods.as_slice().len() as u64,
+        is_deprecated: flag(is_service_deprecated(pool.files(), &service.id)),
     }
 }
 
-/// A method as plain numbers.
-pub(crate) fn method_item(method: &MethodDescriptorInner) -> MethodItem
-    ensures { result ≡ spec.method_item method.now }
+/// A method as plain numbers, with what its record says.
+pub(crate) fn method_item(pool: &DescriptorPool, method: &MethodDescriptorInner) -> MethodItem
+    ensures { result ≡ spec.method_item pool.now method.now }
 {
+    let parts = method_parts(pool.files(), &method.id);
     MethodItem {
         input: method.input,
         output: method.output,
+        client_streaming: flag(parts.client_streaming),
+        server_streaming: flag(parts.server_streaming),
+        is_deprecated: flag(parts.is_deprecated),
     }
 }

@@ -1,5 +1,5 @@
 ghost use Rattle.plain_data.specs.Maps.{inserted};
-ghost use Rattle.std.specs.Prelude.{◌≡◌, ◌∷◌, [], ◌++◌, ◌+◌, ◌<◌, ◌≤◌, length, take, IsTrue, ◌↔◌, MatchOption, IfOk, OnOk, OnErr};
+ghost use Rattle.std.specs.Prelude.{◌≡◌, ◌∷◌, [], ◌++◌, ◌+◌, ◌<◌, ◌≤◌, length, take, IsTrue, ◌↔◌, MatchOption, IfOk, OnOk, OnErr, ◌⊎◌};
 ghost use Rattle.std.specs.FinMap as map;
 ghost use Rattle.std.specs.List.Sorted.{IsPermutation};
 ghost use Rattle.std.specs.Map.{lookup};
@@ -91,7 +91,7 @@ impl TextMap {
         self.insert_bytes(key.as_bytes(), number)
     }
 
-    /// The same for the bytes of a text.
+    /// Enters a number for the bytes of a text.
     fn insert_bytes(&mut self, key: &[u8], number: u32) -> Result<(), AllocError>
         ensures ok { OnOk result (self.new ≡ map.insert self.old key.now number) }
         ensures err { OnErr result (self.new ≡ self.old) }
@@ -224,12 +224,50 @@ fn are_apart(bytes: &[u8], rows: &[Row]) -> bool
     requires { AreWithin bytes.now rows.now }
     ensures { IsTrue result → AreApart bytes.now rows.now (length rows.now) }
 {
+    if rows.len() <= 12 {
+        differ_by_pairs(bytes, rows)
+    } else {
+        differ_by_digests(bytes, rows)
+    }
+}
+
+/// Whether no two rows have one text, as each is compared with each.
+fn differ_by_pairs(bytes: &[u8], rows: &[Row]) -> bool
+    requires { AreWithin bytes.now rows.now }
+    ensures { IsTrue result → AreApart bytes.now rows.now (length rows.now) }
+{
     for at in 0..rows.len() {
         if find_from(bytes, rows, at + 1, rows[at].text(bytes)).is_some() {
             return false;
         }
     }
     true
+}
+
+/// Whether no two rows have one text, as a text is compared with those before it where one of them
+/// has the same low bits of the digest.
+fn differ_by_digests(bytes: &[u8], rows: &[Row]) -> bool
+    requires { AreWithin bytes.now rows.now }
+    ensures { IsTrue result → AreApart bytes.now rows.now (length rows.now) }
+{
+    let mut seen = [false; 512];
+    for at in 0..rows.len() {
+        let text = rows[at].text(bytes);
+        let bits = (digest(text) % 512) as usize;
+        if seen[bits] && is_among(bytes, &rows[..at], text) {
+            return false;
+        }
+        seen[bits] = true;
+    }
+    true
+}
+
+/// Whether one of the rows has a text.
+fn is_among(bytes: &[u8], rows: &[Row], key: &[u8]) -> bool
+    requires { AreWithin bytes.now rows.now }
+    ensures { IsTrue result ⊎ Lacks bytes.now rows.now key.now }
+{
+    find_from(bytes, rows, 0, key).is_some()
 }
 
 /// The map of rows of which some may have one text: of those the last stands.

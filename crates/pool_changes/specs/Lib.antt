@@ -1,1 +1,13 @@
 pub mod Laws
+pub mod ChangeKinds
+pub mod Members
+pub mod Words
+pub mod Sides
+pub mod Services
+pub mod Removed
+pub mod FieldParts
+pub mod FieldChanges
+pub mod AtLevels
+pub mod Telling
+pub mod Comparing
+pub mod Texts

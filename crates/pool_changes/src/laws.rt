@@ -2,6 +2,8 @@
 ghost use Rattle.std.specs.Prelude.{◌≡◌, List, []};
 ghost use Rattle.pool_types.specs.Contents.{Contents};
 ghost use Rattle.schema_changes.specs.Pools.{wire_changes};
+ghost use Rattle.pool_changes.specs.Comparing.{changes};
+ghost use Rattle.pool_changes.specs.declared.kinds.Level.TheVariants.{Wire};
 ghost use Rattle.pool_changes.specs.Laws.{Chains, FreshNumberIsKept, NoChangeIsRead, UnchangedIsRead};
 
 use descriptor_pool::DescriptorPool;
@@ -31,6 +33,12 @@ pub fn unchanged_is_read(old: &DescriptorPool, new: &DescriptorPool)
 /// is read by that of the last one, if each pool between has a message of that name.
 pub fn chains()
     ensures { (first : Contents) (later : List Contents) → Chains first later }
+{}
+
+/// Where nothing is told at wire, the list of changes of the two pools is empty, which the other
+/// laws go by.
+pub fn untold_is_unchanged(old: &DescriptorPool, new: &DescriptorPool)
+    ensures { changes Wire old.now new.now ≡ [] → wire_changes old.now new.now ≡ [] }
 {}
 
 /// No pool changes anything of itself.

@@ -1,12 +1,17 @@
-//! The message of a pool that a full name means.
+//! The message, the service or the enum of a pool that a full name means.
 
 ghost use Rattle.std.specs.Prelude.{◌≡◌, IfOk};
 ghost use Rattle.std.specs.FinMap as finite;
 ghost use Rattle.std.specs.Option.{option_copied};
+ghost use Rattle.pool_changes.specs.Removed as enums;
+ghost use Rattle.pool_changes.specs.Services as services;
 ghost use Rattle.schema_changes.specs.Pools.{message_meant, message_named};
 
 use descriptor_pool::DescriptorPool;
-use pool_types::{Definition, DefinitionKind, MessageDescriptor, MessageDescriptorInner};
+use pool_types::{
+    Definition, DefinitionKind, EnumDescriptor, EnumDescriptorInner, MessageDescriptor,
+    MessageDescriptorInner, ServiceDescriptor, ServiceDescriptorInner,
+};
 use std::alloc::{AllocError, Global};
 
 /// What a pool has under a full name that begins with a dot of its own.
@@ -45,6 +50,57 @@ fn message_meant(pool: &DescriptorPool, kind: DefinitionKind) -> Option<&Message
     match kind {
         DefinitionKind::Message(index) => pool.message(MessageDescriptor::new(index)),
         _ => None,
+    }
+}
+
+/// The service of a pool that a definition is.
+fn service_meant(pool: &DescriptorPool, kind: DefinitionKind) -> Option<&ServiceDescriptorInner>
+    ensures { option_copied result ≡ services.service_meant pool.now kind }
+{
+    match kind {
+        DefinitionKind::Service(index) => pool.service(ServiceDescriptor::new(index)),
+        _ => None,
+    }
+}
+
+/// The service of a pool that a full name means.
+#[tactic(auto, unfolding(crate::specs::Services::service_named))]
+pub(crate) fn service_named<'a>(
+    alloc: Global,
+    pool: &'a DescriptorPool,
+    name: &str,
+) -> Result<Option<&'a ServiceDescriptorInner>, AllocError>
+    ensures { IfOk result (λ found. option_copied found
+        ≡ services.service_named pool.now name.now) }
+{
+    match definition_of(alloc, pool, name)? {
+        Some(definition) => Ok(service_meant(pool, definition.kind)),
+        None => Ok(None),
+    }
+}
+
+/// The enum of a pool that a definition is.
+fn enum_meant(pool: &DescriptorPool, kind: DefinitionKind) -> Option<&EnumDescriptorInner>
+    ensures { option_copied result ≡ enums.enum_meant pool.now kind }
+{
+    match kind {
+        DefinitionKind::Enum(index) => pool.enum_(EnumDescriptor::new(index)),
+        _ => None,
+    }
+}
+
+/// The enum of a pool that a full name means.
+#[tactic(auto, unfolding(crate::specs::Removed::enum_named))]
+pub(crate) fn enum_named<'a>(
+    alloc: Global,
+    pool: &'a DescriptorPool,
+    name: &str,
+) -> Result<Option<&'a EnumDescriptorInner>, AllocError>
+    ensures { IfOk result (λ found. option_copied found ≡ enums.enum_named pool.now name.now) }
+{
+    match definition_of(alloc, pool, name)? {
+        Some(definition) => Ok(enum_meant(pool, definition.kind)),
+        None => Ok(None),
     }
 }
 

@@ -177,7 +177,8 @@ fn number_words(alloc: Global, kind: KindIndex, number: i32) -> Result<String, A
     }
 }
 
-/// The same of the type that the linked record of a field or an extension has.
+/// The number of the type that the linked record of a field or an extension has, where it is not
+/// the one that is written for its kind.
 pub(super) fn written_words(
     alloc: Global,
     pool: &DescriptorPool,

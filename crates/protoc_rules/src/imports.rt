@@ -89,7 +89,7 @@ fn all_end(known: &[bool], imports: &[u32]) -> bool
     imports.iter().all(|import| ends(known, *import))
 }
 
-/// Of which files is known that their chains of imports end, by what is known of their imports.
+/// For each file whether its chains of imports are known to end, by what is known of its imports.
 fn known_next(
     alloc: Global,
     files: &[FileDescriptorInner],

@@ -1,47 +1,33 @@
--- The machine value of a handle, a struct of one pointer, and what it owns. Assumes `Logic`.
---     word, pointer_good, word_good     that value, and that it and its pointer are of their types
+-- The fields of a handle, and what it owns. Assumes `Logic`.
 --     Data, told, made     the fields of a handle as a row;  its machine value;  made of nothing
 --     held_some     the memory of a box is what a handle with its pointer and its value owns
-use Rattle.std.proofs.Common.{◌≡◌, List, [], ◌∷◌, ◌++◌, refl, ap, ◌∙◌, lit<}
-use lib.Dec.{T}
+use Rattle.std.proofs.Common.{◌≡◌, List, [], ◌∷◌}
 use seplogic.Ra.Ura.{Ura}
 use mir.Raw.{raw}
-use mir.Syntax.{Sym, ty_ptr, ty_struct, tcons, tnil}
-use mir.Val.{Val, vstruct, vcons, vnil, of_list, has_ty, WT}
+use mir.Val.{Val}
 use base.Logic.{ent, emp, id⊢, fst∗, never}
 use types.Logic.{Logic, sem}
 use denote.Memory.{lone}
 use denote.RattleType.{RattleType}
 use denote.Laws.{Is}
-use denote.RawPtr.{Ptr, block_ptr, null_ptr, ptr_val}
-use denote.Shadow.{makes_shadow}
-use denote.Struct.Struct.{Struct}
+use denote.RawPtr.{Ptr, block_ptr, null_ptr}
 use denote.Struct.Owning.{shape}
 use Rattle.std.specs.Prelude.{Some}
 use Rattle.std.specs.contracts.impls.GlobalAllocator.TheImpl.{ghosts}
 use Rattle.std_alloc.specs.Box.Ownership.{box_owns}
+use Rattle.protolink_c.proofs.PointerWord as pointer
+pub use Rattle.protolink_c.proofs.PointerWord.{word, pointer_good, word_good}
 use Rattle.protolink_c.specs.Held.{heap, held}
 use Rattle.protolink_c.specs.contracts.handle.Handle as handle
 
-abbrev pub word : Ptr → Val
-word p = vstruct (vcons (ptr_val p) vnil)
-
-pub pointer_good : (p : Ptr) → T (has_ty ty_ptr (ptr_val p)) × WT (ptr_val p)
-pointer_good (block_ptr b o) = (tt, tt)
-pointer_good null_ptr = (tt, record { fits = lit< tt })
-
-pub word_good : (ν : Sym) (p : Ptr) → T (has_ty (ty_struct ν (tcons ty_ptr tnil)) (word p)) × WT (word p)
-word_good ν (block_ptr b o) = (tt, (tt, tt))
-word_good ν null_ptr = (tt, (record { fits = lit< tt }, tt))
-
 abbrev pub Data : RattleType
-Data = Struct (shape handle.the_type)
+Data = pointer.Data (shape handle.the_type)
 
 pub told : (p : Ptr) (vs : List Val) → Is Data (p, tt) vs → vs ≡ word p ∷ []
-told p vs is = is.1.0 ∙ ap (λ (ws : List Val). vstruct (of_list (ws ++ [])) ∷ []) is.1.1.0
+told = pointer.told (shape handle.the_type)
 
 pub made : {M : Type 1} {𝓤 : Ura M} (𝓛 : Logic 𝓤) (p : Ptr) → ent 𝓤 (emp 𝓤) (sem 𝓛 (Data.own_val (p, tt) (word p ∷ [])))
-made 𝓛 p = makes_shadow 𝓛 (Data.own_val (p, tt) (word p ∷ [])) (λ vss. (tt, (tt, tt))) ((ptr_val p ∷ [], tt), (refl, (refl, tt)))
+made = pointer.made (shape handle.the_type)
 
 pub held_some : {M : Type 1} {𝓤 : Ura M} (𝓛 : Logic 𝓤) (R : RattleType) (p : Ptr) (x : R.Denot) → ent 𝓤 (sem 𝓛 (box_owns (ghosts.dealloc_token heap) R p x)) (sem 𝓛 (held R p (Some x)))
 held_some {𝓤 = 𝓤} 𝓛 R (block_ptr b o) x = id⊢ 𝓤 _

@@ -1,4 +1,6 @@
 pub mod Added
 pub mod Held
+pub mod Parted
+pub mod Seen
 pub mod Shown
 pub mod Told

@@ -7,7 +7,8 @@ use Rattle.numbered_pool.specs.Added.{no_answers}
 use Rattle.numbered_pool.specs.declared.answers.Answers.{Answers}
 use Rattle.numbered_pool.specs.declared.report.Report.{Report}
 use Rattle.protolink_c.specs.declared.lent.Lent.{Lent}
-use Rattle.protolink_c.specs.declared.lent.Lent.TheVariants.{Boxed, Empty}
+use Rattle.protolink_c.specs.declared.lent.Lent.TheVariants.{Parted, Empty}
+use Rattle.protolink_c.specs.Seen.{Seen, read_in, shown_by}
 
 -- the same pool and its report, with another limit of faults
 abbrev pub limited : ℕ → Answers → Answers
@@ -26,12 +27,20 @@ pool_of shown = (answers_of shown).pool
 abbrev pub report_of : Option Answers → Report
 report_of shown = (answers_of shown).report
 
+-- the pool that is read through a view
+abbrev pub pool_in : Option (Seen Answers) → Contents
+pool_in shown = pool_of (read_in shown)
+
+-- the report that is read through a view
+abbrev pub report_in : Option (Seen Answers) → Report
+report_in shown = report_of (read_in shown)
+
 -- a pool with its report, while it is lent
 abbrev pub lent_answers : Lent → Answers
-lent_answers (Boxed answers) = answers.value
+lent_answers (Parted part) = part.content
 lent_answers (Empty answers) = answers
 
--- what the handle shows to which it goes back
-abbrev pub lent_shown : Lent → Option Answers
-lent_shown (Boxed answers) = Some answers.value
+-- what the view shows to which it goes back
+abbrev pub lent_shown : Lent → Option (Seen Answers)
+lent_shown (Parted part) = shown_by (Some part)
 lent_shown (Empty answers) = None

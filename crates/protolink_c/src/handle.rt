@@ -4,8 +4,11 @@ ghost use Rattle.std.specs.Coded.{coded_option};
 ghost use Rattle.numbered_pool.specs.declared.answers.Answers.{Answers};
 ghost use Rattle.numbered_pool.specs.contracts.answers.Answers.{the_row};
 ghost use Rattle.protolink_c.specs.Held.{held};
+ghost use Rattle.protolink_c.specs.Parted.{whole};
 
 use crate::box_pointer::{BoxPointer, from_pointer, into_pointer};
+use crate::part::{Deed, freeze, thaw};
+use crate::view::View;
 use numbered_pool::Answers;
 use std::alloc::Global;
 use std::marker::{Model, Send};
@@ -93,5 +96,31 @@ impl Handle {
         ensures { self.new.shown ≡ handle.shown }
     {
         let _freed = mem::replace(self, handle).into_box(alloc);
+    }
+
+    /// A view with all parts of the right to read its pool, and the pool's deed; nothing where it
+    /// owns none.
+    pub fn share(self, alloc: Global) -> Option<(Deed<Answers>, View)>
+        ensures { MatchOption result (self.shown ≡ None) (λ r. (self.shown ≡ Some r.0.content)
+            × (r.1.shown ≡ Some (r.0.content, (r.0.round, whole)))) }
+    {
+        match self.into_pointer(alloc) {
+            Some(pointer) => {
+                let (deed, part) = freeze(pointer);
+                Some((deed, View::of_part(part)))
+            }
+            None => None,
+        }
+    }
+
+    /// The handle again, once all parts have come back into one view.
+    pub fn of_shared(alloc: Global, deed: Deed<Answers>, all: View) -> Handle
+        requires { all.shown ≡ Some (deed.content, (deed.round, whole)) }
+        ensures { result.shown ≡ Some deed.content }
+    {
+        match all.into_part() {
+            Some(part) => Handle::of_pointer(thaw(alloc, deed, part)),
+            None => unreachable!(),
+        }
     }
 }

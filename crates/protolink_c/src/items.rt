@@ -4,12 +4,12 @@ ghost use Rattle.std.specs.Prelude.{◌≡◌, slice_get};
 ghost use Rattle.std.specs.Option.{option_map};
 ghost use Rattle.numbered_pool.specs.Items as spec;
 ghost use Rattle.numbered_pool.specs.Numbers as numbers;
-ghost use Rattle.protolink_c.specs.Shown.{pool_of};
+ghost use Rattle.protolink_c.specs.Shown.{pool_in};
 ghost use Rattle.protolink_c.specs.Told.{written};
 
-use crate::handle::Handle;
 use crate::lent::lend;
 use crate::told::write;
+use crate::view::View;
 use numbered_pool::{
     EnumItem, ExtensionItem, FieldItem, FileItem, MessageItem, MethodItem, OneofItem, ServiceItem,
     ValueItem,
@@ -20,18 +20,18 @@ use std::alloc::Global;
 #[unsafe(no_mangle)]
 pub extern "C" fn protolink_file(
     alloc: Global,
-    pool: &mut Handle,
+    pool: &mut View,
     file: u32,
     info: &mut FileItem,
 ) -> u8
     ensures same { pool.new.shown ≡ pool.old.shown }
     ensures told { written (option_map numbers.file_item
-        (slice_get (pool_of pool.old.shown).files file)) info.old
+        (slice_get (pool_in pool.old.shown).files file)) info.old
         ≡ (info.new, result) }
 {
     let lent = lend(alloc, pool);
     let status = write(lent.answers().file(file), info);
-    pool.put(alloc, lent.back());
+    *pool = lent.back();
     status
 }
 
@@ -39,18 +39,18 @@ pub extern "C" fn protolink_file(
 #[unsafe(no_mangle)]
 pub extern "C" fn protolink_message(
     alloc: Global,
-    pool: &mut Handle,
+    pool: &mut View,
     message: u32,
     info: &mut MessageItem,
 ) -> u8
     ensures same { pool.new.shown ≡ pool.old.shown }
-    ensures told { written (option_map numbers.message_item
-        (slice_get (pool_of pool.old.shown).messages message)) info.old
+    ensures told { written (option_map (numbers.message_item (pool_in pool.old.shown))
+        (slice_get (pool_in pool.old.shown).messages message)) info.old
         ≡ (info.new, result) }
 {
     let lent = lend(alloc, pool);
     let status = write(lent.answers().message(message), info);
-    pool.put(alloc, lent.back());
+    *pool = lent.back();
     status
 }
 
@@ -58,19 +58,19 @@ pub extern "C" fn protolink_message(
 #[unsafe(no_mangle)]
 pub extern "C" fn protolink_field(
     alloc: Global,
-    pool: &mut Handle,
+    pool: &mut View,
     message: u32,
     position: u32,
     info: &mut FieldItem,
 ) -> u8
     ensures same { pool.new.shown ≡ pool.old.shown }
-    ensures told { written (option_map numbers.field_item
-        (spec.field_at (pool_of pool.old.shown) message position)) info.old
+    ensures told { written (option_map (numbers.field_item (pool_in pool.old.shown))
+        (spec.field_at (pool_in pool.old.shown) message position)) info.old
         ≡ (info.new, result) }
 {
     let lent = lend(alloc, pool);
     let status = write(lent.answers().field(message, position), info);
-    pool.put(alloc, lent.back());
+    *pool = lent.back();
     status
 }
 
@@ -78,19 +78,18 @@ pub extern "C" fn protolink_field(
 #[unsafe(no_mangle)]
 pub extern "C" fn protolink_oneof(
     alloc: Global,
-    pool: &mut Handle,
+    pool: &mut View,
     message: u32,
     position: u32,
     info: &mut OneofItem,
 ) -> u8
     ensures same { pool.new.shown ≡ pool.old.shown }
-    ensures told { written (option_map numbers.oneof_item
-        (spec.oneof_at (pool_of pool.old.shown) message position)) info.old
+    ensures told { written (spec.oneof_item (pool_in pool.old.shown) message position) info.old
         ≡ (info.new, result) }
 {
     let lent = lend(alloc, pool);
     let status = write(lent.answers().oneof(message, position), info);
-    pool.put(alloc, lent.back());
+    *pool = lent.back();
     status
 }
 
@@ -98,18 +97,18 @@ pub extern "C" fn protolink_oneof(
 #[unsafe(no_mangle)]
 pub extern "C" fn protolink_enum(
     alloc: Global,
-    pool: &mut Handle,
+    pool: &mut View,
     enumeration: u32,
     info: &mut EnumItem,
 ) -> u8
     ensures same { pool.new.shown ≡ pool.old.shown }
-    ensures told { written (option_map numbers.enum_item
-        (slice_get (pool_of pool.old.shown).enums enumeration)) info.old
+    ensures told { written (option_map (numbers.enum_item (pool_in pool.old.shown))
+        (slice_get (pool_in pool.old.shown).enums enumeration)) info.old
         ≡ (info.new, result) }
 {
     let lent = lend(alloc, pool);
     let status = write(lent.answers().enumeration(enumeration), info);
-    pool.put(alloc, lent.back());
+    *pool = lent.back();
     status
 }
 
@@ -117,19 +116,19 @@ pub extern "C" fn protolink_enum(
 #[unsafe(no_mangle)]
 pub extern "C" fn protolink_enum_value(
     alloc: Global,
-    pool: &mut Handle,
+    pool: &mut View,
     enumeration: u32,
     position: u32,
     info: &mut ValueItem,
 ) -> u8
     ensures same { pool.new.shown ≡ pool.old.shown }
-    ensures told { written (option_map numbers.value_item
-        (spec.value_at (pool_of pool.old.shown) enumeration position)) info.old
+    ensures told { written (option_map (numbers.value_item (pool_in pool.old.shown))
+        (spec.value_at (pool_in pool.old.shown) enumeration position)) info.old
         ≡ (info.new, result) }
 {
     let lent = lend(alloc, pool);
     let status = write(lent.answers().value(enumeration, position), info);
-    pool.put(alloc, lent.back());
+    *pool = lent.back();
     status
 }
 
@@ -137,18 +136,18 @@ pub extern "C" fn protolink_enum_value(
 #[unsafe(no_mangle)]
 pub extern "C" fn protolink_service(
     alloc: Global,
-    pool: &mut Handle,
+    pool: &mut View,
     service: u32,
     info: &mut ServiceItem,
 ) -> u8
     ensures same { pool.new.shown ≡ pool.old.shown }
-    ensures told { written (option_map numbers.service_item
-        (slice_get (pool_of pool.old.shown).services service)) info.old
+    ensures told { written (option_map (numbers.service_item (pool_in pool.old.shown))
+        (slice_get (pool_in pool.old.shown).services service)) info.old
         ≡ (info.new, result) }
 {
     let lent = lend(alloc, pool);
     let status = write(lent.answers().service(service), info);
-    pool.put(alloc, lent.back());
+    *pool = lent.back();
     status
 }
 
@@ -156,19 +155,19 @@ pub extern "C" fn protolink_service(
 #[unsafe(no_mangle)]
 pub extern "C" fn protolink_method(
     alloc: Global,
-    pool: &mut Handle,
+    pool: &mut View,
     service: u32,
     position: u32,
     info: &mut MethodItem,
 ) -> u8
     ensures same { pool.new.shown ≡ pool.old.shown }
-    ensures told { written (option_map numbers.method_item
-        (spec.method_at (pool_of pool.old.shown) service position)) info.old
+    ensures told { written (option_map (numbers.method_item (pool_in pool.old.shown))
+        (spec.method_at (pool_in pool.old.shown) service position)) info.old
         ≡ (info.new, result) }
 {
     let lent = lend(alloc, pool);
     let status = write(lent.answers().method(service, position), info);
-    pool.put(alloc, lent.back());
+    *pool = lent.back();
     status
 }
 
@@ -176,18 +175,18 @@ pub extern "C" fn protolink_method(
 #[unsafe(no_mangle)]
 pub extern "C" fn protolink_extension(
     alloc: Global,
-    pool: &mut Handle,
+    pool: &mut View,
     extension: u32,
     info: &mut ExtensionItem,
 ) -> u8
     ensures same { pool.new.shown ≡ pool.old.shown }
-    ensures told { written (option_map numbers.extension_item
-        (slice_get (pool_of pool.old.shown).extensions extension)) info.old
+    ensures told { written (option_map (numbers.extension_item (pool_in pool.old.shown))
+        (slice_get (pool_in pool.old.shown).extensions extension)) info.old
         ≡ (info.new, result) }
 {
     let lent = lend(alloc, pool);
     let status = write(lent.answers().extension(extension), info);
-    pool.put(alloc, lent.back());
+    *pool = lent.back();
     status
 }
 
@@ -195,18 +194,18 @@ pub extern "C" fn protolink_extension(
 #[unsafe(no_mangle)]
 pub extern "C" fn protolink_file_import(
     alloc: Global,
-    pool: &mut Handle,
+    pool: &mut View,
     file: u32,
     position: u32,
     imported: &mut u32,
 ) -> u8
     ensures same { pool.new.shown ≡ pool.old.shown }
-    ensures told { written (spec.import_at (pool_of pool.old.shown) file position) imported.old
+    ensures told { written (spec.import_at (pool_in pool.old.shown) file position) imported.old
         ≡ (imported.new, result) }
 {
     let lent = lend(alloc, pool);
     let status = write(lent.answers().import(file, position), imported);
-    pool.put(alloc, lent.back());
+    *pool = lent.back();
     status
 }
 
@@ -214,14 +213,14 @@ pub extern "C" fn protolink_file_import(
 #[unsafe(no_mangle)]
 pub extern "C" fn protolink_message_extension(
     alloc: Global,
-    pool: &mut Handle,
+    pool: &mut View,
     message: u32,
     position: u32,
     extension: &mut u32,
 ) -> u8
     ensures same { pool.new.shown ≡ pool.old.shown }
     ensures told { written
-        (spec.extension_at (pool_of pool.old.shown) message position) extension.old
+        (spec.extension_at (pool_in pool.old.shown) message position) extension.old
         ≡ (extension.new, result) }
 {
     let lent = lend(alloc, pool);
@@ -229,7 +228,7 @@ pub extern "C" fn protolink_message_extension(
         lent.answers().message_extension(message, position),
         extension,
     );
-    pool.put(alloc, lent.back());
+    *pool = lent.back();
     status
 }
 
@@ -237,7 +236,7 @@ pub extern "C" fn protolink_message_extension(
 #[unsafe(no_mangle)]
 pub extern "C" fn protolink_oneof_field(
     alloc: Global,
-    pool: &mut Handle,
+    pool: &mut View,
     message: u32,
     oneof: u32,
     position: u32,
@@ -245,11 +244,11 @@ pub extern "C" fn protolink_oneof_field(
 ) -> u8
     ensures same { pool.new.shown ≡ pool.old.shown }
     ensures told { written
-        (spec.oneof_field_at (pool_of pool.old.shown) message oneof position) field.old
+        (spec.oneof_field_at (pool_in pool.old.shown) message oneof position) field.old
         ≡ (field.new, result) }
 {
     let lent = lend(alloc, pool);
     let status = write(lent.answers().oneof_field(message, oneof, position), field);
-    pool.put(alloc, lent.back());
+    *pool = lent.back();
     status
 }

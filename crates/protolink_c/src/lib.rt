@@ -12,12 +12,17 @@ mod boxes;
 mod handle;
 mod items;
 mod lent;
+mod members;
 mod names;
+mod part;
 mod pools;
+mod sources;
 mod status;
 mod told;
+mod view;
 
 pub use handle::Handle;
+pub use view::View;
 
 #[cfg(test)]
 mod tests;

@@ -5,12 +5,13 @@ ghost use Rattle.descriptor_encoding.specs.Encoding.{file_encoding, set_encoding
 ghost use Rattle.pool_contents.specs.LookUps.{definition_named};
 ghost use Rattle.numbered_pool.specs.Added.{unreported};
 ghost use Rattle.numbered_pool.specs.Numbers as numbers;
-ghost use Rattle.numbered_pool.specs.Reading.{file_read, script_read, set_read};
+ghost use Rattle.numbered_pool.specs.Reading.{each_read, file_read, script_read, set_read};
 ghost use Rattle.pool_types.specs.Contents.{files_of};
 ghost use Rattle.pool_types.specs.Extension.{extension_numbered};
 ghost use Rattle.record_walk.specs.Counts.{counts_in};
 ghost use Rattle.protolink_c.specs.Added.{IsAdded};
-ghost use Rattle.protolink_c.specs.Shown.{answers_of, limited, pool_of, report_of};
+ghost use Rattle.protolink_c.specs.Seen.{read_in};
+ghost use Rattle.protolink_c.specs.Shown.{answers_of, limited, pool_in, report_in};
 ghost use Rattle.protolink_c.specs.Told.{handed_out, handed_out_if, located, written};
 
 use crate::boxes::{boxed_copy, closed, opened};
@@ -18,6 +19,7 @@ use crate::handle::Handle;
 use crate::lent::lend;
 use crate::status::{DONE, NO_MEMORY, NOT_FOUND, SHORT};
 use crate::told::{hand_out, locate, write};
+use crate::view::View;
 use numbered_pool::{Answers, Item, PoolCounts, Status};
 use std::alloc::Global;
 
@@ -47,7 +49,8 @@ pub extern "C" fn protolink_pool_add_set(alloc: Global, pool: &mut Handle, bytes
     closed(alloc, pool, answers, status)
 }
 
-/// The same with one encoded `FileDescriptorProto`.
+/// Links the file of an encoded `FileDescriptorProto`. After any status but `DONE` the pool has what
+/// it had.
 #[unsafe(no_mangle)]
 pub extern "C" fn protolink_pool_add_file(alloc: Global, pool: &mut Handle, bytes: &[u8]) -> u8
     ensures { IsAdded (file_read bytes.now)
@@ -60,7 +63,27 @@ pub extern "C" fn protolink_pool_add_file(alloc: Global, pool: &mut Handle, byte
     closed(alloc, pool, answers, status)
 }
 
-/// The same with the files that a script declares. Its commands are passed over.
+/// The same with several encoded `FileDescriptorProto`s, in any order, which stand behind one
+/// another in the bytes, by their lengths.
+#[unsafe(no_mangle)]
+pub extern "C" fn protolink_pool_add_files(
+    alloc: Global,
+    pool: &mut Handle,
+    bytes: &[u8],
+    lens: &[usize],
+) -> u8
+    ensures { IsAdded (each_read bytes.now lens.now)
+        (answers_of pool.old.shown) (answers_of pool.new.shown) result }
+{
+    let Some(mut answers) = opened(alloc, pool.take()) else {
+        return NO_MEMORY;
+    };
+    let status = answers.add_files(alloc, bytes, lens);
+    closed(alloc, pool, answers, status)
+}
+
+/// Links the files that a script declares, in one batch. Its commands are passed over. After any
+/// status but `DONE` the pool has what it had.
 #[unsafe(no_mangle)]
 pub extern "C" fn protolink_pool_add_script(alloc: Global, pool: &mut Handle, script: &[u8]) -> u8
     ensures { IsAdded (script_read script.now)
@@ -92,12 +115,12 @@ pub extern "C" fn protolink_pool_limit_faults(alloc: Global, pool: &mut Handle, 
 #[unsafe(no_mangle)]
 pub extern "C" fn protolink_pool_report(
     alloc: Global,
-    pool: &mut Handle,
+    pool: &mut View,
     buffer: &mut [u8],
     length: &mut usize,
 ) -> u8
     ensures same { pool.new.shown ≡ pool.old.shown }
-    ensures told { handed_out (report_of pool.old.shown).lines buffer.old
+    ensures told { handed_out (report_in pool.old.shown).lines buffer.old
         ≡ (buffer.new, (length.new, result)) }
 {
     let lent = lend(alloc, pool);
@@ -106,20 +129,20 @@ pub extern "C" fn protolink_pool_report(
         buffer,
         length,
     );
-    pool.put(alloc, lent.back());
+    *pool = lent.back();
     status
 }
 
-/// The same as an object of JSON, on one line.
+/// Hands out the report of the last call that was to add files, as an object of JSON on one line.
 #[unsafe(no_mangle)]
 pub extern "C" fn protolink_pool_report_json(
     alloc: Global,
-    pool: &mut Handle,
+    pool: &mut View,
     buffer: &mut [u8],
     length: &mut usize,
 ) -> u8
     ensures same { pool.new.shown ≡ pool.old.shown }
-    ensures told { handed_out (report_of pool.old.shown).json buffer.old
+    ensures told { handed_out (report_in pool.old.shown).json buffer.old
         ≡ (buffer.new, (length.new, result)) }
 {
     let lent = lend(alloc, pool);
@@ -128,7 +151,7 @@ pub extern "C" fn protolink_pool_report_json(
         buffer,
         length,
     );
-    pool.put(alloc, lent.back());
+    *pool = lent.back();
     status
 }
 
@@ -136,19 +159,19 @@ pub extern "C" fn protolink_pool_report_json(
 #[unsafe(no_mangle)]
 pub extern "C" fn protolink_pool_linked(
     alloc: Global,
-    pool: &mut Handle,
+    pool: &mut View,
     buffer: &mut [u8],
     length: &mut usize,
 ) -> u8
     ensures same { pool.new.shown ≡ pool.old.shown }
     ensures told { result ≢ 3 →
-        handed_out (set_encoding (record { file = files_of (pool_of pool.old.shown) })) buffer.old
+        handed_out (set_encoding (record { file = files_of (pool_in pool.old.shown) })) buffer.old
         ≡ (buffer.new, (length.new, result)) }
     ensures no_memory { result ≡ 3 → (buffer.new ≡ buffer.old) × (length.new ≡ length.old) }
 {
     let lent = lend(alloc, pool);
     let status = hand_out_linked(alloc, lent.answers(), buffer, length);
-    pool.put(alloc, lent.back());
+    *pool = lent.back();
     status
 }
 
@@ -177,7 +200,7 @@ fn hand_out_linked(alloc: Global, answers: &Answers, buffer: &mut [u8], length: 
 #[unsafe(no_mangle)]
 pub extern "C" fn protolink_pool_linked_file(
     alloc: Global,
-    pool: &mut Handle,
+    pool: &mut View,
     file: u32,
     buffer: &mut [u8],
     length: &mut usize,
@@ -185,13 +208,13 @@ pub extern "C" fn protolink_pool_linked_file(
     ensures same { pool.new.shown ≡ pool.old.shown }
     ensures told { result ≢ 3 →
         handed_out_if (option_map (λ f. file_encoding f.raw)
-        (slice_get (pool_of pool.old.shown).files file)) buffer.old length.old
+        (slice_get (pool_in pool.old.shown).files file)) buffer.old length.old
         ≡ (buffer.new, (length.new, result)) }
     ensures no_memory { result ≡ 3 → (buffer.new ≡ buffer.old) × (length.new ≡ length.old) }
 {
     let lent = lend(alloc, pool);
     let status = hand_out_file(alloc, lent.answers(), file, buffer, length);
-    pool.put(alloc, lent.back());
+    *pool = lent.back();
     status
 }
 
@@ -230,7 +253,7 @@ fn hand_out_file(
 #[unsafe(no_mangle)]
 pub extern "C" fn protolink_pool_find(
     alloc: Global,
-    pool: &mut Handle,
+    pool: &mut View,
     name: &[u8],
     item: &mut Item,
     file: &mut u32,
@@ -238,14 +261,14 @@ pub extern "C" fn protolink_pool_find(
     ensures same { pool.new.shown ≡ pool.old.shown }
     ensures text { IsUtf8 name.now →
         located (option_map numbers.found_item
-        (definition_named (pool_of pool.old.shown) name.now)) item.old file.old
+        (definition_named (pool_in pool.old.shown) name.now)) item.old file.old
         ≡ (item.new, (file.new, result)) }
     ensures no_text { ¬ (IsUtf8 name.now) → located None item.old file.old
         ≡ (item.new, (file.new, result)) }
 {
     let lent = lend(alloc, pool);
     let status = locate(lent.answers().find(name), item, file);
-    pool.put(alloc, lent.back());
+    *pool = lent.back();
     status
 }
 
@@ -253,7 +276,7 @@ pub extern "C" fn protolink_pool_find(
 #[unsafe(no_mangle)]
 pub extern "C" fn protolink_pool_find_path(
     alloc: Global,
-    pool: &mut Handle,
+    pool: &mut View,
     name: &[u8],
     path: &mut [i32],
     length: &mut usize,
@@ -261,43 +284,55 @@ pub extern "C" fn protolink_pool_find_path(
     ensures same { pool.new.shown ≡ pool.old.shown }
     ensures text { IsUtf8 name.now →
         handed_out_if (option_map (λ d. d.path)
-        (definition_named (pool_of pool.old.shown) name.now)) path.old length.old
+        (definition_named (pool_in pool.old.shown) name.now)) path.old length.old
         ≡ (path.new, (length.new, result)) }
     ensures no_text { ¬ (IsUtf8 name.now) → handed_out_if None path.old length.old
         ≡ (path.new, (length.new, result)) }
 {
     let lent = lend(alloc, pool);
-    let status = match lent.answers().find_path(name) {
+    let status = hand_out_path(lent.answers(), name, path, length);
+    *pool = lent.back();
+    status
+}
+
+/// Copies the path of what a full name means to the front of a buffer, and tells its length.
+fn hand_out_path(answers: &Answers, name: &[u8], path: &mut [i32], length: &mut usize) -> u8
+    ensures text { IsUtf8 name.now →
+        handed_out_if (option_map (λ d. d.path)
+        (definition_named answers.now.pool name.now)) path.old length.old
+        ≡ (path.new, (length.new, result)) }
+    ensures no_text { ¬ (IsUtf8 name.now) → handed_out_if None path.old length.old
+        ≡ (path.new, (length.new, result)) }
+{
+    match answers.find_path(name) {
         Some(numbers) => hand_out(numbers, path, length),
         None => NOT_FOUND,
-    };
-    pool.put(alloc, lent.back());
-    status
+    }
 }
 
 /// Tells how many of each kind a pool has.
 #[unsafe(no_mangle)]
-pub extern "C" fn protolink_pool_counts(alloc: Global, pool: &mut Handle, counts: &mut PoolCounts)
+pub extern "C" fn protolink_pool_counts(alloc: Global, pool: &mut View, counts: &mut PoolCounts)
     ensures same { pool.new.shown ≡ pool.old.shown }
-    ensures told { counts.new ≡ numbers.pool_counts (counts_in (pool_of pool.old.shown)) }
+    ensures told { counts.new ≡ numbers.pool_counts (counts_in (pool_in pool.old.shown)) }
 {
     let lent = lend(alloc, pool);
     *counts = lent.answers().counts();
-    pool.put(alloc, lent.back());
+    *pool = lent.back();
 }
 
 /// Tells the index of the extension of a message that has a number.
 #[unsafe(no_mangle)]
 pub extern "C" fn protolink_pool_extension(
     alloc: Global,
-    pool: &mut Handle,
+    pool: &mut View,
     message: u32,
     number: u32,
     extension: &mut u32,
 ) -> u8
     ensures same { pool.new.shown ≡ pool.old.shown }
     ensures told { written (extension_numbered
-        (pool_of pool.old.shown).extensions message number) extension.old
+        (pool_in pool.old.shown).extensions message number) extension.old
         ≡ (extension.new, result) }
 {
     let lent = lend(alloc, pool);
@@ -305,24 +340,25 @@ pub extern "C" fn protolink_pool_extension(
         lent.answers().extension_numbered(message, number),
         extension,
     );
-    pool.put(alloc, lent.back());
+    *pool = lent.back();
     status
 }
 
 /// Makes `copy` a pool with equal contents, the same limit of faults and an empty report, which
 /// shares nothing with the first. What it had is freed; where memory was refused, it is empty.
 #[unsafe(no_mangle)]
-pub extern "C" fn protolink_pool_clone(alloc: Global, pool: &mut Handle, copy: &mut Handle) -> u8
+pub extern "C" fn protolink_pool_clone(alloc: Global, pool: &mut View, copy: &mut Handle) -> u8
     ensures same { pool.new.shown ≡ pool.old.shown }
-    ensures copied { result ≡ 0 → answers_of copy.new.shown ≡ unreported (answers_of pool.old.shown) }
+    ensures copied { result ≡ 0 →
+        answers_of copy.new.shown ≡ unreported (answers_of (read_in pool.old.shown)) }
     ensures no_memory { result ≢ 0 → (result ≡ 3) × (copy.new.shown ≡ None) }
 {
     copy.put(alloc, Handle::empty());
-    let Some(answers) = pool.take().into_box(alloc) else {
+    let Some(part) = pool.take().into_part() else {
         return DONE;
     };
-    let copied = boxed_copy(alloc, &answers);
-    pool.put(alloc, Handle::of_box(answers));
+    let copied = boxed_copy(alloc, part.get());
+    *pool = View::of_part(part);
     let Some(copied) = copied else {
         return NO_MEMORY;
     };

@@ -14,7 +14,7 @@ use std::alloc::{AllocError, Global};
 #[derive(Drop)]
 pub struct Faults<'f> {
     pub alloc: Global,
-    /// Of all files, in the order of linking.
+    /// The labels of all files, in the order of linking.
     pub labels: Labels<'f>,
     /// How many faults are kept at most, where there is a limit. The first is kept whatever it is.
     pub most: Option<usize>,

@@ -69,8 +69,8 @@ impl<'f> Reading<'f> {
         Some(&file.transitive_dependencies)
     }
 
-    /// The same of the part of a declaration with a tag. Where it isn't found, that is appended to
-    /// its faults.
+    /// What the reference means that the part of a declaration with a tag has. Where it isn't found,
+    /// that is appended to the faults of the declaration.
     ///
     /// # Errors
     /// `AllocError` where memory was refused.

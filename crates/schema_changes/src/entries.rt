@@ -22,7 +22,7 @@ pub struct Entry {
 }
 
 /// The entry of a field.
-pub(crate) fn field_entry(field: &FieldDescriptorInner) -> Entry
+pub fn field_entry(field: &FieldDescriptorInner) -> Entry
     ensures { result ≡ field_entry field.now }
 {
     Entry {
@@ -35,7 +35,7 @@ pub(crate) fn field_entry(field: &FieldDescriptorInner) -> Entry
 }
 
 /// The entry of an extension, which is in no oneof.
-fn extension_entry(extension: &ExtensionDescriptorInner) -> Entry
+pub fn extension_entry(extension: &ExtensionDescriptorInner) -> Entry
     ensures { result ≡ extension_entry extension.now }
 {
     Entry {

@@ -14,7 +14,7 @@ mod records;
 
 pub use change::{MessageChange, WireChange, WireChangeKind};
 pub use compared::Compared;
-pub use entries::Entry;
+pub use entries::{Entry, extension_entry, field_entry};
 pub use lacking::lacking_number;
 pub use laws::{chains, no_change_is_read, unchanged_is_read};
 pub use parts::Parts;

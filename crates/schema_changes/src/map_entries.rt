@@ -115,7 +115,7 @@ fn keeps_map_entry(
 impl<'a> Parts<'a> {
     /// Whether a message is an entry of a map: the options of its record say so.
     #[tactic(auto, unfolding(crate::specs::MapEntries::is_map_entry))]
-    fn is_map_entry(self, message: &MessageDescriptorInner) -> bool
+    pub fn is_map_entry(self, message: &MessageDescriptorInner) -> bool
         ensures { result ≡ is_map_entry (parts self.entry) message.now }
     {
         match self.message_record(message) {
@@ -126,7 +126,7 @@ impl<'a> Parts<'a> {
 
     /// The entry of a map that the message with an index is.
     #[tactic(auto, unfolding(crate::specs::MapEntries::map_entry_at))]
-    fn map_entry_at(self, index: u32) -> Option<&'a MessageDescriptorInner>
+    pub fn map_entry_at(self, index: u32) -> Option<&'a MessageDescriptorInner>
         ensures { option_copied result ≡ map_entry_at (parts self.entry) index }
     {
         let message = self.messages.get(index as usize)?;

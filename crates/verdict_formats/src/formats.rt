@@ -17,15 +17,15 @@ use verdict_texts::{
 /// How a verdict is told.
 #[derive(Clone, Copy, PartialEq, Debug)]
 pub enum Format {
-    /// As lines for people.
+    /// Lines for people.
     Text,
-    /// As one object of JSON.
+    /// One object of JSON.
     Json,
-    /// As annotations of a workflow of GitHub's.
+    /// Annotations of a workflow of GitHub's.
     GitHub,
-    /// As a report of GitLab's code quality.
+    /// A report of GitLab's code quality.
     GitLab,
-    /// As a log of SARIF.
+    /// A log of SARIF.
     Sarif,
 }
 

@@ -5,7 +5,10 @@
 pub const RULES: &str = "\
 {\"$schema\":\"https://json.schemastore.org/sarif-2.1.0.json\",\"version\":\"2.1.0\",\
 \"runs\":[{\"tool\":{\"driver\":{\"name\":\"check_descriptors\",\"version\":\"0.2.0\",\"rules\":[\
-{\"id\":\"UnknownSyntax\",\
+{\"id\":\"UnequalFile\",\
+\"shortDescription\":{\"text\":\"Sets have unequal files of one name.\"},\
+\"help\":{\"text\":\"Give one of them.\"}}\
+,{\"id\":\"UnknownSyntax\",\
 \"shortDescription\":{\"text\":\"The syntax of a file is not known.\"},\
 \"help\":{\"text\":\"proto2 and proto3 are read; of a file of an edition nothing is.\"}}\
 ,{\"id\":\"DuplicateFileName\",\

@@ -63,7 +63,7 @@ fn enter_message(
     enter_enums(&inside, names, &message.enum_type)
 }
 
-/// The same of each message of a list.
+/// Enters the full names of the messages of a list, and of the types inside them.
 #[cycle(types)]
 fn enter_messages(
     here: &Surrounding,

@@ -66,7 +66,8 @@ fn compare(bytes: &[u8]) {
     for (file, told) in set.file.iter().zip(pool.files()) {
         assert_eq!(file.name(), told.name());
         assert_eq!(file.package(), told.package_name());
-        let dependencies: Vec<_> = told.dependencies().map(|file| file.name()).collect();
+        let dependencies: Vec<_> = told.dependencies().collect();
+        let dependencies: Vec<_> = dependencies.iter().map(|file| file.name()).collect();
         assert_eq!(file.dependency, dependencies);
         let alone = FileDescriptorProto::decode(&told.encode_to_vec()[..]).expect("one file");
         assert_eq!(&alone, file);
@@ -96,7 +97,7 @@ fn compare_message(pool: &DescriptorPool, scope: &str, message: &DescriptorProto
     assert_eq!(told.full_name(), full_name);
     assert_eq!(told.fields().len(), message.field.len());
     for field in &message.field {
-        compare_field(told, field);
+        compare_field(&told, field);
     }
     for (oneof, told) in message.oneof_decl.iter().zip(told.oneofs()) {
         assert_eq!(oneof.name(), told.name());
@@ -110,11 +111,14 @@ fn compare_message(pool: &DescriptorPool, scope: &str, message: &DescriptorProto
         .sum::<usize>()
 }
 
-fn compare_field(message: MessageDescriptor, field: &FieldDescriptorProto) {
+fn compare_field(message: &MessageDescriptor, field: &FieldDescriptorProto) {
     let told = message.get_field_by_name(field.name()).expect(field.name());
     assert_eq!(told.number() as i32, field.number());
-    assert_eq!(message.get_field(told.number()), Some(told));
-    assert_eq!(told.json_name(), field.json_name);
+    assert_eq!(message.get_field(told.number()), Some(told.clone()));
+    assert_eq!(
+        told.json_name(),
+        field.json_name.as_deref().unwrap_or(field.name())
+    );
     let cardinality = match field.label() {
         Label::Optional => Cardinality::Optional,
         Label::Required => Cardinality::Required,
@@ -139,12 +143,10 @@ fn compare_enum(pool: &DescriptorPool, scope: &str, enumeration: &EnumDescriptor
     let told = pool
         .get_enum_by_name(&join(scope, enumeration.name()))
         .expect("an enum");
-    let wanted = enumeration
-        .value
-        .iter()
-        .map(|value| (value.name().to_string(), value.number()));
-    let values = told.values().map(|value| (value.name(), value.number()));
-    assert!(values.eq(wanted));
+    assert_eq!(told.values().len(), enumeration.value.len());
+    for (value, told) in enumeration.value.iter().zip(told.values()) {
+        assert_eq!((told.name(), told.number()), (value.name(), value.number()));
+    }
 }
 
 fn compare_services(pool: &DescriptorPool, file: &FileDescriptorProto) {

@@ -17,7 +17,7 @@ pub(super) enum LineError {
 }
 
 impl LineError {
-    /// The same of a script, whose line has this number.
+    /// The error of a script whose line with this number has this one.
     pub(super) fn in_line(self, number: u64) -> ScriptError
         ensures { result ≡ error_in number self }
     {

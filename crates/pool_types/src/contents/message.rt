@@ -20,9 +20,9 @@ pub struct MessageDescriptorInner {
     /// From the number of a field to its position, from 0; of two with one number, to that of the
     /// later one.
     pub field_numbers: NumberMap,
-    /// The same from the name.
+    /// From the name of a field to its position, as above.
     pub field_names: TextMap,
-    /// The same from the JSON name, of fields that were given one.
+    /// From the JSON name of a field that was given one to its position, as above.
     pub field_json_names: TextMap,
     pub oneofs: Items<OneofDescriptorInner>,
 }

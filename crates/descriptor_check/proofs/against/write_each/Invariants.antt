@@ -1,5 +1,5 @@
 use Rattle.std.proofs.Common.{◌≡◌, ◌++◌, string_bytes, take, flat_map}
-use Rattle.change_texts.specs.Texts.{changes_lines}
+use Rattle.pool_changes.specs.Texts.{changes_lines}
 use Rattle.descriptor_check.proofs.against.write_each.Given as goal
 
 -- the comparisons so far are told

@@ -1,9 +1,9 @@
-use Rattle.std.proofs.Common.{◌≡◌, [], drop}
+use Rattle.std.proofs.Common.{◌≡◌, drop}
+use Rattle.joined_files.specs.Joining.{none_joined}
 use Rattle.descriptor_check.specs.Batches.{batch_behind}
-use Rattle.verdict_texts.specs.Named.{AreFirst}
 use Rattle.descriptor_check.proofs.batches.read_batch.Given as goal
 
 -- the files so far, and those of the inputs that are left
 abbrev pub invariant-loop-input : goal.invariant-loop-input
 invariant-loop-input l =
-    (batch_behind l.files.items (drop l.input-index l.inputs) ≡ batch_behind [] l.inputs) × AreFirst l.first l.files.items
+    batch_behind l.joining (drop l.input-index l.inputs) ≡ batch_behind none_joined l.inputs

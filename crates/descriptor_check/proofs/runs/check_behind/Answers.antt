@@ -1,5 +1,5 @@
 use Rattle.verdict_texts.proofs.Results.{if-ok}
-use Rattle.std.proofs.Common.{ap, inl, inr, ◌∙◌}
+use Rattle.std.proofs.Common.{ap, inr, ◌∙◌}
 use Rattle.descriptor_check.specs.Complaints.{no_verdict}
 use Rattle.descriptor_check.proofs.NotRead.{one-not-read}
 use Rattle.descriptor_check.proofs.runs.check_behind.Goals as goal

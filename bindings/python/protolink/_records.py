@@ -1,0 +1,65 @@
+"""A reader of the bytes of a FileDescriptorProto that the library has read, for two of its fields.
+"""
+
+from __future__ import annotations
+
+from collections.abc import Iterator
+from typing import Union
+
+NAME = 1
+"""The field that has the name of the file."""
+
+PUBLIC_DEPENDENCY = 10
+"""The field that has the positions of public imports."""
+
+FIXED = {1: 8, 5: 4}
+"""How long values are whose length is fixed, by wire type."""
+
+
+def name_of(record: bytes) -> str:
+    """The name of the file."""
+    names = [value for number, value in fields(record) if number == NAME]
+    return names[-1].decode() if names and isinstance(names[-1], bytes) else ""
+
+
+def public_dependencies(record: bytes) -> list[int]:
+    """The positions of the public imports among all imports."""
+    positions: list[int] = []
+    for number, value in fields(record):
+        if number == PUBLIC_DEPENDENCY:
+            positions += [value] if isinstance(value, int) else varints(value)
+    return positions
+
+
+def fields(record: bytes) -> Iterator[tuple[int, Union[int, bytes]]]:
+    """The fields of a record, each with its number and its value."""
+    at = 0
+    while at < len(record):
+        tag, at = varint(record, at)
+        number, wire_type = tag >> 3, tag & 7
+        if wire_type == 0:
+            value, at = varint(record, at)
+            yield number, value
+        elif wire_type in (1, 2, 5):
+            length, at = varint(record, at) if wire_type == 2 else (FIXED[wire_type], at)
+            yield number, record[at : at + length]
+            at += length
+
+
+def varints(data: bytes) -> Iterator[int]:
+    """Numbers of seven bits a byte, one behind another."""
+    at = 0
+    while at < len(data):
+        number, at = varint(data, at)
+        yield number
+
+
+def varint(data: bytes, at: int) -> tuple[int, int]:
+    """A number of seven bits a byte, and where it ends."""
+    number = shift = 0
+    while True:
+        byte = data[at]
+        number |= (byte & 0x7F) << shift
+        at, shift = at + 1, shift + 7
+        if byte < 0x80:
+            return number, at

@@ -1,0 +1,392 @@
+"""The pool."""
+
+from __future__ import annotations
+
+import ctypes
+import json
+import os
+import weakref
+from collections.abc import Callable, Iterable, Iterator
+from pathlib import Path
+from typing import Any, NamedTuple, Optional, Protocol, TypeVar, Union, cast
+
+from ._core import Core, Found, name_bytes
+from ._library import KINDS, NONE, Item, lib
+from ._records import name_of
+from .descriptors import (
+    CLASSES,
+    Descriptor,
+    EnumDescriptor,
+    EnumValueDescriptor,
+    ExtensionDescriptor,
+    FieldDescriptor,
+    FileDescriptor,
+    MethodDescriptor,
+    OneofDescriptor,
+    ServiceDescriptor,
+)
+from .faults import Fault, fault_of
+
+__all__ = ["Buffer", "Counts", "Definition", "Message", "Pool", "pool_of"]
+
+Buffer = Union[bytes, bytearray, memoryview]
+"""What bytes may be handed over in."""
+
+Name = Union[str, bytes]
+"""What names may be asked for by."""
+
+MOST_KEPT = 10_000
+"""How many descriptors a pool keeps that were found by name."""
+
+PACKAGE: Found = (0, NONE, 0, NONE)
+"""A package, of which there is no descriptor."""
+
+D = TypeVar("D")
+
+
+class Message(Protocol):
+    """A message of protobuf's package, as descriptor_pb2 has them."""
+
+    def SerializeToString(self) -> bytes: ...
+
+
+class Counts(NamedTuple):
+    """How much a pool has of each kind that has indexes."""
+
+    files: int
+    messages: int
+    enums: int
+    services: int
+    extensions: int
+
+
+class Definition(NamedTuple):
+    """What a full name means: its kind, one of `KINDS`; its index, and its position in what has the
+    index, where it is a part; the index of its file; and the path of its name in the file's record.
+    """
+
+    kind: str
+    index: int  # type: ignore[assignment]
+    position: int
+    file: int
+    path: tuple[int, ...]
+
+
+class Pool:
+    """Linked files, and what they declare.
+
+    What a pool has stays: files may be added, and descriptors that were asked for before go on to
+    hold. Threads may share a pool. A pool may be used in a `with` statement, which frees it at the
+    end. `copy.copy` makes what `clone` makes. A pool can't be pickled.
+
+    `len(pool)` is how many files it has, `name in pool` tells whether a full name means something,
+    and `pool[name]` is the descriptor of what it means.
+    """
+
+    def __init__(self) -> None:
+        self._set_core(Core())
+
+    def _set_core(self, core: Core) -> None:
+        """Makes it the pool of a core. Descriptors know the core alone, so that what is kept of them
+        makes no circle."""
+        self._core = core
+        self._kept: dict[tuple[object, Name], Any] = {}
+        core.owner = weakref.ref(self)
+
+    def close(self) -> None:
+        """Frees what the pool owns. It has no files then, and its descriptors tell nothing."""
+        self._core.clear()
+        self._kept = {}
+
+    def __enter__(self) -> Pool:
+        return self
+
+    def __exit__(self, *_: object) -> None:
+        self.close()
+
+    def __repr__(self) -> str:
+        told = ", ".join(f"{name}={count}" for name, count in self.counts()._asdict().items())
+        return f"<protolink.Pool: {told}>"
+
+    def __len__(self) -> int:
+        return self.counts().files
+
+    def __contains__(self, full_name: object) -> bool:
+        return isinstance(full_name, (str, bytes)) and self._found(full_name) is not None
+
+    def __getitem__(self, full_name: Name) -> Any:
+        kind, index, position, _ = self._found(full_name) or PACKAGE
+        class_ = CLASSES[kind]
+        if class_ is None:
+            raise KeyError(f"the pool has no {full_name!r}")
+        return class_(self._core, index, position)
+
+    def __iter__(self) -> Iterator[FileDescriptor]:
+        return iter(self.files())
+
+    def __copy__(self) -> Pool:
+        return self.clone()
+
+    def __deepcopy__(self, memo: dict[int, Any]) -> Pool:
+        return self.clone()
+
+    def __reduce__(self) -> Any:
+        raise TypeError("a Pool can't be pickled, but the bytes of its linked() can")
+
+    # Files go in
+
+    def add_set(self, data: Union[Buffer, os.PathLike[str], Message]) -> None:
+        """Links the files of a FileDescriptorSet in one batch: of its bytes, of the file at a path,
+        or of a message of protobuf's package. Those whose names the pool has are passed over unread.
+        Raises an `Error` where they are not linked."""
+        self._core.add(lib.pool_add_set, bytes_of(data, "FileDescriptorSet"))
+
+    def add_file(self, data: Union[Buffer, os.PathLike[str], Message]) -> None:
+        """Links the file of a FileDescriptorProto, as `add_set` does."""
+        self._core.add(lib.pool_add_file, bytes_of(data, "FileDescriptorProto"))
+
+    def add_files(self, files: Iterable[Union[Buffer, os.PathLike[str], Message]]) -> None:
+        """Links the files of several FileDescriptorProtos in one batch and in any order, as
+        `add_set` does."""
+        records = [bytes_of(file, "FileDescriptorProto") for file in files]
+        lens = (ctypes.c_size_t * len(records))(*map(len, records))
+        self._core.add(lib.pool_add_files, b"".join(records), lens, len(records))
+
+    def add_script(self, script: Union[str, Buffer]) -> None:
+        """Links the files that a script of lines declares, as `add_set` does."""
+        data = script.encode() if isinstance(script, str) else bytes_of(script, "script")
+        self._core.add(lib.pool_add_script, data)
+
+    def limit_faults(self, most: int) -> None:
+        """Sets how many faults are told at most where files break rules, from the next call on: a
+        hundred where this was never called. A copy has the same limit."""
+        if most < 0:
+            raise ValueError("a number of faults is not below 0")
+        self._core.limit_faults(most)
+
+    def report(self) -> str:
+        """What the last call tells that was to link files, in lines for people; empty where it
+        linked them."""
+        return self._core.written(lib.pool_report).decode()
+
+    def report_json(self) -> str:
+        """The same as an object of JSON."""
+        return self._core.written(lib.pool_report_json).decode()
+
+    @property
+    def faults(self) -> list[Fault]:
+        """The faults that the last call tells that was to link files, or none where it linked
+        them."""
+        text = self.report_json()
+        return [fault_of(fault) for fault in json.loads(text)["faults"]] if text else []
+
+    def clone(self) -> Pool:
+        """A pool with equal contents, which shares nothing with this one."""
+        return pool_of(self._core.clone())
+
+    # Linked files go out
+
+    def linked(self) -> bytes:
+        """The linked files, as the bytes of one FileDescriptorSet."""
+        return self._core.linked()
+
+    def linked_file(self, index: int) -> bytes:
+        """A linked file, as the bytes of its FileDescriptorProto; past the end an IndexError."""
+        return self._core.written(lib.pool_linked_file, index_of(index))
+
+    def linked_files(self) -> Iterator[bytes]:
+        """The linked files, each as the bytes of its FileDescriptorProto, and behind those that it
+        imports, as protobuf's own pool wants them. Of files that import each other one is first."""
+        return map(self.linked_file, self._imports_first())
+
+    def _imports_first(self) -> Iterator[int]:
+        """The indexes of all files, each behind those of the files that it imports."""
+        seen: set[int] = set()
+        for index in range(len(self)):
+            stack = [(index, iter([index]))]
+            while stack:
+                file, rest = stack[-1]
+                further = next((imported for imported in rest if imported not in seen), None)
+                if further is not None:
+                    seen.add(further)
+                    stack.append((further, iter(self._core.numbers(lib.file_import, further))))
+                    continue
+                stack.pop()
+                if stack:
+                    yield file
+
+    # What a pool has
+
+    def counts(self) -> Counts:
+        """How much the pool has of each kind."""
+        counts = self._core.counts()
+        return Counts(*(getattr(counts, name) for name in Counts._fields))
+
+    def find(self, full_name: Name) -> Optional[Definition]:
+        """What a full name means, which may have one leading dot, or None."""
+        found = self._found(full_name)
+        if found is None:
+            return None
+        name = name_bytes(full_name)
+        path = self._core.integers(lib.pool_find_path, name, len(name))
+        kind, index, position, file = found
+        return Definition(KINDS[kind], index, position, file, path or ())
+
+    def _found(self, full_name: Name) -> Optional[Found]:
+        return self._core.found(name_bytes(full_name))
+
+    def files(self) -> list[FileDescriptor]:
+        """The files, in the order of linking."""
+        return [FileDescriptor(self._core, index) for index in range(self.counts().files)]
+
+    def messages(self) -> list[Descriptor]:
+        """The messages, nested ones too, in the order of linking."""
+        return [Descriptor(self._core, index) for index in range(self.counts().messages)]
+
+    def enums(self) -> list[EnumDescriptor]:
+        """The enums, nested ones too, in the order of linking."""
+        return [EnumDescriptor(self._core, index) for index in range(self.counts().enums)]
+
+    def services(self) -> list[ServiceDescriptor]:
+        """The services, in the order of linking."""
+        return [ServiceDescriptor(self._core, index) for index in range(self.counts().services)]
+
+    def extensions(self) -> list[ExtensionDescriptor]:
+        """The extensions, nested ones too, in the order of linking."""
+        return [ExtensionDescriptor(self._core, index) for index in range(self.counts().extensions)]
+
+    def file(self, name: Name) -> FileDescriptor:
+        """The file with a name, or a KeyError."""
+        told = name_bytes(name)
+        index = self._core.number(lib.file_by_name, told, len(told))
+        if index is None:
+            raise KeyError(f"the pool has no file {name!r}")
+        return FileDescriptor(self._core, index)
+
+    def file_of(self, full_name: Name) -> FileDescriptor:
+        """The file that declares a full name, or a KeyError; of a package the first that has it."""
+        found = self._found(full_name)
+        if found is None:
+            raise KeyError(f"the pool has no {full_name!r}")
+        return FileDescriptor(self._core, found[3])
+
+    def message(self, full_name: Name) -> Descriptor:
+        """The message with a full name, or a KeyError."""
+        return self._named(full_name, Descriptor)
+
+    def field(self, full_name: Name) -> FieldDescriptor:
+        """The field with a full name, which is no extension, or a KeyError."""
+        return self._named(full_name, FieldDescriptor)
+
+    def oneof(self, full_name: Name) -> OneofDescriptor:
+        """The oneof with a full name, or a KeyError."""
+        return self._named(full_name, OneofDescriptor)
+
+    def enum(self, full_name: Name) -> EnumDescriptor:
+        """The enum with a full name, or a KeyError."""
+        return self._named(full_name, EnumDescriptor)
+
+    def enum_value(self, full_name: Name) -> EnumValueDescriptor:
+        """The value of an enum with a full name, or a KeyError. It stands beside its enum, so that
+        the enum is no part of its name."""
+        return self._named(full_name, EnumValueDescriptor)
+
+    def service(self, full_name: Name) -> ServiceDescriptor:
+        """The service with a full name, or a KeyError."""
+        return self._named(full_name, ServiceDescriptor)
+
+    def method(self, full_name: Name) -> MethodDescriptor:
+        """The method with a full name, or a KeyError."""
+        return self._named(full_name, MethodDescriptor)
+
+    def extension(self, full_name: Name) -> ExtensionDescriptor:
+        """The extension with a full name, or a KeyError."""
+        return self._named(full_name, ExtensionDescriptor)
+
+    # The names of protobuf's descriptor_pool
+
+    FindFileByName = file
+    FindFileContainingSymbol = file_of
+    FindMessageTypeByName = message
+    FindFieldByName = field
+    FindOneofByName = oneof
+    FindEnumTypeByName = enum
+    FindServiceByName = service
+    FindMethodByName = method
+    FindExtensionByName = extension
+
+    def FindExtensionByNumber(self, message: Descriptor, number: int) -> ExtensionDescriptor:
+        """The extension of a message with a number, or a KeyError."""
+        return message.extension(number)
+
+    def FindAllExtensions(self, message: Descriptor) -> list[ExtensionDescriptor]:
+        """The extensions of the pool that extend a message, in the order of linking."""
+        return message.all_extensions
+
+    def Add(self, file: Message) -> FileDescriptor:
+        """Links a FileDescriptorProto of protobuf's package, and answers the file with its name."""
+        return self.AddSerializedFile(file.SerializeToString())
+
+    def AddSerializedFile(self, data: Buffer) -> FileDescriptor:
+        """Links the file of a FileDescriptorProto, and answers the file with its name."""
+        record = bytes_of(data, "FileDescriptorProto")
+        self.add_file(record)
+        return self.file(name_of(record))
+
+    # By index
+
+    def file_name(self, index: int) -> str:
+        """The name of a file. Raises an IndexError past the end."""
+        return self._core.written(lib.file_name, index_of(index)).decode()
+
+    def full_name(self, kind: str, index: int, position: int = 0) -> str:
+        """The full name of an item, whose kind is one of `KINDS`. Raises an IndexError where the pool
+        has none."""
+        if kind not in KINDS:
+            raise ValueError(f"{kind!r} is none of the kinds of items")
+        item = Item(KINDS.index(kind), index_of(index), index_of(position))
+        return self._core.written(lib.full_name, item).decode()
+
+    def _named(self, full_name: Name, wanted: Callable[[Core, int, int], D]) -> D:
+        """The descriptor of what a name means, where it is of a kind."""
+        kept = self._kept.get((wanted, full_name))
+        if kept is not None:
+            return cast(D, kept)
+        kind, index, position, _ = self._found(full_name) or PACKAGE
+        if CLASSES[kind] is not wanted:
+            name = KINDS[CLASSES.index(cast(Any, wanted))].replace("_", " ")
+            raise KeyError(f"the pool has no {name} {full_name!r}")
+        made = wanted(self._core, index, position)
+        if len(self._kept) >= MOST_KEPT:
+            self._kept = {}
+        self._kept[wanted, full_name] = made
+        return made
+
+
+def pool_of(core: Core) -> Pool:
+    """The pool of a core: that which is there, else a new one."""
+    pool = core.owner() if core.owner is not None else None
+    if pool is None:
+        pool = Pool.__new__(Pool)
+        pool._set_core(core)
+    return pool
+
+
+def index_of(number: int) -> int:
+    """A number that the library takes as an index. One that is none is past every end."""
+    return number if 0 <= number < NONE else NONE
+
+
+def bytes_of(data: Any, what: str) -> bytes:
+    """The bytes of what is handed over to be linked."""
+    if isinstance(data, bytes):
+        return data
+    if isinstance(data, os.PathLike):
+        return Path(data).read_bytes()
+    if hasattr(data, "SerializeToString"):
+        return bytes(data.SerializeToString())
+    if isinstance(data, (bytearray, memoryview)):
+        return bytes(data)
+    kind = type(data).__name__
+    hint = "; give a path as pathlib.Path(..)" if isinstance(data, str) else ""
+    raise TypeError(f"a {what} is bytes, a path or a message of protobuf, and no {kind}{hint}")

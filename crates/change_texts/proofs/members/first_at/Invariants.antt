@@ -1,8 +1,0 @@
-use Rattle.std.proofs.Common.{◌≡◌, None, take}
-use Rattle.schema_changes.specs.Changes.{compared, first_some}
-use Rattle.change_texts.specs.Members.{old_at}
-use Rattle.change_texts.proofs.members.first_at.Given as goal
-
--- none of the positions so far has one
-abbrev pub invariant-loop-position : goal.invariant-loop-position
-invariant-loop-position l = first_some (old_at (compared l.sides)) (take l.position-index l.positions) ≡ None

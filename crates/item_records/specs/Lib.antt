@@ -1,0 +1,4 @@
+pub mod Records
+pub mod Flags
+pub mod Options
+pub mod Places

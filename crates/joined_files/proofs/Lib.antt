@@ -1,0 +1,3 @@
+pub mod Exactness
+pub mod Apart
+pub mod Joins

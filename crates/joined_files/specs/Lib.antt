@@ -1,0 +1,5 @@
+pub mod Apart
+pub mod Differences
+pub mod Words
+pub mod Joining
+pub mod Telling

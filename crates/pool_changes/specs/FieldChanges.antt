@@ -1,0 +1,84 @@
+-- What changes at json and at source of a field or an extension that is kept by its number.
+use Rattle.std.specs.Prelude.{ℕ, Bool, true, false, not, ◌||◌, List, [], ◌++◌, if◌then◌else◌}
+use Rattle.std.specs.Str.{bytes_eq}
+use Rattle.pool_types.specs.declared.contents.message.MessageDescriptorInner.{MessageDescriptorInner}
+use Rattle.pool_types.specs.declared.kinds.KindIndex.{KindIndex}
+use Rattle.pool_types.specs.declared.kinds.KindIndex.TheVariants as kind
+use Rattle.schema_changes.specs.Kinds.{is_repeated}
+use Rattle.schema_changes.specs.declared.change.WireChange.{WireChange}
+use Rattle.schema_changes.specs.declared.change.WireChangeKind.TheVariants as change
+use Rattle.verdict_texts.specs.declared.telling.ToldFault.{ToldFault}
+use Rattle.pool_changes.specs.FieldParts.{Part, form_side, json_side, repeated_side, name_side, type_side, presence_side, default_side, oneof_side}
+use Rattle.pool_changes.specs.Removed.{tells}
+use Rattle.pool_changes.specs.Sides.{Versions, writer, reader, are_alike, differing}
+use Rattle.pool_changes.specs.declared.kinds.ElementChange.TheVariants as element
+
+-- whether a parser of JSON reads a number where a kind has names
+abbrev pub reads_number : KindIndex → KindIndex → Bool
+reads_number kind.Int32 (kind.Enum e) = true
+reads_number _ _ = false
+
+-- whether JSON has a field in a form that the reader's reads
+abbrev pub keeps_form : Versions → Part → Part → Bool
+keeps_form v f g = reads_number f.entry.kind g.entry.kind
+    || are_alike (form_side (writer v) f) (form_side (reader v) g)
+
+-- what changes of its form in JSON, if that is not told at wire
+abbrev pub form_changes : Versions → List WireChange → Part → Part → List ToldFault
+form_changes v found f g =
+    if tells v.direction found f.entry.number change.Kind || reads_number f.entry.kind g.entry.kind
+    then [] else differing v element.FieldJson (form_side (writer v) f) (form_side (reader v) g)
+
+-- that it is repeated now, if that is not told at wire
+abbrev pub repeated_changes : Versions → List WireChange → Part → Part → List ToldFault
+repeated_changes v found f g =
+    if tells v.direction found f.entry.number change.Cardinality then []
+    else differing v element.FieldRepeated (repeated_side f) (repeated_side g)
+
+-- what changes of it at json: its JSON name, its form, and whether it is repeated
+abbrev pub part_json : Versions → List WireChange → Part → Part → List ToldFault
+part_json v found f g = differing v element.FieldJsonName (json_side f) (json_side g)
+    ++ (form_changes v found f g ++ repeated_changes v found f g)
+
+-- what changes of its name, if the JSON name is the same
+abbrev pub name_changes : Versions → Part → Part → List ToldFault
+name_changes v f g = if bytes_eq f.json_name g.json_name
+    then differing v element.FieldName (name_side f) (name_side g) else []
+
+-- what changes of its type, if that is not told at wire or at json
+abbrev pub type_changes : Versions → List WireChange → Part → Part → List ToldFault
+type_changes v found f g =
+    if tells v.direction found f.entry.number change.Kind || not (keeps_form v f g) then []
+    else differing v element.FieldType (type_side (writer v) f) (type_side (reader v) g)
+
+-- whether one of two is repeated, and the other is not
+abbrev pub one_repeats : Part → Part → Bool
+one_repeats f g = if is_repeated f.entry.cardinality then not (is_repeated g.entry.cardinality)
+    else is_repeated g.entry.cardinality
+
+-- what changes of its presence, if that is not told at wire or at json
+abbrev pub presence_changes : Versions → List WireChange → Part → Part → List ToldFault
+presence_changes v found f g =
+    if tells v.direction found f.entry.number change.Required || one_repeats f g then []
+    else differing v element.FieldPresence (presence_side f) (presence_side g)
+
+-- which oneof it is in, by its messages, if that is not told at wire
+abbrev pub oneof_moves : Versions → MessageDescriptorInner → MessageDescriptorInner
+    → List WireChange → Part → Part → List ToldFault
+oneof_moves v x y found f g = if tells v.direction found f.entry.number change.Oneof then []
+    else differing v element.FieldOneof (oneof_side (writer v) x f) (oneof_side (reader v) y g)
+
+-- what changes of the default value that its record gives
+abbrev pub default_changes : Versions → Part → Part → List ToldFault
+default_changes v f g =
+    differing v element.FieldDefault (default_side (writer v) f) (default_side (reader v) g)
+
+-- what changes of it at source, by its messages: its name, its type, its presence, its oneof, and
+-- its default value
+abbrev pub part_source : Versions → MessageDescriptorInner → MessageDescriptorInner
+    → List WireChange → Part → Part → List ToldFault
+part_source v x y found f g =
+    name_changes v f g
+    ++ (type_changes v found f g
+    ++ (presence_changes v found f g
+    ++ (oneof_moves v x y found f g ++ default_changes v f g)))

@@ -1,0 +1,311 @@
+//! A field or an extension of a message, as JSON and code that is made of the schema have it.
+
+ghost use Rattle.std.specs.Prelude.{◌≡◌, option_map, option_and_then, unwrap_or};
+ghost use Rattle.std.specs.Option.{option_copied};
+ghost use Rattle.pool_types.specs.Kinds.{kind_name};
+ghost use Rattle.pool_changes.specs.FieldParts as spec;
+ghost use Rattle.pool_changes.specs.Removed.{field_record};
+ghost use Rattle.pool_changes.specs.Sides.{side};
+
+use crate::pools::parts_of;
+use crate::removed::{field_record, is_synthetic};
+use crate::sides::Side;
+use crate::words::{enum_name, message_name};
+use descriptor_pool::DescriptorPool;
+use plain_data::Text;
+use pool_types::{
+    Cardinality, ExtensionDescriptorInner, FieldDescriptorInner, Identity, KindIndex,
+    MessageDescriptorInner, OneofDescriptorInner,
+};
+use schema_changes::{Entry, extension_entry, field_entry};
+
+/// A field or an extension of a message.
+#[derive(Clone, Copy)]
+pub(crate) struct Part<'a> {
+    pub id: &'a Identity,
+    pub entry: Entry,
+    /// The JSON name; where a field was given none, its full name.
+    pub json_name: &'a str,
+    /// Whether a message tells that it is set.
+    pub has_presence: bool,
+}
+
+/// The JSON name of a field that was given one, or else its full name.
+fn json_name(field: &FieldDescriptorInner) -> &str
+    ensures { result.now ≡ unwrap_or field.now.json_name field.now.id.full_name }
+{
+    match &field.json_name {
+        Some(name) => name.as_str(),
+        None => field.id.full_name(),
+    }
+}
+
+/// A field.
+pub(crate) fn field_part(field: &FieldDescriptorInner) -> Part<'_>
+    ensures { spec.part result ≡ spec.field_part field.now }
+{
+    Part {
+        id: &field.id,
+        entry: field_entry(field),
+        json_name: json_name(field),
+        has_presence: field.supports_presence,
+    }
+}
+
+/// An extension.
+pub(crate) fn extension_part(extension: &ExtensionDescriptorInner) -> Part<'_>
+    ensures { spec.part result ≡ spec.extension_part extension.now }
+{
+    Part {
+        id: &extension.id,
+        entry: extension_entry(extension),
+        json_name: extension.json_name.as_str(),
+        has_presence: true,
+    }
+}
+
+/// The extension with an index.
+pub(crate) fn extension_part_at(pool: &DescriptorPool, index: u32) -> Option<Part<'_>>
+    ensures { option_map spec.part result ≡ spec.extension_part_at pool.now index }
+{
+    match pool.extensions().get(index as usize) {
+        Some(extension) => Some(extension_part(extension)),
+        None => None,
+    }
+}
+
+/// The field of a message with a number, or else the extension.
+pub(crate) fn part_numbered<'a>(
+    pool: &'a DescriptorPool,
+    message: &'a MessageDescriptorInner,
+    number: u32,
+) -> Option<Part<'a>>
+    ensures { option_map spec.part result ≡ spec.part_numbered pool.now message.now number }
+{
+    match message.get_field(number) {
+        Some(field) => Some(field_part(field)),
+        None => extension_part_at(pool, message.extension_numbers.get(number)?),
+    }
+}
+
+/// The word for the form that values of a kind have in JSON.
+fn json_word(kind: KindIndex) -> &'static str
+    ensures { result.now ≡ spec.json_word kind }
+{
+    match kind {
+        KindIndex::Bool => "true or false",
+        KindIndex::String => "text",
+        KindIndex::Bytes => "text in base64",
+        KindIndex::Message(_) | KindIndex::Group(_) => "object",
+        KindIndex::Enum(_) => "name of a value of ",
+        _ => "number",
+    }
+}
+
+/// The enum whose names JSON has.
+fn json_enum(pool: &DescriptorPool, kind: KindIndex) -> &str
+    ensures { result.now ≡ spec.json_enum pool.now kind }
+{
+    match kind {
+        KindIndex::Enum(index) => enum_name(parts_of(pool), index),
+        _ => "",
+    }
+}
+
+/// Whether a cardinality is repeated, in words.
+fn repeated_word(cardinality: Cardinality) -> &'static str
+    ensures { result.now ≡ spec.repeated_word cardinality }
+{
+    match cardinality {
+        Cardinality::Repeated => "list",
+        _ => "one value",
+    }
+}
+
+/// The word for a kind of messages, by whether they are entries of a map.
+fn message_word(is_entry: bool) -> &'static str
+    ensures { result.now ≡ spec.message_word is_entry }
+{
+    if is_entry { "map" } else { "message " }
+}
+
+/// The word for a kind that is no message and no enum.
+fn scalar_word(kind: KindIndex) -> &'static str
+    ensures { result.now ≡ kind_name kind }
+{
+    match kind {
+        KindIndex::Double => "double",
+        KindIndex::Float => "float",
+        KindIndex::Int32 => "int32",
+        KindIndex::Int64 => "int64",
+        KindIndex::Uint32 => "uint32",
+        KindIndex::Uint64 => "uint64",
+        KindIndex::Sint32 => "sint32",
+        KindIndex::Sint64 => "sint64",
+        KindIndex::Fixed32 => "fixed32",
+        KindIndex::Fixed64 => "fixed64",
+        KindIndex::Sfixed32 => "sfixed32",
+        KindIndex::Sfixed64 => "sfixed64",
+        KindIndex::Bool => "bool",
+        KindIndex::String => "string",
+        KindIndex::Bytes => "bytes",
+        KindIndex::Message(_) | KindIndex::Group(_) => "message",
+        KindIndex::Enum(_) => "enum",
+    }
+}
+
+/// The word for a kind, before the name of a message or of an enum.
+fn type_word(pool: &DescriptorPool, kind: KindIndex) -> &'static str
+    ensures { result.now ≡ spec.type_word pool.now kind }
+{
+    match kind {
+        KindIndex::Message(index) => match parts_of(pool).map_entry_at(index) {
+            Some(_) => message_word(true),
+            None => message_word(false),
+        },
+        KindIndex::Group(_) => "group ",
+        KindIndex::Enum(_) => "enum ",
+        _ => scalar_word(kind),
+    }
+}
+
+/// The name of a message; an entry of a map shows none.
+fn type_message(pool: &DescriptorPool, index: u32) -> &str
+    ensures { result.now ≡ spec.type_message pool.now index }
+{
+    match parts_of(pool).map_entry_at(index) {
+        Some(_) => "",
+        None => message_name(parts_of(pool), index),
+    }
+}
+
+/// The name of the message or the enum of a kind.
+fn type_name(pool: &DescriptorPool, kind: KindIndex) -> &str
+    ensures { result.now ≡ spec.type_name pool.now kind }
+{
+    match kind {
+        KindIndex::Message(index) => type_message(pool, index),
+        KindIndex::Group(index) => message_name(parts_of(pool), index),
+        KindIndex::Enum(index) => enum_name(parts_of(pool), index),
+        _ => "",
+    }
+}
+
+/// How a message tells that a field is set, in words.
+fn presence_word(cardinality: Cardinality, has_presence: bool) -> &'static str
+    ensures { result.now ≡ spec.presence_word cardinality has_presence }
+{
+    match (cardinality, has_presence) {
+        (Cardinality::Required, _) => "required",
+        (Cardinality::Repeated, _) => "repeated",
+        (Cardinality::Optional, true) => "explicit presence",
+        (Cardinality::Optional, false) => "implicit presence",
+    }
+}
+
+impl<'a> Part<'a> {
+    /// Its form in JSON, as a side.
+    pub(crate) fn form(self, pool: &'a DescriptorPool) -> Side<'a>
+        ensures { side result ≡ spec.form_side pool.now (spec.part self.entry) }
+    {
+        let kind = self.entry.kind;
+        Side::there(self.id, json_word(kind), json_enum(pool, kind))
+    }
+
+    /// Its JSON name, as a side.
+    pub(crate) fn json(self) -> Side<'a>
+        ensures { side result ≡ spec.json_side (spec.part self.entry) }
+    {
+        Side::there(self.id, "JSON name ", self.json_name)
+    }
+
+    /// Whether it is repeated, as a side.
+    pub(crate) fn repeated(self) -> Side<'a>
+        ensures { side result ≡ spec.repeated_side (spec.part self.entry) }
+    {
+        Side::there(self.id, repeated_word(self.entry.cardinality), "")
+    }
+
+    /// Its name, as a side.
+    pub(crate) fn name(self) -> Side<'a>
+        ensures { side result ≡ spec.name_side (spec.part self.entry) }
+    {
+        Side::there(self.id, "name ", self.id.full_name())
+    }
+
+    /// Its type, as a side.
+    pub(crate) fn type_(self, pool: &'a DescriptorPool) -> Side<'a>
+        ensures { side result ≡ spec.type_side pool.now (spec.part self.entry) }
+    {
+        let kind = self.entry.kind;
+        Side::there(self.id, type_word(pool, kind), type_name(pool, kind))
+    }
+
+    /// How a message tells that it is set, as a side.
+    pub(crate) fn presence(self) -> Side<'a>
+        ensures { side result ≡ spec.presence_side (spec.part self.entry) }
+    {
+        let word = presence_word(self.entry.cardinality, self.has_presence);
+        Side::there(self.id, word, "")
+    }
+
+    /// The default value that its record gives, if it gives one.
+    fn default_text(self, pool: &'a DescriptorPool) -> Option<&'a Text>
+        ensures { option_copied result ≡ option_and_then (λ r. r.default_value)
+            (field_record pool.now (spec.part self.entry).id) }
+    {
+        let record = field_record(pool, self.id)?;
+        record.default_value.as_ref()
+    }
+
+    /// The default value that its record gives, as a side.
+    pub(crate) fn default(self, pool: &'a DescriptorPool) -> Side<'a>
+        ensures { side result ≡ spec.default_side pool.now (spec.part self.entry) }
+    {
+        match self.default_text(pool) {
+            Some(text) => Side::there(self.id, "default value ", text.as_str()),
+            None => Side::there(self.id, "no default value", ""),
+        }
+    }
+
+    /// The oneof that it is in, as a side.
+    pub(crate) fn oneof(
+        self,
+        pool: &DescriptorPool,
+        message: &'a MessageDescriptorInner,
+    ) -> Side<'a>
+        ensures { side result ≡ spec.oneof_side pool.now message.now (spec.part self.entry) }
+    {
+        match oneof_in(pool, message, self.entry.oneof) {
+            Some(oneof) => Side::there(self.id, "part of ", oneof.id.full_name()),
+            None => Side::there(self.id, "part of no oneof", ""),
+        }
+    }
+}
+
+/// The oneof of a message at a position, unless it stands for the presence of a field alone.
+fn oneof_at<'a>(
+    pool: &DescriptorPool,
+    message: &'a MessageDescriptorInner,
+    position: u32,
+) -> Option<&'a OneofDescriptorInner>
+    ensures { option_copied result ≡ spec.oneof_at pool.now message.now position }
+{
+    let oneof = message.oneofs.as_slice().get(position as usize)?;
+    if is_synthetic(pool, message, oneof) {
+        None
+    } else {
+        Some(oneof)
+    }
+}
+
+/// The oneof of a message at a position, if there is one.
+fn oneof_in<'a>(
+    pool: &DescriptorPool,
+    message: &'a MessageDescriptorInner,
+    position: Option<u32>,
+) -> Option<&'a OneofDescriptorInner>
+    ensures { option_copied result ≡ option_and_then (spec.oneof_at pool.now message.now) position }
+{
+    oneof_at(pool, message, position?)
+}

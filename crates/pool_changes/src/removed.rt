@@ -1,0 +1,334 @@
+//! What a reader lacks of what a writer has: files, messages, enums and their parts.
+
+ghost use Rattle.std.specs.Prelude.{◌≡◌, ◌++◌, OnOk, Some};
+ghost use Rattle.std.specs.List.{list_any};
+ghost use Rattle.std.specs.Option.{option_copied};
+ghost use Rattle.proto_types.specs.Readers.{text_of};
+ghost use Rattle.pool_types.specs.LookUps.{value_numbered};
+ghost use Rattle.pool_changes.specs.Removed as spec;
+ghost use Rattle.pool_changes.specs.Sides.{reader, side, versions};
+
+use crate::Direction;
+use crate::kinds::ElementChange;
+use crate::pools::parts_of;
+use crate::sides::{Side, Telling};
+use descriptor_pool::DescriptorPool;
+use plain_data::Items;
+use pool_types::{
+    EnumDescriptorInner, EnumValueDescriptorInner, FileDescriptorInner, Identity,
+    MessageDescriptorInner, OneofDescriptorInner, Syntax,
+};
+use proto_types::FieldDescriptorProto;
+use record_lists::find_field_proto;
+use schema_changes::{WireChange, WireChangeKind};
+use std::alloc::AllocError;
+use verdict_texts::ToldFault;
+
+/// A message of the writer, the reader's with its name, and what changes of it at wire.
+#[derive(Clone, Copy)]
+pub(crate) struct Kept<'a> {
+    pub before: &'a MessageDescriptorInner,
+    pub after: &'a MessageDescriptorInner,
+    pub found: &'a [WireChange],
+}
+
+/// Whether a kind of change is told in a direction: all are, but for an older reader that a number
+/// is free.
+pub(crate) fn is_told(direction: Direction, kind: WireChangeKind) -> bool
+    ensures { result ≡ spec.is_told direction kind }
+{
+    direction == Direction::Backward || kind != WireChangeKind::FreeNumber
+}
+
+/// Whether two kinds of changes are one.
+fn same_kind(first: WireChangeKind, second: WireChangeKind) -> bool
+    ensures { result ≡ spec.same_kind first second }
+{
+    matches!(
+        (first, second),
+        (WireChangeKind::Kind, WireChangeKind::Kind)
+            | (WireChangeKind::Cardinality, WireChangeKind::Cardinality)
+            | (WireChangeKind::Oneof, WireChangeKind::Oneof)
+            | (WireChangeKind::Required, WireChangeKind::Required)
+            | (WireChangeKind::FreeNumber, WireChangeKind::FreeNumber)
+    )
+}
+
+/// Whether changes of a message at wire have one of a kind with a number, which is told.
+pub(crate) fn tells(
+    direction: Direction,
+    found: &[WireChange],
+    number: u32,
+    kind: WireChangeKind,
+) -> bool
+    ensures { result ≡ spec.tells direction found.now number kind }
+{
+    found.iter().any(|change| {
+        change.number == number && (same_kind(change.kind, kind) && is_told(direction, change.kind))
+    })
+}
+
+/// Whether a value has the full name and the number of another.
+fn is_value_like(value: &EnumValueDescriptorInner, other: &EnumValueDescriptorInner) -> bool
+    ensures { result ≡ spec.is_value_like value.now other.now }
+{
+    other.number == value.number && other.id.full_name() == value.id.full_name()
+}
+
+/// Whether one of some values has the full name and the number of another.
+fn has_value_like(values: &[EnumValueDescriptorInner], value: &EnumValueDescriptorInner) -> bool
+    ensures { result ≡ list_any (spec.is_value_like value.now) values.now }
+{
+    values.iter().any(|other| is_value_like(value, other))
+}
+
+/// The name of a value, as a side.
+fn value_side(value: &EnumValueDescriptorInner) -> Side<'_>
+    ensures { side result ≡ spec.value_side value.now }
+{
+    Side::there(&value.id, "name ", value.id.full_name())
+}
+
+/// The linked record of a field or an extension.
+pub(crate) fn field_record<'a>(
+    pool: &'a DescriptorPool,
+    id: &Identity,
+) -> Option<&'a FieldDescriptorProto>
+    ensures { option_copied result ≡ spec.field_record pool.now id.now }
+{
+    let file = pool.files().get(id.file as usize)?;
+    find_field_proto(&file.raw, id.path())
+}
+
+/// Whether the field of a message at a position is one of proto3 that is said to be optional.
+fn is_optional_at(pool: &DescriptorPool, message: &MessageDescriptorInner, position: u32) -> bool
+    ensures { result ≡ spec.is_optional_at pool.now message.now position }
+{
+    let Some(field) = message.fields.as_slice().get(position as usize) else {
+        return false;
+    };
+    match field_record(pool, &field.id) {
+        Some(record) => record.proto3_optional(),
+        None => false,
+    }
+}
+
+/// Whether a oneof stands for the presence of a field alone.
+pub(crate) fn is_synthetic(
+    pool: &DescriptorPool,
+    message: &MessageDescriptorInner,
+    oneof: &OneofDescriptorInner,
+) -> bool
+    ensures { result ≡ spec.is_synthetic pool.now message.now oneof.now }
+{
+    let positions = oneof.fields.as_slice();
+    positions
+        .iter()
+        .any(|position| is_optional_at(pool, message, *position))
+}
+
+/// Whether a message has a oneof with a full name.
+fn has_oneof(message: &MessageDescriptorInner, name: &str) -> bool
+    ensures { result ≡ spec.has_oneof message.now name.now }
+{
+    let oneofs = message.oneofs.as_slice();
+    oneofs.iter().any(|oneof| oneof.id.full_name() == name)
+}
+
+/// A file of a pool as a side, with what is told of it.
+fn file_told<'a>(
+    pool: &DescriptorPool,
+    file: &'a FileDescriptorInner,
+    word: &'static str,
+    name: &'a str,
+) -> Side<'a>
+    ensures { side result ≡ spec.file_told pool.now file.now word.now name.now }
+{
+    let shown = file.raw.name();
+    let index = match pool.get_file_by_name(shown) {
+        Some(file) => Some(file.index()),
+        None => None,
+    };
+    Side::of_file(index, shown, word, name)
+}
+
+/// The word before the package of a file, which may be none.
+fn package_word(name: &str) -> &'static str
+    ensures { result.now ≡ spec.package_word name.now }
+{
+    if name.is_empty() {
+        "no package"
+    } else {
+        "package "
+    }
+}
+
+/// The package of a file, as a side.
+fn package_side<'a>(pool: &DescriptorPool, file: &'a FileDescriptorInner) -> Side<'a>
+    ensures { side result ≡ spec.package_side pool.now file.now }
+{
+    let name = file.raw.package();
+    file_told(pool, file, package_word(name), name)
+}
+
+/// The word for the syntax of a file.
+fn syntax_word(syntax: Syntax) -> &'static str
+    ensures { result.now ≡ spec.syntax_word syntax }
+{
+    match syntax {
+        Syntax::Proto2 => "proto2",
+        Syntax::Proto3 => "proto3",
+    }
+}
+
+/// The syntax of a file, as a side.
+fn syntax_side<'a>(pool: &DescriptorPool, file: &'a FileDescriptorInner) -> Side<'a>
+    ensures { side result ≡ spec.syntax_side pool.now file.now }
+{
+    file_told(pool, file, syntax_word(file.syntax), "")
+}
+
+/// The file of a pool with a name.
+fn file_named<'a>(pool: &'a DescriptorPool, name: &str) -> Option<&'a FileDescriptorInner>
+    ensures { option_copied result ≡ spec.file_named pool.now name.now }
+{
+    pool.file(pool.get_file_by_name(name)?)
+}
+
+impl Telling<'_> {
+    /// Appends that a reader's message lacks a field or an extension with a number, if that is not
+    /// among the changes of the message at wire.
+    pub(crate) fn tell_field_removed(
+        self,
+        told: &mut Items<ToldFault>,
+        kept: Kept<'_>,
+        id: &Identity,
+        number: u32,
+    ) -> Result<(), AllocError>
+        ensures { OnOk result (told.new ≡ told.old ++ spec.field_removed (versions self.entry)
+            kept.entry.after.now kept.entry.found.now id.now number) }
+    {
+        if tells(
+            self.direction,
+            kept.found,
+            number,
+            WireChangeKind::FreeNumber,
+        ) {
+            return Ok(());
+        }
+        let before = Side::there(id, "field", "");
+        let after = Side::around(&kept.after.id, "field");
+        self.tell_between(told, ElementChange::FieldRemoved, before, after)
+    }
+
+    /// Appends that the name of a value has lost its number, by the first value that has it.
+    fn tell_value_lost(
+        self,
+        told: &mut Items<ToldFault>,
+        enumeration: &EnumDescriptorInner,
+        value: &EnumValueDescriptorInner,
+    ) -> Result<(), AllocError>
+        ensures { OnOk result (told.new ≡ told.old ++ spec.value_lost
+            (versions self.entry) enumeration.now value.now
+            (value_numbered enumeration.now value.now.number)) }
+    {
+        match enumeration.get_value(value.number) {
+            Some(other) => {
+                let (before, after) = (value_side(value), value_side(other));
+                self.tell_between(told, ElementChange::ValueName, before, after)
+            }
+            None => {
+                let before = Side::there(&value.id, "value", "");
+                let after = Side::around(&enumeration.id, "value");
+                self.tell_between(told, ElementChange::ValueRemoved, before, after)
+            }
+        }
+    }
+
+    /// Appends what a reader's enum changes of a value.
+    pub(crate) fn tell_value(
+        self,
+        told: &mut Items<ToldFault>,
+        enumeration: &EnumDescriptorInner,
+        value: &EnumValueDescriptorInner,
+    ) -> Result<(), AllocError>
+        ensures { OnOk result (told.new ≡ told.old
+            ++ spec.value_changes (versions self.entry) enumeration.now value.now) }
+    {
+        if has_value_like(enumeration.values.as_slice(), value) {
+            return Ok(());
+        }
+        self.tell_value_lost(told, enumeration, value)
+    }
+
+    /// Appends what a reader's file changes of a writer's with its name.
+    fn tell_kept_file(
+        self,
+        told: &mut Items<ToldFault>,
+        file: &FileDescriptorInner,
+        kept: &FileDescriptorInner,
+    ) -> Result<(), AllocError>
+        ensures { OnOk result (told.new ≡ told.old
+            ++ spec.file_changes (versions self.entry) file.now (Some kept.now)) }
+    {
+        let (writer, reader) = (self.writer(), self.reader());
+        let (before, after) = (package_side(writer, file), package_side(reader, kept));
+        self.tell_differing(told, ElementChange::FilePackage, before, after)?;
+        let (before, after) = (syntax_side(writer, file), syntax_side(reader, kept));
+        self.tell_differing(told, ElementChange::FileSyntax, before, after)
+    }
+
+    /// Appends what the reader's file with its name changes of a writer's.
+    pub(crate) fn tell_file(
+        self,
+        told: &mut Items<ToldFault>,
+        file: &FileDescriptorInner,
+    ) -> Result<(), AllocError>
+        ensures { OnOk result (told.new ≡ told.old
+            ++ spec.file_changes (versions self.entry) file.now
+            (spec.file_named (reader (versions self.entry)) (text_of file.now.raw.name))) }
+    {
+        match file_named(self.reader(), file.raw.name()) {
+            Some(kept) => self.tell_kept_file(told, file, kept),
+            None => {
+                let before = file_told(self.writer(), file, "file", "");
+                let after = Side::in_file(None, "file");
+                self.tell_between(told, ElementChange::FileRemoved, before, after)
+            }
+        }
+    }
+
+    /// Appends that the reader lacks a message, unless it is an entry of a map.
+    pub(crate) fn tell_message_removed(
+        self,
+        told: &mut Items<ToldFault>,
+        message: &MessageDescriptorInner,
+    ) -> Result<(), AllocError>
+        ensures { OnOk result (told.new ≡ told.old
+            ++ spec.message_removed (versions self.entry) message.now) }
+    {
+        if parts_of(self.writer()).is_map_entry(message) {
+            return Ok(());
+        }
+        self.tell_removed(told, ElementChange::MessageRemoved, &message.id, "message")
+    }
+
+    /// Appends that a reader's message lacks a oneof of the writer's with its name, if it does.
+    pub(crate) fn tell_oneof(
+        self,
+        told: &mut Items<ToldFault>,
+        before: &MessageDescriptorInner,
+        after: &MessageDescriptorInner,
+        oneof: &OneofDescriptorInner,
+    ) -> Result<(), AllocError>
+        ensures { OnOk result (told.new ≡ told.old
+            ++ spec.oneof_changes (versions self.entry) before.now after.now oneof.now) }
+    {
+        if has_oneof(after, oneof.id.full_name()) || is_synthetic(self.writer(), before, oneof) {
+            return Ok(());
+        }
+        let written = Side::there(&oneof.id, "oneof", "");
+        let read = Side::around(&after.id, "oneof");
+        self.tell_between(told, ElementChange::OneofRemoved, written, read)
+    }
+}

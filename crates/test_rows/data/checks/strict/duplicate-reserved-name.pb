@@ -1,0 +1,4 @@
+
+
+a.proto"	
+MRfRf

@@ -1,0 +1,7 @@
+
+
+a.proto"	
+M*
+)
+b.protoa.proto:
+x.M (bproto3

@@ -1,0 +1,4 @@
+
+
+a.proto"	
+M*bproto3

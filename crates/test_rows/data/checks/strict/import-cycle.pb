@@ -1,0 +1,5 @@
+
+
+a.protob.proto
+
+b.protoa.proto
