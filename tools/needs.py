@@ -7,6 +7,7 @@ import os
 import shutil
 import subprocess
 import sys
+import sysconfig
 from collections.abc import Callable
 from functools import lru_cache
 from pathlib import Path
@@ -51,6 +52,14 @@ def python() -> Optional[str]:
     return None
 
 
+def python_headers() -> Optional[Path]:
+    """The folder of the headers of Python: those of this interpreter, else Debian's."""
+    folders = [Path(sysconfig.get_path("include"))]
+    for include in INCLUDES:
+        folders += sorted(include.glob("python3.*"))
+    return next((folder for folder in folders if (folder / "Python.h").is_file()), None)
+
+
 PROTOC = Need("protobuf-compiler", lambda: has_tools("protoc"))
 PROTOBUF_FILES = Need("libprotobuf-dev", lambda: has_include("google/protobuf/descriptor.proto"))
 
@@ -59,6 +68,8 @@ ALL = (
     PROTOBUF_FILES,
     Need("libprotoc-dev", lambda: has_include("google/protobuf/compiler/plugin.proto")),
     Need("python3-protobuf", lambda: python() is not None),
+    Need("python3-dev", lambda: python_headers() is not None),
+    Need("mypy", lambda: has_tools("mypy")),
     Need("gcc", lambda: has_tools("gcc", "cc")),
     Need("g++", lambda: has_tools("g++")),
     Need("libc6-dev", lambda: has_include("stdio.h")),

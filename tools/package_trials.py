@@ -26,6 +26,7 @@ from trials import Trials, run
 TOP = Path(__file__).resolve().parent.parent
 SET = TOP / "crates/example_pool/data/well_known.pb"
 REFUSED_SET = TOP / "crates/test_rows/data/checks/breaks/extension-of-a-message-without-ranges.pb"
+FINDING = TOP / "dist/lib/_finding.abi3.so"
 PYPROJECT = TOP / "bindings/python/pyproject.toml"
 COUNTS = "12 files, 58 messages, 11 enums, 0 services, 0 extensions"
 NUMBERS = [12, 58, 11, 0, 0]
@@ -38,7 +39,7 @@ PYTHON = """\
 import protolink
 pool = protolink.Pool()
 pool.add_set(open("set.pb", "rb").read())
-print(list(pool.counts()), protolink.version())
+print(list(pool.counts()), protolink.version(), protolink._names.finding is not None)
 """
 
 COMPLETE = """\
@@ -195,10 +196,10 @@ def try_c(trial: Trial) -> None:
 
 
 def try_python(trial: Trial) -> None:
-    """The Python module."""
+    """The Python module, with its extension where that was built."""
     version = re.search(r'^version = "(.*)"$', PYPROJECT.read_text(), re.MULTILINE)[1]
     words = [trial.place.python, "-c", PYTHON]
-    trial.tells("the Python module", words, f"{NUMBERS} {version}\n")
+    trial.tells("the Python module", words, f"{NUMBERS} {version} {FINDING.is_file()}\n")
 
 
 def try_wheel(trials: Trials, user: User, dist: Path) -> None:

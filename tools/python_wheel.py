@@ -58,12 +58,18 @@ def digest(data: bytes) -> str:
     return "sha256=" + made.rstrip(b"=").decode()
 
 
+def python_tag(module: Path) -> str:
+    """What a module asks of Python: that of pyproject.toml, and of an extension the interface that
+    its name has (PEP 384)."""
+    return "cp39-abi3" if any(module.glob("*.abi3.so")) else "py3-none"
+
+
 def write(folder: Path, libc: str, seconds: int, to: Path) -> Path:
     """Packs the module of a folder, with its library, which needs a version of the C library; all
     with one date. The wheel stands in a folder, under the name that its tags give it."""
     project = Project((folder / "pyproject.toml").read_text(), (folder / "README.md").read_text())
     name, version = project.value("name"), project.value("version")
-    tag = f"py3-none-manylinux_{libc.replace('.', '_')}_x86_64"
+    tag = f"{python_tag(folder / name)}-manylinux_{libc.replace('.', '_')}_x86_64"
     about = f"{name}-{version}.dist-info"
     members = {
         f"{name}/{path.name}": path.read_bytes() for path in sorted((folder / name).iterdir())

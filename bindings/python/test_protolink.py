@@ -293,6 +293,29 @@ class Descriptors(unittest.TestCase):
         self.assertEqual(stop.location, ((4, 1), (15, 0, 15), None, None, [" On its own.\n"]))
         self.assertIsNone(trip.field(4).location)
 
+    def test_records_are_bytes(self) -> None:
+        pool = tour()
+        file = pool.file("tour.proto")
+        self.assertEqual(pool.field("tour.Outer.note").serialized_pb[:6], b"\x0a\x04note")
+        for kind in protolink.KINDS[1:]:
+            items = [it for it in self.everything(file) if it._kind == kind]
+            self.assertTrue(items, kind)
+            for item in items:
+                name = item.name.encode()
+                record = item.serialized_pb
+                self.assertEqual(record[: len(name) + 2], bytes((10, len(name))) + name)
+                self.assertIn(record, file.serialized_pb)
+
+    @staticmethod
+    def everything(file: protolink.FileDescriptor) -> list[object]:
+        """The items of a file whose one message has all kinds but services."""
+        (outer,), (service,) = file.message_types, file.services
+        enums = [*file.enum_types, *outer.enum_types]
+        lists = (outer.fields, outer.oneofs, outer.nested_types, outer.extensions)
+        values = [value for enum in enums for value in enum.values]
+        items = [outer, service, *service.methods, *enums, *values, *file.extensions]
+        return [*items, *(item for items in lists for item in items)]
+
     def test_public_imports(self) -> None:
         pool = protolink.Pool()
         pool.add_script("file a.proto\nimport b.proto\nimport c.proto\npublic 1\nend\n"
@@ -388,6 +411,26 @@ class Pools(unittest.TestCase):
         for index in (2, -1, 2**32, 2**40):
             with self.assertRaises(IndexError):
                 pool.file_name(index)
+
+    def test_a_path_may_be_long(self) -> None:
+        pool, depth = protolink.Pool(), 12
+        opened = "".join(f"message M{n}\n" for n in range(depth))
+        pool.add_script("file a.proto\n" + opened + "end\n" * (depth + 1))
+        name = ".".join(f"M{n}" for n in range(depth))
+        path = (4, 0, *(3, 0) * (depth - 1))
+        self.assertEqual(pool.find(name).path, (*path, 1))
+        self.assertEqual(pool[name].path, path)
+
+    def test_names_that_are_no_texts_mean_nothing(self) -> None:
+        pool = shop()
+        for name in ("shop.Order\0", "\0", "\ud800", b"shop.\xff", "x" * 10_000):
+            with self.subTest(name[:10]):
+                self.assertIsNone(pool.find(name))
+                self.assertNotIn(name, pool)
+        self.assertEqual(pool.find(b"shop.Order"), pool.find("shop.Order"))
+        for name in (5, None, bytearray(b"shop.Order")):
+            with self.assertRaisesRegex(TypeError, "a name is a str"):
+                pool.find(name)
 
     def test_a_refusal_tells_faults_and_changes_nothing(self) -> None:
         pool = shop()
@@ -591,6 +634,31 @@ class Pools(unittest.TestCase):
         self.assertEqual(done.returncode, 1)
         self.assertIn(b"\nImportError: ", done.stderr)
 
+    def test_the_extension_is_taken_where_it_was_built(self) -> None:
+        folder = Path(os.environ.get("PROTOLINK_LIB_DIR") or Path(protolink.__file__).parent)
+        is_built = (folder / "_finding.abi3.so").is_file()
+        self.assertEqual(protolink._names.finding is not None, is_built)
+
+    def test_the_extension_takes_bytes_alone(self) -> None:
+        made = protolink._names.finding
+        if made is None:
+            self.skipTest("the extension was not built")
+        pool = shop()
+        names = pool._core._names
+        for find, name in (
+            (names.found, b"shop.Order"),
+            (names.defined, b"shop.Order"),
+            (names.file, b"shop/base.proto"),
+        ):
+            self.assertIsNone(find(b"none"))
+            self.assertIsNotNone(find(name))
+            for wrong in (name.decode(), 5, None):
+                with self.assertRaises(TypeError):
+                    find(wrong)
+        for wrong in ((), (1, 2, 3), (1, 2, 3, 4, 5), ("1", 2, 3, 4)):
+            with self.assertRaises(TypeError):
+                made.finders(*wrong)
+
     def test_the_version_is_told(self) -> None:
         self.assertRegex(protolink.version(), r"^\d+\.\d+\.\d+$")
 
@@ -775,6 +843,7 @@ class Protobuf(unittest.TestCase):
             copied = type(proto)()
             ours.CopyToProto(copied)
             self.assertEqual(copied, proto)
+            self.assertEqual(type(proto).FromString(ours.serialized_pb), proto)
 
     def test_sets_from_disk(self) -> None:
         folder = os.environ.get("PROTOLINK_SETS")

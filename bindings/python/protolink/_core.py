@@ -20,7 +20,6 @@ from ._library import (
     TOO_MANY,
     EnumInfo,
     ExtensionInfo,
-    Item,
     MessageInfo,
     Range,
     RawCounts,
@@ -28,6 +27,7 @@ from ._library import (
     ServiceInfo,
     lib,
 )
+from ._names import FIRST_PATH, Defined, Found, Names
 from .faults import Refused, TooMany, Unreadable, fault_of
 
 if TYPE_CHECKING:
@@ -36,14 +36,7 @@ if TYPE_CHECKING:
 FIRST_ROOM = 256
 """How long a text may be that is had by one call."""
 
-FIRST_PATH = 16
-"""How many numbers a path may have that is had by one call."""
-
 I = TypeVar("I")
-
-
-Found = tuple[int, int, int, int]
-"""The kind, the index, the position and the file of what a full name means."""
 
 
 class Core:
@@ -53,6 +46,7 @@ class Core:
     def __init__(self) -> None:
         self._raw = RawPool()
         self._at = ctypes.byref(self._raw)
+        self._names = Names(self._raw)
         # A call that may take long lets other threads of the interpreter run.
         self._lock = threading.RLock()
         self._views = 0
@@ -130,10 +124,18 @@ class Core:
 
     def found(self, name: bytes) -> Optional[Found]:
         """What a full name means, or None."""
-        item, file = Item(), ctypes.c_uint32()
-        if self.read(lib.pool_find, name, len(name), ctypes.byref(item), ctypes.byref(file)):
-            return None
-        return item.kind, item.index, item.position, file.value
+        with self._lock:
+            return self._names.found(name)
+
+    def defined(self, name: bytes) -> Optional[Defined]:
+        """What a full name means, and where it is declared, or None."""
+        with self._lock:
+            return self._names.defined(name)
+
+    def file_named(self, name: bytes) -> Optional[int]:
+        """The index of the file with a name, or None."""
+        with self._lock:
+            return self._names.file(name)
 
     def linked(self) -> bytes:
         """The linked files."""

@@ -10,6 +10,7 @@ import ctypes
 import os
 from pathlib import Path
 from types import SimpleNamespace
+from typing import Optional
 
 SONAME = "libprotolink.so.0"
 
@@ -264,12 +265,22 @@ _LONG = {
 """The calls that may take long, and let other threads of the interpreter run."""
 
 
-def _load() -> SimpleNamespace:
+PACKAGE = Path(__file__).resolve().parent
+"""The folder of this package."""
+
+
+def _folder() -> Optional[Path]:
+    """The folder that has the library: the one that PROTOLINK_LIB_DIR names, else this package.
+    None where neither has it, so that the system is to find it."""
+    named = os.environ.get("PROTOLINK_LIB_DIR")
+    folders = [*([Path(named)] if named else []), PACKAGE]
+    return next((folder for folder in folders if (folder / SONAME).exists()), None)
+
+
+def _load(folder: Optional[Path]) -> SimpleNamespace:
     """The calls of the shared library, by their names without `protolink_`. Raises an ImportError
     where the library is not found, or lacks a call."""
-    folders = [os.environ.get("PROTOLINK_LIB_DIR"), str(Path(__file__).resolve().parent)]
-    paths = [Path(folder) / SONAME for folder in folders if folder]
-    name = next((str(path) for path in paths if path.exists()), SONAME)
+    name = SONAME if folder is None else str(folder / SONAME)
     calls = SimpleNamespace()
     try:
         long, short = ctypes.CDLL(name), ctypes.PyDLL(name)
@@ -282,7 +293,8 @@ def _load() -> SimpleNamespace:
     return calls
 
 
-_lib = _load()
+FOLDER = _folder()
+_lib = _load(FOLDER)
 lib = _lib
 
 

@@ -1,10 +1,10 @@
-"""A reader of the bytes of a FileDescriptorProto that the library has read, for two of its fields.
-"""
+"""A reader of the bytes of a FileDescriptorProto that the library has read, for what no call of the
+library tells."""
 
 from __future__ import annotations
 
-from collections.abc import Iterator
-from typing import Union
+from collections.abc import Iterator, Sequence
+from typing import Union, cast
 
 NAME = 1
 """The field that has the name of the file."""
@@ -29,6 +29,14 @@ def public_dependencies(record: bytes) -> list[int]:
         if number == PUBLIC_DEPENDENCY:
             positions += [value] if isinstance(value, int) else varints(value)
     return positions
+
+
+def record_at(record: bytes, path: Sequence[int]) -> bytes:
+    """The record to which a path leads in another: numbers of fields, and positions from 0."""
+    for wanted, position in zip(path[::2], path[1::2]):
+        values = [value for number, value in fields(record) if number == wanted]
+        record = cast(bytes, values[position])
+    return record
 
 
 def fields(record: bytes) -> Iterator[tuple[int, Union[int, bytes]]]:

@@ -8,6 +8,7 @@ from __future__ import annotations
 import ctypes
 from collections.abc import Callable
 from functools import cached_property
+from importlib import import_module
 from typing import TYPE_CHECKING, Any, ClassVar, NamedTuple, Optional, TypeVar, Union
 
 from ._library import (
@@ -25,7 +26,7 @@ from ._library import (
     ServiceInfo,
     lib,
 )
-from ._records import public_dependencies
+from ._records import public_dependencies, record_at
 
 if TYPE_CHECKING:
     from ._core import Core
@@ -67,10 +68,9 @@ class Location(NamedTuple):
 def _descriptor_pb2() -> Any:
     """The records of protobuf's package."""
     try:
-        from google.protobuf import descriptor_pb2  # type: ignore
+        return import_module("google.protobuf.descriptor_pb2")
     except ImportError as fault:
         raise ImportError(f"{fault}: this wants protobuf's package") from fault
-    return descriptor_pb2
 
 
 def _by_name(items: list[N]) -> dict[str, N]:
@@ -172,12 +172,14 @@ class _Named(_Described):
         """Its options, as a message of protobuf's package."""
         return getattr(_descriptor_pb2(), self._options).FromString(self.options)
 
+    @property
+    def serialized_pb(self) -> bytes:
+        """Its linked record, as the bytes of its message of descriptor.proto."""
+        return record_at(self.file.serialized_pb, self.path)
+
     def CopyToProto(self, proto: Any) -> None:
         """Copies its linked record to one of protobuf's package."""
-        part = _descriptor_pb2().FileDescriptorProto.FromString(self.file.serialized_pb)
-        for number, position in zip(self.path[::2], self.path[1::2]):
-            part = getattr(part, part.DESCRIPTOR.fields_by_number[number].name)[position]
-        proto.CopyFrom(part)
+        proto.ParseFromString(self.serialized_pb)
 
     @property
     def file(self) -> FileDescriptor:

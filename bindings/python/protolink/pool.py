@@ -10,8 +10,9 @@ from collections.abc import Callable, Iterable, Iterator
 from pathlib import Path
 from typing import Any, NamedTuple, Optional, Protocol, TypeVar, Union, cast
 
-from ._core import Core, Found, name_bytes
+from ._core import Core, name_bytes
 from ._library import KINDS, NONE, Item, lib
+from ._names import Found
 from ._records import name_of
 from .descriptors import (
     CLASSES,
@@ -224,13 +225,8 @@ class Pool:
 
     def find(self, full_name: Name) -> Optional[Definition]:
         """What a full name means, which may have one leading dot, or None."""
-        found = self._found(full_name)
-        if found is None:
-            return None
-        name = name_bytes(full_name)
-        path = self._core.integers(lib.pool_find_path, name, len(name))
-        kind, index, position, file = found
-        return Definition(KINDS[kind], index, position, file, path or ())
+        told = self._core.defined(name_bytes(full_name))
+        return None if told is None else Definition(KINDS[told[0]], *told[1:])
 
     def _found(self, full_name: Name) -> Optional[Found]:
         return self._core.found(name_bytes(full_name))
@@ -257,8 +253,7 @@ class Pool:
 
     def file(self, name: Name) -> FileDescriptor:
         """The file with a name, or a KeyError."""
-        told = name_bytes(name)
-        index = self._core.number(lib.file_by_name, told, len(told))
+        index = self._core.file_named(name_bytes(name))
         if index is None:
             raise KeyError(f"the pool has no file {name!r}")
         return FileDescriptor(self._core, index)

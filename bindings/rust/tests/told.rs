@@ -81,6 +81,26 @@ fn options_are_bytes_and_what_is_deprecated_is_told() {
 }
 
 #[test]
+fn records_are_bytes() {
+    let trip = trip();
+    let file = trip.parent_file().encode_to_vec();
+    let record = trip.encode_to_vec();
+    assert!(record.starts_with(b"\x0a\x04Trip"));
+    assert!(file.windows(record.len()).any(|part| part == record));
+    let entry = trip.child_messages().next().unwrap().encode_to_vec();
+    assert!(entry.starts_with(b"\x0a\x0aStopsEntry"));
+    let done = trip.get_field_by_name("done").unwrap().encode_to_vec();
+    assert!(done.starts_with(b"\x0a\x04done\x18\x04"));
+    let pool = trip.parent_pool();
+    let trips = pool.get_service_by_name("tour.Trips").unwrap();
+    let watch = trips.get_method_by_name("Watch").unwrap().encode_to_vec();
+    assert!(watch.starts_with(b"\x0a\x05Watch"));
+    let state = pool.get_enum_by_name("tour.State").unwrap();
+    let open = state.get_value_by_name("OPEN").unwrap().encode_to_vec();
+    assert!(open.starts_with(b"\x0a\x04OPEN\x10\x01"));
+}
+
+#[test]
 fn places_and_comments_are_told() {
     let trip = trip();
     let location = trip.location().unwrap();

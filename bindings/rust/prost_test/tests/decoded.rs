@@ -95,6 +95,10 @@ fn compare_message(pool: &DescriptorPool, scope: &str, message: &DescriptorProto
     let full_name = join(scope, message.name());
     let told = pool.get_message_by_name(&full_name).expect(&full_name);
     assert_eq!(told.full_name(), full_name);
+    assert_eq!(
+        DescriptorProto::decode(&told.encode_to_vec()[..]).as_ref(),
+        Ok(message)
+    );
     assert_eq!(told.fields().len(), message.field.len());
     for field in &message.field {
         compare_field(&told, field);
@@ -113,6 +117,10 @@ fn compare_message(pool: &DescriptorPool, scope: &str, message: &DescriptorProto
 
 fn compare_field(message: &MessageDescriptor, field: &FieldDescriptorProto) {
     let told = message.get_field_by_name(field.name()).expect(field.name());
+    assert_eq!(
+        FieldDescriptorProto::decode(&told.encode_to_vec()[..]).as_ref(),
+        Ok(field)
+    );
     assert_eq!(told.number() as i32, field.number());
     assert_eq!(message.get_field(told.number()), Some(told.clone()));
     assert_eq!(

@@ -145,6 +145,17 @@ macro_rules! named {
                 held(options.expect("the options"))
             }
 
+            /// Its linked record, as the bytes of its message of descriptor.proto: part of
+            /// [`FileDescriptor::encode_to_vec`].
+            ///
+            /// # Panics
+            /// Where memory was refused.
+            #[must_use]
+            pub fn encode_to_vec(&self) -> Vec<u8> {
+                let file = self.parent_file().encode_to_vec();
+                held(crate::records::record_at(&file, self.path())).to_vec()
+            }
+
             /// Where it stands in its source, and its comments, where its file tells it, as it does
             /// by `--include_source_info` of `protoc`.
             #[must_use]
