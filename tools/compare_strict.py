@@ -41,30 +41,16 @@ except ImportError:
 
 TOOLS = Path(__file__).resolve().parent
 ROWS = TOOLS / "strict_rules.txt"
-SOURCES = TOOLS.parent / "crates/test_rows/data/checks/sources"
-ROOTS = (
-    "shop/order.proto",
-    "depot/shelf.proto",
-    "depot/crate.proto",
-    "depot/parcel.proto",
-    "depot/routes.proto",
-    "google/protobuf/api.proto",
-    "google/protobuf/struct.proto",
-    "google/protobuf/descriptor.proto",
-)
-"""The sources whose sets are changed at random."""
+DATA = TOOLS.parent / "crates/test_rows/data"
+ROOTS = (DATA / "checks/sources", DATA / "items/protoc", Path("/usr/include"))
+"""Where the sources stand whose sets are changed at random: in the first two all are taken, in the
+last protobuf's own."""
 
 REFUSED_BY_PROTOBUF = {
-    "a name of a package": r"Missing name|is not a valid identifier|Exceeds Maximum Package Depth",
-    "two values of an enum": r"has the same name as .* if you ignore case",
-    "a JSON name of an extension": r"option json_name is not allowed on extension fields",
     "a default of double or float": r"Couldn't parse default value",
-    "the order of oneofs": r"Synthetic oneofs must be after all other oneofs",
     "lazy": r"\[lazy = true\] can only be specified|\[unverified_lazy",
     "jstype": r"jstype is only allowed on|Illegal jstype",
     "light files": r"LITE_RUNTIME|non-lite",
-    "nested messages": r"Reached maximum recursion limit",
-    "custom options": r"[Oo]ption",
 }
 """What docs/RULES.md leaves out, by the words of protobuf's pool."""
 
@@ -145,11 +131,19 @@ def differences(row: Row, path: Path, program: Optional[str]) -> Iterator[str]:
         yield "the check"
 
 
+def sources() -> Iterator[tuple[Path, Path]]:
+    """The root and the path below it of each source whose set is changed."""
+    for root in ROOTS:
+        folder = root / "google/protobuf" if root == ROOTS[-1] else root
+        for path in sorted(folder.rglob("*.proto")):
+            yield root, path.relative_to(root)
+
+
 def real_sets() -> Iterator[object]:
     """The sets that are changed: of real sources, and those that nearly break a rule."""
-    words = ["protoc", f"-I{SOURCES}", "-I/usr/include", "--include_imports", "-o", "/dev/stdout"]
-    for root in ROOTS:
-        done = subprocess.run([*words, root], capture_output=True, check=False)
+    for root, path in sources():
+        words = ["protoc", f"-I{root}", "-I/usr/include", "--include_imports", "-o", "/dev/stdout"]
+        done = subprocess.run([*words, str(path)], capture_output=True, check=False)
         if done.returncode == 0:
             yield descriptor_pb2.FileDescriptorSet.FromString(done.stdout)
     for row in rows():
@@ -190,23 +184,33 @@ def stated(words: Optional[str], codes: set[str]) -> Optional[str]:
     return f"left out: {ways[0]}" if ways and None not in ways else None
 
 
+def random_sets(count: int, seed: int) -> Iterator[object]:
+    """So many random changes of the sets."""
+    chance, sets = random.Random(seed), list(real_sets())
+    for _ in range(count):
+        yield random_changes.changed(chance.choice(sets), chance)
+
+
+def difference(files, codes: set[str]) -> Optional[str]:
+    """The way in which the pool judges a set otherwise than the check, which tells these codes."""
+    words = pool_words(imports_first(files))
+    if (words is None) == (not codes):
+        return None
+    way = stated(words, codes)
+    if way is None:
+        print(f"differs: the pool says {words}; the check {sorted(codes)}: {files}")
+    return way or "not stated"
+
+
 def compare_changes(program: str, path: Path, count: int, seed: int) -> tuple[int, int]:
     """Asks both of random changes; how many passed, and how many failed."""
-    chance, sets, met, failed = random.Random(seed), list(real_sets()), Counter(), 0
-    for _ in range(count):
-        files = random_changes.changed(chance.choice(sets), chance)
+    met: Counter = Counter()
+    for files in random_sets(count, seed):
         path.write_bytes(files.SerializeToString())
-        words, codes = pool_words(imports_first(files)), told(program, path, "--strict")
-        if (words is None) == (not codes):
-            continue
-        way = stated(words, codes)
-        if way is None:
-            failed += 1
-            print(f"differs: the pool says {words}; the check {sorted(codes)}: {files}")
-        met[way] += 1
-    for way, times in sorted(met.items(), key=str):
-        print(f"{times} times {way}")
-    return count - failed, failed
+        met[difference(files, told(program, path, "--strict"))] += 1
+    for way in sorted(set(met) - {None}):
+        print(f"{met[way]} times {way}")
+    return count - met["not stated"], met["not stated"]
 
 
 def main() -> int:

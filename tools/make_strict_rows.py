@@ -140,6 +140,26 @@ breaks_rule("InvalidName", [4, 0, 2, 0, 1], "M.a.b", NAME, LETTERS, number=1)
 breaks_rule("InvalidName", [4, 0, 8, 0, 1], "M.o p", NAME, LETTERS, number=2)
 breaks_rule("InvalidName", [5, 0, 2, 0, 1], "A-", NAME, LETTERS, number=3)
 breaks_rule(
+    "InvalidPackage",
+    [2],
+    None,
+    "is in a package with a part that is no identifier",
+    "take ASCII letters, digits and underscores, and one dot between two parts",
+    as_json=True,
+)
+breaks_rule(
+    "DeepPackage", [2], None, "is in a package of more than 101 parts", "take fewer parts"
+)
+INNERMOST = ".".join(f"M{level}" for level in range(1, 33))
+breaks_rule(
+    "DeepMessage",
+    [4, 0, *[3, 0] * 31, 1],
+    INNERMOST,
+    "stands in 31 other messages",
+    "take it out of some of them",
+    number=1,
+)
+breaks_rule(
     "RequiredInProto3",
     [4, 0, 2, 0, 4],
     "M.f",
@@ -233,6 +253,13 @@ breaks_rule(
     "leave the index out",
 )
 breaks_rule(
+    "ExtensionJsonName",
+    [7, 0, 10],
+    "x_y",
+    "is an extension, and has a JSON name that is not made of its name",
+    "leave the JSON name out",
+)
+breaks_rule(
     "ExtensionInProto3",
     [7, 0, 2],
     "x",
@@ -254,6 +281,28 @@ breaks_rule(
     "is a oneof whose fields do not stand together",
     "put its fields one behind another",
 )
+LATE = "is a oneof behind one that is made for an optional field"
+for number, position in ((0, 1), (1, 1)):
+    breaks_rule(
+        "LateOneof",
+        [4, 0, 8, position, 1],
+        "M.o",
+        LATE,
+        "put the oneofs of optional fields behind all others",
+        number=number,
+    )
+for number, element, positions in ((0, "MyEnum", (1, 0)), (4, "E", (2, 0))):
+    breaks_rule(
+        "ClashingValues",
+        [5, 0, 2, positions[0]],
+        element,
+        "has two values whose names are one without the enum's name and in one case",
+        "rename one, or give both one number",
+        number=number,
+        second=([5, 0, 2, positions[1]], element),
+        how="the other one is declared at",
+        as_json=number == 0,
+    )
 breaks_rule(
     "ExtensionRangesInProto3",
     [4, 0, 5],

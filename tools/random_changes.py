@@ -51,7 +51,9 @@ class Names:
         """Adds the messages and the enums of a scope, and all in them."""
         for enum in enums:
             self.types.append(f"{scope}.{enum.name}")
-            self.short += [enum.name, *(value.name for value in enum.value)]
+            self.short.append(enum.name)
+            for value in enum.value:
+                self.short += [value.name, value.name.swapcase(), f"{enum.name}_{value.name}"]
         for message in messages:
             full = f"{scope}.{message.name}"
             self.types.append(full)
@@ -77,7 +79,7 @@ def value_for(part: FieldDescriptor, random: Random, names: Names) -> object:
         return random.random() < 0.7
     if part.cpp_type == FieldDescriptor.CPPTYPE_STRING:
         if part.name in ("type_name", "extendee", "input_type", "output_type"):
-            return random.choice(names.types)
+            return random.choice(names.types or [".M"])
         if part.name == "dependency" or part.full_name.endswith("FileDescriptorProto.name"):
             return random.choice(names.files)
         if part.name == "syntax":

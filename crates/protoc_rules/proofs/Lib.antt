@@ -1,3 +1,4 @@
 pub mod Nested
 pub mod Told
+pub mod Distinct
 pub mod Rounds

@@ -1,5 +1,5 @@
 -- What enums may not be (protobuf's `BuildEnum`).
-use Rattle.std.specs.Prelude.{ℕ, ℤ, int_le, List, [], ◌++◌, map}
+use Rattle.std.specs.Prelude.{ℕ, ℤ, int_le, Bool, List, [], ◌++◌, map, if◌then◌else◌}
 use Rattle.std.specs.Option.{option_map_or}
 use Rattle.std.specs.declared.option.Option.TheVariants.{None}
 use Rattle.plain_data.specs.Lists.{only_if}
@@ -10,10 +10,11 @@ use Rattle.pool_types.specs.declared.contents.enumeration.EnumDescriptorInner.{E
 use Rattle.protoc_rules.specs.declared.faults.StrictFault.{StrictFault}
 use Rattle.protoc_rules.specs.declared.faults.StrictKind.TheVariants as kind
 use Rattle.protoc_rules.specs.Faults.{at_entry, each_told, entry}
-use Rattle.protoc_rules.specs.Linked.{Linked, enum_record}
+use Rattle.protoc_rules.specs.Linked.{Linked, enum_record, in_proto3}
 use Rattle.protoc_rules.specs.Names.{enum_name_faults}
 use Rattle.protoc_rules.specs.Reserved.{ReservedNames, reserved_name_faults}
 use Rattle.protoc_rules.specs.Spans.{earlier_overlap, enum_span}
+use Rattle.protoc_rules.specs.Values.{value_faults}
 
 -- that a reserved range of an enum ends before it begins
 abbrev pub empty_range_faults : Identity → ℕ → ℤ × ℤ → List StrictFault
@@ -37,11 +38,13 @@ reserved_of e r = record {
   member_tag = enumeration.VALUE;
 }
 
--- what an enum with its record may not be
-abbrev pub recorded_enum_faults : EnumDescriptorInner → EnumDescriptorProto → List StrictFault
-recorded_enum_faults e r = enum_name_faults e
-    ++ (enum_range_faults e.id r ++ reserved_name_faults e.id (reserved_of e r))
+-- what an enum with its record may not be, where it is known whether it is one of proto3
+abbrev pub recorded_enum_faults : Bool → EnumDescriptorInner → EnumDescriptorProto
+    → List StrictFault
+recorded_enum_faults proto3 e r = enum_name_faults e ++ (enum_range_faults e.id r
+    ++ (reserved_name_faults e.id (reserved_of e r) ++ (if proto3 then value_faults e else [])))
 
 -- what an enum may not be
 abbrev pub enum_faults : Linked → EnumDescriptorInner → List StrictFault
-enum_faults l e = option_map_or (recorded_enum_faults e) (enum_record l e.id) []
+enum_faults l e =
+    option_map_or (recorded_enum_faults (in_proto3 l e.id.file) e) (enum_record l e.id) []

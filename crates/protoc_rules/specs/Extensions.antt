@@ -5,7 +5,7 @@ use Rattle.std.specs.List.{list_any}
 use Rattle.std.specs.Option.{option_map_or}
 use Rattle.std.specs.Str.{bytes_eq}
 use Rattle.plain_data.specs.Lists.{only_if}
-use Rattle.proto_types.specs.Readers.{label_of}
+use Rattle.proto_types.specs.Readers.{label_of, text_of}
 use Rattle.proto_types.specs.declared.records.field.FieldDescriptorProto.{FieldDescriptorProto}
 use Rattle.proto_types.specs.declared.tag.field.TheConstants as field
 use Rattle.pool_types.specs.declared.contents.definition.Identity.{Identity}
@@ -18,7 +18,7 @@ use Rattle.protoc_rules.specs.Faults.{at_part}
 use Rattle.protoc_rules.specs.Fields.{site_faults}
 use Rattle.protoc_rules.specs.Labels.{is_optional, is_required}
 use Rattle.protoc_rules.specs.Linked.{Linked, field_record, in_proto3, is_closed, is_message_set}
-use Rattle.protoc_rules.specs.Maps.{map_faults}
+use Rattle.protoc_rules.specs.Maps.{camel_case, map_faults}
 use Rattle.protoc_rules.specs.Sites.{Site}
 
 -- whether a kind is a message that is no group
@@ -31,14 +31,20 @@ abbrev pub is_wrong_in_set : Site → Bool
 is_wrong_in_set s = s.in_message_set
     && not (is_optional (label_of s.field.label) && is_plain_message s.kind)
 
--- what an extension may not be: what no field may be, required, with an index of a oneof, nor in a
--- message set anything but an optional message
+-- whether an extension has another JSON name than the one that is made of its name
+abbrev pub has_json_name : FieldDescriptorProto → Bool
+has_json_name f =
+    option_map_or (λ json. not (bytes_eq json (camel_case false (text_of f.name)))) f.json_name false
+
+-- what an extension may not be: what no field may be, required, with an index of a oneof, with a JSON
+-- name of its own, nor in a message set anything but an optional message
 abbrev pub extension_site_faults : Site → List StrictFault
 extension_site_faults s = site_faults s
     ++ (only_if (is_required (label_of s.field.label))
     (at_part kind.RequiredExtension s.id field.LABEL)
     ++ (only_if (is_some s.field.oneof_index) (at_part kind.ExtensionOneof s.id field.ONEOF_INDEX)
-    ++ only_if (is_wrong_in_set s) (at_part kind.MessageSetExtension s.id field.TYPE)))
+    ++ (only_if (has_json_name s.field) (at_part kind.ExtensionJsonName s.id field.JSON_NAME)
+    ++ only_if (is_wrong_in_set s) (at_part kind.MessageSetExtension s.id field.TYPE))))
 
 -- an extension as the rules look at it
 abbrev pub extension_site : Linked → ExtensionDescriptorInner → FieldDescriptorProto → Site

@@ -1,10 +1,9 @@
 -- What breaks a rule, and where.
 use Rattle.std.specs.Prelude.{ℕ, ℤ, List, [], ◌∷◌, ◌++◌, slice_get}
-use Rattle.std.specs.List.{flat_map}
+use Rattle.std.specs.List.{enumerate_from, flat_map}
 use Rattle.std.specs.Option.{option_map, option_map_or}
 use Rattle.std.specs.declared.option.Option.{Option}
 use Rattle.std.specs.declared.option.Option.TheVariants.{None, Some}
-use Rattle.plain_data.specs.Each.{map_enumerated}
 use Rattle.proto_types.specs.Paths.{entry_path}
 use Rattle.pool_types.specs.declared.contents.definition.Identity.{Identity}
 use Rattle.protoc_rules.specs.declared.faults.Entry.{Entry}
@@ -50,7 +49,7 @@ pair_faults kind id e (Some second) = at_entry kind id e (Some second) ∷ []
 
 -- what a function of positions tells of the entries of a list, one entry after another
 abbrev pub each_told : {X Y : Type 0} → (ℕ → X → List Y) → List X → List Y
-each_told tell xs = flat_map (λ told. told) (map_enumerated tell 0 xs)
+each_told tell xs = flat_map (λ e. tell e.0 e.1) (enumerate_from 0 xs)
 
 -- what it tells of the entry with a position, if there is one
 abbrev pub told_at : {X Y : Type 0} → (ℕ → X → List Y) → List X → ℕ → List Y

@@ -9,6 +9,7 @@ use Rattle.pool_types.specs.declared.contents.file.FileDescriptorInner.{FileDesc
 use Rattle.protoc_rules.specs.declared.faults.StrictFault.{StrictFault}
 use Rattle.protoc_rules.specs.declared.faults.StrictKind.TheVariants as kind
 use Rattle.protoc_rules.specs.Faults.{at_part, each_told, entry, entry_at, pair_faults}
+use Rattle.protoc_rules.specs.Packages.{package_faults}
 
 -- a file as an item: its index, and the empty path
 abbrev pub file_id : ℕ → Identity
@@ -41,13 +42,14 @@ abbrev pub known_after : List (List ℕ) → ℕ → List Bool
 known_after fs zero = []
 known_after fs (suc n) = map (all_end (known_after fs n)) fs
 
--- what a file may not be: without a name, with a chain of imports that does not end, nor with an
--- import twice
+-- what a file may not be: without a name, in a package that is none, with a chain of imports that
+-- does not end, nor with an import twice
 abbrev pub file_faults : List Bool → ℕ → FileDescriptorInner → List StrictFault
 file_faults known n f =
     only_if (length (text_of f.raw.name) == 0) (at_part kind.MissingFileName (file_id n) NAME)
+    ++ (package_faults (file_id n) (text_of f.raw.«package»)
     ++ (only_if (not (ends known n)) (at_part kind.ImportCycle (file_id n) DEPENDENCY)
-    ++ each_told (import_faults (file_id n) f.dependencies) f.dependencies)
+    ++ each_told (import_faults (file_id n) f.dependencies) f.dependencies))
 
 -- what files may not be
 abbrev pub files_faults : List FileDescriptorInner → List StrictFault

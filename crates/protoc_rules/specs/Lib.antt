@@ -3,6 +3,7 @@ pub mod Written
 pub mod Linked
 pub mod Sites
 pub mod Names
+pub mod Packages
 pub mod Labels
 pub mod Proto3
 pub mod Fields
@@ -14,6 +15,7 @@ pub mod Maps
 pub mod Imports
 pub mod Extensions
 pub mod Messages
+pub mod Values
 pub mod Enums
 pub mod Types
 pub mod Strict

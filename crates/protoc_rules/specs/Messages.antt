@@ -20,7 +20,7 @@ use Rattle.protoc_rules.specs.Labels.{is_optional}
 use Rattle.protoc_rules.specs.Linked.{Linked, field_record, in_proto3, is_closed, message_record, says_message_set}
 use Rattle.protoc_rules.specs.Maps.{map_faults}
 use Rattle.protoc_rules.specs.Names.{name_faults}
-use Rattle.protoc_rules.specs.Oneofs.{is_alone, oneof_faults}
+use Rattle.protoc_rules.specs.Oneofs.{is_alone, oneofs_faults}
 use Rattle.protoc_rules.specs.Ranges.{range_faults}
 use Rattle.protoc_rules.specs.Reserved.{ReservedNames, reserved_name_faults}
 use Rattle.protoc_rules.specs.Sites.{Site}
@@ -75,14 +75,31 @@ reserved_of m r = record {
   member_tag = message.FIELD;
 }
 
--- what a message with its record may not be: in its name, in its ranges, in its reserved names, in proto3, in its
--- oneofs and in its fields
+-- whether a message stands in 31 others, of which its path has two numbers each, and two of its own
+abbrev pub is_deep : Identity → Bool
+is_deep id = length id.path == 64
+
+-- what a message may not be by its name and its place: with a name that is no identifier, nor in so
+-- many others
+abbrev pub identity_faults : Identity → List StrictFault
+identity_faults id =
+    name_faults id ++ only_if (is_deep id) (at_part kind.DeepMessage id message.NAME)
+
+-- what a message may not be by its name, its place, its ranges and its reserved names, where it is
+-- known whether it is a message set
+abbrev pub own_faults : Bool → MessageDescriptorInner → DescriptorProto → List StrictFault
+own_faults is_set m r = identity_faults m.id
+    ++ (range_faults is_set m.id r ++ reserved_name_faults m.id (reserved_of m r))
+
+-- what the oneofs of a message may not be
+abbrev pub message_oneofs : MessageDescriptorInner → DescriptorProto → List StrictFault
+message_oneofs m r = oneofs_faults (out-DescriptorProto r).field m.oneofs
+
+-- what a message with its record may not be: by itself, in proto3, in its oneofs and in its fields
 abbrev pub recorded_faults : Linked → MessageDescriptorInner → DescriptorProto → List StrictFault
-recorded_faults l m r = name_faults m.id ++ (range_faults (says_message_set r) m.id r
-    ++ (reserved_name_faults m.id (reserved_of m r)
+recorded_faults l m r = own_faults (says_message_set r) m r
     ++ (message_proto3_faults (in_proto3 l m.id.file) m.id r
-    ++ (flat_map oneof_faults m.oneofs
-    ++ flat_map (field_faults l m (says_message_set r)) m.fields))))
+    ++ (message_oneofs m r ++ flat_map (field_faults l m (says_message_set r)) m.fields))
 
 -- what a message may not be
 abbrev pub message_faults : Linked → MessageDescriptorInner → List StrictFault

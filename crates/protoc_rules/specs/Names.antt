@@ -18,14 +18,14 @@ abbrev pub is_of_identifier : ℕ → Bool
 is_of_identifier c = (nat_le 97 c && nat_le c 122) || (nat_le 65 c && nat_le c 90)
     || (nat_le 48 c && nat_le c 57) || c == 95
 
--- whether the declared name of an item is no identifier: it is empty, or another byte stands in it
-abbrev pub is_wrongly_named : Identity → Bool
-is_wrongly_named id =
-    length (declared_name id) == 0 || not (list_all is_of_identifier (declared_name id))
+-- whether a name is an identifier: it has bytes, and only such as may stand in one
+abbrev pub is_identifier : List ℕ → Bool
+is_identifier name = not (length name == 0) && list_all is_of_identifier name
 
--- that the name of an item is no identifier
+-- that the declared name of an item is no identifier
 abbrev pub name_faults : Identity → List StrictFault
-name_faults id = only_if (is_wrongly_named id) (at_part kind.InvalidName id NAME)
+name_faults id =
+    only_if (not (is_identifier (declared_name id))) (at_part kind.InvalidName id NAME)
 
 -- that the name of a value is no identifier
 abbrev pub value_name_faults : EnumValueDescriptorInner → List StrictFault

@@ -1,5 +1,5 @@
 -- Ranges of numbers, each as its start and the number behind its last one, and which overlap.
-use Rattle.std.specs.Prelude.{ℕ, ℤ, pos, ◌+ℤ◌, int_lt, Bool, ◌&&◌, List, take, position}
+use Rattle.std.specs.Prelude.{ℕ, ℤ, pos, ◌+ℤ◌, int_le, int_lt, Bool, ◌&&◌, List, take, position}
 use Rattle.proto_types.specs.Readers.{number_of}
 use Rattle.proto_types.specs.declared.message.ExtensionRange.{ExtensionRange}
 use Rattle.proto_types.specs.declared.message.ReservedRange.{ReservedRange}
@@ -25,6 +25,10 @@ enum_span r = (number_of r.start, number_of r.«end» +ℤ pos 1)
 -- whether two ranges overlap: each begins before the other ends
 abbrev pub overlap : ℤ × ℤ → ℤ × ℤ → Bool
 overlap x y = int_lt y.0 x.1 && int_lt x.0 y.1
+
+-- whether a range is not empty, and ends where a second one begins or before that
+abbrev pub precedes : ℤ × ℤ → ℤ × ℤ → Bool
+precedes x y = int_lt x.0 x.1 && int_le x.1 y.0
 
 -- that the range with a position overlaps with an earlier one, of which the first is told
 abbrev pub earlier_overlap : Identity → ℤ → List (ℤ × ℤ) → ℕ → ℤ × ℤ → List StrictFault

@@ -12,6 +12,7 @@ use crate::faults::{Entry, Found, StrictKind};
 use crate::names::tell_enum_names;
 use crate::reserved::{ReservedNames, tell_reserved_names};
 use crate::spans::{enum_spans, span_at, tell_overlaps};
+use crate::values::tell_values;
 use pool_types::{EnumDescriptorInner, Identity};
 use proto_types::EnumDescriptorProto;
 use proto_types::tag::enum_ as tag;
@@ -96,7 +97,11 @@ impl Linked<'_> {
         };
         tell_enum_names(found, enumeration)?;
         tell_enum_ranges(found, &enumeration.id, record)?;
-        tell_reserved_names(found, &enumeration.id, reserved_of(enumeration, record))
+        tell_reserved_names(found, &enumeration.id, reserved_of(enumeration, record))?;
+        if self.in_proto3(enumeration.id.file) {
+            tell_values(found, enumeration)?;
+        }
+        Ok(())
     }
 
     /// Appends what the enums may not be.

@@ -1,6 +1,6 @@
 //! What extensions may not be.
 
-ghost use Rattle.std.specs.Prelude.{◌≡◌, ◌++◌, OnOk};
+ghost use Rattle.std.specs.Prelude.{◌≡◌, ◌++◌, IfOk, OnOk};
 ghost use Rattle.std.specs.List.{flat_map, list_any};
 ghost use Rattle.std.specs.Str.{bytes_eq};
 ghost use Rattle.protoc_rules.specs.Extensions as spec;
@@ -11,9 +11,11 @@ use crate::Linked;
 use crate::faults::{Found, StrictKind};
 use crate::fields::{Site, tell_site};
 use crate::labels::{is_optional, is_required};
+use crate::maps::camel_case;
 use pool_types::{ExtensionDescriptorInner, Identity, KindIndex};
+use proto_types::FieldDescriptorProto;
 use proto_types::tag::field;
-use std::alloc::AllocError;
+use std::alloc::{AllocError, Global};
 
 /// The messages of options, which proto3 may extend. Inside its makers' house they stand in the
 /// package `proto2`.
@@ -61,6 +63,19 @@ fn is_wrong_in_set(site: Site<'_>) -> bool
         && !(is_optional(site.record.label()) && matches!(site.kind, KindIndex::Message(_)))
 }
 
+/// Whether an extension has another JSON name than the one that is made of its name.
+fn has_json_name(alloc: Global, field: &FieldDescriptorProto) -> Result<bool, AllocError>
+    ensures { IfOk result (λ has. has ≡ spec.has_json_name field.now) }
+{
+    match &field.json_name {
+        Some(json) => {
+            let made = camel_case(alloc, field.name().as_bytes(), false)?;
+            Ok(json.as_str().as_bytes() != made.as_slice())
+        }
+        None => Ok(false),
+    }
+}
+
 /// Appends what an extension may not be.
 fn tell_extension_site(found: &mut Found, site: Site<'_>) -> Result<(), AllocError>
     ensures { OnOk result (found.new
@@ -68,6 +83,7 @@ fn tell_extension_site(found: &mut Found, site: Site<'_>) -> Result<(), AllocErr
 {
     let required = is_required(site.record.label());
     let in_oneof = site.record.oneof_index.is_some();
+    let json_name = has_json_name(found.alloc(), site.record)?;
     let wrong = is_wrong_in_set(site);
     tell_site(found, site)?;
     found.tell_if(
@@ -81,6 +97,12 @@ fn tell_extension_site(found: &mut Found, site: Site<'_>) -> Result<(), AllocErr
         StrictKind::ExtensionOneof,
         site.id,
         field::ONEOF_INDEX,
+    )?;
+    found.tell_if(
+        json_name,
+        StrictKind::ExtensionJsonName,
+        site.id,
+        field::JSON_NAME,
     )?;
     found.tell_if(wrong, StrictKind::MessageSetExtension, site.id, field::TYPE)
 }

@@ -21,6 +21,12 @@ pub enum StrictKind {
     DuplicateImport,
     /// A name is no identifier.
     InvalidName,
+    /// A part of a package is no identifier.
+    InvalidPackage,
+    /// A package has more than 101 parts.
+    DeepPackage,
+    /// A message stands in 31 others.
+    DeepMessage,
     /// A type of a number or a text has a type name.
     TypeNameOfScalar,
     /// A message is written, and the name means an enum.
@@ -61,12 +67,18 @@ pub enum StrictKind {
     RequiredExtension,
     /// An extension has an index of a oneof.
     ExtensionOneof,
+    /// An extension has a JSON name that is not made of its name.
+    ExtensionJsonName,
     /// An extension in proto3 extends another message than one of options.
     ExtensionInProto3,
     /// A oneof has no field.
     EmptyOneof,
     /// The fields of a oneof do not stand together.
     ScatteredOneof,
+    /// A oneof stands behind one that is made for an optional field.
+    LateOneof,
+    /// Two values of an enum of proto3 have one name without the enum's.
+    ClashingValues,
     /// A message of proto3 has extension ranges.
     ExtensionRangesInProto3,
     /// A message of proto3 is a message set.

@@ -6,6 +6,7 @@ ghost use Rattle.protoc_rules.specs.Imports as spec;
 
 use crate::Linked;
 use crate::faults::{Entry, Found, StrictKind, entry_at};
+use crate::packages::tell_package;
 use plain_data::{Items, Path, Text};
 use pool_types::{FileDescriptorInner, Identity};
 use proto_types::tag::file::{DEPENDENCY, NAME};
@@ -120,8 +121,8 @@ fn ending_files(alloc: Global, files: &[FileDescriptorInner]) -> Result<Items<bo
     Ok(known)
 }
 
-/// Appends what a file may not be: without a name, in a cycle of imports or with one behind it, nor
-/// with an import twice.
+/// Appends what a file may not be: without a name, in a package that is none, in a cycle of imports
+/// or with one behind it, nor with an import twice.
 fn tell_file(
     found: &mut Found,
     index: usize,
@@ -135,6 +136,7 @@ fn tell_file(
     let unnamed = file.raw.name().is_empty();
     let in_cycle = !ends(known, id.file);
     found.tell_if(unnamed, StrictKind::MissingFileName, &id, NAME)?;
+    tell_package(found, &id, file.raw.package())?;
     found.tell_if(in_cycle, StrictKind::ImportCycle, &id, DEPENDENCY)?;
     tell_imports(found, &id, file.dependencies.as_slice())
 }

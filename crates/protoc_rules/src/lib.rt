@@ -12,12 +12,14 @@ mod maps;
 mod messages;
 mod names;
 mod oneofs;
+mod packages;
 mod proto3;
 mod ranges;
 mod reserved;
 mod spans;
 mod strict;
 mod types;
+mod values;
 mod written;
 
 pub use faults::{StrictFault, StrictKind};

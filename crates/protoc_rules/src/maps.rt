@@ -28,7 +28,7 @@ fn upper_if(wanted: bool, byte: u8) -> u8
 
 /// A name in camel case: without underscores, each letter behind one in upper case; the first one
 /// too where that is wanted.
-fn camel_case(alloc: Global, name: &[u8], first: bool) -> Result<Vec<u8>, AllocError>
+pub(crate) fn camel_case(alloc: Global, name: &[u8], first: bool) -> Result<Vec<u8>, AllocError>
     ensures { IfOk result (λ camel. camel.items ≡ spec.camel_case first name.now) }
 {
     let mut capital = first;

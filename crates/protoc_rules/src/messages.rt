@@ -16,10 +16,14 @@ use crate::names::tell_name;
 use crate::oneofs::{is_alone, tell_oneofs};
 use crate::ranges::tell_ranges;
 use crate::reserved::{ReservedNames, tell_reserved_names};
-use pool_types::{FieldDescriptorInner, MessageDescriptorInner};
+use pool_types::{FieldDescriptorInner, Identity, MessageDescriptorInner};
 use proto_types::tag::{field, message as tag};
 use proto_types::{DescriptorProto, FieldDescriptorProto};
 use std::alloc::AllocError;
+
+/// How long the path of a message is that stands in 31 others: it has two numbers of each, and two of
+/// its own.
+const DEEP_PATH: usize = 64;
 
 /// Whether a field stands in a oneof, and is not optional.
 fn is_wrong_in_oneof(field: &FieldDescriptorProto) -> bool
@@ -51,6 +55,15 @@ fn tell_field_site(found: &mut Found, site: Site<'_>, alone: bool) -> Result<(),
         site.id,
         field::NAME,
     )
+}
+
+/// Appends what the name of a message may not be, and that it stands too deep.
+fn tell_identity(found: &mut Found, id: &Identity) -> Result<(), AllocError>
+    ensures { OnOk result (found.new ≡ found.old ++ spec.identity_faults id.now) }
+{
+    let deep = id.path().len() == DEEP_PATH;
+    tell_name(found, id)?;
+    found.tell_if(deep, StrictKind::DeepMessage, id, tag::NAME)
 }
 
 /// Appends what a message may not be in proto3: a message set, nor one with extension ranges.
@@ -92,6 +105,31 @@ fn reserved_of<'a>(
         members: &message.field_names,
         member_tag: tag::FIELD,
     }
+}
+
+/// Appends what a message may not be by its name, its place, its ranges and its reserved names.
+fn tell_own(
+    found: &mut Found,
+    message: &MessageDescriptorInner,
+    proto: &DescriptorProto,
+    is_set: bool,
+) -> Result<(), AllocError>
+    ensures { OnOk result (found.new ≡ found.old ++ spec.own_faults is_set message.now proto.now) }
+{
+    tell_identity(found, &message.id)?;
+    tell_ranges(found, &message.id, proto, is_set)?;
+    tell_reserved_names(found, &message.id, reserved_of(message, proto))
+}
+
+/// Appends what the oneofs of a message may not be.
+fn tell_message_oneofs(
+    found: &mut Found,
+    message: &MessageDescriptorInner,
+    proto: &DescriptorProto,
+) -> Result<(), AllocError>
+    ensures { OnOk result (found.new ≡ found.old ++ spec.message_oneofs message.now proto.now) }
+{
+    tell_oneofs(found, proto.field.as_slice(), message.oneofs.as_slice())
 }
 
 impl Linked<'_> {
@@ -152,11 +190,9 @@ impl Linked<'_> {
     {
         let is_set = says_message_set(proto);
         let in_proto3 = self.in_proto3(message.id.file);
-        tell_name(found, &message.id)?;
-        tell_ranges(found, &message.id, proto, is_set)?;
-        tell_reserved_names(found, &message.id, reserved_of(message, proto))?;
+        tell_own(found, message, proto, is_set)?;
         tell_message_proto3(found, in_proto3, message, proto)?;
-        tell_oneofs(found, message.oneofs.as_slice())?;
+        tell_message_oneofs(found, message, proto)?;
         self.tell_fields(found, message, is_set)
     }
 

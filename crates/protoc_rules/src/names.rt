@@ -31,27 +31,27 @@ fn are_of_identifier(bytes: &[u8]) -> bool
     bytes.iter().all(|byte| is_of_identifier(*byte))
 }
 
+/// Whether a name is an identifier.
+pub(crate) fn is_identifier(name: &[u8]) -> bool
+    ensures { result ≡ spec.is_identifier name.now }
+{
+    !name.is_empty() && are_of_identifier(name)
+}
+
 /// The declared name of an item.
-fn declared_name(id: &Identity) -> &[u8]
+pub(crate) fn declared_name(id: &Identity) -> &[u8]
     ensures { result.now ≡ declared_name id.now }
 {
     let full_name = id.full_name.as_str().as_bytes();
     full_name.get(id.name_index..).unwrap_or(&[])
 }
 
-/// Whether the declared name of an item is no identifier.
-fn is_wrongly_named(id: &Identity) -> bool
-    ensures { result ≡ spec.is_wrongly_named id.now }
-{
-    let name = declared_name(id);
-    name.is_empty() || !are_of_identifier(name)
-}
-
 /// Appends that the name of an item is no identifier.
 pub(crate) fn tell_name(found: &mut Found, id: &Identity) -> Result<(), AllocError>
     ensures { OnOk result (found.new ≡ found.old ++ spec.name_faults id.now) }
 {
-    found.tell_if(is_wrongly_named(id), StrictKind::InvalidName, id, NAME)
+    let wrong = !is_identifier(declared_name(id));
+    found.tell_if(wrong, StrictKind::InvalidName, id, NAME)
 }
 
 /// Appends which names of an enum and of its values are no identifiers.

@@ -1,12 +1,12 @@
 //! What oneofs and the fields in them may not be.
 
-ghost use Rattle.std.specs.Prelude.{◌≡◌, ◌++◌, OnOk};
-ghost use Rattle.std.specs.List.{flat_map};
+ghost use Rattle.std.specs.Prelude.{◌≡◌, ◌++◌, OnOk, position as position_of};
 ghost use Rattle.protoc_rules.specs.Oneofs as spec;
 
 use crate::faults::{Found, StrictKind};
 use crate::names::tell_name;
 use pool_types::{FieldDescriptorInner, OneofDescriptorInner};
+use proto_types::FieldDescriptorProto;
 use proto_types::tag::oneof;
 use std::alloc::AllocError;
 
@@ -21,9 +21,61 @@ fn are_scattered(positions: &[u32]) -> bool
     }
 }
 
-/// Appends what a oneof may not be: without a field, or with fields that do not stand together.
-fn tell_oneof(found: &mut Found, declared: &OneofDescriptorInner) -> Result<(), AllocError>
-    ensures { OnOk result (found.new ≡ found.old ++ spec.oneof_faults declared.now) }
+/// Whether the record of the field with a position says that it is optional.
+fn is_said_optional(fields: &[FieldDescriptorProto], position: u32) -> bool
+    ensures { result ≡ spec.is_said_optional fields.now position }
+{
+    match fields.get(position as usize) {
+        Some(field) => field.proto3_optional(),
+        None => false,
+    }
+}
+
+/// Whether a oneof is made for an optional field of proto3, and so has it alone.
+fn is_synthetic(fields: &[FieldDescriptorProto], declared: &OneofDescriptorInner) -> bool
+    ensures { result ≡ spec.is_synthetic fields.now declared.now }
+{
+    match declared.fields.as_slice() {
+        [position] => is_said_optional(fields, *position),
+        _ => false,
+    }
+}
+
+/// The position of the first synthetic oneof.
+fn first_synthetic(
+    fields: &[FieldDescriptorProto],
+    oneofs: &[OneofDescriptorInner],
+) -> Option<usize>
+    ensures { result ≡ position_of (spec.is_synthetic fields.now) oneofs.now }
+{
+    oneofs
+        .iter()
+        .position(|declared| is_synthetic(fields, declared))
+}
+
+/// Whether the oneof with a position is not synthetic, and stands behind the first that is.
+fn is_late(
+    fields: &[FieldDescriptorProto],
+    first: Option<usize>,
+    position: usize,
+    declared: &OneofDescriptorInner,
+) -> bool
+    ensures { result ≡ spec.is_late fields.now first position declared.now }
+{
+    match first {
+        Some(first) => first < position && !is_synthetic(fields, declared),
+        None => false,
+    }
+}
+
+/// Appends what a oneof may not be: without a field, with fields that do not stand together, or
+/// late.
+fn tell_oneof(
+    found: &mut Found,
+    declared: &OneofDescriptorInner,
+    late: bool,
+) -> Result<(), AllocError>
+    ensures { OnOk result (found.new ≡ found.old ++ spec.oneof_faults late declared.now) }
 {
     let fields = declared.fields.as_slice();
     let (empty, scattered) = (fields.is_empty(), are_scattered(fields));
@@ -34,18 +86,23 @@ fn tell_oneof(found: &mut Found, declared: &OneofDescriptorInner) -> Result<(), 
         StrictKind::ScatteredOneof,
         &declared.id,
         oneof::NAME,
-    )
+    )?;
+    found.tell_if(late, StrictKind::LateOneof, &declared.id, oneof::NAME)
 }
 
-/// Appends what the oneofs of a message may not be.
+/// Appends what the oneofs of a message may not be, by the records of its fields.
+#[tactic(auto, using(crate::proofs::Told::told_next))]
 pub(crate) fn tell_oneofs(
     found: &mut Found,
+    fields: &[FieldDescriptorProto],
     oneofs: &[OneofDescriptorInner],
 ) -> Result<(), AllocError>
-    ensures { OnOk result (found.new ≡ found.old ++ flat_map spec.oneof_faults oneofs.now) }
+    ensures { OnOk result (found.new ≡ found.old ++ spec.oneofs_faults fields.now oneofs.now) }
 {
-    for declared in oneofs {
-        tell_oneof(found, declared)?;
+    let first = first_synthetic(fields, oneofs);
+    for (position, declared) in oneofs.iter().enumerate() {
+        let late = is_late(fields, first, position, declared);
+        tell_oneof(found, declared, late)?;
     }
     Ok(())
 }

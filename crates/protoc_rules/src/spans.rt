@@ -1,6 +1,7 @@
 //! Ranges of numbers, each as its start and the number behind its last one.
 
-ghost use Rattle.std.specs.Prelude.{◌≡◌, ◌<◌, ◌++◌, OnOk, IfOk, length, map, slice_get, position as position_of};
+ghost use Rattle.std.specs.Prelude.{◌≡◌, ◌<◌, ◌++◌, OnOk, IfOk, IsTrue, length, map, slice_get, position as position_of};
+ghost use Rattle.std.specs.List.{IsDistinct};
 ghost use Rattle.protoc_rules.specs.Faults.{each_told, told_at};
 ghost use Rattle.protoc_rules.specs.Spans as spec;
 
@@ -74,6 +75,58 @@ fn overlap(first: (i64, i64), second: (i64, i64)) -> bool
     second.0 < first.1 && first.0 < second.1
 }
 
+/// Whether a range is not empty, and ends where a second one begins or before that.
+fn precedes(first: (i64, i64), second: (i64, i64)) -> bool
+    ensures { result ≡ spec.precedes first second }
+{
+    first.0 < first.1 && first.1 <= second.0
+}
+
+/// Whether each range precedes the next, and so no two overlap.
+fn ascend(spans: &[(i64, i64)]) -> bool
+    ensures { IsTrue result → IsDistinct spec.overlap spans.now }
+{
+    for position in 1..spans.len() {
+        if !precedes(spans[position - 1], spans[position]) {
+            return false;
+        }
+    }
+    true
+}
+
+/// Whether no two ranges overlap, as they show in order.
+fn are_apart(mut spans: Vec<(i64, i64)>) -> bool
+    ensures { IsTrue result → IsDistinct spec.overlap spans.items }
+{
+    spans.sort_unstable();
+    ascend(spans.as_slice())
+}
+
+/// Whether no two of a list of ranges overlap. Fewer than two are not copied.
+#[tactic(auto, using(crate::proofs::Distinct::few_apart))]
+fn show_apart(alloc: Global, spans: &[(i64, i64)]) -> Result<bool, AllocError>
+    ensures { IfOk result (λ apart. IsTrue apart → IsDistinct spec.overlap spans.now) }
+{
+    if spans.len() < 2 {
+        return Ok(true);
+    }
+    Ok(are_apart(Vec::from_slice(alloc, spans)?))
+}
+
+/// Whether no two of a list of ranges, with those of a second list behind them, overlap.
+fn are_all_apart(
+    alloc: Global,
+    spans: &[(i64, i64)],
+    others: &[(i64, i64)],
+) -> Result<bool, AllocError>
+    ensures { IfOk result (λ apart. IsTrue apart
+        → IsDistinct spec.overlap (spans.now ++ others.now)) }
+{
+    let mut all = Vec::from_slice(alloc, spans)?;
+    all.extend_from_slice(others)?;
+    Ok(are_apart(all))
+}
+
 /// The position of the first of some ranges that overlaps with one.
 fn first_overlap(spans: &[(i64, i64)], span: (i64, i64)) -> Option<usize>
     ensures { result ≡ position_of (spec.overlap span) spans.now }
@@ -105,8 +158,25 @@ fn tell_overlap(
     )
 }
 
-/// Appends which ranges of a list overlap with an earlier one, each with the first such.
+/// Appends which ranges of a list overlap with an earlier one, each with the first such. Where none
+/// does, they are not compared pair by pair.
 pub(crate) fn tell_overlaps(
+    found: &mut Found,
+    id: &Identity,
+    tag: i32,
+    spans: &[(i64, i64)],
+) -> Result<(), AllocError>
+    ensures { OnOk result (found.new
+        ≡ found.old ++ each_told (spec.earlier_overlap id.now tag spans.now) spans.now) }
+{
+    if show_apart(found.alloc(), spans)? {
+        return Ok(());
+    }
+    tell_pairs(found, id, tag, spans)
+}
+
+/// Appends which ranges of a list overlap with an earlier one, as each is compared with those.
+fn tell_pairs(
     found: &mut Found,
     id: &Identity,
     tag: i32,
@@ -145,7 +215,24 @@ fn tell_reserved(
 }
 
 /// Appends which extension ranges of a message overlap with a reserved one, each with the first such.
+/// Where none does, they are not compared pair by pair.
 pub(crate) fn tell_across(
+    found: &mut Found,
+    id: &Identity,
+    extensions: &[(i64, i64)],
+    reserved: &[(i64, i64)],
+) -> Result<(), AllocError>
+    ensures { OnOk result (found.new
+        ≡ found.old ++ each_told (spec.reserved_overlap id.now reserved.now) extensions.now) }
+{
+    if are_all_apart(found.alloc(), reserved, extensions)? {
+        return Ok(());
+    }
+    tell_pairs_across(found, id, extensions, reserved)
+}
+
+/// Appends which extension ranges overlap with a reserved one, as each is compared with those.
+fn tell_pairs_across(
     found: &mut Found,
     id: &Identity,
     extensions: &[(i64, i64)],

@@ -60,6 +60,21 @@ pub(crate) fn strict_rule(kind: StrictKind) -> StrictRule
             "has a name that is no identifier",
             "take ASCII letters, digits and underscores",
         ),
+        StrictKind::InvalidPackage => alone(
+            "InvalidPackage",
+            "is in a package with a part that is no identifier",
+            "take ASCII letters, digits and underscores, and one dot between two parts",
+        ),
+        StrictKind::DeepPackage => alone(
+            "DeepPackage",
+            "is in a package of more than 101 parts",
+            "take fewer parts",
+        ),
+        StrictKind::DeepMessage => alone(
+            "DeepMessage",
+            "stands in 31 other messages",
+            "take it out of some of them",
+        ),
         StrictKind::TypeNameOfScalar => alone(
             "TypeNameOfScalar",
             "has a type name, and the type of a number or a text",
@@ -160,6 +175,11 @@ pub(crate) fn strict_rule(kind: StrictKind) -> StrictRule
             "is an extension, and has an index of a oneof",
             "leave the index out",
         ),
+        StrictKind::ExtensionJsonName => alone(
+            "ExtensionJsonName",
+            "is an extension, and has a JSON name that is not made of its name",
+            "leave the JSON name out",
+        ),
         StrictKind::ExtensionInProto3 => alone(
             "ExtensionInProto3",
             "extends what is no message of options, in proto3",
@@ -175,6 +195,17 @@ pub(crate) fn strict_rule(kind: StrictKind) -> StrictRule
             "is a oneof whose fields do not stand together",
             "put its fields one behind another",
         ),
+        StrictKind::LateOneof => alone(
+            "LateOneof",
+            "is a oneof behind one that is made for an optional field",
+            "put the oneofs of optional fields behind all others",
+        ),
+        StrictKind::ClashingValues => StrictRule {
+            code: "ClashingValues",
+            text: "has two values whose names are one without the enum's name and in one case",
+            second: "the other one is declared at ",
+            remedy: "rename one, or give both one number",
+        },
         StrictKind::ExtensionRangesInProto3 => alone(
             "ExtensionRangesInProto3",
             "has extension ranges, in proto3",

@@ -1,10 +1,8 @@
-use Rattle.std.proofs.Common.{arith}
-use Rattle.std.proofs.lemmas.Grind.{common_steps}
-use Rattle.protoc_rules.specs.Spans.{reserved_overlap}
-use Rattle.protoc_rules.proofs.Told.{told_further}
+use Rattle.std.proofs.Common.{rules, ◌++◌, ap, sym, ◌∙◌, append-nil}
+use Rattle.protoc_rules.proofs.Distinct.{across-quiet}
 use Rattle.protoc_rules.proofs.spans.tell_across.Goals as goal
 
-pub loop-position-preserved : goal.loop-position-preserved
-loop-position-preserved c =
-    let next = told_further (reserved_overlap c.args.id.now c.args.reserved.now) c.args.extensions.now c.loop-position.position c.loop-position-test.true in
-    grind (arith, common_steps, next)
+pub returns-then-branch : goal.returns-then-branch
+returns-then-branch c =
+    let none = across-quiet c.args.id.now c.args.reserved.now c.args.extensions.now (c.in_ok-are_all_apart.ensures (search rules)) in
+    sym (ap (λ told. c.args.found.now ++ told) none ∙ append-nil c.args.found.now)

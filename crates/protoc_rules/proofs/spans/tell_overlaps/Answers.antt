@@ -1,10 +1,14 @@
-use Rattle.std.proofs.Common.{arith}
-use Rattle.std.proofs.lemmas.Grind.{common_steps}
-use Rattle.protoc_rules.specs.Spans.{earlier_overlap}
-use Rattle.protoc_rules.proofs.Told.{told_further}
+use Rattle.std.proofs.Common.{rules, ◌++◌, ap, sym, ◌∙◌, append-nil}
+use Rattle.std.proofs.lemmas.Int.{to_z-of_z}
+use Rattle.protoc_rules.specs.declared.faults.StrictKind.TheVariants as kind
+use Rattle.protoc_rules.specs.Spans.{overlap}
+use Rattle.protoc_rules.proofs.Distinct.{overlap-flips, pairs-quiet}
 use Rattle.protoc_rules.proofs.spans.tell_overlaps.Goals as goal
 
-pub loop-position-preserved : goal.loop-position-preserved
-loop-position-preserved c =
-    let next = told_further (earlier_overlap c.args.id.now c.args.tag c.args.spans.now) c.args.spans.now c.loop-position.position c.loop-position-test.true in
-    grind (arith, common_steps, next)
+pub returns-then-branch : goal.returns-then-branch
+returns-then-branch c =
+    let none = pairs-quiet overlap overlap-flips c.args.spans.now (c.in_ok-show_apart.ensures (search rules)) kind.RangesOverlap c.args.id.now c.args.tag in
+    sym (ap (λ told. c.args.found.now ++ told) none ∙ append-nil c.args.found.now)
+
+pub returns : goal.returns
+returns c = let fits = c.ranges.tag in simp to_z-of_z at c.tell_pairs.ensures
