@@ -66,13 +66,18 @@ def texts() -> dict[str, list[str]]:
 
 
 def remedies(code: str) -> list[str]:
-    """What code of a row says is to be done."""
-    consts = dict(re.findall(rf"const (\w+): &str = ({LITERAL});", KINDS))
-    called = re.search(r"\b(\w+_remedy)\(", code)
-    if called:
-        code = re.sub(rf"== {LITERAL}", "", function(KINDS, called.group(1))[1])
-    found = re.findall(rf"({LITERAL})|\b([A-Z_]+)\b", code)
-    return [said(literal or consts[name]) for literal, name in found if literal or name in consts]
+    """What code of a row says is to be done, also by the functions that it calls."""
+    consts = dict(re.findall(rf"const (\w+): &str =\s*({LITERAL});", KINDS))
+    code = re.sub(rf"== {LITERAL}", "", code)
+    found = []
+    for literal, called, name in re.findall(
+        rf"({LITERAL})|\b(\w+_(?:remedy|words))\(|\b([A-Z_]+)\b", code
+    ):
+        if called:
+            found += remedies(function(KINDS, called)[1])
+        elif literal or name in consts:
+            found.append(said(literal or consts[name]))
+    return found
 
 
 def table() -> str:

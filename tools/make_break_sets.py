@@ -19,6 +19,7 @@ python3-protobuf on Debian. That package serves the system's own Python, /usr/bi
 from __future__ import annotations
 
 import argparse
+import itertools
 import json
 import subprocess
 import sys
@@ -47,14 +48,23 @@ ROUTES = "depot/routes.proto"
 STAMPS = "depot/stamps.proto"
 DESCRIPTOR = "google/protobuf/descriptor.proto"
 
+EMPTY_NAME = "give the name: it is empty"
+NO_EXTENDEE = "say what it extends: an extension has an extendee"
+OF_A_FIELD = "leave its extendee out: it is a field, and no extension"
 MEND_NAME = "mend the name, or give and import the file that declares it"
 OTHER_NUMBER = "take another number"
 OTHER_JSON_NAME = "set another json_name: protoc gives `user_id` and `userId` the same one"
 RENAME = "rename one"
 RENAME_VALUE = (
-    "rename one; if it is a value of an enum, begin its name with the enum's, since values stand "
-    "beside their enum"
+    "rename one; begin the name of a value with that of its enum, since values stand beside their "
+    "enum"
 )
+RENAME_ONEOF = "rename one: a oneof stands among the fields of its message"
+RENAME_METHOD = "rename one: a service has one method of a name, whatever it takes"
+RENAME_MESSAGE = (
+    "rename one: a group makes a message of its name, and a map one whose name ends with `Entry`"
+)
+RENAME_PACKAGE = "rename one: a package shares its name with nothing else"
 RENAME_OVER_FILES = "rename one; where all names of a file clash, it is given under two names"
 NUMBERS = "take a number from 1 to 536,870,911, but none from 19,000 to 19,999"
 NOT_RESERVED = "take a number that is not reserved"
@@ -72,13 +82,25 @@ ALIAS = "take another number, or set the option allow_alias"
 ZERO_FIRST = "put the value with the number 0 first"
 CAMEL_CASE = "rename one: in proto3 names differ by more than case and underscores"
 VALUE = "write a value of the type"
-NO_VALUE = "write a value of the type; a message has none, so leave its default out"
+NO_VALUE = "leave it out: a message has no default value"
 SYNTAXES = "proto2 and proto3 are read; of a file of an edition nothing is"
 
 
 def not_imported(name: str, declaring: str, importing: str) -> str:
     """The note of a name that is declared in a file that is not imported."""
     return f"'{name}' is declared in '{declaring}', which '{importing}' does not import"
+
+
+def meant(name: str, declaring: str, importing: Optional[str] = None) -> str:
+    """The note of a name that nothing has and that could mean another, with the file that does not
+    import it."""
+    far = "" if importing is None else f", which '{importing}' does not import"
+    return f"write '.{name}' to mean what '{declaring}' declares{far}"
+
+
+def outside(word: str, index: int, count: int) -> str:
+    """The note of an index that is no position of a list with so many entries."""
+    return f"{word} is {index}, counted from 0, of a list of {count}; {NO_SUCH_INDEX}"
 
 
 @dataclass
@@ -184,37 +206,37 @@ refused(
     "type-of-a-field-misspelt",
     "order",
     set_part(ORDER, ITEMS, type_name=".shop.Itme"),
-    not_found(".shop.Itme", Place(ORDER, [4, 0, 2, 1, 6], "shop.Order.items")),
+    not_found(".shop.Itme", Place(ORDER, [4, 0, 2, 1, 6], "shop.Order.items"), meant("shop.Item", ITEM)),
 )
 refused(
     "type-of-a-field-in-a-nested-message-misspelt",
     "item",
     set_part(ITEM, "message_type 0 nested_type 0 field 1", type_name=".shop.Itm"),
-    not_found(".shop.Itm", Place(ITEM, [4, 0, 3, 0, 2, 1, 6], "shop.Item.Part.whole")),
+    not_found(".shop.Itm", Place(ITEM, [4, 0, 3, 0, 2, 1, 6], "shop.Item.Part.whole"), meant("shop.Item", ITEM)),
 )
 refused(
     "enum-of-a-field-misspelt",
     "order",
     set_part(ORDER, "message_type 0 field 4", type_name=".shop.Item.Sate"),
-    not_found(".shop.Item.Sate", Place(ORDER, [4, 0, 2, 4, 6], "shop.Order.state")),
+    not_found(".shop.Item.Sate", Place(ORDER, [4, 0, 2, 4, 6], "shop.Order.state"), meant("shop.Item.State", ITEM)),
 )
 refused(
     "value-of-a-map-misspelt",
     "order",
     set_part(ORDER, "message_type 0 nested_type 0 field 1", type_name=".shop.Itme"),
-    not_found(".shop.Itme", Place(ORDER, [4, 0, 3, 0, 2, 1, 6], "shop.Order.PartsEntry.value")),
+    not_found(".shop.Itme", Place(ORDER, [4, 0, 3, 0, 2, 1, 6], "shop.Order.PartsEntry.value"), meant("shop.Item", ITEM)),
 )
 refused(
     "type-of-an-extension-misspelt",
     "shelf",
     set_part(SHELF, "extension 1", type_name=".shop.State"),
-    not_found(".shop.State", Place(SHELF, [7, 1, 6], "depot.state")),
+    not_found(".shop.State", Place(SHELF, [7, 1, 6], "depot.state"), meant("shop.Item.State", ITEM)),
 )
 refused(
     "type-without-a-leading-dot-misspelt",
     "order",
     set_part(ORDER, ITEMS, type_name="Itme"),
-    not_found("Itme", Place(ORDER, [4, 0, 2, 1, 6], "shop.Order.items")),
+    not_found("Itme", Place(ORDER, [4, 0, 2, 1, 6], "shop.Order.items"), meant("shop.Item", ITEM)),
 )
 refused(
     "type-behind-its-package-misspelt",
@@ -223,33 +245,123 @@ refused(
     Fault(
         "NameShadowed",
         "'shop.Itme' resolves to 'shop.Itme', which is not defined",
-        MEND_NAME,
+        "'shop' is there, and has no 'Itme'; " + meant("shop.Item", ITEM),
         Place(ORDER, [4, 0, 2, 1, 6], "shop.Order.items"),
+    ),
+)
+for name, written, there in (
+    ("type-behind-packages-misspelt", "shop.money.Mony", "'shop.money' is there, and has no 'Mony'"),
+    ("package-of-a-type-misspelt", "shop.mony.Money", "'shop' is there, and has no 'mony.Money'"),
+):
+    refused(
+        name,
+        "order",
+        set_part(ORDER, ITEMS, type_name=written),
+        Fault(
+            "NameShadowed",
+            f"'{written}' resolves to '{written}', which is not defined",
+            f"{there}; " + meant("shop.money.Money", MONEY, ORDER),
+            Place(ORDER, [4, 0, 2, 1, 6], "shop.Order.items"),
+        ),
+    )
+refused(
+    "type-of-an-import-without-its-package",
+    "item",
+    set_part(ITEM, PRICE, type_name="Money"),
+    not_found("Money", Place(ITEM, [4, 0, 2, 1, 6], "shop.Item.price"), meant("shop.money.Money", MONEY)),
+)
+refused(
+    "type-of-a-file-that-is-not-imported-without-its-package",
+    "order",
+    set_part(ORDER, ITEMS, type_name="Money"),
+    not_found(
+        "Money",
+        Place(ORDER, [4, 0, 2, 1, 6], "shop.Order.items"),
+        meant("shop.money.Money", MONEY, ORDER),
+    ),
+)
+refused(
+    "type-that-is-like-no-other",
+    "order",
+    set_part(ORDER, ITEMS, type_name=".shop.Basket"),
+    not_found(".shop.Basket", Place(ORDER, [4, 0, 2, 1, 6], "shop.Order.items")),
+)
+refused(
+    "type-that-differs-by-three-letters",
+    "order",
+    set_part(ORDER, "service 0 method 0", input_type=".shop.OrdersRequests1"),
+    not_found(".shop.OrdersRequests1", Place(ORDER, [6, 0, 2, 0, 2], "shop.Orders.Get")),
+)
+refused(
+    "type-whose-declaration-has-a-dot-in-its-name",
+    "order",
+    set_part(ORDER, "message_type 0", name="Or.der"),
+    not_found(
+        ".shop.Order.PartsEntry",
+        Place(ORDER, [4, 0, 2, 5, 6], "shop.Or.der.parts"),
+        meant("shop.Or.der.PartsEntry", ORDER),
+    ),
+    *(
+        not_found(
+            ".shop.Order",
+            Place(ORDER, [6, 0, 2, position, 3], f"shop.Orders.{method}"),
+            meant("shop.Or.der", ORDER),
+        )
+        for position, method in enumerate(("Get", "Watch"))
     ),
 )
 refused(
     "input-of-a-method-misspelt",
     "order",
     set_part(ORDER, "service 0 method 0", input_type=".shop.OderRequest"),
-    not_found(".shop.OderRequest", Place(ORDER, [6, 0, 2, 0, 2], "shop.Orders.Get")),
+    not_found(".shop.OderRequest", Place(ORDER, [6, 0, 2, 0, 2], "shop.Orders.Get"), meant("shop.OrderRequest", ORDER)),
 )
 refused(
     "output-of-a-method-misspelt",
     "order",
     set_part(ORDER, "service 0 method 1", output_type=".shop.Oder"),
-    not_found(".shop.Oder", Place(ORDER, [6, 0, 2, 1, 3], "shop.Orders.Watch")),
+    not_found(".shop.Oder", Place(ORDER, [6, 0, 2, 1, 3], "shop.Orders.Watch"), meant("shop.Order", ORDER)),
 )
 refused(
     "input-of-a-method-missing",
     "order",
     set_part(ORDER, "service 0 method 0", input_type=None),
-    not_found("", Place(ORDER, [6, 0, 2, 0, 2], "shop.Orders.Get")),
+    not_found("", Place(ORDER, [6, 0, 2, 0, 2], "shop.Orders.Get"), EMPTY_NAME),
 )
 refused(
     "extendee-misspelt",
     "shelf",
     set_part(SHELF, "extension 0", extendee=".depot.Shelv"),
-    not_found(".depot.Shelv", Place(SHELF, [7, 0, 2], "depot.keeper")),
+    not_found(".depot.Shelv", Place(SHELF, [7, 0, 2], "depot.keeper"), meant("depot.Shelf", SHELF)),
+)
+
+refused(
+    "extendee-misspelt-of-several-extensions",
+    "shelf",
+    both(
+        set_part(SHELF, "extension 0", extendee=".depot.Shelv"),
+        set_part(SHELF, "extension 1", extendee=".depot.Shelv"),
+    ),
+    *(
+        not_found(
+            ".depot.Shelv",
+            Place(SHELF, [7, position, 2], f"depot.{element}"),
+            meant("depot.Shelf", SHELF),
+        )
+        for position, element in enumerate(("keeper", "state"))
+    ),
+)
+refused(
+    "extension-without-an-extendee",
+    "shelf",
+    set_part(SHELF, "extension 0", extendee=None),
+    not_found("", Place(SHELF, [7, 0, 2], "depot.keeper"), NO_EXTENDEE),
+)
+refused(
+    "extension-in-a-message-without-an-extendee",
+    "shelf",
+    set_part(SHELF, "message_type 1 extension 0", extendee=None),
+    not_found("", Place(SHELF, [4, 1, 6, 0, 2], "depot.Room.room"), NO_EXTENDEE),
 )
 
 # Imports.
@@ -385,13 +497,23 @@ refused(
     "public-index-past-the-imports",
     "order",
     set_part(ORDER, "", public_dependency=[1]),
-    Fault("InvalidImportIndex", "invalid import index", NO_SUCH_INDEX, Place(ORDER, [10, 0], None)),
+    Fault(
+        "InvalidImportIndex",
+        "invalid import index",
+        outside("public_dependency", 1, 1),
+        Place(ORDER, [10, 0], None),
+    ),
 )
 refused(
     "weak-index-below-0",
     "order",
     set_part(ORDER, "", weak_dependency=[-1]),
-    Fault("InvalidImportIndex", "invalid import index", NO_SUCH_INDEX, Place(ORDER, [11, 0], None)),
+    Fault(
+        "InvalidImportIndex",
+        "invalid import index",
+        outside("weak_dependency", -1, 1),
+        Place(ORDER, [11, 0], None),
+    ),
 )
 accepted("import-of-itself", "money", set_part(MONEY, "", dependency=[MONEY]))
 accepted("import-twice", "item", set_part(ITEM, "", dependency=[MONEY, MONEY]))
@@ -596,7 +718,8 @@ def name_twice(name: str, place: Place, first: Place, note: str = RENAME) -> Fau
     if place.file == first.file:
         return Fault("DuplicateName", f"name '{name}' is defined twice", note, place, first)
     message = f"name '{name}' is already defined in file '{first.file}'"
-    return Fault("DuplicateName", message, RENAME_OVER_FILES, place, first)
+    over_files = RENAME_PACKAGE if [2] in (place.path, first.path) else RENAME_OVER_FILES
+    return Fault("DuplicateName", message, over_files, place, first)
 
 
 def camel_case(one: str, other: str, place: Place, first: Place) -> Fault:
@@ -646,6 +769,7 @@ refused(
         "shop.Order.payment",
         Place(ORDER, [4, 0, 2, 4, 1], "shop.Order.payment"),
         Place(ORDER, [4, 0, 8, 0, 1], "shop.Order.payment"),
+        RENAME_ONEOF,
     ),
 )
 refused(
@@ -701,6 +825,7 @@ refused(
         "shop.Order",
         Place(ORDER, [4, 1, 1], "shop.Order"),
         Place(ORDER, [4, 0, 1], "shop.Order"),
+        RENAME_MESSAGE,
     ),
     name_twice(
         "shop.Order.id",
@@ -738,6 +863,24 @@ refused(
         Place(MONEY, [2], None),
     ),
 )
+
+
+def with_second_entry(records: Records) -> None:
+    """A message with the name of a map field's entries."""
+    records[ORDER].message_type[0].nested_type.add(name="PartsEntry")
+
+
+refused(
+    "message-and-entries-of-a-map-of-one-name",
+    "order",
+    with_second_entry,
+    name_twice(
+        "shop.Order.PartsEntry",
+        Place(ORDER, [4, 0, 3, 1, 1], "shop.Order.PartsEntry"),
+        Place(ORDER, [4, 0, 3, 0, 1], "shop.Order.PartsEntry"),
+        RENAME_MESSAGE,
+    ),
+)
 refused(
     "service-and-message-of-one-name",
     "order",
@@ -756,6 +899,7 @@ refused(
         "shop.Orders.Get",
         Place(ORDER, [6, 0, 2, 1, 1], "shop.Orders.Get"),
         Place(ORDER, [6, 0, 2, 0, 1], "shop.Orders.Get"),
+        RENAME_METHOD,
     ),
 )
 refused(
@@ -1060,10 +1204,10 @@ for name, file, path, place in (
 # Extensions.
 
 
-def out_of_range(message: str, number: int, place: Place) -> Fault:
+def out_of_range(message: str, number: int, place: Place, note: str = OF_A_RANGE) -> Fault:
     """A number that a message does not leave to extensions."""
     text = f"message '{message}' does not define '{number}' as an extension number"
-    return Fault("ExtensionNumberOutOfRange", text, OF_A_RANGE, place)
+    return Fault("ExtensionNumberOutOfRange", text, note, place)
 
 
 refused(
@@ -1077,6 +1221,12 @@ refused(
     "shelf",
     set_part(SHELF, "extension 0", extendee=".shop.Item"),
     out_of_range("shop.Item", 100, Place(SHELF, [7, 0, 3], "depot.keeper")),
+)
+refused(
+    "field-with-an-extendee",
+    "item",
+    set_part(ITEM, "message_type 0 field 0", extendee=".shop.Item.Part"),
+    out_of_range("shop.Item", 1, Place(ITEM, [4, 0, 2, 0, 3], "shop.Item.name"), OF_A_FIELD),
 )
 refused(
     "extensions-gone",
@@ -1135,16 +1285,17 @@ for name, syntax in (("syntax-that-is-unknown", "proto4"), ("syntax-that-is-empt
     )
 
 
-def no_oneof(place: Place) -> Fault:
-    """An index of a oneof that the message does not have."""
-    return Fault("InvalidOneofIndex", "invalid oneof index", NO_SUCH_INDEX, place)
+def no_oneof(place: Place, index: int, count: int) -> Fault:
+    """An index of a oneof that the message does not have, of so many."""
+    note = outside("oneof_index", index, count)
+    return Fault("InvalidOneofIndex", "invalid oneof index", note, place)
 
 
 refused(
     "oneof-index-past-the-oneofs",
     "order",
     set_part(ORDER, "message_type 0 field 2", oneof_index=1),
-    no_oneof(Place(ORDER, [4, 0, 2, 2], "shop.Order.card")),
+    no_oneof(Place(ORDER, [4, 0, 2, 2], "shop.Order.card"), 1, 1),
 )
 refused(
     "oneof-indexes-of-two-messages",
@@ -1153,8 +1304,8 @@ refused(
         set_part(ORDER, "message_type 0 field 2", oneof_index=1),
         set_part(ORDER, "message_type 1 field 0", oneof_index=0),
     ),
-    no_oneof(Place(ORDER, [4, 0, 2, 2], "shop.Order.card")),
-    no_oneof(Place(ORDER, [4, 1, 2, 0], "shop.OrderRequest.id")),
+    no_oneof(Place(ORDER, [4, 0, 2, 2], "shop.Order.card"), 1, 1),
+    no_oneof(Place(ORDER, [4, 1, 2, 0], "shop.OrderRequest.id"), 0, 0),
 )
 accepted("field-of-a-reserved-name", "item", set_part(ITEM, "message_type 0 field 2", name="colour"))
 accepted("value-of-a-reserved-name", "shelf", set_part(SHELF, "enum_type 0", reserved_name=["LARGE"]))
@@ -1241,7 +1392,10 @@ def row_text(records: Records, row: Row) -> str:
     if not row.faults:
         return f"accepted: {row.accepted}\n"
     count = len(row.faults)
-    lines = "".join(fault_lines(records, fault) for fault in row.faults)
+    lines = ""
+    for one, same in itertools.groupby(fault_lines(records, fault) for fault in row.faults):
+        repeats = len(list(same))
+        lines += one + (f"  note: {repeats} faults are told so\n" if repeats > 1 else "")
     return lines + f"refused: {count} {'fault' if count == 1 else 'faults'}\n"
 
 

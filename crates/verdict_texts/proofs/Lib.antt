@@ -2,6 +2,8 @@ pub mod Going
 pub mod OneFeed
 pub mod Looking
 pub mod Placing
+pub mod Repeats
+pub mod Dots
 pub mod ReadStrings
 pub mod Grouping
 pub mod Entering

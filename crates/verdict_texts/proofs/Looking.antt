@@ -1,8 +1,8 @@
--- The entries of a list that were looked at, one more at a time.
-use Rattle.std.proofs.Common.{◌≡◌, ℕ, ◌+◌, ◌<◌, List, [], ◌∷◌, ◌++◌, length, map, take, get_or, ap, sym, ◌∙◌, append-nil, append_assoc}
+-- The entries of a list that were looked at, one more at a time, or all.
+use Rattle.std.proofs.Common.{◌≡◌, ℕ, ◌+◌, ◌<◌, Bool, ◌||◌, refl, List, [], ◌∷◌, ◌++◌, length, map, take, get_or, ap, sym, ◌∙◌, append-nil, append_assoc}
 use Rattle.std.proofs.lemmas.Grind.{flat_map-append}
 use Rattle.std.proofs.lemmas.List.{map-append, take_more}
-use Rattle.std.specs.List.{enumerate_from, flat_map}
+use Rattle.std.specs.List.{enumerate_from, flat_map, list_any}
 use Rattle.plain_data.proofs.Enumerated.{entries-next}
 
 -- what the entries up to a position give, and what the one there gives
@@ -19,3 +19,8 @@ pub mapped-next : {X Y : Type 0} (f : X → Y) (start made : List Y) (xs : List 
 mapped-next f start made xs i x y below is own so_far =
     (λ j. so_far j ++ own j ∷ []) ∙ append_assoc start (map f (take i xs)) (f x ∷ [])
     ∙ ap (λ ys. start ++ ys) (sym (map-append f (take i xs) (x ∷ [])) ∙ ap (map f) (sym (take_more xs i x below ∙ ap (λ y. take i xs ++ y ∷ []) (sym is))))
+
+-- whether one of what is made of a list passes a test
+pub any_mapped : {X Y : Type 0} (p : Y → Bool) (f : X → Y) (xs : List X) → list_any (λ x. p (f x)) xs ≡ list_any p (map f xs)
+any_mapped p f [] = refl
+any_mapped p f (x ∷ xs) = ap (λ b. p (f x) || b) (any_mapped p f xs)

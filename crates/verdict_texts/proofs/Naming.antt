@@ -5,6 +5,7 @@ use Rattle.std.specs.Cmp.Lexicographic.{slice_cmp}
 use Rattle.std.specs.List.{filter, find, position_from}
 use Rattle.std.specs.Option.{option_and_then, option_or}
 use Rattle.std.specs.Ordering.{nat_cmp}
+use Rattle.std.proofs.lemmas.Grind.{flat_map-append}
 use Rattle.std.proofs.lemmas.List.{length-map, length-take-le, map-append, take_more}
 use Rattle.std.proofs.lemmas.List.Elements.{filter-append}
 use Rattle.std.proofs.lemmas.Slice.Eq.{bytes_eq-Decides}
@@ -15,7 +16,8 @@ use Rattle.proto_types.specs.declared.file.FileDescriptorProto.{FileDescriptorPr
 use Rattle.record_walk.specs.Counts.{no_counts}
 use Rattle.record_walk.specs.Declarations.{declarations}
 use Rattle.verdict_texts.specs.Known.{declares, declaring_file, file_named, has_name, only, only_one, type_names}
-use Rattle.verdict_texts.specs.Named.{AreDeclaring, AreFirst, AreNamed, AreSeveral, Enters, are_several}
+use Rattle.verdict_texts.specs.Named.{AreDeclared, AreDeclaring, AreFirst, AreNamed, AreSeveral, Enters, are_several}
+use Rattle.verdict_texts.specs.declared.known.DeclaredTypes.{DeclaredTypes}
 use Rattle.verdict_texts.specs.declared.known.NamedFiles.{NamedFiles}
 use Rattle.verdict_texts.proofs.Entering.{held-means, new-means, no-some, or-false}
 
@@ -140,6 +142,16 @@ declaring-next names new files f are enters name =
     enters name
     ∙ ap (λ held. option_or held (cond (declares name f) (Some (length files)) None)) (are name)
     ∙ sym (position-last (declares name) files f)
+
+-- the names of messages and enums that files declare, and those of a file more
+pub declared-next : (types new : DeclaredTypes) (files : List FileDescriptorProto) (f : FileDescriptorProto) → AreDeclared types files
+    → Enters types.first new.first (length files) (type_names (declarations no_counts (f ∷ [])))
+    → new.names ≡ types.names ++ type_names (declarations no_counts (f ∷ [])) → AreDeclared new (files ++ f ∷ [])
+declared-next types new files f are enters adds = record {
+  first = declaring-next types.first new.first files f are.first enters;
+  names = adds ∙ (λ i. are.names i ++ sym (append-nil (type_names (declarations no_counts (f ∷ [])))) i)
+      ∙ sym (flat_map-append (λ g. type_names (declarations no_counts (g ∷ []))) files (f ∷ []));
+}
 
 -- tables of no names
 pub no-file : (first several : ByText ℕ) → first ≡ map.empty → several ≡ map.empty → AreNamed (record { first = first; several = several }) []

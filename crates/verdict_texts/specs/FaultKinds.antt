@@ -1,5 +1,5 @@
 -- What is told of each kind of fault, a row for each.
-use Rattle.std.specs.Prelude.{ℕ, ℤ, ◌-◌, Bool, false, true, ◌==◌, ◌&&◌, ◌||◌, List, ◌++◌, codes, length, slice_get, if◌then◌else◌}
+use Rattle.std.specs.Prelude.{ℕ, ℤ, ◌-◌, Bool, false, true, ◌==◌, ◌&&◌, ◌||◌, List, [], ◌++◌, codes, length, slice_get, if◌then◌else◌}
 use Rattle.std.specs.Option.{option_map, option_map_or}
 use Rattle.std.specs.Ordering.{int_eq}
 use Rattle.std.specs.Str.{bytes_eq}
@@ -62,39 +62,85 @@ abbrev pub is_at : List ℤ → ℕ → ℤ → Bool
 is_at path places number =
     option_map_or (λ found. int_eq found number) (slice_get path (length path - places)) false
 
--- whether a path leads to the name of a value of an enum, which stands in a file or in a message
+-- whether what a path leads to belongs to a declaration of a list: by the number of that list in a
+-- file, or else in a message
+abbrev pub is_of_list : List ℤ → ℤ → ℤ → Bool
+is_of_list path of_file of_message =
+    is_at path 3 (if length path == 3 then of_file else of_message)
+
+-- whether a path leads to the name of a package
+abbrev pub is_of_package : List ℤ → Bool
+is_of_package path = length path == 1
+
+-- whether it leads to the name of a message
+abbrev pub is_of_message : List ℤ → Bool
+is_of_message path = is_of_list path file.MESSAGE_TYPE message.NESTED_TYPE
+
+-- whether it leads to a part of an extension
+abbrev pub is_of_extension : List ℤ → Bool
+is_of_extension path = is_of_list path file.EXTENSION message.EXTENSION
+
+-- whether it leads to the name of a oneof
+abbrev pub is_of_oneof : List ℤ → Bool
+is_of_oneof path = is_at path 3 message.ONEOF_DECL
+
+-- whether it leads to the name of a method
+abbrev pub is_of_method : List ℤ → Bool
+is_of_method path = length path == 5 && is_at path 5 file.SERVICE
+
+-- whether it leads to the name of a value of an enum, which stands in a file or in a message
 abbrev pub is_of_value : List ℤ → Bool
 is_of_value path =
     is_at path 5 (if length path == 5 then file.ENUM_TYPE else message.ENUM_TYPE)
     && is_at path 3 enumeration.VALUE
 
--- what to do about a name that is declared twice in one file, by a value of an enum or not
-abbrev pub rename_words : Bool → List ℕ
-rename_words is_of_value = if is_of_value
-    then codes "rename one; if it is a value of an enum, begin its name with the enum's, since "
-    ++ codes "values stand beside their enum" else codes "rename one"
+-- what to do about a name that is declared twice in one file, by the paths of both names
+abbrev pub rename_words : List ℤ → List ℤ → List ℕ
+rename_words first second =
+    if is_of_value first || is_of_value second
+    then codes "rename one; begin the name of a value with that of its enum, since values stand "
+    ++ codes "beside their enum"
+    else (if is_of_oneof first || is_of_oneof second
+    then codes "rename one: a oneof stands among the fields of its message"
+    else (if is_of_method first
+    then codes "rename one: a service has one method of a name, whatever it takes"
+    else (if is_of_message first && is_of_message second
+    then codes "rename one: a group makes a message of its name, and a map one whose name ends "
+    ++ codes "with `Entry`"
+    else codes "rename one")))
 
--- what to do about a name that is declared twice: in one file, or in two
+-- what to do about a name that is declared twice: by a package and something else, in two files, or
+-- in one
 abbrev pub rename_remedy : Label → Label → List ℕ
-rename_remedy first second = if bytes_eq first.file second.file
-    then rename_words (is_of_value first.path || is_of_value second.path)
-    else codes "rename one; where all names of a file clash, it is given under two names"
+rename_remedy first second =
+    if is_of_package first.path || is_of_package second.path
+    then codes "rename one: a package shares its name with nothing else"
+    else (if bytes_eq first.file second.file then rename_words first.path second.path
+    else codes "rename one; where all names of a file clash, it is given under two names")
 
 -- what to do about a default value that is none of a type, by the word for the type
 abbrev pub default_remedy : List ℕ → List ℕ
 default_remedy kind = if bytes_eq kind (codes "message type")
-    then codes "write a value of the type; a message has none, so leave its default out"
-    else codes "write a value of the type"
+    then codes "leave it out: a message has no default value" else codes "write a value of the type"
+
+-- what to do about the number of an extension that no extension range has, or of a field that has
+-- an extendee
+abbrev pub range_remedy : Label → List ℕ
+range_remedy found = if is_at found.path 3 message.FIELD
+    then codes "leave its extendee out: it is a field, and no extension"
+    else codes "take a number of an extension range of the message; where it has none, give it one "
+    ++ codes "by `extensions`"
+
+-- what to do about an empty name
+abbrev pub empty_remedy : Label → List ℕ
+empty_remedy found = if is_of_extension found.path
+    then codes "say what it extends: an extension has an extendee"
+    else codes "give the name: it is empty"
 
 -- what to do about a name that nothing has
-abbrev pub not_found : List ℕ
-not_found = codes "mend the name, or give and import the file that declares it"
-
--- what to do about a name that resolves to a full name which isn't defined: to itself, or to one in
--- a nearer scope
-abbrev pub shadowed_remedy : List ℕ → List ℕ → List ℕ
-shadowed_remedy name shadowed_name = if bytes_eq name shadowed_name then not_found
-    else codes "a nearer scope has its first part: mend it, or write a leading dot and the full name"
+abbrev pub missing_remedy : List ℕ → Label → List ℕ
+missing_remedy name found = if bytes_eq name [] then empty_remedy found
+    else codes "mend the name, or give and import the file that declares it"
 
 -- the kind of a fault
 abbrev pub fault_kind : DescriptorErrorKind → ToldKind
@@ -124,14 +170,14 @@ fault_kind (fault.FieldNumberInReservedRange _ _ _ defined _) =
 fault_kind (fault.FieldNumberInExtensionRange _ _ _ defined _) =
     ranged (codes "FieldNumberInExtensionRange") defined
     (codes "take a number that is not left to extensions")
-fault_kind (fault.ExtensionNumberOutOfRange _ _ _) = alone (codes "ExtensionNumberOutOfRange")
-    (codes "take a number of an extension range of the message; where it has none, give it one "
-    ++ codes "by `extensions`")
+fault_kind (fault.ExtensionNumberOutOfRange _ _ found) =
+    alone (codes "ExtensionNumberOutOfRange") (range_remedy found)
 fault_kind (fault.DuplicateExtensionNumber _ _ first _) =
     held (codes "DuplicateExtensionNumber") first other_number
-fault_kind (fault.NameNotFound _ _) = alone (codes "NameNotFound") not_found
-fault_kind (fault.NameShadowed name shadowed_name _) =
-    alone (codes "NameShadowed") (shadowed_remedy name shadowed_name)
+fault_kind (fault.NameNotFound name found) =
+    alone (codes "NameNotFound") (missing_remedy name found)
+fault_kind (fault.NameShadowed _ _ _) = alone (codes "NameShadowed")
+    (codes "a nearer scope has its first part: mend it, or write a leading dot and the full name")
 fault_kind (fault.InvalidType _ _ _ defined) =
     beside (codes "InvalidType") (codes "it is declared at ") defined
     (codes "mend it; where a nearer name hides it, write a leading dot and the full name")

@@ -5,6 +5,9 @@ pub mod Lines
 pub mod PlainFaults
 pub mod JsonFaults
 pub mod Known
+pub mod Scopes
+pub mod Suggestions
+pub mod Indexes
 pub mod Named
 pub mod Notes
 pub mod Places

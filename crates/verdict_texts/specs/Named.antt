@@ -13,7 +13,8 @@ use Rattle.proto_types.specs.declared.records.enumeration.EnumDescriptorProto.{E
 use Rattle.proto_types.specs.declared.tag.message.TheConstants as message
 use Rattle.record_walk.specs.Counts.{no_counts}
 use Rattle.record_walk.specs.Declarations.{messages_walk}
-use Rattle.verdict_texts.specs.Known.{declares, has_name, is_among, site, type_names}
+use Rattle.verdict_texts.specs.Known.{declares, has_name, is_among, site, type_names, types_of}
+use Rattle.verdict_texts.specs.declared.known.DeclaredTypes.{DeclaredTypes}
 use Rattle.verdict_texts.specs.declared.known.NamedFiles.{NamedFiles}
 
 -- names have the positions of the first files that have them, and no others
@@ -41,6 +42,11 @@ pub record AreNamed (named : NamedFiles) (files : List FileDescriptorProto) : Ty
 abbrev pub AreDeclaring : ByText ℕ → List FileDescriptorProto → Type 0
 AreDeclaring names files =
     (name : List ℕ) → map.get names name ≡ position_from (declares name) 0 files
+
+-- names of messages and enums are those that files declare
+pub record AreDeclared (types : DeclaredTypes) (files : List FileDescriptorProto) : Type 0 where
+  pub first : AreDeclaring types.first files
+  pub names : types.names ≡ types_of files
 
 -- names were entered with a position: each has it that had none
 abbrev pub Enters : ByText ℕ → ByText ℕ → ℕ → List (List ℕ) → Type 0

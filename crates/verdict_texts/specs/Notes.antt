@@ -1,19 +1,23 @@
--- What is told beside a fault: where a name that is not seen is declared, or else what to do.
-use Rattle.std.specs.Prelude.{ℕ, Bool, false, ◌||◌, ◌==◌, nat_eq, List, [], ◌∷◌, ◌++◌, codes, is_some, length, take, drop, map, unwrap_or, if◌then◌else◌}
-use Rattle.std.specs.Cmp.Lexicographic.{pointwise}
-use Rattle.std.specs.List.{find, list_any}
-use Rattle.std.specs.Option.{option_map, option_map_or, option_and_then}
+-- What is told beside a fault: where a name that is not seen is declared, how to write one that
+-- nothing has, which index is no position, or else what to do.
+use Rattle.std.specs.Prelude.{ℕ, Bool, false, ◌||◌, List, ◌++◌, codes, is_some, map, unwrap_or, if◌then◌else◌}
+use Rattle.std.specs.List.{after_first, before_last, find, list_any}
+use Rattle.std.specs.Option.{option_map, option_map_or, option_and_then, option_or}
 use Rattle.std.specs.Str.{bytes_eq}
 use Rattle.std.specs.declared.option.Option.{Option}
 use Rattle.std.specs.declared.option.Option.TheVariants.{None, Some}
-use Rattle.proto_types.specs.Names.{first_part, join}
+use Rattle.proto_types.specs.Names.{first_part, is_dot, join}
 use Rattle.proto_types.specs.Readers.{text_of}
 use Rattle.proto_types.specs.declared.file.FileDescriptorProto.{FileDescriptorProto}
+use Rattle.pool_faults.specs.declared.label.Label.{Label}
 use Rattle.pool_faults.specs.declared.fault.DescriptorErrorKind.{DescriptorErrorKind}
 use Rattle.pool_faults.specs.declared.fault.DescriptorErrorKind.TheVariants as fault
 use Rattle.name_resolution.specs.Parents.{outer}
-use Rattle.verdict_texts.specs.Known.{declaring_file, only}
 use Rattle.verdict_texts.specs.FaultKinds.{fault_kind}
+use Rattle.verdict_texts.specs.Indexes.{index_note}
+use Rattle.verdict_texts.specs.Known.{declaring_file, has_package, only, types_of}
+use Rattle.verdict_texts.specs.Scopes.{scope_of}
+use Rattle.verdict_texts.specs.Suggestions.{last_part, suggested}
 
 -- whether a file, if there is one, imports another
 abbrev pub is_imported : Option FileDescriptorProto → List ℕ → Bool
@@ -44,28 +48,6 @@ import_words name from file =
 abbrev pub import_note : List FileDescriptorProto → List ℕ → List ℕ → Option (List ℕ)
 import_note files from name =
     option_map (import_words name from) (far_file files from name)
-
--- whether two names are one
-abbrev pub is : List ℕ → List ℕ → Bool
-is = pointwise nat_eq
-
--- what stands behind a dot
-abbrev pub behind_dot : List ℕ → Option (List ℕ)
-behind_dot [] = None
-behind_dot (c ∷ rest) = if c == 46 then Some rest else None
-
--- what a name has behind a scope and a dot, if it begins with them
-abbrev pub behind : List ℕ → List ℕ → Option (List ℕ)
-behind scope name =
-    if is (take (length scope) name) scope then behind_dot (drop (length scope) name) else None
-
--- whether a full name is a scope, a dot and a name
-abbrev pub is_in : List ℕ → List ℕ → List ℕ → Bool
-is_in full name scope = option_map_or (λ rest. is rest name) (behind scope full) false
-
--- the scope around a full name that stands before a name and its dot, if there is one
-abbrev pub scope_of : List ℕ → List ℕ → Option (List ℕ)
-scope_of full name = find (is_in full name) (outer full)
 
 -- the first name that a file declares, of those that a name could mean from a scope out
 abbrev pub meant : List FileDescriptorProto → List ℕ → List ℕ → Option (List ℕ)
@@ -101,13 +83,54 @@ shadowed_note files from name full = option_and_then
     (option_and_then (dotted_note files from) (meant files scope name)))
     (scope_of full name)
 
--- what a look at the files tells of a name
-abbrev pub looked_up : List FileDescriptorProto → DescriptorErrorKind → Option (List ℕ)
-looked_up files (fault.NameNotFound name found) = import_note files found.file name
-looked_up files (fault.NameShadowed name full found) =
-    shadowed_note files found.file name full
-looked_up files _ = None
+-- how to write a name that nothing has, so that it means what it could mean
+abbrev pub suggestion_note :
+    List FileDescriptorProto → List ℕ → List ℕ → Option (List ℕ)
+suggestion_note files from name =
+    option_and_then (dotted_note files from) (suggested (types_of files) name)
 
--- what is told beside a fault
-abbrev pub note : List FileDescriptorProto → DescriptorErrorKind → List ℕ
-note files f = unwrap_or (looked_up files f) (fault_kind f).remedy
+-- that something is there, and that it has no part of a name
+abbrev pub lacking_words : List ℕ → List ℕ → List ℕ
+lacking_words scope part =
+    codes "'" ++ (scope ++ (codes "' is there, and has no '" ++ (part ++ codes "'")))
+
+-- whether a package, a message or an enum has a full name
+abbrev pub is_there : List FileDescriptorProto → List ℕ → Bool
+is_there files name = list_any (has_package name) files || is_some (declaring_file files name)
+
+-- what is there of a full name that nothing has: all but its last part, or else its first part
+abbrev pub there_words : List FileDescriptorProto → List ℕ → List ℕ
+there_words files name = if is_there files (before_last is_dot name)
+    then lacking_words (before_last is_dot name) (last_part name)
+    else lacking_words (first_part name) (after_first is_dot name)
+
+-- words, and others behind a semicolon if there are some
+abbrev pub with_words : List ℕ → Option (List ℕ) → List ℕ
+with_words words more = option_map_or (λ m. words ++ (codes "; " ++ m)) more words
+
+-- what is told of a name that resolves to itself
+abbrev pub itself_note : List FileDescriptorProto → List ℕ → List ℕ → List ℕ
+itself_note files from name =
+    with_words (there_words files name) (suggestion_note files from name)
+
+-- what is told of a name that resolves to a full name which isn't defined: to itself, or to one in
+-- a nearer scope
+unfoldable pub undefined_note :
+    List FileDescriptorProto → List ℕ → List ℕ → List ℕ → Option (List ℕ)
+undefined_note files from name full = if bytes_eq name full
+    then Some (itself_note files from name) else shadowed_note files from name full
+
+-- what a look at the files tells of a fault at a place
+abbrev pub looked_up : List FileDescriptorProto → DescriptorErrorKind → Option Label
+    → Option (List ℕ)
+looked_up files (fault.NameNotFound name found) place =
+    option_or (import_note files found.file name) (suggestion_note files found.file name)
+looked_up files (fault.NameShadowed name full found) place =
+    undefined_note files found.file name full
+looked_up files fault.InvalidImportIndex place = option_and_then (index_note files) place
+looked_up files fault.InvalidOneofIndex place = option_and_then (index_note files) place
+looked_up files _ place = None
+
+-- what is told beside a fault at a place
+abbrev pub note : List FileDescriptorProto → DescriptorErrorKind → Option Label → List ℕ
+note files f place = unwrap_or (looked_up files f place) (fault_kind f).remedy

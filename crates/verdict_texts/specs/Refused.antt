@@ -1,12 +1,13 @@
 -- A refused batch as it is told, and its lines for people.
-use Rattle.std.specs.Prelude.{ℕ, zero, suc, ◌+◌, ◌-◌, List, [], ◌++◌, codes, length, take}
-use Rattle.std.specs.List.{flat_map}
+use Rattle.std.specs.Prelude.{ℕ, zero, suc, ◌+◌, ◌-◌, Bool, List, [], ◌∷◌, ◌++◌, codes, length, take, if◌then◌else◌}
+use Rattle.std.specs.Str.{bytes_eq}
 use Rattle.pool_faults.specs.declared.fault.DescriptorErrorKind.{DescriptorErrorKind}
 use Rattle.proto_types.specs.declared.file.FileDescriptorProto.{FileDescriptorProto}
 use Rattle.record_walk.specs.declared.counts.CountKind.{CountKind}
 use Rattle.verdict_texts.specs.PlainFaults.{fault_lines}
 use Rattle.verdict_texts.specs.Telling.{told_faults}
 use Rattle.verdict_texts.specs.declared.refused.ToldRefusal.{ToldRefusal}
+use Rattle.verdict_texts.specs.declared.telling.ToldFault.{ToldFault}
 use Rattle.record_walk.specs.Words.{count_word}
 use Rattle.verdict_texts.specs.Grouped.{grouped, grouped_count}
 
@@ -33,9 +34,26 @@ told_refusal linked new faults rest most = record {
 abbrev pub untold : ToldRefusal → ℕ
 untold r = r.count - length r.told
 
+-- whether two faults have the same lines
+abbrev pub are_alike : ToldFault → ToldFault → Bool
+are_alike told other = bytes_eq (fault_lines told) (fault_lines other)
+
+-- how many faults behind one another have the lines of this one, if there are more
+abbrev pub repeats_line : ℕ → List ℕ
+repeats_line zero = []
+repeats_line (suc n) = codes "  note: " ++ (grouped (suc (suc n)) ++ codes " faults are told so\n")
+
+-- faults as lines, where so many with the lines of the first stand before it: those that stand
+-- behind one another with the same lines are written once, and counted
+abbrev pub lines_of : ℕ → List ToldFault → List ℕ
+lines_of n [] = []
+lines_of n (f ∷ []) = fault_lines f ++ repeats_line n
+lines_of n (f ∷ g ∷ fs) = if are_alike f g then lines_of (suc n) (g ∷ fs)
+    else fault_lines f ++ (repeats_line n ++ lines_of 0 (g ∷ fs))
+
 -- the faults that are told, how many more there are, and how many there are
 abbrev pub refused_text : ToldRefusal → List ℕ
-refused_text r = flat_map fault_lines r.told
+refused_text r = lines_of 0 r.told
     ++ (more_line (untold r) ++ refused_line r.count)
 
 -- the line that tells of what there is too much

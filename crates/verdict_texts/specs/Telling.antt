@@ -46,7 +46,7 @@ told_fault files fault place = record {
   message = fault_text fault;
   place = option_map (told_place files) place;
   second = option_map (second_at files) (fault_kind fault).second;
-  note = note files fault;
+  note = note files fault place;
 }
 
 -- what is told of a fault, by those before it in its batch, and by the places of names and of

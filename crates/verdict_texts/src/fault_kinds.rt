@@ -25,11 +25,9 @@ pub(crate) struct SecondPlace<'a> {
     pub label: &'a Label,
 }
 
-/// What to do about a name that nothing has.
-const NOT_FOUND: &str = "mend the name, or give and import the file that declares it";
-
 /// What to do about an index that is no position.
-const NO_SUCH_INDEX: &str = "protoc makes no such index: look for it with `protoc --decode`";
+pub(crate) const NO_SUCH_INDEX: &str =
+    "protoc makes no such index: look for it with `protoc --decode`";
 
 /// What to do about a number that another has.
 const OTHER_NUMBER: &str = "take another number";
@@ -123,22 +121,18 @@ pub(crate) fn fault_kind(fault: &Fault) -> FaultKind<'_>
             defined,
             "take a number that is not left to extensions",
         ),
-        Fault::ExtensionNumberOutOfRange { .. } => alone(
-            "ExtensionNumberOutOfRange",
-            "take a number of an extension range of the message; where it has none, give it one by \
-             `extensions`",
-        ),
+        Fault::ExtensionNumberOutOfRange { found, .. } => {
+            alone("ExtensionNumberOutOfRange", range_remedy(found))
+        }
         Fault::DuplicateExtensionNumber { first, .. } => {
             held("DuplicateExtensionNumber", first, OTHER_NUMBER)
         }
-        Fault::NameNotFound { .. } => alone("NameNotFound", NOT_FOUND),
-        Fault::NameShadowed {
-            name,
-            shadowed_name,
-            ..
-        } => alone(
+        Fault::NameNotFound { name, found } => {
+            alone("NameNotFound", missing_remedy(name.as_str(), found))
+        }
+        Fault::NameShadowed { .. } => alone(
             "NameShadowed",
-            shadowed_remedy(name.as_str(), shadowed_name.as_str()),
+            "a nearer scope has its first part: mend it, or write a leading dot and the full name",
         ),
         Fault::InvalidType { defined, .. } => FaultKind {
             code: "InvalidType",
@@ -186,13 +180,57 @@ pub(crate) fn is_of_reference(fault: &Fault) -> bool
 }
 
 /// Whether a number stands so many places before the end of a path.
-fn is_at(path: &[i32], places: usize, number: i32) -> bool
+pub(crate) fn is_at(path: &[i32], places: usize, number: i32) -> bool
     ensures { result ≡ spec.is_at path.now places number }
 {
     match path.get(path.len().saturating_sub(places)) {
         Some(found) => *found == number,
         None => false,
     }
+}
+
+/// Whether what a path leads to belongs to a declaration of a list: by the number of that list in a
+/// file, or else in a message.
+fn is_of_list(path: &[i32], of_file: i32, of_message: i32) -> bool
+    ensures { result ≡ spec.is_of_list path.now of_file of_message }
+{
+    let number = if path.len() == 3 { of_file } else { of_message };
+    is_at(path, 3, number)
+}
+
+/// Whether a path leads to the name of a package.
+fn is_of_package(path: &[i32]) -> bool
+    ensures { result ≡ spec.is_of_package path.now }
+{
+    path.len() == 1
+}
+
+/// Whether a path leads to the name of a message.
+fn is_of_message(path: &[i32]) -> bool
+    ensures { result ≡ spec.is_of_message path.now }
+{
+    is_of_list(path, file::MESSAGE_TYPE, message::NESTED_TYPE)
+}
+
+/// Whether a path leads to a part of an extension.
+fn is_of_extension(path: &[i32]) -> bool
+    ensures { result ≡ spec.is_of_extension path.now }
+{
+    is_of_list(path, file::EXTENSION, message::EXTENSION)
+}
+
+/// Whether a path leads to the name of a oneof.
+fn is_of_oneof(path: &[i32]) -> bool
+    ensures { result ≡ spec.is_of_oneof path.now }
+{
+    is_at(path, 3, message::ONEOF_DECL)
+}
+
+/// Whether a path leads to the name of a method.
+fn is_of_method(path: &[i32]) -> bool
+    ensures { result ≡ spec.is_of_method path.now }
+{
+    path.len() == 5 && is_at(path, 5, file::SERVICE)
 }
 
 /// Whether a path leads to the name of a value of an enum, which stands in a file or in a message.
@@ -205,19 +243,36 @@ fn is_of_value(path: &[i32]) -> bool
     is_at(path, 5, message::ENUM_TYPE) && is_at(path, 3, enum_::VALUE)
 }
 
-/// What to do about a name that is declared twice: in one file, by a value of an enum or not, or in
-/// two files.
+/// What to do about a name that is declared twice in one file, by the paths of both names.
+fn rename_words(first: &[i32], second: &[i32]) -> &'static str
+    ensures { result.now ≡ spec.rename_words first.now second.now }
+{
+    if is_of_value(first) || is_of_value(second) {
+        "rename one; begin the name of a value with that of its enum, since values stand beside \
+         their enum"
+    } else if is_of_oneof(first) || is_of_oneof(second) {
+        "rename one: a oneof stands among the fields of its message"
+    } else if is_of_method(first) {
+        "rename one: a service has one method of a name, whatever it takes"
+    } else if is_of_message(first) && is_of_message(second) {
+        "rename one: a group makes a message of its name, and a map one whose name ends with \
+         `Entry`"
+    } else {
+        "rename one"
+    }
+}
+
+/// What to do about a name that is declared twice: by a package and something else, in two files,
+/// or in one.
 fn rename_remedy(first: &Label, second: &Label) -> &'static str
     ensures { result.now ≡ spec.rename_remedy first.now second.now }
 {
-    if first.file() != second.file() {
-        return "rename one; where all names of a file clash, it is given under two names";
-    }
-    if is_of_value(first.path()) || is_of_value(second.path()) {
-        "rename one; if it is a value of an enum, begin its name with the enum's, since values \
-         stand beside their enum"
+    if is_of_package(first.path()) || is_of_package(second.path()) {
+        "rename one: a package shares its name with nothing else"
+    } else if first.file() == second.file() {
+        rename_words(first.path(), second.path())
     } else {
-        "rename one"
+        "rename one; where all names of a file clash, it is given under two names"
     }
 }
 
@@ -226,20 +281,43 @@ fn default_remedy(kind: &str) -> &'static str
     ensures { result.now ≡ spec.default_remedy kind.now }
 {
     if kind == "message type" {
-        "write a value of the type; a message has none, so leave its default out"
+        "leave it out: a message has no default value"
     } else {
         "write a value of the type"
     }
 }
 
-/// What to do about a name that resolves to a full name which isn't defined: to itself, or to one
-/// in a nearer scope.
-fn shadowed_remedy(name: &str, shadowed_name: &str) -> &'static str
-    ensures { result.now ≡ spec.shadowed_remedy name.now shadowed_name.now }
+/// What to do about the number of an extension that no extension range has, or of a field that has
+/// an extendee.
+fn range_remedy(found: &Label) -> &'static str
+    ensures { result.now ≡ spec.range_remedy found.now }
 {
-    if name == shadowed_name {
-        NOT_FOUND
+    if is_at(found.path(), 3, message::FIELD) {
+        "leave its extendee out: it is a field, and no extension"
     } else {
-        "a nearer scope has its first part: mend it, or write a leading dot and the full name"
+        "take a number of an extension range of the message; where it has none, give it one by \
+         `extensions`"
+    }
+}
+
+/// What to do about an empty name.
+fn empty_remedy(found: &Label) -> &'static str
+    ensures { result.now ≡ spec.empty_remedy found.now }
+{
+    if is_of_extension(found.path()) {
+        "say what it extends: an extension has an extendee"
+    } else {
+        "give the name: it is empty"
+    }
+}
+
+/// What to do about a name that nothing has.
+fn missing_remedy(name: &str, found: &Label) -> &'static str
+    ensures { result.now ≡ spec.missing_remedy name.now found.now }
+{
+    if name == "" {
+        empty_remedy(found)
+    } else {
+        "mend the name, or give and import the file that declares it"
     }
 }

@@ -6,11 +6,16 @@ ghost use Rattle.std.specs.List.{list_any};
 ghost use Rattle.std.specs.Option.{option_and_then, option_copied};
 ghost use Rattle.verdict_texts.specs.FaultKinds.{is_of_reference};
 ghost use Rattle.verdict_texts.specs.Known as spec;
-ghost use Rattle.verdict_texts.specs.Named.{AreDeclaring, AreNamed, Enters};
+ghost use Rattle.record_walk.specs.Counts.{no_counts};
+ghost use Rattle.record_walk.specs.Declarations.{declarations};
+ghost use Rattle.verdict_texts.specs.Known.{type_names};
+ghost use Rattle.verdict_texts.specs.Named.{AreDeclared, AreDeclaring, AreNamed, Enters};
 
-use crate::declaring::enter_types;
+use crate::declaring::{push_all, types_in_file};
 use crate::fault_kinds::is_of_reference;
+use crate::scopes::behind;
 use name_tables::FileNames;
+use plain_data::{Items, Text};
 use pool_faults::DescriptorErrorKind;
 use pool_types::FileDescriptorInner;
 use proto_types::FileDescriptorProto;
@@ -23,8 +28,8 @@ use std::marker::Model;
 pub(crate) struct Known<'a> {
     files: Vec<&'a FileDescriptorProto>,
     named: NamedFiles,
-    /// The position of the first file that declares each name, if these are known.
-    declaring: Option<FileNames>,
+    /// The names that they declare, if these are known.
+    declared: Option<DeclaredTypes>,
 }
 
 impl<'a> Model for Known<'a> {
@@ -33,16 +38,16 @@ impl<'a> Model for Known<'a> {
     ghost use Rattle.std.specs.Option.{IfSome};
     ghost use Rattle.proto_types.specs.contracts.file.FileDescriptorProto as file;
     ghost use Rattle.proto_types.specs.declared.file.FileDescriptorProto.{FileDescriptorProto};
-    ghost use Rattle.verdict_texts.specs.Named.{AreDeclaring, AreNamed};
+    ghost use Rattle.verdict_texts.specs.Named.{AreDeclared, AreNamed};
 
     ghost Value = { List FileDescriptorProto × Bool };
 
     ghost coded = { coded× (coded_list file.the_row.coded) coded_bool };
 
-    ghost view = { λ k. (map (λ f. f.now) k.files.items, is_some k.declaring) };
+    ghost view = { λ k. (map (λ f. f.now) k.files.items, is_some k.declared) };
 
     ghost invariant = { λ k. AreNamed k.named (map (λ f. f.now) k.files.items)
-        × IfSome k.declaring (λ names. AreDeclaring names (map (λ f. f.now) k.files.items)) };
+        × IfSome k.declared (λ types. AreDeclared types (map (λ f. f.now) k.files.items)) };
 }
 
 impl<'a> Known<'a> {
@@ -61,11 +66,11 @@ impl<'a> Known<'a> {
             (λ known. known.1 ≡ list_any is_of_reference faults.now) }
     {
         let named = named_files(alloc, files.as_slice())?;
-        let declaring = declaring_for(alloc, files.as_slice(), faults)?;
+        let declared = declared_for(alloc, files.as_slice(), faults)?;
         Ok(Known {
             files,
             named,
-            declaring,
+            declared,
         })
     }
 
@@ -81,10 +86,28 @@ impl<'a> Known<'a> {
         requires { IsTrue self.now.1 }
         ensures { option_copied result ≡ spec.declaring_file self.now.0 name.now }
     {
-        match &self.declaring {
-            Some(names) => declaring_of(names, self.files.as_slice(), name),
+        match &self.declared {
+            Some(types) => declaring_of(&types.first, self.files.as_slice(), name),
             None => None,
         }
+    }
+
+    /// The full names of the messages and enums that the files declare, in order.
+    pub fn types(&self) -> &[Text]
+        requires { IsTrue self.now.1 }
+        ensures { result.now ≡ spec.types_of self.now.0 }
+    {
+        match &self.declared {
+            Some(types) => types.names.as_slice(),
+            None => &[],
+        }
+    }
+
+    /// Whether the package of a file is a full name or stands in it.
+    pub fn has_package(&self, name: &str) -> bool
+        ensures { result ≡ list_any (spec.has_package name.now) self.now.0 }
+    {
+        has_package_in(self.files.as_slice(), name)
     }
 }
 
@@ -95,6 +118,15 @@ pub(crate) struct NamedFiles {
     pub first: FileNames,
     /// The names that several files have, each with the position of the second.
     pub several: FileNames,
+}
+
+/// The names of messages and enums.
+#[derive(Drop)]
+pub(crate) struct DeclaredTypes {
+    /// The position of the first file that declares each.
+    pub first: FileNames,
+    /// All of them, in the order in which files declare them.
+    pub names: Items<Text>,
 }
 
 /// The records of the files of a pool, and behind them those of new files.
@@ -169,6 +201,26 @@ fn declaring_of<'a>(
     file_at(files, names.get(name))
 }
 
+/// Whether the package of a file is a full name or stands in it.
+fn has_package(file: &FileDescriptorProto, name: &str) -> bool
+    ensures { result ≡ spec.has_package name.now file.now }
+{
+    let package = file.package();
+    package == name || behind(name.as_bytes(), package.as_bytes()).is_some()
+}
+
+/// Whether the package of one of some files is a full name or stands in it.
+fn has_package_in(files: &[&FileDescriptorProto], name: &str) -> bool
+    ensures { result ≡ list_any (spec.has_package name.now) (map (λ f. f.now) files.now) }
+{
+    for file in files {
+        if has_package(file, name) {
+            return true;
+        }
+    }
+    false
+}
+
 /// The number of a position.
 fn number_of(position: usize) -> Result<u32, AllocError>
     ensures { IfOk result (λ number. number ≡ position) }
@@ -177,7 +229,7 @@ fn number_of(position: usize) -> Result<u32, AllocError>
 }
 
 /// Enters a name with a position, unless it has one.
-pub(crate) fn enter(names: &mut FileNames, name: &str, at: u32) -> Result<(), AllocError>
+fn enter(names: &mut FileNames, name: &str, at: u32) -> Result<(), AllocError>
     ensures { OnOk result (Enters names.old names.new at (name.now ∷ [])) }
 {
     if names.get(name).is_some() {
@@ -219,16 +271,49 @@ fn named_files(alloc: Global, files: &[&FileDescriptorProto]) -> Result<NamedFil
     Ok(named)
 }
 
+/// Enters names with a position, but for those that have one.
+fn enter_all(names: &mut FileNames, entered: &[Text], at: u32) -> Result<(), AllocError>
+    ensures { OnOk result (Enters names.old names.new at entered.now) }
+{
+    for name in entered {
+        enter(names, name.as_str(), at)?;
+    }
+    Ok(())
+}
+
+/// Adds the names of the messages and enums of the file behind so many files.
+fn add_declared(
+    alloc: Global,
+    types: &mut DeclaredTypes,
+    file: &FileDescriptorProto,
+    at: usize,
+) -> Result<(), AllocError>
+    ensures first { OnOk result (Enters types.old.first types.new.first at
+        (type_names (declarations no_counts (file.now ∷ [])))) }
+    ensures names { OnOk result (types.new.names ≡ types.old.names
+        ++ type_names (declarations no_counts (file.now ∷ []))) }
+{
+    let own = types_in_file(alloc, file)?;
+    enter_all(&mut types.first, own.as_slice(), number_of(at)?)?;
+    push_all(&mut types.names, own)
+}
+
 /// The names of the messages and the enums of files, each with the position of the first file that
 /// declares it.
-fn declaring_files(alloc: Global, files: &[&FileDescriptorProto]) -> Result<FileNames, AllocError>
-    ensures { IfOk result (λ names. AreDeclaring names (map (λ f. f.now) files.now)) }
+fn declared_types(
+    alloc: Global,
+    files: &[&FileDescriptorProto],
+) -> Result<DeclaredTypes, AllocError>
+    ensures { IfOk result (λ types. AreDeclared types (map (λ f. f.now) files.now)) }
 {
-    let mut names = FileNames::new(alloc);
+    let mut types = DeclaredTypes {
+        first: FileNames::new(alloc),
+        names: Items::new(alloc),
+    };
     for (at, file) in files.iter().enumerate() {
-        enter_types(alloc, &mut names, file, number_of(at)?)?;
+        add_declared(alloc, &mut types, file, at)?;
     }
-    Ok(names)
+    Ok(types)
 }
 
 /// Whether one of some faults is of a reference.
@@ -239,17 +324,17 @@ fn has_references(faults: &[DescriptorErrorKind]) -> bool
 }
 
 /// The names that files declare, where one of some faults is of a reference.
-fn declaring_for(
+fn declared_for(
     alloc: Global,
     files: &[&FileDescriptorProto],
     faults: &[DescriptorErrorKind],
-) -> Result<Option<FileNames>, AllocError>
-    ensures known { IfOk result (λ names. is_some names ≡ list_any is_of_reference faults.now) }
-    ensures names { IfOk result (λ names. IfSome names
-        (λ names. AreDeclaring names (map (λ f. f.now) files.now))) }
+) -> Result<Option<DeclaredTypes>, AllocError>
+    ensures known { IfOk result (λ types. is_some types ≡ list_any is_of_reference faults.now) }
+    ensures types { IfOk result (λ types. IfSome types
+        (λ types. AreDeclared types (map (λ f. f.now) files.now))) }
 {
     if has_references(faults) {
-        return Ok(Some(declaring_files(alloc, files)?));
+        return Ok(Some(declared_types(alloc, files)?));
     }
     Ok(None)
 }

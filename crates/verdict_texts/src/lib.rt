@@ -8,6 +8,7 @@ mod elements;
 mod fault_kinds;
 mod grouped;
 mod hidden;
+mod indexes;
 mod json_faults;
 mod known;
 pub mod laws;
@@ -18,7 +19,9 @@ mod places;
 mod plain;
 mod plain_faults;
 mod refused;
+mod scopes;
 mod strings;
+mod suggestions;
 mod telling;
 mod wire_words;
 

@@ -1,19 +1,22 @@
 //! What is told beside a fault.
 
-ghost use Rattle.std.specs.Prelude.{◌≡◌, IfOk, IsTrue, string_bytes};
+ghost use Rattle.std.specs.Prelude.{◌≡◌, IfOk, IsTrue};
 ghost use Rattle.std.specs.List.{list_any};
-ghost use Rattle.std.specs.Option.{option_copied};
+ghost use Rattle.std.specs.Option.{option_and_then, option_copied, option_or};
 ghost use Rattle.std.specs.Str.{bytes_eq};
-ghost use Rattle.proto_types.specs.Names as names;
 ghost use Rattle.verdict_texts.specs.FaultKinds.{is_of_reference};
+ghost use Rattle.verdict_texts.specs.Indexes.{index_note};
 ghost use Rattle.verdict_texts.specs.Notes as spec;
 
 use crate::elements::full_name;
 use crate::fault_kinds::fault_kind;
+use crate::indexes::index_words;
 use crate::known::Known;
+use crate::scopes::{at_first_dot, at_last_dot, scope_of};
+use crate::suggestions::suggested;
 use name_resolution::CandidateParents;
 use plain_data::Text;
-use pool_faults::DescriptorErrorKind;
+use pool_faults::{DescriptorErrorKind, Label};
 use proto_types::FileDescriptorProto;
 use std::alloc::{AllocError, Global};
 
@@ -75,33 +78,6 @@ fn import_words(
     }
 }
 
-/// What a name has behind a scope and a dot, if it begins with them.
-fn behind<'a>(scope: &[u8], name: &'a [u8]) -> Option<&'a [u8]>
-    ensures { option_copied result ≡ spec.behind scope.now name.now }
-{
-    match name.strip_prefix(scope)? {
-        [b'.', rest @ ..] => Some(rest),
-        _ => None,
-    }
-}
-
-/// Whether a full name is a scope, a dot and a name.
-fn is_in(full_name: &str, name: &str, scope: &str) -> bool
-    ensures { result ≡ spec.is_in full_name.now name.now scope.now }
-{
-    match behind(scope.as_bytes(), full_name.as_bytes()) {
-        Some(rest) => rest == name.as_bytes(),
-        None => false,
-    }
-}
-
-/// The scope around a full name that stands before a name and its dot, if there is one.
-fn scope_of<'a>(full_name: &'a str, name: &str) -> Option<&'a str>
-    ensures { option_copied result ≡ spec.scope_of full_name.now name.now }
-{
-    CandidateParents::new(full_name).find(|scope| is_in(full_name, name, scope))
-}
-
 /// The first name that a file declares, of those that a name could mean from a scope out.
 fn meant(alloc: Global, known: &Known, scope: &str, name: &str) -> Result<Option<Text>, AllocError>
     requires { IsTrue known.now.1 }
@@ -149,21 +125,11 @@ fn dotted_words(
     }
 }
 
-/// The text before the first dot of a name, or the whole name.
-fn first_part(name: &str) -> &str
-    ensures { result.now ≡ names.first_part name.now }
-{
-    match name.split_once('.') {
-        Some((first, _)) => first,
-        None => name,
-    }
-}
-
 /// Which scope hides what a name means, and how to write it.
 fn nearer_words(alloc: Global, scope: &str, name: &str, dotted: &str) -> Result<Text, AllocError>
     ensures { IfOk result (λ words. words ≡ spec.nearer_words scope.now name.now dotted.now) }
 {
-    let first = first_part(name);
+    let (first, _) = at_first_dot(name);
     let words = format!(in alloc; "'{scope}' has a nearer '{first}': {dotted}")?;
     Ok(Text::from_string(words))
 }
@@ -193,44 +159,166 @@ fn shadowed_words(
     }
 }
 
-/// What a look at the files tells of a name.
+/// How to write a name that nothing has, so that it means what it could mean.
+fn suggestion_words(
+    alloc: Global,
+    known: &Known,
+    from: &str,
+    name: &str,
+) -> Result<Option<Text>, AllocError>
+    requires { IsTrue known.now.1 }
+    ensures { IfOk result (λ words. words
+        ≡ spec.suggestion_note known.now.0 from.now name.now) }
+{
+    match suggested(known.types(), name) {
+        Some(suggested) => dotted_words(alloc, known, from, suggested.as_str()),
+        None => Ok(None),
+    }
+}
+
+/// Whether a package, a message or an enum has a full name.
+fn is_there(known: &Known, name: &str) -> bool
+    requires { IsTrue known.now.1 }
+    ensures { result ≡ spec.is_there known.now.0 name.now }
+{
+    known.has_package(name) || known.declaring(name).is_some()
+}
+
+/// That something is there, and that it has no part of a name.
+fn lacking_words(alloc: Global, scope: &str, part: &str) -> Result<Text, AllocError>
+    ensures { IfOk result (λ words. words ≡ spec.lacking_words scope.now part.now) }
+{
+    let words = format!(in alloc; "'{scope}' is there, and has no '{part}'")?;
+    Ok(Text::from_string(words))
+}
+
+/// What is there of a full name that nothing has: all but its last part, or else its first part.
+fn there_words(alloc: Global, known: &Known, name: &str) -> Result<Text, AllocError>
+    requires { IsTrue known.now.1 }
+    ensures { IfOk result (λ words. words ≡ spec.there_words known.now.0 name.now) }
+{
+    let (scope, last) = at_last_dot(name);
+    if is_there(known, scope) {
+        return lacking_words(alloc, scope, last);
+    }
+    let (first, rest) = at_first_dot(name);
+    lacking_words(alloc, first, rest)
+}
+
+/// Words, and others behind a semicolon if there are some.
+fn with_words(alloc: Global, words: Text, more: Option<Text>) -> Result<Text, AllocError>
+    ensures { IfOk result (λ all. all ≡ spec.with_words words more) }
+{
+    match more {
+        Some(more) => {
+            let (words, more) = (words.as_str(), more.as_str());
+            Ok(Text::from_string(format!(in alloc; "{words}; {more}")?))
+        }
+        None => Ok(words),
+    }
+}
+
+/// What is told of a name that resolves to a full name which isn't defined: to itself, or to one in
+/// a nearer scope.
+#[tactic(auto, unfolding(crate::specs::Notes::undefined_note))]
+fn undefined_words(
+    alloc: Global,
+    known: &Known,
+    from: &str,
+    name: &str,
+    full_name: &str,
+) -> Result<Option<Text>, AllocError>
+    requires { IsTrue known.now.1 }
+    ensures { IfOk result (λ words. words
+        ≡ spec.undefined_note known.now.0 from.now name.now full_name.now) }
+{
+    if name != full_name {
+        return shadowed_words(alloc, known, from, name, full_name);
+    }
+    let there = there_words(alloc, known, name)?;
+    let suggestion = suggestion_words(alloc, known, from, name)?;
+    Ok(Some(with_words(alloc, there, suggestion)?))
+}
+
+/// What is told of a name that nothing has: the file to import, or how to write it.
+fn missing_words(
+    alloc: Global,
+    known: &Known,
+    from: &str,
+    name: &str,
+) -> Result<Option<Text>, AllocError>
+    requires { IsTrue known.now.1 }
+    ensures { IfOk result (λ words. words
+        ≡ option_or (spec.import_note known.now.0 from.now name.now)
+        (spec.suggestion_note known.now.0 from.now name.now)) }
+{
+    match import_words(alloc, known, from, name)? {
+        Some(words) => Ok(Some(words)),
+        None => suggestion_words(alloc, known, from, name),
+    }
+}
+
+/// What is told of the index at a place, if there is one.
+fn index_words_at(
+    alloc: Global,
+    known: &Known,
+    place: Option<&Label>,
+) -> Result<Option<Text>, AllocError>
+    ensures { IfOk result (λ words. words
+        ≡ option_and_then (index_note known.now.0) (option_copied place.entry)) }
+{
+    match place {
+        Some(label) => index_words(alloc, known, label),
+        None => Ok(None),
+    }
+}
+
+/// What a look at the files tells of a fault at a place.
 fn looked_up(
     alloc: Global,
     known: &Known,
     fault: &DescriptorErrorKind,
+    place: Option<&Label>,
 ) -> Result<Option<Text>, AllocError>
     requires { IsTrue (is_of_reference fault.now) → IsTrue known.now.1 }
-    ensures { IfOk result (λ words. words ≡ spec.looked_up known.now.0 fault.now) }
+    ensures { IfOk result (λ words. words
+        ≡ spec.looked_up known.now.0 fault.now (option_copied place.entry)) }
 {
     match fault {
         DescriptorErrorKind::NameNotFound { name, found } => {
-            import_words(alloc, known, found.file(), name.as_str())
+            missing_words(alloc, known, found.file(), name.as_str())
         }
         DescriptorErrorKind::NameShadowed {
             name,
             shadowed_name,
             found,
-        } => shadowed_words(
+        } => undefined_words(
             alloc,
             known,
             found.file(),
             name.as_str(),
             shadowed_name.as_str(),
         ),
+        DescriptorErrorKind::InvalidImportIndex | DescriptorErrorKind::InvalidOneofIndex => {
+            index_words_at(alloc, known, place)
+        }
         _ => Ok(None),
     }
 }
 
-/// What is told beside a fault: where a name that is not seen is declared, or else what to do.
+/// What is told beside a fault at a place: where a name that is not seen is declared, how to write
+/// one that nothing has, which index is no position, or else what to do.
 pub(crate) fn note(
     alloc: Global,
     known: &Known,
     fault: &DescriptorErrorKind,
+    place: Option<&Label>,
 ) -> Result<Text, AllocError>
     requires { IsTrue (is_of_reference fault.now) → IsTrue known.now.1 }
-    ensures { IfOk result (λ text. text ≡ spec.note known.now.0 fault.now) }
+    ensures { IfOk result (λ text. text
+        ≡ spec.note known.now.0 fault.now (option_copied place.entry)) }
 {
-    match looked_up(alloc, known, fault)? {
+    match looked_up(alloc, known, fault, place)? {
         Some(words) => Ok(words),
         None => Text::from_str(alloc, fault_kind(fault).remedy),
     }

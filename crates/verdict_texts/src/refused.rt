@@ -1,8 +1,9 @@
 //! A refused batch as it is told, and its lines for people.
 
-ghost use Rattle.std.specs.Prelude.{◌≡◌, ◌++◌, IfOk, OnOk, string_bytes, take, map};
-ghost use Rattle.std.specs.List.{flat_map};
-ghost use Rattle.verdict_texts.specs.PlainFaults.{fault_lines};
+ghost use Rattle.std.specs.Prelude.{◌≡◌, ◌++◌, ◌<◌, ◌^◌, false, IfOk, OnOk, string_bytes, slice_get, take, map};
+ghost use Rattle.std.specs.Option.{option_copied, option_map_or};
+ghost use Rattle.std.specs.Str.{bytes_eq};
+ghost use Rattle.verdict_texts.specs.PlainFaults as plain;
 ghost use Rattle.verdict_texts.specs.Refused as spec;
 
 use crate::grouped::{grouped, grouped_count};
@@ -79,13 +80,65 @@ impl ToldRefusal {
     }
 }
 
-/// Writes faults as lines.
+/// The lines of a fault.
+fn fault_lines(alloc: Global, told: &ToldFault) -> Result<String, AllocError>
+    ensures { IfOk result (λ s. string_bytes s ≡ plain.fault_lines told.now) }
+{
+    let mut text = String::new(alloc);
+    write_fault_lines(alloc, &mut text, told)?;
+    Ok(text)
+}
+
+/// Whether a fault, if there is one, has lines.
+fn has_lines(alloc: Global, told: Option<&ToldFault>, lines: &str) -> Result<bool, AllocError>
+    ensures { IfOk result (λ has. has ≡ option_map_or
+        (λ f. bytes_eq lines.now (plain.fault_lines f)) (option_copied told.entry) false) }
+{
+    match told {
+        Some(told) => {
+            let own = fault_lines(alloc, told)?;
+            Ok(lines == own.as_str())
+        }
+        None => Ok(false),
+    }
+}
+
+/// The fault at a position, if there is one.
+fn fault_at(told: &[ToldFault], position: usize) -> Option<&ToldFault>
+    ensures { option_copied result ≡ slice_get told.now position }
+{
+    told.get(position)
+}
+
+/// How many faults behind one another have the same lines, if so many stand before the last.
+fn repeats_line(alloc: Global, before: usize) -> Result<String, AllocError>
+    requires { before < 2 ^ 63 }
+    ensures { IfOk result (λ s. string_bytes s ≡ spec.repeats_line before) }
+{
+    if before == 0 {
+        return Ok(String::new(alloc));
+    }
+    let count = grouped(alloc, before + 1)?;
+    let count = count.as_str();
+    format!(in alloc; "  note: {count} faults are told so\n")
+}
+
+/// Writes faults as lines: those that stand behind one another with the same lines once.
 fn write_faults(alloc: Global, text: &mut String, told: &[ToldFault]) -> Result<(), AllocError>
     ensures { OnOk result (string_bytes text.new ≡ string_bytes text.old
-        ++ flat_map fault_lines told.now) }
+        ++ spec.lines_of 0 told.now) }
 {
-    for fault in told {
-        write_fault_lines(alloc, text, fault)?;
+    let mut before = 0;
+    for position in 0..told.len() {
+        let lines = fault_lines(alloc, &told[position])?;
+        if has_lines(alloc, fault_at(told, position + 1), lines.as_str())? {
+            before += 1;
+        } else {
+            text.push_str(lines.as_str())?;
+            let repeats = repeats_line(alloc, before)?;
+            text.push_str(repeats.as_str())?;
+            before = 0;
+        }
     }
     Ok(())
 }

@@ -132,9 +132,9 @@ fn told_fault(
     let kind = fault_kind(fault);
     let code = Text::from_str(alloc, kind.code)?;
     let message = Text::from_string(format!(in alloc; "{fault}")?);
-    let place = told_if(alloc, known, place)?;
+    let note = note(alloc, known, fault, place)?;
     let second = told_second(alloc, known, kind)?;
-    let note = note(alloc, known, fault)?;
+    let place = told_if(alloc, known, place)?;
     Ok(ToldFault {
         code,
         message,
