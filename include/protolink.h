@@ -138,6 +138,20 @@ typedef struct protolink_counts {
     uint32_t extensions;
 } protolink_counts;
 
+/* What became of the files of a call that linked some. */
+typedef struct protolink_added {
+    uint64_t files;       /* how many were linked: the pool lacked their names */
+    uint64_t passed_over; /* how many were passed over: the pool had a file of their name */
+    uint64_t differing;   /* how many of those differ from the pool's linked file */
+} protolink_added;
+
+/* At which level two pools are compared. Each level contains the ones before it. */
+enum protolink_levels {
+    PROTOLINK_LEVEL_WIRE = 0,  /* what is read otherwise of bytes, or in calls of services */
+    PROTOLINK_LEVEL_JSON = 1,  /* besides, what is read otherwise of texts of JSON */
+    PROTOLINK_LEVEL_SOURCE = 2 /* besides, what code that is made of the files has otherwise */
+};
+
 /* The version of the language: of a file. */
 enum protolink_syntaxes {
     PROTOLINK_PROTO2 = 2,
@@ -306,10 +320,13 @@ uint32_t protolink_version(void);
  *                              passed over
  *
  * All their files are linked in one batch: those whose names the pool lacks; the others are passed
- * over unread. What they import must be in the pool or in the batch, in any order.
+ * over. What they import must be in the pool or in the batch, in any order. Of files of one name
+ * that are equal, apart from the places in the source that they have, one counts.
  *
- *   PROTOLINK_DONE       they are linked. A batch without new files leaves the pool as it was.
- *   PROTOLINK_REFUSED    the new files break rules of docs/RULES.md.
+ *   PROTOLINK_DONE       they are linked. A batch without new files leaves the pool as it was, and
+ *                        so do the bytes of an empty set: protolink_pool_added tells of both.
+ *   PROTOLINK_REFUSED    the new files break rules of docs/RULES.md; or two files of one name
+ *                        differ, of which each further one is told as a fault, and nothing else.
  *   PROTOLINK_FAULT      the bytes are no such set or file, or the script has a fault.
  *   PROTOLINK_TOO_MANY   there is too much of a kind, in the new files or together with the pool.
  *   PROTOLINK_NO_MEMORY  memory was refused.
@@ -322,6 +339,17 @@ protolink_status protolink_pool_add_file(protolink_pool *pool, const uint8_t *by
 protolink_status protolink_pool_add_files(
     protolink_pool *pool, const uint8_t *bytes, size_t len, const size_t *lens, size_t count);
 protolink_status protolink_pool_add_script(protolink_pool *pool, const uint8_t *script, size_t len);
+
+/*
+ * WHAT BECAME OF THE FILES of the last call that was to link some, where it answered
+ * PROTOLINK_DONE; else all is 0. It is always done, and takes no memory.
+ *
+ * A file that is passed over differs where its record is not that of the pool's linked file, apart
+ * from the places in the source that both have. So it does where a name of a type is written
+ * otherwise than with a dot and its full name, as protoc writes it. A registry that takes a version
+ * of a file into a pool which has another one is told so by `differing`, and by nothing else.
+ */
+void protolink_pool_added(protolink_pool *pool, protolink_added *added);
 
 /*
  * THE REPORT of the last call that was to link files, in lines for people as docs/CHECK.md has
@@ -435,6 +463,25 @@ protolink_status protolink_pool_extension(
  *   PROTOLINK_NO_MEMORY  memory was refused. `copy` is an empty pool.
  */
 protolink_status protolink_pool_clone(protolink_pool *pool, protolink_pool *copy);
+
+/*
+ * WHAT A POOL CHANGES OF AN OLDER ONE, as an object of JSON on one line: where a reader of the
+ * files of `pool` reads otherwise what a writer of the files of `older` writes, or not at all, and
+ * more at the higher levels (docs/CHANGES.md). To ask what an older reader reads of what a new
+ * writer writes, the two change places. They may be one pool.
+ *
+ * The object is what `check_descriptors --against OLD --json NEW` has of an accepted batch, and
+ * calls the older version "the older pool". It has the first changes, at most as many as faults
+ * are told of `pool`, and how many there are. The text is made anew in each call, also to tell the
+ * length that is needed.
+ *
+ *   PROTOLINK_DONE, PROTOLINK_SHORT  as said under TEXTS.
+ *   PROTOLINK_NOT_FOUND              there is no such level.
+ *   PROTOLINK_NO_MEMORY              memory was refused.
+ */
+protolink_status protolink_pool_changes(
+    protolink_pool *pool, protolink_pool *older, uint32_t level, uint8_t *buffer, size_t room,
+    size_t *length);
 
 /*
  * FREE WHAT A POOL OWNS. It is an empty pool then, and may be used again, or cleared again.
@@ -800,6 +847,13 @@ static inline protolink_status protolink_pool_find_path_const(
 }
 #define protolink_pool_find_path protolink_pool_find_path_const
 
+static inline void protolink_pool_added_const(const protolink_pool *pool, protolink_added *added)
+{
+    protolink_pool view = *pool;
+    protolink_pool_added(&view, added);
+}
+#define protolink_pool_added protolink_pool_added_const
+
 static inline void protolink_pool_counts_const(const protolink_pool *pool, protolink_counts *counts)
 {
     protolink_pool view = *pool;
@@ -814,6 +868,16 @@ static inline protolink_status protolink_pool_extension_const(
     return protolink_pool_extension(&view, message, number, extension);
 }
 #define protolink_pool_extension protolink_pool_extension_const
+
+static inline protolink_status protolink_pool_changes_const(
+    const protolink_pool *pool, const protolink_pool *older, uint32_t level, uint8_t *buffer,
+    size_t room, size_t *length)
+{
+    protolink_pool view = *pool, older_view = *older;
+    return protolink_pool_changes(
+        &view, &older_view, level, protolink_buffer_at(buffer), room, length);
+}
+#define protolink_pool_changes protolink_pool_changes_const
 
 static inline protolink_status protolink_pool_clone_const(
     const protolink_pool *pool, protolink_pool *copy)

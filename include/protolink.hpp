@@ -44,6 +44,13 @@ enum class Status : protolink_status {
     not_found = PROTOLINK_NOT_FOUND
 };
 
+/* At which level two pools are compared. */
+enum class Level : uint32_t {
+    wire = PROTOLINK_LEVEL_WIRE,
+    json = PROTOLINK_LEVEL_JSON,
+    source = PROTOLINK_LEVEL_SOURCE
+};
+
 class Pool;
 class File;
 class Message;
@@ -197,6 +204,14 @@ public:
         return copy;
     }
 
+    /* What became of the files of the last call that was to link some, where it was done. */
+    protolink_added added() const
+    {
+        protolink_added added = {};
+        protolink_pool_added(&pool_, &added);
+        return added;
+    }
+
     /* What the last call tells that was to link files: in lines, and as an object of JSON. */
     std::string report() const
     {
@@ -205,6 +220,14 @@ public:
     std::string report_json() const
     {
         return whole([&](auto... to) { return protolink_pool_report_json(&pool_, to...); });
+    }
+
+    /* What it changes of an older pool, as an object of JSON; none where memory was refused. */
+    std::optional<std::string> changes(const Pool &older, Level level = Level::wire) const
+    {
+        return detail::text_of([&](auto... to) {
+            return protolink_pool_changes(&pool_, &older.pool_, uint32_t(level), to...);
+        });
     }
 
     /* All linked files, as the bytes of a FileDescriptorSet; none where memory was refused. */

@@ -8,9 +8,9 @@ include/protolink.h, the declarations of the Rust crate (bindings/rust/src/ffi.r
 Python module (bindings/python/protolink/_library.py). A struct is compared by its members, in
 order, with their types; a slice is a pointer and a length.
 
-Of each look-up, an export that takes a `View`, the header has a function for a const pool: it
-takes what the look-up takes, passes it a copy of the pool, and stands in for its name. Of each
-other export that takes a slice it has one too. Both pass no null pointer where a slice begins.
+Of each look-up, an export that takes a `View`, the header has a function for a const pool, or for
+two: it takes what the look-up takes, passes it a copy of each such pool, and stands in for its
+name. Of each other export that takes a slice it has one too. Both pass no null pointer where a slice begins.
 
 Constants are compared by name and number: the header's with those by which the Rattle code answers
 (statuses, kinds of items, types, labels, versions of the language, the version of the library), all
@@ -71,13 +71,13 @@ Constants = list[tuple[str, int]]
 
 
 class Declared(NamedTuple):
-    """What one file declares. The look-ups are the exports that take a view of a pool; for each the
-    header has a function that takes a const pool. Others take slices and change a pool; for each
+    """What one file declares. The look-ups are the exports that take views of pools, each with how
+    many it takes; for each the header has a function that takes const pools. Others take slices and change a pool; for each
     the header has a function that takes a null pointer."""
 
     calls: dict[str, Call]
     constants: Constants
-    look_ups: frozenset[str] = frozenset()
+    look_ups: dict[str, int] = {}
     slice_takers: frozenset[str] = frozenset()
     for_const: dict[str, Call] = {}
     for_null: dict[str, Call] = {}
@@ -106,7 +106,7 @@ def parts(text: str) -> list[str]:
 SAME_NAME = {"OUT_OF_MEMORY": "NO_MEMORY"}
 """Names in Rattle, and in the header."""
 
-PREFIXES = {"Kind": "TYPE_", "KindIndex": "TYPE_"}
+PREFIXES = {"Kind": "TYPE_", "KindIndex": "TYPE_", "Level": "LEVEL_"}
 """What the header sets before the names of an enum."""
 
 
@@ -135,6 +135,8 @@ C_TYPES = {
     "protolink_status": "u8",
 }
 
+
+POOL = "protolink_pool"
 
 INLINE = (
     r"^static inline (\w+) (protolink_\w+)_(const|or_null)\(([^)]*)\)\n\{\n(.*?)^\}\n"
@@ -165,14 +167,16 @@ def as_passed(declared: list[tuple[str, str]], not_null: dict[str, str]) -> list
     ]
 
 
-def body(name: str, passed: list[str], result: str, is_const: bool) -> str:
-    """The body of such a function: it passes a copy of a const pool, and all else."""
+def body(name: str, passed: list[str], result: str, const_pools: list[str]) -> str:
+    """The body of such a function: it passes a copy of each const pool, and all else."""
     answer = "" if result == "void" else "return "
-    if not is_const:
-        return f"{answer}{name}({', '.join(passed)});"
     before = UNLESS_ITSELF.get(name, "")
-    call = f"{answer}{name}({', '.join(['&view', *passed[1:]])});"
-    return f"{before} protolink_pool view = *{passed[0]}; {call}"
+    copies = [("view" if pool == passed[0] else f"{pool}_view", pool) for pool in const_pools]
+    if copies:
+        made = ", ".join(f"{copy} = *{pool}" for copy, pool in copies)
+        before += f" protolink_pool {made};"
+    views = [f"&{copy}" for copy, _ in copies]
+    return f"{before} {answer}{name}({', '.join([*views, *passed[len(views):]])});"
 
 
 def words(text: str) -> list[str]:
@@ -208,8 +212,9 @@ def header() -> Declared:
     }
     inlined: dict[str, dict[str, Call]] = {"const": {}, "or_null": {}}
     for result, name, suffix, inner, said in matching(INLINE, text):
-        passed = as_passed([declaration(part) for part in parts(inner)], not_null)
-        if words(said) == words(body(name, passed, result, suffix == "const")):
+        declared = [declaration(part) for part in parts(inner)]
+        pools = [part for part, type_ in declared if type_ == pointer(types[POOL], True)]
+        if words(said) == words(body(name, as_passed(declared, not_null), result, pools)):
             inlined[suffix][name] = call(result, inner)
     constants = matching(r"PROTOLINK_(\w+)(?: =|(?<=VERSION)) (\d+)", text)
     constants += matching(r"PROTOLINK_(\w+) UINT32(_MAX)", text)
@@ -277,12 +282,12 @@ def exports() -> Declared:
     for name, inner in matching(r"#\[repr\(C\)\][^{]*?pub struct (\w+) \{(.*?)^\}", text):
         members = matching(r"^ *(?:pub )?(\w+): ([^,]+),", re.sub(r"pub ghost .*", "", inner))
         types[name] = struct([(member, plain(type_)) for member, type_ in members])
-    calls, look_ups, slice_takers = {}, set(), set()
+    calls, look_ups, slice_takers = {}, {}, set()
     pattern = r'#\[unsafe\(no_mangle\)\]\s*pub extern "C" fn (\w+)\((.*?)\)(?: -> (\w+))?\s'
     for name, inner, result in matching(pattern, text):
         said = [part.split(": ", 1)[1] for part in parts(inner)]
         if "&mut View" in said:
-            look_ups.add(name)
+            look_ups[name] = said.count("&mut View")
         elif any("[" in words for words in said):
             slice_takers.add(name)
         parameters = tuple(type_ for words in said for type_ in passed(words))
@@ -290,10 +295,11 @@ def exports() -> Declared:
     constants = plain_constants(text)
     arms = matching(r"\b([A-Z]\w+)::(\w+)(?:\(\w+\))? => \(?(\d+)\b", text)
     constants += [constant(name, number, enum) for enum, name, number in arms]
-    (kinds,) = matching(r"let kinds = \[(.*?)\];", text)
-    named = re.findall(r"DefinitionKind::(\w+)", kinds[0])
-    constants += [constant(name, str(number)) for number, name in enumerate(named)]
-    return Declared(calls, constants, frozenset(look_ups), frozenset(slice_takers))
+    for listed, enum, prefix in (("kinds", "DefinitionKind", ""), ("levels", "Level", "Level")):
+        (said,) = matching(rf"let {listed} = \[(.*?)\];", text)
+        named = re.findall(rf"\b{enum}::(\w+)", said[0])
+        constants += [constant(name, str(number), prefix) for number, name in enumerate(named)]
+    return Declared(calls, constants, look_ups, frozenset(slice_takers))
 
 
 # Python
@@ -335,7 +341,8 @@ def python() -> Declared:
         [constant(name, str(names[name])) for name in statuses]
         + [constant(name, str(number)) for number, name in enumerate(names["KINDS"])]
         + [constant(name, str(number), "Kind") for number, name in enumerate(names["TYPES"], 1)]
-        + [constant(name, str(number)) for number, name in enumerate(names["LABELS"], 1)],
+        + [constant(name, str(number)) for number, name in enumerate(names["LABELS"], 1)]
+        + [constant(name, str(number), "Level") for number, name in enumerate(names["LEVELS"])],
     )
 
 
@@ -371,15 +378,15 @@ def const_differences(in_c: Declared, exported: Declared) -> list[str]:
     """What calls lack their function for a const pool or for null pointers, and what has one
     otherwise."""
     found = []
-    for said, called, first, suffix in (
-        (in_c.for_const, exported.look_ups, "const ", "const"),
-        (in_c.for_null, exported.slice_takers, "", "or_null"),
+    for said, called, suffix in (
+        (in_c.for_const, exported.look_ups, "const"),
+        (in_c.for_null, dict.fromkeys(exported.slice_takers, 0), "or_null"),
     ):
-        for name in sorted(said.keys() | called):
-            export = exported.calls.get(name, Call(("",), ""))
-            wanted = export._replace(
-                parameters=(f"{first}{export.parameters[0]}", *export.parameters[1:])
-            )
+        for name in sorted(said.keys() | called.keys()):
+            export = exported.calls.get(name, Call((), ""))
+            pools = called.get(name, 0)
+            consts = (f"const {type_}" for type_ in export.parameters[:pools])
+            wanted = export._replace(parameters=(*consts, *export.parameters[pools:]))
             if name not in said:
                 found.append(f"{HEADER.name}: {name} has no function {name}_{suffix}")
             elif name not in called or said[name] != wanted:

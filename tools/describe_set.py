@@ -8,11 +8,13 @@
 `text` writes the text of sources and of all that they import, behind a line with the counts, as a
 row has it. Each fact is asked of the linked descriptors of protobuf's Python package; asked of the
 records are paths, the JSON names and the texts of fractions that were given, and whether a list is
-packed, for which that package has no word.
+packed, for which that package has no word. It hands out streams and reserved names as records.
 
 Each file NAME.proto of crates/test_rows/data/items/protoc/ is a row; imported/ there has what they
 import of one another. `write` writes the NAME.script and the NAME.text of each, and `compare` tells
-whether the stored ones are what is made, with status 1 where one is not. They were made by protoc
+whether the stored ones are what is made, with status 1 where one is not. A script does not say which
+field is a map, what is deprecated, which names are reserved, and what a method streams: the text of
+a row leaves these out. They were made by protoc
 3.21.12; with another version the files of protobuf may differ.
 
 Needed are protoc, its include directory with google/protobuf/compiler/plugin.proto, and protobuf's
@@ -44,8 +46,19 @@ from descriptors_to_script import (
 from hidden_characters import plain
 
 if TYPE_CHECKING:
-    from google.protobuf.descriptor import Descriptor, FieldDescriptor, FileDescriptor
-    from google.protobuf.descriptor_pb2 import FieldDescriptorProto, FileDescriptorProto
+    from google.protobuf.descriptor import (
+        Descriptor,
+        DescriptorBase,
+        EnumDescriptor,
+        FieldDescriptor,
+        FileDescriptor,
+    )
+    from google.protobuf.descriptor_pb2 import (
+        DescriptorProto,
+        EnumDescriptorProto,
+        FieldDescriptorProto,
+        FileDescriptorProto,
+    )
 
 ROWS = Path(__file__).resolve().parent.parent / "crates" / "test_rows" / "data" / "items" / "protoc"
 
@@ -107,26 +120,35 @@ def default_words(field: FieldDescriptor, record: FieldDescriptorProto) -> str:
     return f" default {told}"
 
 
-def field_line(field: FieldDescriptor, element: Element) -> str:
+def is_map(field: FieldDescriptor) -> bool:
+    """Whether a field is repeated, and its type the entry of a map."""
+    entry = field.message_type
+    return field.label == REPEATED and entry is not None and entry.GetOptions().map_entry
+
+
+def field_line(field: FieldDescriptor, element: Element, is_whole: bool) -> str:
     """A field of a message."""
     words = f"  {kind_words(field)} {field.full_name} = {field.number} {list(element.path)}"
     if field.containing_oneof:
         oneof = f"{field.containing_type.full_name}.{field.containing_oneof.name}"
         words += f" oneof {oneof}"
     words += " packed" * is_packed(field, element.record) + " presence" * field.has_presence
+    words += " map" * (is_whole and is_map(field))
     if element.has("json_name"):
         words += f" json_name {alone(field.json_name)}"
-    return words + default_words(field, element.record)
+    words += default_words(field, element.record)
+    return words + " deprecated" * (is_whole and field.GetOptions().deprecated)
 
 
 class PoolText:
     """What protobuf's own pool has of some files, of which each stands behind all that it
-    imports."""
+    imports. What is not whole leaves out what no script says."""
 
-    def __init__(self, files: list[FileDescriptorProto]) -> None:
+    def __init__(self, files: list[FileDescriptorProto], is_whole: bool) -> None:
         from google.protobuf import descriptor_pool
 
         self.files = files
+        self.is_whole = is_whole
         self.pool = descriptor_pool.DescriptorPool()
         with warnings.catch_warnings():
             warnings.simplefilter("ignore")
@@ -167,6 +189,7 @@ class PoolText:
         """A file, what it imports and what it sees: itself, what it imports, and what is imported
         publicly by what it sees."""
         yield f"file {file.name} {file.syntax}"
+        yield from self._deprecated(file)
         if file.package:
             yield f"  package {file.package}"
         for imported in file.dependencies:
@@ -187,33 +210,46 @@ class PoolText:
         message = self.pool.FindMessageTypeByName(element.full_name)
         yield head(file_name, element)
         yield from parent(message.containing_type)
+        yield from self._deprecated(message)
         for oneof, part in zip(message.oneofs, element.entries("oneof_decl")):
             fields = "".join(f" {field.full_name}" for field in oneof.fields)
             yield f"  oneof {part.full_name} {list(part.path)}{fields}"
         for field, part in zip(message.fields, element.entries("field")):
-            yield field_line(field, part)
+            yield field_line(field, part, self.is_whole)
         for _, extension in self.of_kind("extension"):
             linked = self.pool.FindExtensionByName(extension.full_name)
             if linked.containing_type is message:
                 yield f"  extended {linked.full_name} = {linked.number}"
+        yield from self._reserved(message, descriptor_records().DescriptorProto())
 
     def _enum(self, file_name: str, element: Element) -> Iterator[str]:
         """An enum and its values."""
         enum = self.pool.FindEnumTypeByName(element.full_name)
         yield head(file_name, element)
         yield from parent(enum.containing_type)
+        yield from self._deprecated(enum)
         if enum.GetOptions().allow_alias:
             yield "  allow_alias"
         for value, part in zip(enum.values, element.entries("value")):
-            yield f"  value {part.full_name} = {value.number} {list(part.path)}"
+            told = f"  value {part.full_name} = {value.number} {list(part.path)}"
+            yield told + self._deprecated_word(value)
+        yield from self._reserved(enum, descriptor_records().EnumDescriptorProto())
 
     def _service(self, file_name: str, element: Element) -> Iterator[str]:
         """A service and its methods."""
         service = self.pool.FindServiceByName(element.full_name)
+        record = descriptor_records().ServiceDescriptorProto()
+        service.CopyToProto(record)
         yield head(file_name, element)
-        for method, part in zip(service.methods, element.entries("method")):
-            types = f"({method.input_type.full_name}) returns ({method.output_type.full_name})"
-            yield f"  rpc {method.full_name} {types} {list(part.path)}"
+        yield from self._deprecated(service)
+        parts = zip(service.methods, element.entries("method"), record.method)
+        for method, part, told in parts:
+            taken = "stream " * (self.is_whole and told.client_streaming)
+            given = "stream " * (self.is_whole and told.server_streaming)
+            types = f"({taken}{method.input_type.full_name}) returns "
+            types += f"({given}{method.output_type.full_name})"
+            words = f"  rpc {method.full_name} {types} {list(part.path)}"
+            yield words + self._deprecated_word(method)
 
     def _extension(self, file_name: str, element: Element) -> Iterator[str]:
         """An extension: what it extends, and what it is as a field."""
@@ -223,7 +259,31 @@ class PoolText:
         words = f"  extends {extension.containing_type.full_name} = {extension.number}"
         words += f" {kind_words(extension)}" + " packed" * is_packed(extension, element.record)
         words += f" json_name [{extension.full_name}]"
-        yield words + default_words(extension, element.record)
+        words += default_words(extension, element.record)
+        yield words + self._deprecated_word(extension)
+
+    def _is_deprecated(self, linked: DescriptorBase) -> bool:
+        """Whether the options of a linked descriptor say so, where that is told."""
+        return self.is_whole and bool(linked.GetOptions().deprecated)
+
+    def _deprecated_word(self, linked: DescriptorBase) -> str:
+        """That a part is deprecated, behind what is told of it."""
+        return " deprecated" * self._is_deprecated(linked)
+
+    def _deprecated(self, linked: DescriptorBase) -> Iterator[str]:
+        """That an item is deprecated."""
+        if self._is_deprecated(linked):
+            yield "  deprecated"
+
+    def _reserved(
+        self,
+        linked: Descriptor | EnumDescriptor,
+        record: DescriptorProto | EnumDescriptorProto,
+    ) -> Iterator[str]:
+        """The names that a message or an enum reserves, of which it makes a record."""
+        linked.CopyToProto(record)
+        for name in record.reserved_name if self.is_whole else ():
+            yield f"  reserved_name {alone(name)}"
 
 
 def head(file_name: str, element: Element) -> str:
@@ -245,9 +305,9 @@ def script_lines(files: list[FileDescriptorProto]) -> Iterator[str]:
     yield "link"
 
 
-def text_bytes(files: list[FileDescriptorProto]) -> bytes:
-    """The text of a row: what the pool counts, and what it has."""
-    text = PoolText(files)
+def text_bytes(files: list[FileDescriptorProto], is_whole: bool) -> bytes:
+    """The text of a row, or of sources: what the pool counts, and what it has."""
+    text = PoolText(files, is_whole)
     return script_bytes([text.counts_line(), *map(plain, text.lines())])
 
 
@@ -256,7 +316,7 @@ def made() -> Iterator[tuple[Path, bytes]]:
     for source in sorted(ROWS.glob("*.proto")):
         files = compiled_files([str(source)], [str(ROWS), str(ROWS / "imported")])
         yield source.with_suffix(".script"), script_bytes(script_lines(files))
-        yield source.with_suffix(".text"), text_bytes(files)
+        yield source.with_suffix(".text"), text_bytes(files, is_whole=False)
 
 
 def compare() -> bool:
@@ -283,7 +343,8 @@ def main() -> None:
     arguments = parser.parse_args()
     try:
         if arguments.what == "text":
-            write_output(text_bytes(compiled_files(arguments.sources, arguments.directories)))
+            files = compiled_files(arguments.sources, arguments.directories)
+            write_output(text_bytes(files, is_whole=True))
         elif arguments.what == "write":
             for path, data in made():
                 path.write_bytes(data)

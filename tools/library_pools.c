@@ -66,6 +66,100 @@ static int add_both(const protolink_pool *pool)
     return status;
 }
 
+static int is_added(const protolink_pool *pool, uint64_t files, uint64_t passed, uint64_t differing)
+{
+    protolink_added added;
+    protolink_pool_added(pool, &added);
+    return added.files == files && added.passed_over == passed && added.differing == differing;
+}
+
+/* What became of files: of those that were linked, and of those that the pool had, of which one may
+   differ; nothing where files were refused, and of a copy. */
+static int tell_what_became(const protolink_pool *pool)
+{
+    protolink_pool other = PROTOLINK_POOL_EMPTY, copy = PROTOLINK_POOL_EMPTY;
+    uint8_t set[1024];
+    size_t length;
+    WANT(is_added(&other, 0, 0, 0));
+    WANT(protolink_pool_linked(pool, set, sizeof set, &length) == PROTOLINK_DONE);
+    WANT(protolink_pool_add_set(&other, set, length) == PROTOLINK_DONE);
+    WANT(is_added(&other, 2, 0, 0));
+    WANT(protolink_pool_clone(&other, &copy) == PROTOLINK_DONE && is_added(&copy, 0, 0, 0));
+    protolink_pool_clear(&copy);
+    WANT(protolink_pool_add_set(&other, set, length) == PROTOLINK_DONE);
+    WANT(is_added(&other, 0, 2, 0));
+    WANT(add(&other, "file b.proto\nimport a.proto\nend\nfile f.proto\nend\n") == PROTOLINK_DONE);
+    WANT(is_added(&other, 1, 1, 1));
+    WANT(add(&other, refused) == PROTOLINK_REFUSED && is_added(&other, 0, 0, 0));
+    protolink_pool_clear(&other);
+    WANT(protolink_pool_add_set(&other, NULL, 0) == PROTOLINK_DONE && is_added(&other, 0, 0, 0));
+    protolink_pool_clear(&other);
+    return 0;
+}
+
+/* A file twice counts once; two of one name that differ are told as one fault, and so is a third. */
+static int add_twice(void)
+{
+    protolink_pool pool = PROTOLINK_POOL_EMPTY;
+    static const char twice[] =
+        "file t.proto\nmessage M\nend\nat 4,0 1,2,3\nend\nfile u.proto\nend\n"
+        "file t.proto\nmessage M\nend\nend\n";
+    char thrice[512];
+    strcat(strcpy(thrice, twice), "file t.proto\nmessage N\nend\nend\n");
+    WANT(add(&pool, thrice) == PROTOLINK_REFUSED && is_added(&pool, 0, 0, 0));
+    WANT(is_told(&pool, "\"code\":\"UnequalFile\",\"message\":\"file 1 and file 4 have unequal "
+                        "copies: message 1 'M'\""));
+    WANT(is_told(&pool, "\"faults\":[{") && is_told(&pool, "\"more\":0,\"error\":null"));
+    WANT(!is_told(&pool, "Duplicate"));
+    WANT(add(&pool, twice) == PROTOLINK_DONE && is_added(&pool, 2, 0, 0));
+    WANT(add(&pool, twice) == PROTOLINK_DONE && is_added(&pool, 0, 2, 0));
+    protolink_pool_clear(&pool);
+    return 0;
+}
+
+/* What a pool changes of an older one: a part of the object of JSON. */
+static int is_changed(
+    const protolink_pool *pool, const protolink_pool *older, uint32_t level, const char *part)
+{
+    static char text[16384];
+    size_t length, needed;
+    uint8_t *front = (uint8_t *)text;
+    if (protolink_pool_changes(pool, older, level, NULL, 0, &needed) != PROTOLINK_SHORT)
+        return 0;
+    if (protolink_pool_changes(pool, older, level, front, needed, &length) != PROTOLINK_DONE)
+        return 0;
+    text[length] = 0;
+    return length == needed && strstr(text, part) != NULL;
+}
+
+static const char older[] =
+    "file o.proto\npackage o\nmessage M\nfield f 1 optional int64 ~ ~\njson f\nend\nend\n";
+static const char newer[] =
+    "file o.proto\npackage o\nmessage M\nfield g 1 optional int32 ~ ~\njson g\nend\nend\n";
+
+static int tell_changes(void)
+{
+    protolink_pool old_pool = PROTOLINK_POOL_EMPTY, new_pool = PROTOLINK_POOL_EMPTY;
+    size_t length = 7;
+    WANT(add(&old_pool, older) == PROTOLINK_DONE && add(&new_pool, newer) == PROTOLINK_DONE);
+    WANT(is_changed(&new_pool, &old_pool, PROTOLINK_LEVEL_WIRE, "\"count\":1,\"more\":0"));
+    WANT(is_changed(&new_pool, &old_pool, PROTOLINK_LEVEL_WIRE, "'o.M.g' (1): int64 became int32"));
+    WANT(is_changed(&new_pool, &old_pool, PROTOLINK_LEVEL_WIRE, "\"against\":\"the older pool\""));
+    WANT(is_changed(&new_pool, &old_pool, PROTOLINK_LEVEL_JSON, "\"count\":2,\"more\":0"));
+    WANT(is_changed(&old_pool, &new_pool, PROTOLINK_LEVEL_WIRE, "\"changes\":[],\"verdict\""));
+    WANT(is_changed(&new_pool, &new_pool, PROTOLINK_LEVEL_SOURCE, "\"changes\":[],\"verdict\""));
+    WANT(protolink_pool_limit_faults(&new_pool, 1) == PROTOLINK_DONE);
+    WANT(is_changed(&new_pool, &old_pool, PROTOLINK_LEVEL_JSON, "\"count\":2,\"more\":1"));
+    WANT(protolink_pool_changes(&new_pool, &old_pool, 3, NULL, 0, &length)
+         == PROTOLINK_NOT_FOUND);
+    WANT(length == 7);
+    protolink_pool_clear(&new_pool);
+    WANT(is_changed(&new_pool, &old_pool, PROTOLINK_LEVEL_WIRE, "\"count\":0"));
+    WANT(is_changed(&new_pool, &old_pool, PROTOLINK_LEVEL_SOURCE, "message-removed"));
+    protolink_pool_clear(&old_pool);
+    return 0;
+}
+
 /* Null pointers beside lengths of 0: nothing to read, and no room. */
 static int pass_null(const protolink_pool *pool)
 {
@@ -162,6 +256,12 @@ static int one_pool(void)
         status = hand_over(&copy);
     if (status == 0)
         status = add_both(&copy);
+    if (status == 0)
+        status = tell_what_became(&copy);
+    if (status == 0)
+        status = tell_changes();
+    if (status == 0)
+        status = add_twice();
     if (status == 0)
         status = pass_null(&copy);
     WANT(protolink_pool_clone(&copy, &copy) == PROTOLINK_DONE);

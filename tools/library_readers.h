@@ -109,8 +109,11 @@ static int read_records(const protolink_pool *pool)
 /* The reports behind a batch that was accepted. */
 static int read_reports(const protolink_pool *pool)
 {
+    protolink_added added;
     WANT_TEXT(protolink_pool_report(pool, text, 64, &length), "");
     WANT_TEXT(protolink_pool_report_json(pool, text, 64, &length), "");
+    protolink_pool_added(pool, &added);
+    WANT(added.differing == 0);
     return 0;
 }
 

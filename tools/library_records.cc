@@ -80,8 +80,10 @@ int read_pools(Pool *pool)
 {
     std::optional<Pool> copy = pool->clone();
     WANT(copy && copy->counts().files == pool->counts().files);
+    WANT(copy->changes(*pool, Level::source)->find("\"changes\":[]") != std::string::npos);
     Pool other = std::move(*copy);
     WANT(other.add_set(*pool->linked()) == Status::done && other.report().empty());
+    WANT(other.added().passed_over == pool->counts().files && other.added().differing == 0);
     WANT(other.limit_faults(1) == Status::done);
     WANT(other.add_script("file x.proto\nimport y.proto\nend\n") == Status::refused);
     WANT(!other.report().empty() && other.report_json().front() == '{');

@@ -87,6 +87,11 @@ static int add_broken(protolink_pool *pool)
     return add(pool, broken);
 }
 
+static int add_unequal(protolink_pool *pool)
+{
+    return add(pool, "file d.proto\nend\nfile d.proto\nend\nfile d.proto\npackage d\nend\n");
+}
+
 static int add_nonsense(protolink_pool *pool)
 {
     return add(pool, "file d.proto\nnonsense\n");
@@ -137,6 +142,16 @@ static int method_by_name(protolink_pool *pool)
 {
     uint32_t position;
     return protolink_method_by_name(pool, 0, (const uint8_t *)"U", 1, &position);
+}
+
+/* What an empty pool changes of the pool. */
+static int changes(protolink_pool *pool)
+{
+    protolink_pool none = PROTOLINK_POOL_EMPTY;
+    static uint8_t buffer[16384];
+    size_t length;
+    return protolink_pool_changes(
+        &none, pool, PROTOLINK_LEVEL_SOURCE, buffer, sizeof buffer, &length);
 }
 
 static int has(protolink_pool *pool, const char *name)
@@ -198,6 +213,7 @@ static const struct trial {
     { "add_file", add_file, PROTOLINK_DONE, 1 },
     { "add_script", add_second, PROTOLINK_DONE, 1 },
     { "add_script, refused", add_broken, PROTOLINK_REFUSED, 0 },
+    { "add_script, unequal files", add_unequal, PROTOLINK_REFUSED, 0 },
     { "add_script, a fault", add_nonsense, PROTOLINK_FAULT, 0 },
     { "add_set, a fault", add_no_set, PROTOLINK_FAULT, 0 },
     { "linked", linked, PROTOLINK_DONE, 0 },
@@ -206,6 +222,7 @@ static const struct trial {
     { "file_items", file_items, PROTOLINK_DONE, 0 },
     { "message_items", message_items, PROTOLINK_DONE, 0 },
     { "method_by_name", method_by_name, PROTOLINK_DONE, 0 },
+    { "changes", changes, PROTOLINK_DONE, 0 },
     { "clone", clone, PROTOLINK_DONE, 0 },
     { "clone into a full pool", clone_into_a_full_one, PROTOLINK_DONE, 0 },
     { "limit_faults", limit_faults, PROTOLINK_DONE, 0 },

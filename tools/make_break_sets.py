@@ -1549,6 +1549,23 @@ file { name: "a.proto" dependency: "b.proto" public_dependency: 7 public_depende
 """Indexes of imports and of oneofs that are no positions, in two files."""
 
 
+DEPRECATED = """
+file { name: "d.proto" options { deprecated: true }
+    message_type { name: "M" options { deprecated: true } reserved_name: "old"
+        reserved_name: "gone\\n" extension_range { start: 5 end: 6 }
+        field { name: "f" number: 1 type: TYPE_BOOL options { deprecated: true } } }
+    enum_type { name: "E" options { deprecated: true } reserved_name: "OLD"
+        value { name: "V" number: 0 options { deprecated: true } }
+        value { name: "W" number: 1 } }
+    service { name: "S" options { deprecated: true }
+        method { name: "m" input_type: "M" output_type: "M" client_streaming: true
+            options { deprecated: true } }
+        method { name: "n" input_type: "M" output_type: "M" server_streaming: true } }
+    extension { name: "x" number: 5 extendee: "M" type: TYPE_BOOL options { deprecated: true } } }
+"""
+"""An item of each kind that is deprecated, and methods that stream."""
+
+
 def small_set(text: str) -> bytes:
     """A set that is written in protobuf's text format."""
     files = text_format.Parse(text, descriptor_pb2.FileDescriptorSet())
@@ -1619,6 +1636,7 @@ def run_sets() -> dict[str, bytes]:
         "second-pass": small_set(SECOND_PASS),
         "odd-names": small_set(ODD_NAMES),
         "line-feeds": small_set(LINE_FEEDS),
+        "deprecated": small_set(DEPRECATED),
         "defaults": small_set(DEFAULTS),
         "files-of-one-name": small_set(FILES_OF_ONE_NAME),
         "names-with-dots": small_set(NAMES_WITH_DOTS),

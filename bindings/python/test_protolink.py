@@ -500,6 +500,52 @@ class Pools(unittest.TestCase):
         with self.assertRaises(protolink.Unreadable):
             together.add_files([b"\x0a\x05"])
 
+    def test_what_became_of_files_is_told(self) -> None:
+        pool = shop()
+        linked = pool.linked()
+        self.assertEqual(pool.add_set(linked), (0, 2, 0))
+        script = "file c.proto\nend\nfile shop/base.proto\nend\n"
+        self.assertEqual(pool.add_script(script), (1, 1, 1))
+        again = protolink.Pool()
+        added = again.add_file(pool.linked_file(1))
+        self.assertEqual((added.files, added.passed_over, added.differing), (1, 0, 0))
+        self.assertEqual(again.add_set(linked), (1, 1, 0))
+        self.assertEqual(again.add_files([]), protolink.Added(0, 0, 0))
+        self.assertEqual(again.add_set(b""), protolink.Added(0, 0, 0))
+
+    def test_a_file_twice_counts_once(self) -> None:
+        pool = protolink.Pool()
+        file = shop().linked_file(1)
+        self.assertEqual(pool.add_files([file, file]), (1, 0, 0))
+        with self.assertRaises(protolink.Refused) as refused:
+            pool.add_script("file a.proto\nend\nfile a.proto\npackage p\nend\n")
+        (fault,) = refused.exception.faults
+        self.assertEqual((fault.code, fault.file), ("UnequalFile", "a.proto"))
+        self.assertEqual(fault.message, "file 1 and file 2 have unequal copies: package")
+
+    def test_what_a_pool_changes_of_an_older_one_is_told(self) -> None:
+        def pool_of(field: str) -> protolink.Pool:
+            pool = protolink.Pool()
+            pool.add_script(f"file a.proto\npackage p\nmessage M\n{field} ~ ~\nend\nend\n")
+            return pool
+
+        older = pool_of("field id 1 optional int64")
+        new = pool_of("field key 1 optional int32")
+        (change,) = new.changes(older)
+        self.assertEqual((change.level, change.fault.code), ("wire", "field-kind"))
+        self.assertEqual(str(change), "a.proto: p.M.key: 'p.M.key' (1): int64 became int32")
+        self.assertEqual(change.fault.related[0].path, [4, 0, 2, 0])
+        at_json = new.changes(older, level="json")
+        self.assertEqual((at_json[0], at_json.more), (change, 0))
+        self.assertEqual([change.level for change in at_json], ["wire", "json"])
+        self.assertEqual(older.changes(new), [])
+        self.assertEqual(new.changes(new, "source"), [])
+        new.limit_faults(1)
+        limited = new.changes(older, "json")
+        self.assertEqual((limited, limited.more), ([change], 1))
+        with self.assertRaises(ValueError):
+            new.changes(older, "bytes")
+
     def test_a_path_is_read(self) -> None:
         with tempfile.TemporaryDirectory() as room:
             path = Path(room) / "set.pb"

@@ -17,7 +17,7 @@ file, else where the system finds it. Without it the import raises an ImportErro
 a pool: calls on it wait for one another.
 """
 
-from ._library import KINDS, LABELS, SONAME, TYPES, version
+from ._library import KINDS, LABELS, LEVELS, SONAME, TYPES, version
 from .descriptors import (
     Descriptor,
     EnumDescriptor,
@@ -30,14 +30,18 @@ from .descriptors import (
     OneofDescriptor,
     ServiceDescriptor,
 )
-from .faults import Error, Fault, Place, Refused, TooMany, Unreadable
-from .pool import Counts, Definition, Pool
+from .faults import Change, Changes, Error, Fault, Place, Refused, TooMany, Unreadable
+from .pool import Added, Counts, Definition, Pool
 
 __all__ = [
     "KINDS",
     "LABELS",
+    "LEVELS",
     "SONAME",
     "TYPES",
+    "Added",
+    "Change",
+    "Changes",
     "Counts",
     "Definition",
     "Descriptor",

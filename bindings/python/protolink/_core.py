@@ -22,6 +22,7 @@ from ._library import (
     ExtensionInfo,
     MessageInfo,
     Range,
+    RawAdded,
     RawCounts,
     RawPool,
     ServiceInfo,
@@ -35,6 +36,9 @@ if TYPE_CHECKING:
 
 FIRST_ROOM = 256
 """How long a text may be that is had by one call."""
+
+FIRST_CHANGES = 16384
+"""How long the text of changes may be that is had by one call. Each call makes it anew."""
 
 I = TypeVar("I")
 
@@ -90,12 +94,14 @@ class Core:
             lib.pool_clear(self._at)
             self._below = {}
 
-    def add(self, call: Callable[..., int], data: bytes, *more: object) -> None:
-        """Links files, or raises why they are not linked."""
+    def add(self, call: Callable[..., int], data: bytes, *more: object) -> RawAdded:
+        """Links files and answers what became of them, or raises why they are not linked."""
+        added = RawAdded()
         with self._alone():
             status = call(self._at, data, len(data), *more)
             if status == DONE:
-                return
+                lib.pool_added(self._at, added)
+                return added
             if status == NO_MEMORY:
                 raise MemoryError
             told = json.loads(self.written(lib.pool_report_json))
@@ -141,14 +147,26 @@ class Core:
         """The linked files."""
         return self.written(lib.pool_linked, read=self.read_long)
 
+    def changes(self, older: Core, level: int) -> bytes:
+        """What the pool changes of an older one, as an object of JSON."""
+
+        def read(call: Callable[..., int], *told: object) -> int:
+            def with_older(view: object, *rest: object) -> int:
+                return self.read_long(call, view, *rest)
+
+            return older.read_long(with_older, *told)
+
+        return self.written(lib.pool_changes, level, read=read, room=FIRST_CHANGES)
+
     def written(
         self,
         call: Callable[..., int],
         *before: object,
         read: Optional[Callable[..., int]] = None,
+        room: int = FIRST_ROOM,
     ) -> bytes:
         """What a call writes to a buffer. Raises an IndexError where the pool does not have it."""
-        room, length = FIRST_ROOM, ctypes.c_size_t()
+        length = ctypes.c_size_t()
         while True:
             buffer = (ctypes.c_uint8 * room)()
             status = (read or self.read)(call, *before, buffer, room, length)

@@ -39,6 +39,9 @@ TYPES = (
 LABELS = ("optional", "required", "repeated")
 """How often a field stands in a message, by the library's numbers from 1."""
 
+LEVELS = ("wire", "json", "source")
+"""At which level two pools are compared, by the library's numbers."""
+
 NONE = 2**32 - 1
 """Where an index may be missing: none."""
 
@@ -65,6 +68,14 @@ class RawCounts(ctypes.Structure):
         ("enums", ctypes.c_uint32),
         ("services", ctypes.c_uint32),
         ("extensions", ctypes.c_uint32),
+    ]
+
+
+class RawAdded(ctypes.Structure):
+    _fields_ = [
+        ("files", ctypes.c_uint64),
+        ("passed_over", ctypes.c_uint64),
+        ("differing", ctypes.c_uint64),
     ]
 
 
@@ -204,6 +215,7 @@ _CALLS = {
         (_POOL, *_BYTES, ctypes.POINTER(ctypes.c_size_t), ctypes.c_size_t),
     ),
     "protolink_pool_add_script": (_STATUS, (_POOL, *_BYTES)),
+    "protolink_pool_added": (None, (_POOL, ctypes.POINTER(RawAdded))),
     "protolink_pool_report": (_STATUS, (_POOL, *_BUFFER)),
     "protolink_pool_report_json": (_STATUS, (_POOL, *_BUFFER)),
     "protolink_pool_limit_faults": (_STATUS, (_POOL, ctypes.c_size_t)),
@@ -213,6 +225,7 @@ _CALLS = {
     "protolink_pool_find_path": (_STATUS, (_POOL, *_BYTES, *_PATH)),
     "protolink_pool_counts": (None, (_POOL, ctypes.POINTER(RawCounts))),
     "protolink_pool_extension": (_STATUS, (_POOL, _INDEX, _INDEX, _NUMBER)),
+    "protolink_pool_changes": (_STATUS, (_POOL, _POOL, _INDEX, *_BUFFER)),
     "protolink_pool_clone": (_STATUS, (_POOL, _POOL)),
     "protolink_pool_clear": (None, (_POOL,)),
     "protolink_file": (_STATUS, (_POOL, _INDEX, ctypes.POINTER(FileInfo))),
@@ -260,7 +273,7 @@ _CALLS = {
 _LONG = {
     *("protolink_pool_add_set", "protolink_pool_add_file", "protolink_pool_add_files"),
     *("protolink_pool_add_script", "protolink_pool_linked", "protolink_pool_clone"),
-    "protolink_pool_clear",
+    *("protolink_pool_changes", "protolink_pool_clear"),
 }
 """The calls that may take long, and let other threads of the interpreter run."""
 

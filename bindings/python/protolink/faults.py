@@ -2,9 +2,10 @@
 
 from __future__ import annotations
 
+from collections.abc import Iterable
 from typing import Any, NamedTuple, Optional
 
-__all__ = ["Error", "Fault", "Place", "Refused", "TooMany", "Unreadable"]
+__all__ = ["Change", "Changes", "Error", "Fault", "Place", "Refused", "TooMany", "Unreadable"]
 
 
 class Error(Exception):
@@ -51,6 +52,26 @@ class Fault(NamedTuple):
         return f"{self.file}:{element} {self.message}"
 
 
+class Change(NamedTuple):
+    """What a pool changes of an older one: its own level, one of `LEVELS`, and its kind, text and
+    places, of which the second is that in the older pool."""
+
+    level: str
+    fault: Fault
+
+    def __str__(self) -> str:
+        return str(self.fault)
+
+
+class Changes(list[Change]):
+    """Changes in order, a hundred of them or as many as `Pool.limit_faults` has set; `more` is how
+    many more there are."""
+
+    def __init__(self, changes: Iterable[Change] = (), more: int = 0) -> None:
+        super().__init__(changes)
+        self.more = more
+
+
 class Refused(Error):
     """Files break rules: `faults` are those of the first pass that finds any, in order, a hundred
     of them or as many as `Pool.limit_faults` has set, and `more` is how many more there are."""
@@ -72,3 +93,9 @@ def fault_of(told: dict[str, Any]) -> Fault:
     members: dict[str, Any] = {name: told[name] for name in Fault._fields}
     members["related"] = [place_of(place) for place in told["related"]]
     return Fault(**members)
+
+
+def changes_of(told: dict[str, Any]) -> Changes:
+    """The changes of a report of JSON, in which one pool was compared with one other."""
+    changes = (Change(change["level"], fault_of(change)) for change in told["changes"])
+    return Changes(changes, told["compared"][0]["more"])

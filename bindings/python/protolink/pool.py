@@ -11,7 +11,7 @@ from pathlib import Path
 from typing import Any, NamedTuple, Optional, Protocol, TypeVar, Union, cast
 
 from ._core import Core, name_bytes
-from ._library import KINDS, NONE, Item, lib
+from ._library import KINDS, LEVELS, NONE, Item, lib
 from ._names import Found
 from ._records import name_of
 from .descriptors import (
@@ -26,9 +26,9 @@ from .descriptors import (
     OneofDescriptor,
     ServiceDescriptor,
 )
-from .faults import Fault, fault_of
+from .faults import Changes, Fault, changes_of, fault_of
 
-__all__ = ["Buffer", "Counts", "Definition", "Message", "Pool", "pool_of"]
+__all__ = ["Added", "Buffer", "Counts", "Definition", "Message", "Pool", "pool_of"]
 
 Buffer = Union[bytes, bytearray, memoryview]
 """What bytes may be handed over in."""
@@ -59,6 +59,16 @@ class Counts(NamedTuple):
     enums: int
     services: int
     extensions: int
+
+
+class Added(NamedTuple):
+    """What became of the files that were to be linked: how many were linked, how many were passed
+    over since the pool had a file of their name, and how many of those differ from the pool's
+    linked file, apart from their source info."""
+
+    files: int
+    passed_over: int
+    differing: int
 
 
 class Definition(NamedTuple):
@@ -136,27 +146,32 @@ class Pool:
 
     # Files go in
 
-    def add_set(self, data: Union[Buffer, os.PathLike[str], Message]) -> None:
+    def add_set(self, data: Union[Buffer, os.PathLike[str], Message]) -> Added:
         """Links the files of a FileDescriptorSet in one batch: of its bytes, of the file at a path,
-        or of a message of protobuf's package. Those whose names the pool has are passed over unread.
-        Raises an `Error` where they are not linked."""
-        self._core.add(lib.pool_add_set, bytes_of(data, "FileDescriptorSet"))
+        or of a message of protobuf's package. Those whose names the pool has are passed over, also
+        where they are others: the answer tells how many differ. Raises an `Error` where they are not
+        linked."""
+        return self._add(lib.pool_add_set, bytes_of(data, "FileDescriptorSet"))
 
-    def add_file(self, data: Union[Buffer, os.PathLike[str], Message]) -> None:
+    def add_file(self, data: Union[Buffer, os.PathLike[str], Message]) -> Added:
         """Links the file of a FileDescriptorProto, as `add_set` does."""
-        self._core.add(lib.pool_add_file, bytes_of(data, "FileDescriptorProto"))
+        return self._add(lib.pool_add_file, bytes_of(data, "FileDescriptorProto"))
 
-    def add_files(self, files: Iterable[Union[Buffer, os.PathLike[str], Message]]) -> None:
+    def add_files(self, files: Iterable[Union[Buffer, os.PathLike[str], Message]]) -> Added:
         """Links the files of several FileDescriptorProtos in one batch and in any order, as
         `add_set` does."""
         records = [bytes_of(file, "FileDescriptorProto") for file in files]
         lens = (ctypes.c_size_t * len(records))(*map(len, records))
-        self._core.add(lib.pool_add_files, b"".join(records), lens, len(records))
+        return self._add(lib.pool_add_files, b"".join(records), lens, len(records))
 
-    def add_script(self, script: Union[str, Buffer]) -> None:
+    def add_script(self, script: Union[str, Buffer]) -> Added:
         """Links the files that a script of lines declares, as `add_set` does."""
         data = script.encode() if isinstance(script, str) else bytes_of(script, "script")
-        self._core.add(lib.pool_add_script, data)
+        return self._add(lib.pool_add_script, data)
+
+    def _add(self, call: Callable[..., int], data: bytes, *more: object) -> Added:
+        added = self._core.add(call, data, *more)
+        return Added(*(getattr(added, name) for name in Added._fields))
 
     def limit_faults(self, most: int) -> None:
         """Sets how many faults are told at most where files break rules, from the next call on: a
@@ -180,6 +195,14 @@ class Pool:
         them."""
         text = self.report_json()
         return [fault_of(fault) for fault in json.loads(text)["faults"]] if text else []
+
+    def changes(self, older: Pool, level: str = "wire") -> Changes:
+        """What the pool changes of an older one: where a reader of its files reads otherwise what a
+        writer of the older ones writes, or not at all, and more at the higher levels of `LEVELS`. To
+        ask what an older reader reads of what a new writer writes, the two change places."""
+        if level not in LEVELS:
+            raise ValueError(f"{level!r} is none of the levels")
+        return changes_of(json.loads(self._core.changes(older._core, LEVELS.index(level))))
 
     def clone(self) -> Pool:
         """A pool with equal contents, which shares nothing with this one."""

@@ -10,7 +10,7 @@ fn main() -> Result<(), Box<dyn Error>> {
     let mut pool = DescriptorPool::new();
     for name in env::args_os().skip(1) {
         match pool.decode_file_descriptor_set(fs::read(name)?) {
-            Ok(()) => {}
+            Ok(_) => {}
             Err(DescriptorError::Refused(faults)) => {
                 for fault in &faults {
                     eprintln!("{fault}\n  note: {}", fault.note);

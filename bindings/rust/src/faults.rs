@@ -83,7 +83,7 @@ pub struct Place {
 }
 
 impl Fault {
-    fn new(value: &Value) -> Fault {
+    pub(crate) fn new(value: &Value) -> Fault {
         let place = Place::new(value);
         let related = value.member("related").map_or(&[][..], Value::items);
         Fault {

@@ -46,6 +46,14 @@ pub struct Counts {
 
 #[repr(C)]
 #[derive(Clone, Copy, Default)]
+pub struct Added {
+    pub files: u64,
+    pub passed_over: u64,
+    pub differing: u64,
+}
+
+#[repr(C)]
+#[derive(Clone, Copy, Default)]
 pub struct FileInfo {
     pub syntax: u32,
     pub imports: u64,
@@ -179,6 +187,10 @@ pub const NO_MEMORY: u8 = 3;
 pub const SHORT: u8 = 4;
 pub const TOO_MANY: u8 = 5;
 
+pub const LEVEL_WIRE: u32 = 0;
+pub const LEVEL_JSON: u32 = 1;
+pub const LEVEL_SOURCE: u32 = 2;
+
 pub const MESSAGE: u32 = 1;
 pub const FIELD: u32 = 2;
 pub const ONEOF: u32 = 3;
@@ -201,6 +213,7 @@ extern "C" {
     ) -> u8;
     pub fn protolink_pool_add_script(pool: *mut Pool, script: *const u8, len: usize) -> u8;
     pub fn protolink_pool_limit_faults(pool: *mut Pool, most: usize) -> u8;
+    pub fn protolink_pool_added(pool: *mut Pool, added: *mut Added);
     pub fn protolink_pool_report(
         pool: *mut Pool,
         buffer: *mut u8,
@@ -247,6 +260,14 @@ extern "C" {
         message: u32,
         number: u32,
         extension: *mut u32,
+    ) -> u8;
+    pub fn protolink_pool_changes(
+        pool: *mut Pool,
+        older: *mut Pool,
+        level: u32,
+        buffer: *mut u8,
+        room: usize,
+        length: *mut usize,
     ) -> u8;
     pub fn protolink_pool_clone(pool: *mut Pool, copy: *mut Pool) -> u8;
     pub fn protolink_pool_clear(pool: *mut Pool);

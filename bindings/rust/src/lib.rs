@@ -12,7 +12,7 @@
 //! #     \x0a\x02id\x18\x01\x20\x01\x28\x05";
 //! let mut pool = DescriptorPool::new();
 //! match pool.decode_file_descriptor_set(set) {
-//!     Ok(()) => {}
+//!     Ok(added) => println!("{} files, {} passed over", added.files, added.passed_over),
 //!     Err(DescriptorError::Refused(faults)) => {
 //!         for fault in &faults {
 //!             eprintln!("{fault}");
@@ -34,6 +34,7 @@
 
 #![warn(missing_docs)]
 
+mod changes;
 mod descriptors;
 mod faults;
 mod ffi;
@@ -46,13 +47,14 @@ mod raw;
 mod records;
 mod shared;
 
+pub use changes::{Change, Changes, Level};
 pub use descriptors::{
     EnumDescriptor, EnumValueDescriptor, ExtensionDescriptor, FieldDescriptor, FileDescriptor,
     MessageDescriptor, MethodDescriptor, OneofDescriptor, ServiceDescriptor,
 };
 pub use faults::{DescriptorError, Fault, Faults, OutOfMemory, Place};
 pub use kinds::{Cardinality, Kind, Location, Syntax, Value};
-pub use pool::{Counts, Definition, DescriptorPool, Found};
+pub use pool::{Added, Counts, Definition, DescriptorPool, Found};
 
 /// The code of `README.md`, which is compiled with the tests.
 #[cfg(doctest)]

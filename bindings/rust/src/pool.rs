@@ -1,12 +1,13 @@
 //! The pool.
 
+use crate::changes::{Changes, Level};
 use crate::descriptors::{
     EnumDescriptor, EnumValueDescriptor, ExtensionDescriptor, FieldDescriptor, FileDescriptor,
     MessageDescriptor, MethodDescriptor, OneofDescriptor, ServiceDescriptor,
 };
 use crate::faults::{DescriptorError, OutOfMemory};
 use crate::ffi;
-use crate::raw::{version, Added, RawPool};
+use crate::raw::{version, Ended, RawPool};
 use crate::shared::Shared;
 use std::fmt;
 use std::hash::{Hash, Hasher};
@@ -45,6 +46,18 @@ pub struct Counts {
     pub services: u32,
     /// Extensions, nested ones too.
     pub extensions: u32,
+}
+
+/// What became of the files that were to be linked.
+#[derive(Debug, Clone, Copy, PartialEq, Eq, Hash)]
+#[non_exhaustive]
+pub struct Added {
+    /// How many were linked: the pool lacked their names.
+    pub files: u64,
+    /// How many were passed over: the pool had a file of their name.
+    pub passed_over: u64,
+    /// How many of those differ from the pool's linked file, apart from their source info.
+    pub differing: u64,
 }
 
 /// What a full name means.
@@ -101,26 +114,26 @@ impl DescriptorPool {
     }
 
     /// Links the files of a `FileDescriptorSet`, in one batch. Those whose names the pool has are
-    /// passed over unread.
+    /// passed over, also where they are others: the answer tells how many differ.
     ///
     /// # Errors
     /// Why they are not linked. The pool is then what it was.
     pub fn decode_file_descriptor_set(
         &mut self,
         bytes: impl AsRef<[u8]>,
-    ) -> Result<(), DescriptorError> {
+    ) -> Result<Added, DescriptorError> {
         self.add(|raw| raw.add_set(bytes.as_ref()))
     }
 
     /// Links the file of a `FileDescriptorProto`, as a batch of its own. Where the pool has a file
-    /// of its name, it is passed over unread.
+    /// of its name, it is passed over.
     ///
     /// # Errors
     /// Why it is not linked. The pool is then what it was.
     pub fn decode_file_descriptor_proto(
         &mut self,
         bytes: impl AsRef<[u8]>,
-    ) -> Result<(), DescriptorError> {
+    ) -> Result<Added, DescriptorError> {
         self.add(|raw| raw.add_file(bytes.as_ref()))
     }
 
@@ -132,7 +145,7 @@ impl DescriptorPool {
     pub fn add_file_descriptor_set(
         &mut self,
         bytes: impl AsRef<[u8]>,
-    ) -> Result<(), DescriptorError> {
+    ) -> Result<Added, DescriptorError> {
         self.decode_file_descriptor_set(bytes)
     }
 
@@ -144,7 +157,7 @@ impl DescriptorPool {
     pub fn add_file_descriptor_proto(
         &mut self,
         bytes: impl AsRef<[u8]>,
-    ) -> Result<(), DescriptorError> {
+    ) -> Result<Added, DescriptorError> {
         self.decode_file_descriptor_proto(bytes)
     }
 
@@ -153,7 +166,7 @@ impl DescriptorPool {
     ///
     /// # Errors
     /// Why they are not linked. The pool is then what it was.
-    pub fn add_file_descriptor_protos<I>(&mut self, files: I) -> Result<(), DescriptorError>
+    pub fn add_file_descriptor_protos<I>(&mut self, files: I) -> Result<Added, DescriptorError>
     where
         I: IntoIterator,
         I::Item: AsRef<[u8]>,
@@ -170,24 +183,24 @@ impl DescriptorPool {
     ///
     /// # Errors
     /// Why they are not linked. The pool is then what it was.
-    pub fn add_script(&mut self, script: impl AsRef<[u8]>) -> Result<(), DescriptorError> {
+    pub fn add_script(&mut self, script: impl AsRef<[u8]>) -> Result<Added, DescriptorError> {
         self.add(|raw| raw.add_script(script.as_ref()))
     }
 
     /// Links files. A pool that is shared is copied, and takes the place of the copied one where
     /// there are more files in it.
-    fn add(&mut self, call: impl FnOnce(&mut RawPool) -> Added) -> Result<(), DescriptorError> {
+    fn add(&mut self, call: impl FnOnce(&mut RawPool) -> Ended) -> Result<Added, DescriptorError> {
         if let Some(shared) = Arc::get_mut(&mut self.shared) {
-            let added = shared.change(call);
-            return answer(&shared.raw, added);
+            let ended = shared.change(call);
+            return answer(&shared.raw, ended);
         }
         let mut copy = self.shared.raw.try_clone()?;
-        let added = call(&mut copy);
-        answer(&copy, added)?;
-        if copy.counts().files > self.shared.raw.counts().files {
+        let ended = call(&mut copy);
+        let added = answer(&copy, ended)?;
+        if added.files > 0 {
             self.shared = Arc::new(Shared::new(copy));
         }
-        Ok(())
+        Ok(added)
     }
 
     /// Sets how many faults are told at most where files break rules, from the next call on: a
@@ -203,6 +216,32 @@ impl DescriptorPool {
         copy.limit_faults(most)?;
         self.shared = Arc::new(Shared::new(copy));
         Ok(())
+    }
+
+    /// What the pool changes of an older one: where a reader of its files reads otherwise what a
+    /// writer of the older ones writes, or not at all, and more at the higher levels. To ask what
+    /// an older reader reads of what a new writer writes, the two change places. At most as many
+    /// changes are told as [`limit_faults`](Self::limit_faults) has set.
+    ///
+    /// ```
+    /// # use protolink::{DescriptorPool, Level};
+    /// let (mut older, mut new) = (DescriptorPool::new(), DescriptorPool::new());
+    /// # let field = |kind| format!("field id 1 optional {kind} ~ ~\nend\n");
+    /// # let script = |kind| format!("file a.proto\nmessage M\n{}end\n", field(kind));
+    /// # older.add_script(script("int64"))?;
+    /// # new.add_script(script("int32"))?;
+    /// for change in &new.changes(&older, Level::Wire)? {
+    ///     println!("{change}");
+    /// }
+    /// # assert_eq!(new.changes(&older, Level::Wire)?[0].code, "field-kind");
+    /// # Ok::<(), Box<dyn std::error::Error>>(())
+    /// ```
+    ///
+    /// # Errors
+    /// Where memory was refused.
+    pub fn changes(&self, older: &DescriptorPool, level: Level) -> Result<Changes, OutOfMemory> {
+        let told = self.shared.raw.changes(&older.shared.raw, level.number())?;
+        Ok(Changes::read(&told.unwrap_or_default()))
     }
 
     /// The linked files, as the bytes of one `FileDescriptorSet`.
@@ -364,14 +403,24 @@ impl DescriptorPool {
     }
 }
 
+impl Added {
+    fn of(added: ffi::Added) -> Added {
+        Added {
+            files: added.files,
+            passed_over: added.passed_over,
+            differing: added.differing,
+        }
+    }
+}
+
 /// How a call ended that was to link files.
-fn answer(raw: &RawPool, added: Added) -> Result<(), DescriptorError> {
-    match added {
-        Added::Done => Ok(()),
-        Added::Refused => Err(DescriptorError::refused(&raw.report_json(), &raw.report())),
-        Added::Fault => Err(DescriptorError::unreadable(&raw.report_json())),
-        Added::TooMany => Err(DescriptorError::too_many(&raw.report_json())),
-        Added::OutOfMemory => Err(DescriptorError::OutOfMemory),
+fn answer(raw: &RawPool, ended: Ended) -> Result<Added, DescriptorError> {
+    match ended {
+        Ended::Done => Ok(Added::of(raw.added())),
+        Ended::Refused => Err(DescriptorError::refused(&raw.report_json(), &raw.report())),
+        Ended::Fault => Err(DescriptorError::unreadable(&raw.report_json())),
+        Ended::TooMany => Err(DescriptorError::too_many(&raw.report_json())),
+        Ended::OutOfMemory => Err(DescriptorError::OutOfMemory),
     }
 }
 

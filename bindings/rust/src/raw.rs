@@ -16,6 +16,9 @@ const FIRST_ROOM: usize = 128;
 /// How long a path may be that is had by one call.
 const FIRST_PATH: usize = 16;
 
+/// How long the text of changes may be that is had by one call. Each call makes it anew.
+const FIRST_CHANGES: usize = 16384;
+
 /// The first call of two for linked files, which only counts their bytes.
 const NO_ROOM: usize = 0;
 
@@ -33,7 +36,7 @@ unsafe impl Sync for RawPool {}
 
 /// How a call ended that was to link files. The pool is as it was after all but `Done`.
 #[derive(Debug, Clone, Copy, PartialEq, Eq)]
-pub(crate) enum Added {
+pub(crate) enum Ended {
     Done,
     Refused,
     Fault,
@@ -41,13 +44,13 @@ pub(crate) enum Added {
     OutOfMemory,
 }
 
-fn added(status: u8) -> Added {
+fn ended(status: u8) -> Ended {
     match status {
-        ffi::DONE => Added::Done,
-        ffi::REFUSED => Added::Refused,
-        ffi::FAULT => Added::Fault,
-        ffi::TOO_MANY => Added::TooMany,
-        _ => Added::OutOfMemory,
+        ffi::DONE => Ended::Done,
+        ffi::REFUSED => Ended::Refused,
+        ffi::FAULT => Ended::Fault,
+        ffi::TOO_MANY => Ended::TooMany,
+        _ => Ended::OutOfMemory,
     }
 }
 
@@ -69,26 +72,26 @@ impl RawPool {
         &mut self.pool
     }
 
-    pub fn add_set(&mut self, bytes: &[u8]) -> Added {
+    pub fn add_set(&mut self, bytes: &[u8]) -> Ended {
         let pool = self.alone();
-        added(unsafe { ffi::protolink_pool_add_set(pool, bytes.as_ptr(), bytes.len()) })
+        ended(unsafe { ffi::protolink_pool_add_set(pool, bytes.as_ptr(), bytes.len()) })
     }
 
-    pub fn add_file(&mut self, bytes: &[u8]) -> Added {
+    pub fn add_file(&mut self, bytes: &[u8]) -> Ended {
         let pool = self.alone();
-        added(unsafe { ffi::protolink_pool_add_file(pool, bytes.as_ptr(), bytes.len()) })
+        ended(unsafe { ffi::protolink_pool_add_file(pool, bytes.as_ptr(), bytes.len()) })
     }
 
     /// Links files whose bytes stand behind one another, each with its length.
-    pub fn add_files(&mut self, bytes: &[u8], lens: &[usize]) -> Added {
+    pub fn add_files(&mut self, bytes: &[u8], lens: &[usize]) -> Ended {
         let (pool, count) = (self.alone(), lens.len());
         let (at, len) = (bytes.as_ptr(), bytes.len());
-        added(unsafe { ffi::protolink_pool_add_files(pool, at, len, lens.as_ptr(), count) })
+        ended(unsafe { ffi::protolink_pool_add_files(pool, at, len, lens.as_ptr(), count) })
     }
 
-    pub fn add_script(&mut self, script: &[u8]) -> Added {
+    pub fn add_script(&mut self, script: &[u8]) -> Ended {
         let pool = self.alone();
-        added(unsafe { ffi::protolink_pool_add_script(pool, script.as_ptr(), script.len()) })
+        ended(unsafe { ffi::protolink_pool_add_script(pool, script.as_ptr(), script.len()) })
     }
 
     pub fn limit_faults(&mut self, most: usize) -> Result<(), OutOfMemory> {
@@ -150,6 +153,12 @@ impl RawPool {
         }
     }
 
+    pub fn added(&self) -> ffi::Added {
+        let mut added = ffi::Added::default();
+        self.with(|pool| unsafe { ffi::protolink_pool_added(pool, &mut added) });
+        added
+    }
+
     pub fn report(&self) -> Box<str> {
         self.text(|p, at, room, len| unsafe { ffi::protolink_pool_report(p, at, room, len) })
             .unwrap_or_default()
@@ -158,6 +167,14 @@ impl RawPool {
     pub fn report_json(&self) -> Box<str> {
         self.text(|p, at, room, len| unsafe { ffi::protolink_pool_report_json(p, at, room, len) })
             .unwrap_or_default()
+    }
+
+    /// What a pool changes of an older one, as an object of JSON, or none where no level has the
+    /// number.
+    pub fn changes(&self, older: &RawPool, level: u32) -> Result<Option<Vec<u8>>, OutOfMemory> {
+        self.written(FIRST_CHANGES, |p, at, room, len| {
+            older.with(|o| unsafe { ffi::protolink_pool_changes(p, o, level, at, room, len) })
+        })
     }
 
     pub fn linked(&self) -> Result<Vec<u8>, OutOfMemory> {

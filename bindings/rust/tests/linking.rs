@@ -1,6 +1,8 @@
 //! A pool from its files to what it has, and why files are not linked.
 
-use protolink::{Cardinality, Definition, DescriptorError, DescriptorPool, Kind, Syntax, Value};
+use protolink::{
+    Cardinality, Definition, DescriptorError, DescriptorPool, Kind, Level, Syntax, Value,
+};
 use std::fmt::Debug;
 use std::sync::Barrier;
 use std::thread;
@@ -420,6 +422,94 @@ fn a_pool_to_which_nothing_is_added_stays_the_one_it_was() {
     pool.add_script(SHOP).unwrap();
     assert_eq!(order.parent_pool(), &pool);
     assert_eq!(pool.get_message_by_name("shop.v1.Order"), Some(order));
+}
+
+#[test]
+fn what_became_of_files_is_told() {
+    let mut pool = shop();
+    let clone = pool.clone();
+    let other = SHOP.replacen("json amount", "json quantity", 1);
+    let added = pool.add_script(format!("{other}file c.proto\nend\n"));
+    let added = added.unwrap();
+    assert_eq!((added.files, added.passed_over), (1, 2));
+    let set = pool.encode_to_vec();
+    let added = pool.add_file_descriptor_set(&set).unwrap();
+    assert_eq!((added.files, added.passed_over), (0, 3));
+    let mut again = DescriptorPool::new();
+    let added = again.decode_file_descriptor_set(&set).unwrap();
+    assert_eq!((added.files, added.passed_over, added.differing), (3, 0, 0));
+    let added = again.decode_file_descriptor_set(&set).unwrap();
+    assert_eq!((added.files, added.passed_over, added.differing), (0, 3, 0));
+    let linked = pool.files().next().unwrap().encode_to_vec();
+    let mut other = DescriptorPool::new();
+    other.add_script("file shop/order.proto\nend\n").unwrap();
+    let added = other.add_file_descriptor_proto(linked).unwrap();
+    assert_eq!((added.files, added.passed_over, added.differing), (0, 1, 1));
+    let added = other.decode_file_descriptor_set(b"").unwrap();
+    assert_eq!((added.files, added.passed_over, added.differing), (0, 0, 0));
+    assert_eq!(clone.files().len(), 2);
+}
+
+#[test]
+fn a_file_twice_counts_once() {
+    let mut pool = DescriptorPool::new();
+    let file = shop().files().next_back().unwrap().encode_to_vec();
+    let added = pool.add_file_descriptor_protos([&file, &file]).unwrap();
+    assert_eq!((added.files, added.passed_over), (1, 0));
+    let other = "file a.proto\nend\nfile a.proto\npackage p\nend\n";
+    let faults = match pool.add_script(other) {
+        Err(DescriptorError::Refused(faults)) => faults,
+        ended => panic!("{ended:?}"),
+    };
+    assert_eq!((faults.len(), &faults[0].code[..]), (1, "UnequalFile"));
+    assert_eq!(
+        faults[0].message,
+        "file 1 and file 2 have unequal copies: package"
+    );
+    assert_eq!(faults[0].file.as_deref(), Some("a.proto"));
+}
+
+#[test]
+fn what_a_pool_changes_of_an_older_one_is_told() {
+    let (older, mut new) = (shop(), DescriptorPool::new());
+    let script = SHOP.replacen(
+        "field raw 5 repeated int32",
+        "field raw 5 repeated sint32",
+        1,
+    );
+    let script = script.replacen("field note 4", "field remark 4", 1);
+    new.add_script(script).unwrap();
+    let at_wire = new.changes(&older, Level::Wire).unwrap();
+    assert_eq!((at_wire.len(), at_wire.more()), (1, 0));
+    let change = &at_wire[0];
+    assert_eq!(
+        (change.level, &change.code[..]),
+        (Level::Wire, "field-kind")
+    );
+    assert_eq!(
+        change.message,
+        "'shop.v1.Order.raw' (5): int32 became sint32"
+    );
+    assert_eq!(change.file.as_deref(), Some("shop/order.proto"));
+    assert_eq!(change.element.as_deref(), Some("shop.v1.Order.raw"));
+    assert_eq!(change.related[0].path.as_deref(), Some(&[4, 0, 2, 4][..]));
+    assert!(!change.note.is_empty());
+    let at_json = new.changes(&older, Level::Json).unwrap();
+    assert_eq!((at_json.len(), &at_json[0]), (2, change));
+    assert_eq!(
+        (at_json[1].level, &at_json[1].code[..]),
+        (Level::Json, "field-json-name")
+    );
+    assert!(new.changes(&older, Level::Source).unwrap().len() >= 2);
+    new.limit_faults(1).unwrap();
+    let limited = new.changes(&older, Level::Json).unwrap();
+    assert_eq!((limited.len(), limited.more()), (1, 1));
+    assert!(new.changes(&new, Level::Source).unwrap().is_empty());
+    assert!(shop().changes(&older, Level::Source).unwrap().is_empty());
+    let nothing = DescriptorPool::new().changes(&older, Level::Wire).unwrap();
+    assert!(nothing
+        .iter()
+        .any(|change| change.code == "service-removed"));
 }
 
 #[test]

@@ -1,7 +1,10 @@
 pub mod Statuses
 pub mod Reading
+pub mod Batches
 pub mod Reports
+pub mod Known
 pub mod Added
+pub mod Changes
 pub mod Numbers
 pub mod Items
 pub mod Defaults

@@ -1,5 +1,7 @@
 -- What is told of a call that added nothing: lines for people, and an object of JSON.
 use Rattle.std.specs.Prelude.{ℕ, List, []}
+use Rattle.joined_files.specs.Telling.{told_unequal}
+use Rattle.joined_files.specs.declared.unequal.UnequalFile.{UnequalFile}
 use Rattle.pool_faults.specs.declared.fault.DescriptorErrorKind.{DescriptorErrorKind}
 use Rattle.proto_types.specs.declared.file.FileDescriptorProto.{FileDescriptorProto}
 use Rattle.record_walk.specs.declared.counts.CountKind.{CountKind}
@@ -22,6 +24,10 @@ told_report r = record { lines = refused_text r; json = refused_json r }
 abbrev pub refused_report : List FileDescriptorProto → List FileDescriptorProto
     → List DescriptorErrorKind → ℕ → ℕ → Report
 refused_report linked new faults rest most = told_report (told_refusal linked new faults rest most)
+
+-- so many files at most that differ from others of their names
+abbrev pub unequal_report : List UnequalFile → ℕ → Report
+unequal_report unequal most = told_report (told_unequal unequal most)
 
 -- of what there is too much
 abbrev pub too_many_report : CountKind → Report

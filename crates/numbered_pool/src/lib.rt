@@ -1,10 +1,14 @@
 //! A pool for callers that hold bytes and numbers: what is linked comes as bytes, what went wrong
-//! is told as text, and what the pool has is found by numbers and names.
+//! is told as text, and so is what a pool changes of an older one; what the pool has is found by
+//! numbers and names.
 #![tactic(auto)]
 
 mod answers;
+mod batches;
+mod changes;
 mod finding;
 mod items;
+mod known;
 mod linked;
 mod lists;
 mod names;
@@ -16,6 +20,7 @@ mod sources;
 mod status;
 
 pub use answers::Answers;
+pub use known::Added;
 pub use numbers::{
     EnumItem, ExtensionItem, FieldItem, FileItem, Found, Item, MessageItem, MethodItem, NONE,
     NumberRange, OneofItem, PoolCounts, ServiceItem, ValueItem,

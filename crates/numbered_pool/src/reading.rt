@@ -146,7 +146,10 @@ fn read_script(alloc: Global, bytes: &[u8]) -> Result<Items<FileDescriptorProto>
 }
 
 /// A list of one file.
-fn only(alloc: Global, file: FileDescriptorProto) -> Result<Items<FileDescriptorProto>, AllocError>
+pub(crate) fn only(
+    alloc: Global,
+    file: FileDescriptorProto,
+) -> Result<Items<FileDescriptorProto>, AllocError>
     ensures { IfOk result (λ files. files ≡ spec.only file) }
 {
     let mut files = Items::new(alloc);

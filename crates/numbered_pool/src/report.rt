@@ -3,12 +3,13 @@
 ghost use Rattle.std.specs.Prelude.{◌≡◌, IfOk, map, string_bytes};
 ghost use Rattle.numbered_pool.specs.Reports as spec;
 
+use joined_files::{UnequalFile, tell_unequal};
 use plain_data::Text;
 use record_walk::CountKind;
 use std::alloc::{AllocError, Global};
 use verdict_texts::{
-    RefusedBatch, refused_json, refused_text, tell_refusal, too_many_json, too_many_text,
-    unread_json, write_line,
+    RefusedBatch, ToldRefusal, refused_json, refused_text, tell_refusal, too_many_json,
+    too_many_text, unread_json, write_line,
 };
 
 /// What the last call that added files tells. Both texts are empty where it told nothing.
@@ -32,8 +33,7 @@ impl Report {
     }
 }
 
-/// What is told of new files that break rules: so many of their faults at most. Both texts are
-/// printed of one list.
+/// What is told of new files that break rules: so many of their faults at most.
 pub(crate) fn refused_report(
     alloc: Global,
     batch: &RefusedBatch,
@@ -43,8 +43,27 @@ pub(crate) fn refused_report(
         (map (λ f. f.raw) batch.now.linked.now) batch.now.files.now batch.now.faults.now batch.now.rest most) }
 {
     let refusal = tell_refusal(alloc, batch, most)?;
-    let lines = refused_text(alloc, &refusal)?;
-    let json = refused_json(alloc, &refusal)?;
+    told_report(alloc, &refusal)
+}
+
+/// What is told of files that differ from others of their names: so many of them at most.
+pub(crate) fn unequal_report(
+    alloc: Global,
+    unequal: &[UnequalFile],
+    most: usize,
+) -> Result<Report, AllocError>
+    ensures { IfOk result (λ report. report ≡ spec.unequal_report unequal.now most) }
+{
+    let refusal = tell_unequal(alloc, unequal, most)?;
+    told_report(alloc, &refusal)
+}
+
+/// A refused batch as it is told. Both texts are printed of one list.
+fn told_report(alloc: Global, refusal: &ToldRefusal) -> Result<Report, AllocError>
+    ensures { IfOk result (λ report. report ≡ spec.told_report refusal.now) }
+{
+    let lines = refused_text(alloc, refusal)?;
+    let json = refused_json(alloc, refusal)?;
     Ok(as_report(lines, json))
 }
 

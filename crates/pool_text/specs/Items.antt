@@ -5,6 +5,7 @@ use Rattle.std.specs.Fmt.{decimal, signed_decimal}
 use Rattle.std.specs.Option.{option_map_or}
 use Rattle.std.specs.declared.option.Option.{Option}
 use Rattle.proto_types.specs.Readers.{text_of}
+use Rattle.proto_types.specs.declared.message.DescriptorProto.{out-DescriptorProto}
 use Rattle.pool_types.specs.Contents.{Contents}
 use Rattle.pool_types.specs.declared.contents.definition.Identity.{Identity}
 use Rattle.pool_types.specs.declared.contents.enumeration.EnumDescriptorInner.{EnumDescriptorInner}
@@ -18,7 +19,10 @@ use Rattle.pool_types.specs.declared.contents.service.MethodDescriptorInner.{Met
 use Rattle.pool_types.specs.declared.contents.service.ServiceDescriptorInner.{ServiceDescriptorInner}
 use Rattle.pool_text.specs.Values.{default_words}
 use Rattle.verdict_texts.specs.Lines.{plain_text}
-use Rattle.pool_text.specs.Words.{name_word, file_name, message_name, place_words, syntax_word, type_words, flag_words, written_words}
+use Rattle.item_records.specs.Flags.{is_map}
+use Rattle.item_records.specs.Records.{enum_parts, enum_record, is_service_deprecated, is_value_deprecated, message_parts, message_record, method_parts, says}
+use Rattle.item_records.specs.declared.records.MethodParts.{MethodParts}
+use Rattle.pool_text.specs.Words.{name_word, file_name, message_name, place_words, syntax_word, type_words, flag_words, record_words, map_word, stream_word, deprecated_word, deprecated_line}
 
 -- the name and the syntax of a file
 abbrev pub file_head : FileDescriptorInner → List ℕ
@@ -40,8 +44,8 @@ seen_line p file = codes "  sees " ++ (file_name p file ++ codes "\n")
 
 -- a file, what it imports and what it sees
 abbrev pub file_text : Contents → FileDescriptorInner → List ℕ
-file_text p f = file_head f ++ (package_line (text_of f.raw.package)
-    ++ (flat_map (import_line p) f.dependencies
+file_text p f = (file_head f ++ deprecated_line (says 23 f.raw.options))
+    ++ (package_line (text_of f.raw.package) ++ (flat_map (import_line p) f.dependencies
     ++ flat_map (seen_line p) f.transitive_dependencies.keys))
 
 -- the name of an item behind a word for its kind, and where it is declared
@@ -85,8 +89,9 @@ json_words name = option_map_or (λ n. codes " json_name " ++ name_word n) name 
 -- what is told of a field behind its number and its place
 abbrev pub mark_words : Contents → List OneofDescriptorInner → FieldDescriptorInner → List ℕ
 mark_words p oneofs f = oneof_words oneofs f.oneof
-    ++ (flag_words f.is_packed f.supports_presence ++ (json_words f.json_name
-    ++ (default_words f.default ++ written_words p f.id f.kind)))
+    ++ (flag_words f.is_packed f.supports_presence
+    ++ (map_word (is_map p.files p.messages f.cardinality f.kind) ++ (json_words f.json_name
+    ++ (default_words f.default ++ record_words p f.id f.kind))))
 
 -- a field
 unfoldable pub field_line :
@@ -104,9 +109,10 @@ extended_line x = codes "  extended " ++ (name_word x.id.full_name ++ (codes " =
 abbrev pub extended_at : Contents → ℕ → List ℕ
 extended_at p index = option_map_or extended_line (slice_get p.extensions index) []
 
--- the name of a message, where it is declared, and the message around it
+-- the name of a message, where it is declared, the message around it, and whether it is deprecated
 abbrev pub message_head : Contents → MessageDescriptorInner → List ℕ
-message_head p m = head_line (codes "message") p m.id ++ parent_line p m.parent
+message_head p m = head_line (codes "message") p m.id
+    ++ (parent_line p m.parent ++ deprecated_line (message_parts p.files m.id).is_deprecated)
 
 -- the oneofs of a message
 abbrev pub oneof_lines : MessageDescriptorInner → List ℕ
@@ -116,10 +122,25 @@ oneof_lines m = flat_map (oneof_line m.fields) m.oneofs
 abbrev pub field_lines : Contents → MessageDescriptorInner → List ℕ
 field_lines p m = flat_map (field_line p m.oneofs) m.fields
 
--- a message: its oneofs, its fields, and what extends it
+-- a name that is reserved
+unfoldable pub reserved_name_line : List ℕ → List ℕ
+reserved_name_line name = codes "  reserved_name " ++ (name_word name ++ codes "\n")
+
+-- the names that the record of a message reserves
+abbrev pub message_names : Contents → Identity → List ℕ
+message_names p id =
+    option_map_or (λ r. flat_map reserved_name_line (out-DescriptorProto r).reserved_name)
+    (message_record p.files id) []
+
+-- the names that the record of an enum reserves
+abbrev pub enum_names : Contents → Identity → List ℕ
+enum_names p id =
+    option_map_or (λ r. flat_map reserved_name_line r.reserved_name) (enum_record p.files id) []
+
+-- a message: its oneofs, its fields, what extends it, and the names that it reserves
 abbrev pub message_text : Contents → MessageDescriptorInner → List ℕ
 message_text p m = message_head p m ++ (oneof_lines m ++ (field_lines p m
-    ++ flat_map (extended_at p) m.extensions))
+    ++ (flat_map (extended_at p) m.extensions ++ message_names p m.id)))
 
 -- whether two values may have one number
 abbrev pub alias_line : Bool → List ℕ
@@ -127,29 +148,46 @@ alias_line true = codes "  allow_alias\n"
 alias_line false = []
 
 -- a value of an enum
-abbrev pub value_line : EnumValueDescriptorInner → List ℕ
-value_line v = codes "  value " ++ (name_word v.id.full_name ++ (codes " = "
-    ++ (signed_decimal v.number ++ (codes " " ++ (place_words v.id ++ codes "\n")))))
+unfoldable pub value_line : Contents → EnumValueDescriptorInner → List ℕ
+value_line p v = codes "  value " ++ (name_word v.id.full_name ++ (codes " = "
+    ++ (signed_decimal v.number ++ (codes " " ++ (place_words v.id
+    ++ (deprecated_word (is_value_deprecated p.files v.id) ++ codes "\n"))))))
 
--- an enum and its values
+-- the name of an enum, where it is declared, the message around it, and whether it is deprecated
+abbrev pub enum_head : Contents → EnumDescriptorInner → List ℕ
+enum_head p e = head_line (codes "enum") p e.id
+    ++ (parent_line p e.parent ++ deprecated_line (enum_parts p.files e.id).is_deprecated)
+
+-- an enum, its values, and the names that it reserves
 abbrev pub enum_text : Contents → EnumDescriptorInner → List ℕ
-enum_text p e = (head_line (codes "enum") p e.id ++ parent_line p e.parent)
-    ++ (alias_line e.allow_alias ++ flat_map value_line e.values)
+enum_text p e = enum_head p e ++ (alias_line e.allow_alias
+    ++ (flat_map (value_line p) e.values ++ enum_names p e.id))
 
--- a method: the message that it takes, and the one that it gives
-unfoldable pub method_line : Contents → MethodDescriptorInner → List ℕ
-method_line p m = codes "  rpc " ++ (name_word m.id.full_name ++ (codes " ("
-    ++ (message_name p m.input ++ (codes ") returns (" ++ (message_name p m.output ++ (codes ") "
-    ++ (place_words m.id ++ codes "\n")))))))
+-- the message that a method takes and the one that it gives, each as one or as a stream
+abbrev pub method_words : Contents → MethodDescriptorInner → MethodParts → List ℕ
+method_words p m parts = codes "(" ++ (stream_word parts.client_streaming
+    ++ (message_name p m.input ++ (codes ") returns (" ++ (stream_word parts.server_streaming
+    ++ (message_name p m.output ++ codes ")")))))
+
+-- a method, by what its record says
+unfoldable pub method_line_by : Contents → MethodDescriptorInner → MethodParts → List ℕ
+method_line_by p m parts = codes "  rpc " ++ (name_word m.id.full_name ++ (codes " "
+    ++ (method_words p m parts ++ (codes " " ++ (place_words m.id
+    ++ (deprecated_word parts.is_deprecated ++ codes "\n"))))))
+
+-- a method
+abbrev pub method_line : Contents → MethodDescriptorInner → List ℕ
+method_line p m = method_line_by p m (method_parts p.files m.id)
 
 -- a service and its methods
 abbrev pub service_text : Contents → ServiceDescriptorInner → List ℕ
-service_text p s = head_line (codes "service") p s.id ++ flat_map (method_line p) s.methods
+service_text p s = (head_line (codes "service") p s.id
+    ++ deprecated_line (is_service_deprecated p.files s.id)) ++ flat_map (method_line p) s.methods
 
 -- what is told of an extension behind its kind
 abbrev pub extension_marks : Contents → ExtensionDescriptorInner → List ℕ
 extension_marks p x = flag_words x.is_packed false ++ (codes " json_name "
-    ++ (name_word x.json_name ++ (default_words x.default ++ written_words p x.id x.kind)))
+    ++ (name_word x.json_name ++ (default_words x.default ++ record_words p x.id x.kind)))
 
 -- what an extension extends, and what it is as a field
 abbrev pub extends_line : Contents → ExtensionDescriptorInner → List ℕ

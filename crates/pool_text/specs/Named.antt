@@ -20,8 +20,7 @@ use Rattle.pool_types.specs.declared.contents.file.FileDescriptorInner.{FileDesc
 use Rattle.pool_types.specs.declared.contents.message.MessageDescriptorInner.{MessageDescriptorInner}
 use Rattle.pool_contents.specs.LookUps.{definition_named}
 use Rattle.pool_faults.specs.Fault.{path_text}
-use Rattle.record_walk.specs.Leads.{leads}
-use Rattle.record_walk.specs.Protos.{as_message}
+use Rattle.item_records.specs.Records.{message_record}
 use Rattle.pool_text.specs.Items.{enum_text, extension_text, file_text, message_text, service_text}
 use Rattle.pool_text.specs.Words.{file_name, name_word}
 
@@ -43,14 +42,9 @@ abbrev pub ranges_of : DescriptorProto → List ℕ
 ranges_of m = flat_map extension_range_line (out-DescriptorProto m).extension_range
     ++ flat_map reserved_range_line (out-DescriptorProto m).reserved_range
 
--- the linked record of a message
-abbrev pub message_record : Contents → Identity → Option DescriptorProto
-message_record p id = option_and_then (λ f. option_and_then as_message (leads f.raw id.path))
-    (slice_get p.files id.file)
-
 -- the ranges of a message
 abbrev pub range_lines : Contents → Identity → List ℕ
-range_lines p id = option_map_or ranges_of (message_record p id) []
+range_lines p id = option_map_or ranges_of (message_record p.files id) []
 
 -- a message and its ranges
 abbrev pub whole_message : Contents → MessageDescriptorInner → List ℕ

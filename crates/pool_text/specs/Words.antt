@@ -1,13 +1,12 @@
 -- Words of the text of a pool: names, kinds of fields, and where a declaration stands.
-use Rattle.std.specs.Prelude.{ℕ, ℤ, pos, Bool, true, false, ◌==◌, List, [], ◌∷◌, ◌++◌, drop, slice_get, codes, if◌then◌else◌}
+use Rattle.std.specs.Prelude.{ℕ, ℤ, pos, Bool, true, false, ◌==◌, List, [], ◌++◌, drop, slice_get, codes, if◌then◌else◌}
 use Rattle.std.specs.List.{list_any}
 use Rattle.std.specs.Fmt.{decimal, signed_decimal}
-use Rattle.std.specs.Option.{option_map_or, option_and_then, option_or}
+use Rattle.std.specs.Option.{option_map_or, option_and_then}
 use Rattle.std.specs.Ordering.{int_eq}
 use Rattle.std.specs.declared.option.Option.{Option}
 use Rattle.proto_types.specs.Readers.{text_of}
-use Rattle.proto_types.specs.declared.file.FileDescriptorProto.{FileDescriptorProto}
-use Rattle.proto_types.specs.declared.records.field.FieldDescriptorProto.{FieldDescriptorProto}
+use Rattle.item_records.specs.Records.{field_parts, field_record}
 use Rattle.pool_types.specs.Contents.{Contents}
 use Rattle.pool_types.specs.Kinds.{kind_name, type_number}
 use Rattle.pool_types.specs.declared.contents.definition.Identity.{Identity}
@@ -18,10 +17,8 @@ use Rattle.pool_types.specs.declared.kinds.Cardinality.TheVariants.{Optional, Re
 use Rattle.pool_types.specs.declared.kinds.KindIndex.{KindIndex}
 use Rattle.pool_types.specs.declared.kinds.KindIndex.TheVariants as kind
 use Rattle.pool_faults.specs.Fault.{path_text}
-use Rattle.record_walk.specs.Leads.{leads}
 use Rattle.record_walk.specs.Words.{alone}
 use Rattle.verdict_texts.specs.Lines.{plain_text}
-use Rattle.record_walk.specs.Protos.{as_field, as_extension}
 
 -- a name as a word: two quotes where it is empty, and an escape for each character that a terminal
 -- would obey or hide
@@ -84,16 +81,29 @@ flag_words true false = codes " packed"
 flag_words false true = codes " presence"
 flag_words false false = []
 
--- the record of a field or an extension
-abbrev pub field_record : FileDescriptorProto → List ℤ → Option FieldDescriptorProto
-field_record f path =
-    option_or (option_and_then as_field (leads f path))
-    (option_and_then as_extension (leads f path))
+-- whether a field is a map
+abbrev pub map_word : Bool → List ℕ
+map_word true = codes " map"
+map_word false = []
+
+-- that a part is deprecated, behind what is told of it
+abbrev pub deprecated_word : Bool → List ℕ
+deprecated_word true = codes " deprecated"
+deprecated_word false = []
+
+-- that an item is deprecated
+abbrev pub deprecated_line : Bool → List ℕ
+deprecated_line true = codes "  deprecated\n"
+deprecated_line false = []
+
+-- whether a method takes or gives a stream of a message, before the message
+abbrev pub stream_word : Bool → List ℕ
+stream_word true = codes "stream "
+stream_word false = []
 
 -- the number of the type that the linked record of a field or an extension has
 abbrev pub written_type : Contents → Identity → Option ℤ
-written_type p id = option_and_then
-    (λ f. option_and_then (λ r. r.type_) (field_record f.raw id.path)) (slice_get p.files id.file)
+written_type p id = option_and_then (λ r. r.type_) (field_record p.files id)
 
 -- a number of a type, where it is not the one that is written for the kind
 abbrev pub number_words : KindIndex → ℤ → List ℕ
@@ -103,3 +113,8 @@ number_words k number =
 -- the same of the type that the linked record has
 abbrev pub written_words : Contents → Identity → KindIndex → List ℕ
 written_words p id k = option_map_or (number_words k) (written_type p id) (codes " type none")
+
+-- what is told of a field or an extension by its linked record
+abbrev pub record_words : Contents → Identity → KindIndex → List ℕ
+record_words p id k =
+    written_words p id k ++ deprecated_word (field_parts p.files id).is_deprecated

@@ -6,8 +6,10 @@ ghost use Rattle.std.specs.Option.{option_map_or};
 ghost use Rattle.pool_text.specs.Items as spec;
 
 use crate::head::{head_line, write_parent};
-use crate::words::{name_word, place_words};
+use crate::reserved::write_enum_names;
+use crate::words::{deprecated_line, deprecated_word, name_word, place_words};
 use descriptor_pool::DescriptorPool;
+use item_records::{enum_parts, is_value_deprecated};
 use pool_types::{EnumDescriptor, EnumDescriptorInner, EnumValueDescriptorInner};
 use std::alloc::{AllocError, Global};
 use std::fmt::Write;
@@ -43,7 +45,7 @@ pub(super) fn write_enum_at(
     }
 }
 
-/// Tells an enum and its values.
+/// Tells an enum, its values, and the names that it reserves.
 fn write_enum(
     text: &mut String,
     alloc: Global,
@@ -53,11 +55,28 @@ fn write_enum(
     ensures { OnOk result (string_bytes text.new ≡ string_bytes text.old
         ++ spec.enum_text pool.now enumeration.now) }
 {
+    write_head(text, alloc, pool, enumeration)?;
+    text.push_str(alias_line(enumeration.allow_alias))?;
+    write_values(text, alloc, pool, enumeration.values.as_slice())?;
+    write_enum_names(text, pool, &enumeration.id)
+}
+
+/// Tells the name of an enum, where it is declared, the message around it, and whether it is
+/// deprecated.
+fn write_head(
+    text: &mut String,
+    alloc: Global,
+    pool: &DescriptorPool,
+    enumeration: &EnumDescriptorInner,
+) -> Result<(), AllocError>
+    ensures { OnOk result (string_bytes text.new ≡ string_bytes text.old
+        ++ spec.enum_head pool.now enumeration.now) }
+{
     let head = head_line(alloc, "enum", pool, &enumeration.id)?;
     text.push_str(head.as_str())?;
     write_parent(text, pool, enumeration.parent)?;
-    text.push_str(alias_line(enumeration.allow_alias))?;
-    write_values(text, alloc, enumeration.values.as_slice())
+    let parts = enum_parts(pool.files(), &enumeration.id);
+    text.push_str(deprecated_line(parts.is_deprecated))
 }
 
 /// Whether two values may have one number.
@@ -71,27 +90,31 @@ fn alias_line(allow_alias: bool) -> &'static str
 fn write_values(
     text: &mut String,
     alloc: Global,
+    pool: &DescriptorPool,
     values: &[EnumValueDescriptorInner],
 ) -> Result<(), AllocError>
     ensures { OnOk result (string_bytes text.new ≡ string_bytes text.old
-        ++ flat_map spec.value_line values.now) }
+        ++ flat_map (spec.value_line pool.now) values.now) }
 {
     for value in values {
-        write_value(text, alloc, value)?;
+        write_value(text, alloc, pool, value)?;
     }
     Ok(())
 }
 
 /// Tells a value.
+#[tactic(auto, unfolding(crate::specs::Items::value_line))]
 fn write_value(
     text: &mut String,
     alloc: Global,
+    pool: &DescriptorPool,
     value: &EnumValueDescriptorInner,
 ) -> Result<(), AllocError>
     ensures { OnOk result (string_bytes text.new ≡ string_bytes text.old
-        ++ spec.value_line value.now) }
+        ++ spec.value_line pool.now value.now) }
 {
     let (name, number) = (name_word(value.id.full_name()), value.number);
     let place = place_words(alloc, &value.id)?;
-    writeln!(text, "  value {name} = {number} {place}")
+    let deprecated = deprecated_word(is_value_deprecated(pool.files(), &value.id));
+    writeln!(text, "  value {name} = {number} {place}{deprecated}")
 }

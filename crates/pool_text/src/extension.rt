@@ -6,7 +6,7 @@ ghost use Rattle.pool_text.specs.Items as spec;
 
 use crate::head::{head_line, write_parent};
 use crate::values::default_words;
-use crate::words::{flag_words, message_name, name_word, type_words, written_words};
+use crate::words::{flag_words, message_name, name_word, record_words, type_words};
 use descriptor_pool::DescriptorPool;
 use pool_types::{ExtensionDescriptor, ExtensionDescriptorInner};
 use std::alloc::{AllocError, Global};
@@ -84,6 +84,6 @@ fn extension_marks(
     let flags = flag_words(extension.is_packed, false);
     let json_name = name_word(extension.json_name.as_str());
     let default = default_words(alloc, &extension.default)?;
-    let written = written_words(alloc, pool, &extension.id, extension.kind)?;
-    format!(in alloc; "{flags} json_name {json_name}{default}{written}")
+    let record = record_words(alloc, pool, &extension.id, extension.kind)?;
+    format!(in alloc; "{flags} json_name {json_name}{default}{record}")
 }

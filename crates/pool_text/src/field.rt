@@ -6,8 +6,9 @@ ghost use Rattle.verdict_texts.specs.Lines.{plain_text};
 ghost use Rattle.pool_text.specs.Items as spec;
 
 use crate::values::default_words;
-use crate::words::{flag_words, name_word, place_words, type_words, written_words};
+use crate::words::{flag_words, map_word, name_word, place_words, record_words, type_words};
 use descriptor_pool::DescriptorPool;
+use item_records::is_map;
 use plain_data::Text;
 use pool_types::{FieldDescriptorInner, OneofDescriptorInner};
 use std::alloc::{AllocError, Global};
@@ -41,10 +42,11 @@ fn mark_words(
 {
     let flags = flag_words(field.is_packed, field.supports_presence);
     let oneof = oneof_words(alloc, oneofs, field.oneof)?;
+    let map = map_word(is_map(pool.files(), pool.messages(), field.cardinality, field.kind));
     let json_name = json_words(alloc, &field.json_name)?;
     let default = default_words(alloc, &field.default)?;
-    let written = written_words(alloc, pool, &field.id, field.kind)?;
-    format!(in alloc; "{oneof}{flags}{json_name}{default}{written}")
+    let record = record_words(alloc, pool, &field.id, field.kind)?;
+    format!(in alloc; "{oneof}{flags}{map}{json_name}{default}{record}")
 }
 
 /// The oneof of a field, where it has one.

@@ -4,8 +4,9 @@ ghost use Rattle.std.specs.Prelude.{◌≡◌, ◌++◌, OnOk, string_bytes};
 ghost use Rattle.std.specs.List.{flat_map};
 ghost use Rattle.pool_text.specs.Items as spec;
 
-use crate::words::{file_name, name_word, syntax_word};
+use crate::words::{deprecated_line, file_name, name_word, syntax_word};
 use descriptor_pool::DescriptorPool;
+use item_records::is_deprecated;
 use pool_types::FileDescriptorInner;
 use std::alloc::AllocError;
 use std::collections::BTreeSet;
@@ -33,6 +34,7 @@ pub(super) fn write_file(
         ++ spec.file_text pool.now file.now) }
 {
     write_head(text, file)?;
+    text.push_str(deprecated_line(is_deprecated(&file.raw)))?;
     write_package(text, file.raw.package())?;
     write_imports(text, pool, file.dependencies.as_slice())?;
     write_seen(text, pool, &file.transitive_dependencies)

@@ -11,6 +11,7 @@ mod head;
 mod message;
 mod named;
 mod ranges;
+mod reserved;
 mod service;
 mod values;
 mod words;

@@ -6,8 +6,10 @@ ghost use Rattle.pool_text.specs.Items as spec;
 
 use crate::field::field_line;
 use crate::head::{head_line, write_parent};
-use crate::words::{name_word, place_words};
+use crate::reserved::write_message_names;
+use crate::words::{deprecated_line, name_word, place_words};
 use descriptor_pool::DescriptorPool;
+use item_records::message_parts;
 use pool_types::{
     ExtensionDescriptor, ExtensionDescriptorInner, FieldDescriptorInner, MessageDescriptorInner,
     OneofDescriptorInner,
@@ -30,7 +32,7 @@ pub(super) fn write_messages(
     Ok(())
 }
 
-/// Tells a message, its oneofs, its fields, and what extends it.
+/// Tells a message, its oneofs, its fields, what extends it, and the names that it reserves.
 pub(super) fn write_message(
     text: &mut String,
     alloc: Global,
@@ -43,10 +45,12 @@ pub(super) fn write_message(
     write_head(text, alloc, pool, message)?;
     write_oneofs(text, alloc, message)?;
     write_fields(text, alloc, pool, message)?;
-    write_extended(text, pool, message.extensions.as_slice())
+    write_extended(text, pool, message.extensions.as_slice())?;
+    write_message_names(text, pool, &message.id)
 }
 
-/// Tells the name of a message, where it is declared, and the message around it.
+/// Tells the name of a message, where it is declared, the message around it, and whether it is
+/// deprecated.
 fn write_head(
     text: &mut String,
     alloc: Global,
@@ -58,7 +62,9 @@ fn write_head(
 {
     let head = head_line(alloc, "message", pool, &message.id)?;
     text.push_str(head.as_str())?;
-    write_parent(text, pool, message.parent)
+    write_parent(text, pool, message.parent)?;
+    let parts = message_parts(pool.files(), &message.id);
+    text.push_str(deprecated_line(parts.is_deprecated))
 }
 
 /// Tells the oneofs of a message.

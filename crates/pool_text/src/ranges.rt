@@ -2,23 +2,14 @@
 
 ghost use Rattle.std.specs.Prelude.{◌≡◌, ◌++◌, OnOk, string_bytes};
 ghost use Rattle.std.specs.List.{flat_map};
-ghost use Rattle.std.specs.Option.{option_copied};
 ghost use Rattle.pool_text.specs.Named as spec;
 
 use descriptor_pool::DescriptorPool;
-use pool_types::{FileDescriptor, Identity};
-use proto_types::{DescriptorProto, ExtensionRange, ReservedRange};
-use record_lists::find_message_proto;
+use item_records::message_record;
+use pool_types::Identity;
+use proto_types::{ExtensionRange, ReservedRange};
 use std::alloc::AllocError;
 use std::fmt::Write;
-
-/// The linked record of a message.
-fn message_record<'p>(pool: &'p DescriptorPool, id: &Identity) -> Option<&'p DescriptorProto>
-    ensures { option_copied result ≡ spec.message_record pool.now id.now }
-{
-    let file = pool.file(FileDescriptor::new(id.file))?;
-    find_message_proto(&file.raw, id.path())
-}
 
 /// Tells the ranges of a message, those of extensions first.
 pub(super) fn write_ranges(
@@ -29,7 +20,7 @@ pub(super) fn write_ranges(
     ensures { OnOk result (string_bytes text.new ≡ string_bytes text.old
         ++ spec.range_lines pool.now id.now) }
 {
-    match message_record(pool, id) {
+    match message_record(pool.files(), id) {
         Some(message) => {
             write_extension_ranges(text, message.extension_range.as_slice())?;
             write_reserved_ranges(text, message.reserved_range.as_slice())

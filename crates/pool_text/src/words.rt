@@ -6,10 +6,10 @@ ghost use Rattle.verdict_texts.specs.Lines.{plain_text};
 ghost use Rattle.pool_text.specs.Words as spec;
 
 use descriptor_pool::DescriptorPool;
+use item_records::{field_parts, field_record};
 use pool_types::{
     Cardinality, EnumDescriptor, FileDescriptor, Identity, KindIndex, MessageDescriptor, Syntax,
 };
-use record_lists::find_field_proto;
 use record_walk::alone;
 use std::alloc::{AllocError, Global};
 use verdict_texts::Plain;
@@ -83,6 +83,34 @@ pub(super) fn flag_words(is_packed: bool, supports_presence: bool) -> &'static s
         (false, true) => " presence",
         (false, false) => "",
     }
+}
+
+/// Whether a field is a map.
+pub(super) fn map_word(is_map: bool) -> &'static str
+    ensures { result.now ≡ spec.map_word is_map }
+{
+    if is_map { " map" } else { "" }
+}
+
+/// That a part is deprecated, behind what is told of it.
+pub(super) fn deprecated_word(is_deprecated: bool) -> &'static str
+    ensures { result.now ≡ spec.deprecated_word is_deprecated }
+{
+    if is_deprecated { " deprecated" } else { "" }
+}
+
+/// That an item is deprecated.
+pub(super) fn deprecated_line(is_deprecated: bool) -> &'static str
+    ensures { result.now ≡ spec.deprecated_line is_deprecated }
+{
+    if is_deprecated { "  deprecated\n" } else { "" }
+}
+
+/// Whether a method takes or gives a stream of a message, before the message.
+pub(super) fn stream_word(is_stream: bool) -> &'static str
+    ensures { result.now ≡ spec.stream_word is_stream }
+{
+    if is_stream { "stream " } else { "" }
 }
 
 /// The kind of a field.
@@ -162,8 +190,7 @@ fn has_dot_from(text: &str, index: usize) -> bool
 fn written_type(pool: &DescriptorPool, id: &Identity) -> Option<i32>
     ensures { result ≡ spec.written_type pool.now id.now }
 {
-    let file = pool.file(FileDescriptor::new(id.file))?;
-    find_field_proto(&file.raw, id.path())?.type_
+    field_record(pool.files(), id)?.type_
 }
 
 /// A number of a type, where it is not the one that is written for the kind.
@@ -179,7 +206,7 @@ fn number_words(alloc: Global, kind: KindIndex, number: i32) -> Result<String, A
 
 /// The number of the type that the linked record of a field or an extension has, where it is not
 /// the one that is written for its kind.
-pub(super) fn written_words(
+fn written_words(
     alloc: Global,
     pool: &DescriptorPool,
     id: &Identity,
@@ -191,4 +218,18 @@ pub(super) fn written_words(
         Some(number) => number_words(alloc, kind, number),
         None => format!(in alloc; " type none"),
     }
+}
+
+/// What is told of a field or an extension by its linked record.
+pub(super) fn record_words(
+    alloc: Global,
+    pool: &DescriptorPool,
+    id: &Identity,
+    kind: KindIndex,
+) -> Result<String, AllocError>
+    ensures { IfOk result (λ s. string_bytes s ≡ spec.record_words pool.now id.now kind) }
+{
+    let written = written_words(alloc, pool, id, kind)?;
+    let deprecated = deprecated_word(field_parts(pool.files(), id).is_deprecated);
+    format!(in alloc; "{written}{deprecated}")
 }

@@ -5,6 +5,7 @@ use Rattle.std.specs.declared.option.Option.TheVariants.{None, Some}
 use Rattle.pool_types.specs.Contents.{Contents}
 use Rattle.numbered_pool.specs.Added.{no_answers}
 use Rattle.numbered_pool.specs.declared.answers.Answers.{Answers}
+use Rattle.numbered_pool.specs.declared.known.Added.{Added}
 use Rattle.numbered_pool.specs.declared.report.Report.{Report}
 use Rattle.protolink_c.specs.declared.lent.Lent.{Lent}
 use Rattle.protolink_c.specs.declared.lent.Lent.TheVariants.{Parted, Empty}
@@ -18,6 +19,10 @@ limited most answers = record answers { max_faults = most }
 abbrev pub answers_of : Option Answers → Answers
 answers_of None = no_answers
 answers_of (Some answers) = answers
+
+-- the pool that is read through a view with its report
+abbrev pub answers_in : Option (Seen Answers) → Answers
+answers_in shown = answers_of (read_in shown)
 
 -- the pool of a handle
 abbrev pub pool_of : Option Answers → Contents
@@ -34,6 +39,10 @@ pool_in shown = pool_of (read_in shown)
 -- the report that is read through a view
 abbrev pub report_in : Option (Seen Answers) → Report
 report_in shown = report_of (read_in shown)
+
+-- what became of the files of the last call, as it is read through a view
+abbrev pub added_in : Option (Seen Answers) → Added
+added_in shown = (answers_in shown).added
 
 -- a pool with its report, while it is lent
 abbrev pub lent_answers : Lent → Answers

@@ -9,6 +9,7 @@
 
 mod box_pointer;
 mod boxes;
+mod changes;
 mod handle;
 mod items;
 mod lent;

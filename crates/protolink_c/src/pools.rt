@@ -11,7 +11,7 @@ ghost use Rattle.pool_types.specs.Extension.{extension_numbered};
 ghost use Rattle.record_walk.specs.Counts.{counts_in};
 ghost use Rattle.protolink_c.specs.Added.{IsAdded};
 ghost use Rattle.protolink_c.specs.Seen.{read_in};
-ghost use Rattle.protolink_c.specs.Shown.{answers_of, limited, pool_in, report_in};
+ghost use Rattle.protolink_c.specs.Shown.{added_in, answers_of, limited, pool_in, report_in};
 ghost use Rattle.protolink_c.specs.Told.{handed_out, handed_out_if, located, written};
 
 use crate::boxes::{boxed_copy, closed, opened};
@@ -20,7 +20,7 @@ use crate::lent::lend;
 use crate::status::{DONE, NO_MEMORY, NOT_FOUND, SHORT};
 use crate::told::{hand_out, locate, write};
 use crate::view::View;
-use numbered_pool::{Answers, Item, PoolCounts, Status};
+use numbered_pool::{Added, Answers, Item, PoolCounts, Status};
 use std::alloc::Global;
 
 /// 0.2.0, as the programs have it.
@@ -109,6 +109,18 @@ pub extern "C" fn protolink_pool_limit_faults(alloc: Global, pool: &mut Handle, 
     };
     answers.max_faults = most;
     closed(alloc, pool, answers, Status::Done)
+}
+
+/// Tells what became of the files of the last call that was to add some, where it did; else that
+/// there were none.
+#[unsafe(no_mangle)]
+pub extern "C" fn protolink_pool_added(alloc: Global, pool: &mut View, added: &mut Added)
+    ensures same { pool.new.shown ≡ pool.old.shown }
+    ensures told { added.new ≡ added_in pool.old.shown }
+{
+    let lent = lend(alloc, pool);
+    *added = lent.answers().added;
+    *pool = lent.back();
 }
 
 /// Hands out the report of the last call that was to add files, in lines.

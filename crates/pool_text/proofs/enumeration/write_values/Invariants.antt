@@ -6,4 +6,4 @@ use Rattle.pool_text.proofs.enumeration.write_values.Given as goal
 -- the values so far are told
 abbrev pub invariant-loop-value : goal.invariant-loop-value
 invariant-loop-value l =
-    string_bytes l.text ≡ string_bytes l.initial.text ++ flat_map value_line (take l.value-index l.values)
+    string_bytes l.text ≡ string_bytes l.initial.text ++ flat_map (value_line l.pool) (take l.value-index l.values)

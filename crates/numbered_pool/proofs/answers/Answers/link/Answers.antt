@@ -1,8 +1,9 @@
-use Rattle.std.proofs.Common.{rules, ◌≡◌, Some, IfOk, refl, subst}
+use Rattle.std.proofs.Common.{rules, ◌≡◌, Some, IfOk, refl, ap, subst, ◌∙◌}
 use Rattle.pool_types.specs.Contents.{files_of}
 use Rattle.descriptor_pool.specs.Outcome.{IsLinked}
 use Rattle.descriptor_pool.specs.Within.{IsRefusedWithin}
 use Rattle.descriptor_pool.specs.Pool.{new_files}
+use Rattle.numbered_pool.specs.Known.{added_by}
 use Rattle.numbered_pool.specs.Reports.{refused_report}
 use Rattle.numbered_pool.proofs.Told.{refused_told}
 use Rattle.numbered_pool.proofs.answers.Answers.link.Goals as goal
@@ -13,7 +14,7 @@ returns-in-Ok c =
     let old = c.args.self.now.pool in
     let new = c.link_within.new.self in
     let linked : IsLinked old c.into_vec-files.result.items new = search rules in
-    record { linked = subst (λ files. IsLinked old files new) c.into_vec-files.ensures linked; limit = refl; silent = c.requires }
+    record { linked = subst (λ files. IsLinked old files new) c.into_vec-files.ensures linked; limit = refl; counted = c.added_by-added.ensures ∙ ap (added_by old) c.as_slice.ensures; silent = c.requires.silent }
 
 -- the files break rules, and the new ones came back
 pub returns-in-Err-Descriptor : goal.returns-in-Err-Descriptor
@@ -32,4 +33,5 @@ returns-in-Err-Descriptor c =
     refused_told old c.args.batch error middle back report new result
     (subst (λ files. IsRefusedWithin (Some old.max_faults) old.pool files error middle) c.into_vec-files.ensures refused)
     (subst (λ files. back ≡ new_files old.pool files) c.into_vec-files.ensures given) made
-    c.tell-in-Err-Descriptor.ensures.pool c.tell-in-Err-Descriptor.ensures.max_faults c.tell-in-Err-Descriptor.ensures.told
+    c.tell-in-Err-Descriptor.ensures.pool c.tell-in-Err-Descriptor.ensures.max_faults
+    (c.tell-in-Err-Descriptor.ensures.added ∙ c.requires.uncounted) c.tell-in-Err-Descriptor.ensures.told

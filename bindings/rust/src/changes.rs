@@ -1,0 +1,132 @@
+//! What a pool changes of an older one.
+
+use crate::faults::Fault;
+use crate::ffi;
+use crate::json::{parse, Value};
+use std::fmt;
+use std::ops::Deref;
+use std::{slice, vec};
+
+/// At which level two pools are compared. Each level contains the ones before it.
+#[derive(Debug, Clone, Copy, PartialEq, Eq, PartialOrd, Ord, Hash)]
+#[non_exhaustive]
+pub enum Level {
+    /// What is read otherwise of bytes, or in calls of services.
+    Wire,
+    /// Besides, what is read otherwise of texts of JSON.
+    Json,
+    /// Besides, what code that is made of the files has otherwise.
+    Source,
+}
+
+impl Level {
+    pub(crate) fn number(self) -> u32 {
+        match self {
+            Level::Wire => ffi::LEVEL_WIRE,
+            Level::Json => ffi::LEVEL_JSON,
+            Level::Source => ffi::LEVEL_SOURCE,
+        }
+    }
+
+    fn named(word: &str) -> Level {
+        match word {
+            "wire" => Level::Wire,
+            "json" => Level::Json,
+            _ => Level::Source,
+        }
+    }
+}
+
+/// What a pool changes of an older one, and where.
+#[derive(Debug, Clone, PartialEq, Eq)]
+#[non_exhaustive]
+pub struct Change {
+    /// Its own level, which may be below the one that was asked for.
+    pub level: Level,
+    /// Its kind, text and places: `code` is as `field-kind`, the place that in the new pool, and
+    /// `related` has the place in the older one.
+    pub fault: Fault,
+}
+
+/// Changes in order: the first hundred, or as many as
+/// [`limit_faults`](crate::DescriptorPool::limit_faults) has set, and how many more there are.
+#[derive(Debug, Clone, PartialEq, Eq, Default)]
+pub struct Changes {
+    told: Vec<Change>,
+    more: u64,
+}
+
+impl Change {
+    fn new(value: &Value) -> Change {
+        let level = value.member("level").and_then(Value::as_text);
+        Change {
+            level: Level::named(level.unwrap_or_default()),
+            fault: Fault::new(value),
+        }
+    }
+}
+
+impl Changes {
+    /// The changes of an object of JSON.
+    pub(crate) fn read(json: &[u8]) -> Changes {
+        let object = parse(&String::from_utf8_lossy(json)).unwrap_or(Value::Null);
+        let told = object.member("changes").map_or(&[][..], Value::items);
+        let compared = object.member("compared").map_or(&[][..], Value::items);
+        let more = compared
+            .first()
+            .and_then(|compared| compared.member("more"));
+        Changes {
+            told: told.iter().map(Change::new).collect(),
+            more: more
+                .and_then(Value::as_number)
+                .and_then(|more| u64::try_from(more).ok())
+                .unwrap_or_default(),
+        }
+    }
+
+    /// How many more changes there are than these.
+    #[must_use]
+    pub fn more(&self) -> u64 {
+        self.more
+    }
+}
+
+impl Deref for Changes {
+    type Target = [Change];
+
+    fn deref(&self) -> &[Change] {
+        &self.told
+    }
+}
+
+impl Deref for Change {
+    type Target = Fault;
+
+    fn deref(&self) -> &Fault {
+        &self.fault
+    }
+}
+
+impl IntoIterator for Changes {
+    type Item = Change;
+    type IntoIter = vec::IntoIter<Change>;
+
+    fn into_iter(self) -> vec::IntoIter<Change> {
+        self.told.into_iter()
+    }
+}
+
+impl<'c> IntoIterator for &'c Changes {
+    type Item = &'c Change;
+    type IntoIter = slice::Iter<'c, Change>;
+
+    fn into_iter(self) -> slice::Iter<'c, Change> {
+        self.told.iter()
+    }
+}
+
+impl fmt::Display for Change {
+    fn fmt(&self, f: &mut fmt::Formatter<'_>) -> fmt::Result {
+        self.fault.fmt(f)
+    }
+}

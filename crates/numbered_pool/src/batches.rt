@@ -1,0 +1,36 @@
+//! Files as one batch, in which each name stands once.
+
+ghost use Rattle.std.specs.Prelude.{◌≡◌, IfOk, string_bytes};
+ghost use Rattle.numbered_pool.specs.Batches as spec;
+
+use crate::reading::only;
+use joined_files::{JoinedFiles, Joining};
+use plain_data::Items;
+use proto_types::FileDescriptorProto;
+use std::alloc::{AllocError, Global};
+
+/// What a file is called among others, by its position from 0: its number from 1.
+fn file_words(alloc: Global, position: usize) -> Result<String, AllocError>
+    ensures { IfOk result (λ s. string_bytes s ≡ spec.file_words position) }
+{
+    let number = position as u128 + 1;
+    format!(in alloc; "file {number}")
+}
+
+/// The batch of some files: those of one name that are equal apart from the places of their parts
+/// in a source count once, with places if one has some; of others the first is in the batch, and the
+/// further ones are told.
+#[tactic(auto, unfolding(crate::specs::Batches::batch_of))]
+pub(crate) fn batch_of(
+    alloc: Global,
+    files: Items<FileDescriptorProto>,
+) -> Result<JoinedFiles, AllocError>
+    ensures { IfOk result (λ batch. batch ≡ spec.batch_of files) }
+{
+    let mut joining = Joining::new(alloc);
+    for (position, file) in files.into_vec().into_iter().enumerate() {
+        let words = file_words(alloc, position)?;
+        joining = joining.with_set(words.as_str(), only(alloc, file)?)?;
+    }
+    joining.into_files()
+}
