@@ -90,6 +90,7 @@ class Row:
     most: Optional[int] = None
     level: Optional[str] = None
     file: str = FILE
+    format: Optional[str] = None
 
 
 ROWS: list[Row] = []
@@ -985,6 +986,156 @@ ROWS.append(
     )
 )
 
+# Message sets, and options of files that name code.
+SET = P2 + message("option message_set_wire_format = true;", "extensions 4 to 99;")
+NO_SET = P2 + message("extensions 4 to 99;")
+SET_NOTE = "its extensions are encoded otherwise: take a new message"
+told(
+    "message-set-no-more",
+    SET,
+    NO_SET,
+    Change("message-set", "'m.M': message set became plain message", SET_NOTE, "m.M", "m.M"),
+)
+told_forward(
+    "message-set-forward",
+    NO_SET,
+    SET,
+    Change("message-set", "'m.M': plain message became message set", SET_NOTE, "m.M", "m.M"),
+)
+kept("message-set-that-stays", SET, SET)
+
+
+def option(before: str, after: str) -> Change:
+    """An option of a file that names code."""
+    text = f"'{FILE}': {before} became {after}"
+    return Change("option-changed", text, OF_FILE, FILE, FILE, "source")
+
+
+def with_options(*options: str) -> str:
+    """The source of a file with options."""
+    return P3 + "".join(f"option {one};\n" for one in options) + message("int32 a = 1;")
+
+
+at_level(
+    "source",
+    "source-option",
+    with_options('java_package = "com.a"'),
+    with_options('java_package = "com.b"'),
+    option("java_package com.a", "java_package com.b"),
+)
+at_level(
+    "source",
+    "source-options-given-and-gone",
+    with_options('ruby_package = "A::B"', "php_generic_services = true"),
+    with_options('go_package = "a/b"', "java_multiple_files = true"),
+    option("no java_multiple_files", "java_multiple_files"),
+    option("no go_package", "go_package a/b"),
+    option("php_generic_services", "no php_generic_services"),
+    option("ruby_package A::B", "no ruby_package"),
+)
+at_level(
+    "source",
+    "source-option-given-as-false",
+    with_options("cc_generic_services = false", 'csharp_namespace = "A"'),
+    with_options('csharp_namespace = "A"'),
+)
+at_level(
+    "source",
+    "source-option-that-names-no-code",
+    with_options("optimize_for = CODE_SIZE", "deprecated = true"),
+    with_options("optimize_for = SPEED"),
+)
+kept("option-at-wire", with_options('swift_prefix = "A"'), with_options('swift_prefix = "B"'))
+
+
+# Changes in the formats of other tools.
+def in_format(format_: str) -> None:
+    """Rows of what changes at each level and in both directions, and of what does not."""
+    each = f"each-change-as-{format_}"
+    old = P3 + message("int64 a = 1;", "bool b = 2;", "int32 c = 3;") + message(name="N")
+    new = P3 + message("int32 a = 1;", "int32 b = 2;", "int64 c = 3;")
+    backward = [
+        kind("m.M.a", 1, "int64", "int32"),
+        between("json", "field-json", "m.M.b", "true or false", "number", FORMED),
+        source("field-type", "int32", "int64", TYPE, "m.M.c"),
+        gone("source", "message-removed", "message", "m.N", FILE, CODE),
+    ]
+    forward = [
+        kind("m.M.b", 2, "bool", "int32"),
+        kind("m.M.c", 3, "int32", "int64"),
+        source("field-type", "int64", "int32", TYPE, "m.M.a"),
+    ]
+    ROWS.append(Row(each, old, new, backward, forward, level="source", format=format_))
+    first = f"first-change-as-{format_}"
+    ROWS.append(Row(first, old, new, backward, most=1, level="source", format=format_))
+    ROWS.append(Row(f"no-change-as-{format_}", new, new, backward=[], format=format_))
+
+
+for each_format in ("github", "gitlab", "sarif"):
+    in_format(each_format)
+
+
+# How many changes there are at json and at source, of rows that ask for less: none, where a row is
+# not here.
+BEYOND = {
+    ("bool-to-int32", "backward"): (1, 0),
+    ("bool-to-int64", "backward"): (1, 0),
+    ("bool-to-uint32", "backward"): (1, 0),
+    ("bool-to-uint64", "backward"): (1, 0),
+    ("bytes-to-string-of-proto2", "backward"): (1, 0),
+    ("changes-in-full", "backward"): (1, 0),
+    ("changes-in-full", "forward"): (1, 1),
+    ("closed-enum-gains-a-number-forward", "forward"): (1, 0),
+    ("closed-enum-loses-a-number", "backward"): (1, 0),
+    ("closed-enum-opens", "backward"): (0, 2),
+    ("closed-enum-to-bool", "backward"): (1, 0),
+    ("closed-enum-to-int32", "backward"): (1, 0),
+    ("closed-enum-to-uint32", "backward"): (1, 0),
+    ("closed-enum-under-another-name", "backward"): (1, 1),
+    ("closed-enum-with-renamed-values", "backward"): (1, 0),
+    ("extension-becomes-a-field", "backward"): (1, 1),
+    ("extension-removed", "backward"): (1, 0),
+    ("field-added-in-full", "forward"): (1, 0),
+    ("field-into-a-oneof-alone", "backward"): (0, 2),
+    ("field-removed-and-reserved", "backward"): (1, 0),
+    ("field-removed-for-extensions", "backward"): (1, 0),
+    ("field-removed-in-a-reserved-range", "backward"): (1, 0),
+    ("field-renamed-and-of-another-kind", "backward"): (1, 0),
+    ("field-renamed", "backward"): (1, 0),
+    ("fields-into-one-oneof", "backward"): (0, 3),
+    ("fields-out-of-a-oneof-forward", "forward"): (0, 3),
+    ("fields-out-of-a-oneof", "backward"): (0, 5),
+    ("int32-to-int64", "backward"): (0, 1),
+    ("int32-to-open-enum", "backward"): (0, 1),
+    ("json-int32-to-e", "backward"): (0, 1),
+    ("json-int32-to-int64", "backward"): (0, 1),
+    ("json-message-removed", "backward"): (0, 1),
+    ("json-name-that-stays", "backward"): (0, 1),
+    ("json-uint32-to-int64", "backward"): (0, 1),
+    ("map-field-renamed-and-its-value-changed", "backward"): (1, 0),
+    ("map-field-renamed", "backward"): (1, 0),
+    ("message-removed-that-no-field-holds", "backward"): (0, 1),
+    ("oneof-renamed", "backward"): (0, 3),
+    ("open-enum-closes", "backward"): (0, 2),
+    ("open-enum-loses-a-value", "backward"): (1, 0),
+    ("open-enum-to-int32", "backward"): (1, 0),
+    ("open-enum-to-int64", "backward"): (1, 0),
+    ("optional-to-repeated", "backward"): (1, 0),
+    ("presence-added", "backward"): (0, 1),
+    ("required-field-removed", "backward"): (1, 0),
+    ("required-to-optional", "backward"): (0, 1),
+    ("sint32-to-sint64", "backward"): (0, 1),
+    ("string-of-proto2-to-proto3", "backward"): (0, 1),
+    ("string-of-proto3-to-proto2", "backward"): (0, 1),
+    ("string-to-bytes", "backward"): (1, 0),
+    ("string-to-repeated", "backward"): (1, 0),
+    ("three-fields-into-one-oneof", "backward"): (0, 4),
+    ("uint32-to-int64", "backward"): (0, 1),
+    ("uint32-to-uint64", "backward"): (0, 1),
+    ("value-of-a-map-is-wider", "backward"): (0, 1),
+    ("option-at-wire", "backward"): (0, 1),
+}
+
 
 def compiled(source: str, file: str) -> bytes:
     """The set that protoc makes of a source in a file with a name."""
@@ -1105,12 +1256,244 @@ def accepted_line(counts: list[int]) -> str:
     return "accepted: " + ", ".join(map(counted, counts, words)) + "\n"
 
 
+def beyond(row: Row, direction: str) -> dict[str, int]:
+    """How many changes of a direction there are at the levels that a row does not ask for."""
+    json_, source_ = BEYOND.get((row.name, direction), (0, 0))
+    return {"json": json_, "source": source_}
+
+
 def last_line(made: Made, row: Row, direction: str, changes: list[Change], untold: int) -> str:
     """The line that counts the changes of a direction."""
     level = row.level or "wire"
     front = f"changed: {counted(len(changes), 'change')}" if changes else "unchanged"
     behind = f", of which {untold} are not told" if untold else ""
+    behind += "".join(f"; {n} at {name}" for name, n in beyond(row, direction).items() if n)
     return f"{front} at {level} against {made.against}, {direction}{behind}\n"
+
+
+def told_text(made: Made, change: Change) -> str:
+    """A change as one text: what it is, the place in the older version, and what to do."""
+    fault = made.fault(change)
+    assert fault.second is not None
+    second = f"{fault.words} {breaks.place_words({FILE: made.old}, fault.second)}"
+    return f"{fault.message}\n{second}\n{fault.note}"
+
+
+def escaped(text: str, others: str = "") -> str:
+    """A text of a workflow command, with these characters escaped besides."""
+    for one in "%\r\n" + others:
+        text = text.replace(one, f"%{ord(one):02X}")
+    return text
+
+
+def annotations(made: Made, row: Row, direction: str, changes: list[Change]) -> str:
+    """The annotations of what changes in a direction, by docs/CHECK.md."""
+    first = changes if row.most is None else changes[: row.most]
+    lines = []
+    for change in first:
+        it = made.object(direction, change)
+        place = f"file={escaped(it['file'], ':,')},line={it['line']},col={it['column']},"
+        text = escaped(told_text(made, change))
+        lines.append(f"::error {place}title={escaped(change.code, ':,')}::{text}\n")
+    if len(first) < len(changes):
+        more = len(changes) - len(first)
+        lines.append(f"::error title=More::{more} faults more are not told\n")
+    return "".join(lines)
+
+
+def quality_object(made: Made, direction: str, change: Change) -> dict[str, object]:
+    """A change as an object of code quality, by docs/CHECK.md and docs/CHANGES.md."""
+    it = made.object(direction, change)
+    path = "".join(f" {number}" for number in it["path"])
+    mark = f"{direction} {made.against} {change.code} {it['file']}{path} {change.text}"
+    return {
+        "description": told_text(made, change),
+        "check_name": change.code,
+        "fingerprint": mark,
+        "severity": "critical",
+        "location": {"path": it["file"], "lines": {"begin": it["line"]}},
+    }
+
+
+def location(place: dict[str, object]) -> dict[str, object]:
+    """A place as a location of SARIF (section 3.28)."""
+    region = {"startLine": place["line"], "startColumn": place["column"]}
+    physical = {"artifactLocation": {"uri": place["file"]}, "region": region}
+    found: dict[str, object] = {"physicalLocation": physical}
+    if place["element"] is not None:
+        found["logicalLocations"] = [{"fullyQualifiedName": place["element"]}]
+    return found
+
+
+def sarif_result(made: Made, direction: str, change: Change) -> dict[str, object]:
+    """A change as a result of SARIF (3.27)."""
+    it = made.object(direction, change)
+    text = told_text(made, change)
+    (second,) = it["related"]
+    message_ = {"message": {"text": text.split("\n")[1]}}
+    marks = {"level": change.level, "direction": direction, "against": made.against}
+    return {
+        "ruleId": change.code,
+        "level": "error",
+        "message": {"text": text},
+        "locations": [location(it)],
+        "relatedLocations": [{**location(second), **message_}],
+        "properties": marks,
+    }
+
+
+RULES = (
+    (
+        "wire",
+        "field-kind",
+        "A value of a field is read otherwise, or is refused.",
+        "Take a new number, and reserve the old one.",
+    ),
+    (
+        "wire",
+        "field-cardinality",
+        "A field is repeated and was not, or was and is no more.",
+        "Take a new number, and reserve the old one.",
+    ),
+    (
+        "wire",
+        "field-oneof",
+        "Two fields of a writer are in one oneof of a reader alone.",
+        "Leave them where they are.",
+    ),
+    (
+        "wire",
+        "field-required",
+        "A reader requires a field that a writer may leave out.",
+        "Make it optional.",
+    ),
+    (
+        "wire",
+        "number-free",
+        "A field is gone, and its number is neither reserved nor left to extensions.",
+        "Reserve the number.",
+    ),
+    (
+        "wire",
+        "message-set",
+        "One version of a message is a message set on the wire, and the other is not.",
+        "Take a new message.",
+    ),
+    ("wire", "service-removed", "A service is gone.", "Keep it, and mark it as deprecated."),
+    ("wire", "method-removed", "A method is gone.", "Keep it, and mark it as deprecated."),
+    (
+        "wire",
+        "method-input",
+        "A method takes another message.",
+        "Leave the method, and add a new one.",
+    ),
+    (
+        "wire",
+        "method-output",
+        "A method gives another message.",
+        "Leave the method, and add a new one.",
+    ),
+    (
+        "wire",
+        "method-streaming",
+        "A method streams otherwise.",
+        "Leave the method, and add a new one.",
+    ),
+    (
+        "json",
+        "field-removed",
+        "A field is gone, and its number is kept free.",
+        "Keep it, and mark it as deprecated.",
+    ),
+    (
+        "json",
+        "field-json-name",
+        "A field has another name in JSON.",
+        "Give it the same by json_name.",
+    ),
+    (
+        "json",
+        "field-json",
+        "The values of a field have another form in JSON.",
+        "Leave it, and add a new field.",
+    ),
+    (
+        "json",
+        "field-repeated",
+        "A field is a list in JSON and was not, or was and is no more.",
+        "Leave it, and add a new field.",
+    ),
+    ("json", "value-removed", "A value of an enum is gone.", "Keep it, if only as an alias."),
+    (
+        "json",
+        "value-name",
+        "A value of an enum has another name.",
+        "Keep the name, if only as an alias.",
+    ),
+    (
+        "source",
+        "file-removed",
+        "A file is gone.",
+        "Keep it, if only with public imports of other files.",
+    ),
+    ("source", "file-package", "A file has another package.", "Leave it."),
+    ("source", "file-syntax", "A file has another syntax.", "Leave it."),
+    ("source", "option-changed", "An option of a file that names code is another.", "Leave it."),
+    ("source", "message-removed", "A message is gone.", "Keep it, and mark it as deprecated."),
+    ("source", "enum-removed", "An enum is gone.", "Keep it, and mark it as deprecated."),
+    ("source", "field-name", "A field has another name.", "Leave the name."),
+    (
+        "source",
+        "field-type",
+        "A field has another type, and neither bytes nor JSON are read otherwise.",
+        "Leave it.",
+    ),
+    ("source", "field-presence", "A field tells its presence otherwise.", "Leave it."),
+    ("source", "field-moved", "A field is in another oneof, or in none.", "Leave it."),
+    ("source", "field-default", "A field has another default value.", "Leave it."),
+    ("source", "oneof-removed", "A oneof is gone.", "Keep it, and mark it as deprecated."),
+    ("source", "enum-open", "An enum is open and was closed, or the other way round.", "Leave it."),
+)
+"""The kinds of changes as a log of SARIF has them: the level, the code, what it says, what to do."""
+
+
+def sarif_log(results: list[object], compared: list[object]) -> dict[str, object]:
+    """A log of SARIF with the kinds of changes, by docs/CHANGES.md."""
+    rules = [
+        {
+            "id": code,
+            "shortDescription": {"text": said},
+            "help": {"text": note},
+            "properties": {"tags": [level]},
+        }
+        for level, code, said, note in RULES
+    ]
+    driver = {"name": "check_descriptors", "version": "0.2.0", "rules": rules}
+    properties = {"compared": compared}
+    run = {"tool": {"driver": driver}, "results": results, "properties": properties}
+    schema = "https://json.schemastore.org/sarif-2.1.0.json"
+    return {"$schema": schema, "version": "2.1.0", "runs": [run]}
+
+
+def report_in(row: Row, made: Made, compared: list[object]) -> str:
+    """What a row tells in the format of another tool."""
+    sides = [("backward", row.backward), ("forward", row.forward)]
+    told_of = [(direction, changes) for direction, changes in sides if changes is not None]
+    if row.format == "github":
+        told = (annotations(made, row, direction, changes) for direction, changes in told_of)
+        return accepted_line(counts_of(made.new)) + "".join(told)
+    make = quality_object if row.format == "gitlab" else sarif_result
+    objects: list[object] = [
+        make(made, direction, change)
+        for direction, changes in told_of
+        for change in changes[: row.most]
+    ]
+    return line_of(objects if row.format == "gitlab" else sarif_log(objects, compared))
+
+
+def line_of(value: object) -> str:
+    """A value of JSON as a line without spaces."""
+    return json.dumps(value, ensure_ascii=False, separators=(",", ":")) + "\n"
 
 
 def row_files(row: Row) -> dict[str, bytes]:
@@ -1130,7 +1513,8 @@ def row_files(row: Row) -> dict[str, bytes]:
         text += "".join(made.lines(change) for change in first)
         text += last_line(made, row, direction, changes, more)
         head: dict[str, object] = {"against": against, "direction": direction}
-        entries.append({**head, "count": len(changes), "more": more})
+        counts = {"count": len(changes), "more": more, "beyond": beyond(row, direction)}
+        entries.append({**head, **counts})
         objects += [made.object(direction, change) for change in first]
     names = ("files", "messages", "enums", "services", "extensions")
     whole = {
@@ -1143,7 +1527,8 @@ def row_files(row: Row) -> dict[str, bytes]:
         "more": 0,
         "error": None,
     }
-    words = ["--against", against]
+    words = [] if row.format is None else ["--format", row.format]
+    words += ["--against", against]
     if row.forward is not None:
         words += ["--compatibility", "forward" if row.backward is None else "full"]
     if row.level is not None:
@@ -1154,9 +1539,11 @@ def row_files(row: Row) -> dict[str, bytes]:
         "old.pb": old,
         "new.pb": new,
         "args": "".join(f"{word}\n" for word in [*words, f"{row.name}.new.pb"]).encode(),
-        "text": text.encode(),
-        "json": (json.dumps(whole, ensure_ascii=False, separators=(",", ":")) + "\n").encode(),
     }
+    if row.format is None:
+        files |= {"text": text.encode(), "json": line_of(whole).encode()}
+    else:
+        files["text"] = report_in(row, made, entries).encode()
     if any(changes for _, changes in compared):
         files["status"] = b"1\n"
     return files

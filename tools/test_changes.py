@@ -12,6 +12,7 @@ from __future__ import annotations
 
 import json
 import os
+import re
 import subprocess
 import sys
 import unittest
@@ -154,6 +155,20 @@ class ChangesTest(unittest.TestCase):
         """Messages are read as the program says, of a few pairs."""
         done = self.run_tool("compare_changes.py", "--pairs", "40", "--messages", "20", str(CHECK))
         self.assertEqual(done.returncode, 0, done.stdout + done.stderr)
+
+    def test_kinds(self) -> None:
+        """The rules of a log of SARIF are the kinds of the page, each at its level."""
+        import make_change_rows
+
+        page = (HERE.parent / "docs/CHANGES.md").read_text()
+        found = []
+        for level in ("wire", "json", "source"):
+            part = page.split(f"\n### At {level}\n")[1].split("\n## ")[0].split("\n### ")[0]
+            for cell in re.findall(r"^\| (`[^|]*) \|", part, re.MULTILINE):
+                codes = re.findall(r"`([a-z-]+)`", cell)
+                found += [(level, code) for code in codes if (level, code) not in found]
+        rules = [(level, code) for level, code, _, _ in make_change_rows.RULES]
+        self.assertEqual(sorted(found), sorted(rules))
 
     def test_stored_rows(self) -> None:
         """The stored rows are those that are made of their sources."""

@@ -1,23 +1,20 @@
 -- What the check of some inputs answers against older versions: the verdict, and behind it what an
 -- accepted batch changes of each.
-use Rattle.std.specs.Prelude.{ℕ, Bool, not, ◌==◌, List, [], ◌∷◌, ◌++◌, Result, Ok, Err, map, unwrap_or, if◌then◌else◌}
+use Rattle.std.specs.Prelude.{ℕ, Bool, not, ◌==◌, List, [], ◌∷◌, Result, Ok, Err, map, unwrap_or, if◌then◌else◌}
 use Rattle.std.specs.List.{flat_map, list_any}
 use Rattle.std.specs.declared.option.Option.{Option}
 use Rattle.std.specs.declared.option.Option.TheVariants.{None, Some}
 use Rattle.pool_types.specs.Contents.{Contents}
 use Rattle.joined_files.specs.declared.joining.JoinedFiles.{JoinedFiles}
 use Rattle.pool_changes.specs.Comparing.{told_changes}
-use Rattle.pool_changes.specs.Texts.{changes_lines, untold_changes, with_changes}
 use Rattle.pool_changes.specs.declared.told.ToldChanges.{ToldChanges}
 use Rattle.pool_changes.specs.declared.direction.Direction.{Direction}
 use Rattle.pool_changes.specs.declared.direction.Direction.TheVariants as direction
 use Rattle.pool_changes.specs.declared.kinds.Level.{Level}
 use Rattle.pool_changes.specs.declared.kinds.Level.TheVariants.{Wire}
-use Rattle.verdict_formats.specs.Annotations.{annotations}
-use Rattle.verdict_formats.specs.declared.formats.Format.{Format}
-use Rattle.verdict_formats.specs.declared.formats.Format.TheVariants.{Text, Json, GitHub, GitLab, Sarif}
 use Rattle.descriptor_check.specs.Answers.{answer, judged_answer, passed_over, unread_answer, with_complaints}
 use Rattle.descriptor_check.specs.Batches.{batch_of}
+use Rattle.descriptor_check.specs.ChangeFormats.{report_with}
 use Rattle.descriptor_check.specs.Olders.{olders_of}
 use Rattle.descriptor_check.specs.Strict.{judgement_of}
 use Rattle.descriptor_check.specs.declared.answer.Answer.{Answer}
@@ -70,23 +67,6 @@ compared_for w olders (Unequal _) st = []
 abbrev pub some_change : List ToldChanges → Bool
 some_change told = list_any (λ r. not (r.count == 0)) told
 
--- the annotations of what a new version changes of an older one
-abbrev pub changes_annotations : ToldChanges → List ℕ
-changes_annotations changes = annotations changes.told (untold_changes changes)
-
--- what is told by a format: the verdict, and behind it the changes, or the object that has both; the
--- formats of code quality have the verdict alone, and no arguments ask them for changes
-abbrev pub report_in : Format → List ToldChanges → List ℕ → List ℕ
-report_in Text told report = report ++ flat_map changes_lines told
-report_in Json told report = with_changes told report
-report_in GitHub told report = report ++ flat_map changes_annotations told
-report_in GitLab told report = report
-report_in Sarif told report = report
-
--- what is told in the format that is wanted
-abbrev pub report_with : Wanted → List ToldChanges → List ℕ → List ℕ
-report_with w told report = report_in w.format told report
-
 -- the status of an answer and its set; where something changes, the status of a refused batch, and
 -- no set
 abbrev pub unless_changed : List ToldChanges → Status → Option LinkedSet
@@ -97,7 +77,7 @@ unless_changed told st set = if some_change told then (status.Refused, None) els
 abbrev pub with_told : Wanted → List ToldChanges → Answer → Answer
 with_told w told a = record {
   status = (unless_changed told a.status a.linked).0;
-  report = report_with w told a.report;
+  report = report_with w.format told a.report;
   complaint = a.complaint;
   linked = (unless_changed told a.status a.linked).1;
 }

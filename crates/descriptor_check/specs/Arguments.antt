@@ -224,23 +224,10 @@ awaited_words valued.Level = codes "--level: give wire, json or source"
 abbrev pub asks_too_much : Wanted → Bool
 asks_too_much w = not (is_for_people w.format) && (w.lists || not (length w.names == 0))
 
--- whether a format tells what changes of older versions
-abbrev pub tells_changes : Format → Bool
-tells_changes Text = true
-tells_changes Json = true
-tells_changes GitHub = true
-tells_changes GitLab = false
-tells_changes Sarif = false
-
 -- whether it is said which version is to read, or at which level, and there is none to compare with
 abbrev pub compares_nothing : Job → Bool
 compares_nothing job =
     (is_some job.wanted.compatibility || is_some job.wanted.level) && length job.against == 0
-
--- whether older versions are given, and a format that tells no changes
-abbrev pub tells_no_changes : Job → Bool
-tells_no_changes job =
-    not (length job.against == 0) && not (tells_changes job.wanted.format)
 
 -- what is asked where the words end
 abbrev pub with_files : Job → Request
@@ -249,9 +236,7 @@ with_files job = if length job.files == 0 then Wrong (codes "no file is named")
     then Wrong (codes "a format for programs tells the verdict alone: leave out --list and --describe")
     else (if compares_nothing job
     then Wrong (codes "--compatibility and --level are about older versions: give --against")
-    else (if tells_no_changes job
-    then Wrong (codes "--against is told as text, json or github: give one of these formats")
-    else Check job)))
+    else Check job))
 
 -- what is asked once all words are read
 abbrev pub finished : Reading → Request

@@ -8,6 +8,7 @@ pub mod Listed
 pub mod Described
 pub mod Answers
 pub mod Olders
+pub mod ChangeFormats
 pub mod Against
 pub mod Arguments
 pub mod Statuses

@@ -1,14 +1,14 @@
 //! The check of inputs against older versions.
 
-ghost use Rattle.std.specs.Prelude.{◌≡◌, ◌++◌, IfOk, OnOk, map, string_bytes};
+ghost use Rattle.std.specs.Prelude.{◌≡◌, ◌++◌, IfOk, OnOk, map};
 ghost use Rattle.std.specs.List.{flat_map};
 ghost use Rattle.pool_changes.specs.Comparing.{told_changes};
-ghost use Rattle.pool_changes.specs.Texts.{changes_lines};
 ghost use Rattle.descriptor_check.specs.Against as spec;
 ghost use Rattle.descriptor_check.specs.Batches.{batch_of};
 
 use crate::answer::{Answer, Compatibility, LinkedSet, Status, Wanted};
 use crate::batches::{BatchError, read_batch};
+use crate::change_formats::report_with;
 use crate::checking::{check, passed_over, tell_judgement, tell_unread, with_complaints};
 use crate::inputs::Input;
 use crate::olders::{Older, OlderError, read_olders};
@@ -17,11 +17,8 @@ use crate::verdicts::Verdict;
 use descriptor_pool::DescriptorPool;
 use joined_files::JoinedFiles;
 use plain_data::Text;
-use pool_changes::{
-    Comparison, Direction, Level, ToldChanges, tell_changes, with_changes, write_changes,
-};
+use pool_changes::{Comparison, Direction, Level, ToldChanges, tell_changes};
 use std::alloc::{AllocError, Global};
-use verdict_formats::{Format, annotations_text};
 
 /// The verdict on the files of some inputs as `check` tells it, and behind it what an accepted batch
 /// changes of older versions, the files of each of which are linked alone, and first. Where
@@ -200,66 +197,6 @@ fn some_change(told: &[ToldChanges]) -> bool
     told.iter().any(|changes| changes.count != 0)
 }
 
-/// Writes the lines of changes.
-fn write_each(alloc: Global, text: &mut String, told: &[ToldChanges]) -> Result<(), AllocError>
-    ensures { OnOk result (string_bytes text.new ≡ string_bytes text.old
-        ++ flat_map changes_lines told.now) }
-{
-    for changes in told {
-        write_changes(alloc, text, changes)?;
-    }
-    Ok(())
-}
-
-/// Writes the annotations of changes.
-fn write_annotations(
-    alloc: Global,
-    text: &mut String,
-    told: &[ToldChanges],
-) -> Result<(), AllocError>
-    ensures { OnOk result (string_bytes text.new ≡ string_bytes text.old
-        ++ flat_map spec.changes_annotations told.now) }
-{
-    for changes in told {
-        write_annotated(alloc, text, changes)?;
-    }
-    Ok(())
-}
-
-/// Writes the annotations of what a new version changes of an older one.
-fn write_annotated(
-    alloc: Global,
-    text: &mut String,
-    changes: &ToldChanges,
-) -> Result<(), AllocError>
-    ensures { OnOk result (string_bytes text.new ≡ string_bytes text.old
-        ++ spec.changes_annotations changes.now) }
-{
-    let annotations = annotations_text(alloc, changes.told.as_slice(), changes.untold())?;
-    text.push_str(annotations.as_str())
-}
-
-/// What is told: the verdict, and behind it the changes, or the object that has both. The formats of
-/// code quality have the verdict alone.
-fn report_with(
-    alloc: Global,
-    wanted: &Wanted,
-    told: &[ToldChanges],
-    report: &str,
-) -> Result<String, AllocError>
-    ensures { IfOk result (λ s. string_bytes s
-        ≡ spec.report_with wanted.now told.now report.now) }
-{
-    let mut text = String::from_str(alloc, report)?;
-    match wanted.format {
-        Format::Json => return with_changes(alloc, told, report),
-        Format::Text => write_each(alloc, &mut text, told)?,
-        Format::GitHub => write_annotations(alloc, &mut text, told)?,
-        Format::GitLab | Format::Sarif => {}
-    }
-    Ok(text)
-}
-
 /// The status of an answer and its set; where something changes, the status of a refused batch, and
 /// no set.
 fn unless_changed(
@@ -286,7 +223,7 @@ fn with_told(
 ) -> Result<Answer, AllocError>
     ensures { IfOk result (λ a. a ≡ spec.with_told wanted.now told.now answer) }
 {
-    let report = report_with(alloc, wanted, told, answer.report.as_str())?;
+    let report = report_with(alloc, wanted.format, told, answer.report.as_str())?;
     let report = Text::from_string(report);
     let Answer {
         status,

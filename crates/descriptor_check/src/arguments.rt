@@ -452,14 +452,6 @@ fn compares_nothing(job: &Job) -> bool
         && job.against.as_slice().is_empty()
 }
 
-/// Whether older versions are given, and a format that tells no changes.
-fn tells_no_changes(job: &Job) -> bool
-    ensures { result ≡ spec.tells_no_changes job.now }
-{
-    !job.against.as_slice().is_empty()
-        && matches!(job.wanted.format, Format::GitLab | Format::Sarif)
-}
-
 /// A job that has files, asks nothing of a format that it does not tell, and compares something
 /// where it says how.
 fn with_files(alloc: Global, job: Job) -> Result<Request, AllocError>
@@ -478,12 +470,6 @@ fn with_files(alloc: Global, job: Job) -> Result<Request, AllocError>
         return wrong(
             alloc,
             "--compatibility and --level are about older versions: give --against",
-        );
-    }
-    if tells_no_changes(&job) {
-        return wrong(
-            alloc,
-            "--against is told as text, json or github: give one of these formats",
         );
     }
     Ok(Request::Check(job))

@@ -5,6 +5,7 @@ mod against;
 mod answer;
 mod arguments;
 mod batches;
+mod change_formats;
 mod checking;
 mod complaints;
 mod described;

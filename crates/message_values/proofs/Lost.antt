@@ -1,25 +1,25 @@
 -- What is lost of each old schema.
-use Rattle.std.proofs.Common.{◌≡◌, ◌≢◌, ℕ, ℤ, pos, negsuc, Bool, true, false, cond, eqb, ◌||◌, List, [], ◌∷◌, Option, Some, None, refl, ap, sym, subst, subst₂, ◌∙◌}
+use Rattle.std.proofs.Common.{◌≡◌, ◌≢◌, ℕ, ℤ, pos, negsuc, Bool, true, false, cond, eqb, ◌||◌, List, [], ◌∷◌, ◌++◌, Option, Some, None, refl, ap, sym, subst, subst₂, ◌∙◌}
 use Rattle.std.proofs.lemmas.Bool.{eqb-true, false≢true}
 use Rattle.std.proofs.lemmas.Bool.Decides.{Decides-int_eq}
 use Rattle.std.specs.List.{AllByRecursion}
 use Rattle.std.specs.Ordering.{int_eq}
-use Rattle.std.specs.Str.{is_utf8}
+use Rattle.std.specs.Str.{is_utf8, chars}
 use Rattle.message_values.proofs.Lists.{all_of}
 use Rattle.wire_format.specs.Varints.{varint, tag}
 use Rattle.wire_format.specs.Tokens.{fixed, delimited, token}
 use Rattle.wire_format.specs.Tokens as token
 use Rattle.wire_format.specs.Fields.{first_tokens}
-use Rattle.message_values.specs.Values.{Value, Varint, Fixed64, Bytes, Group, Fixed32, Numbered, Nothing, More, levels, values}
+use Rattle.message_values.specs.Values.{Value, Varint, Fixed64, Bytes, Group, Fixed32, Numbered, Nothing, levels, values}
 use Rattle.message_values.specs.Schema.{Schema, Kind, Field, Cardinality, Optional, Required, Repeated}
 use Rattle.message_values.specs.Schema as kind
 use Rattle.message_values.specs.Numbers.{has_number, number_read, encoded}
-use Rattle.message_values.specs.Fields.{Item, Number, Bits, Text, Message, Refused, Items, in_one, taken, counted, value}
+use Rattle.message_values.specs.Fields.{Item, Number, Bits, Text, Message, Refused, Unknown, Items, in_one, taken, items_in, counted, value}
 use Rattle.message_values.specs.Reading.{Fact, OfMessages, TakenWith, TooDeep, AreWellFormed, IsComplete, IsRead}
 use Rattle.message_values.specs.Writing.{Besides, IsValue, IsValueOf, IsWrittenOver, IsWritten}
 use Rattle.message_values.specs.Kept.{KeepsAll}
 use Rattle.message_values.specs.Carried.{AreCarried}
-use Rattle.message_values.specs.Lost.{Loses, LosesTogether, fields_one_and_two, field_one, two_fields, enum_of, optional, required, repeated, in_oneof, no_field, field_within, message_of, holding, needing, losing}
+use Rattle.message_values.specs.Lost.{AllLose, Loses, LosesTogether, LosesWidths, varints, fours, eights, texts, fields_one_and_two, field_one, two_fields, enum_of, open_enum, optional, required, repeated, in_oneof, no_field, field_within, message_of, holding, needing, losing, losing_numbers}
 
 abbrev at : ℕ → Value → Numbered
 at n v = record { number = n; value = v }
@@ -138,14 +138,6 @@ long-fixed-unsigned : Loses (field_one (optional kind.Sfixed64)) (field_one (opt
 unfolding IsValue has_number encoded value taken number_read
 long-fixed-unsigned = other-value kind.Sfixed64 kind.Fixed64 none_has (Fixed64 18446744073709551615) (Number (negsuc 0) ∷ []) (Number (pos 18446744073709551615) ∷ []) (λ P. all_of _ (λ x. tt)) (record { number = negsuc 0; has = refl; encoding = refl }) refl refl (numbers-differ _ _ refl)
 
-other-width : Loses (field_one (optional kind.Int32)) (field_one (optional kind.Fixed32))
-unfolding IsValue has_number encoded value taken number_read
-other-width = other-value kind.Int32 kind.Fixed32 none_has (Varint 1) (Number (pos 1) ∷ []) [] (λ P. all_of _ (λ x. tt)) (record { number = pos 1; has = refl; encoding = refl }) refl refl (none-there _)
-
-wider-fixed : Loses (field_one (optional kind.Fixed32)) (field_one (optional kind.Fixed64))
-unfolding IsValue has_number encoded value taken number_read
-wider-fixed = other-value kind.Fixed32 kind.Fixed64 none_has (Fixed32 1) (Number (pos 1) ∷ []) [] (λ P. all_of _ (λ x. tt)) (record { number = pos 1; has = refl; encoding = refl }) refl refl (none-there _)
-
 float-fixed : Loses (field_one (optional kind.Float)) (field_one (optional kind.Fixed32))
 unfolding IsValue has_number encoded value taken number_read
 float-fixed = other-value kind.Float kind.Fixed32 none_has (Fixed32 1) (Bits (pos 1) ∷ []) (Number (pos 1) ∷ []) (λ P. all_of _ (λ x. tt)) (record { number = pos 1; has = refl; encoding = refl }) refl refl (bits-differ (pos 1) (pos 1))
@@ -170,13 +162,109 @@ double-signed : Loses (field_one (optional kind.Double)) (field_one (optional ki
 unfolding IsValue has_number encoded value taken number_read
 double-signed = other-value kind.Double kind.Sfixed64 none_has (Fixed64 1) (Bits (pos 1) ∷ []) (Number (pos 1) ∷ []) (λ P. all_of _ (λ x. tt)) (record { number = pos 1; has = refl; encoding = refl }) refl refl (bits-differ (pos 1) (pos 1))
 
+int32-sint64 : Loses (field_one (optional kind.Int32)) (field_one (optional kind.Sint64))
+unfolding IsValue has_number encoded value taken number_read
+int32-sint64 = other-value kind.Int32 kind.Sint64 none_has (Varint 1) (Number (pos 1) ∷ []) (Number (negsuc 0) ∷ []) (λ P. all_of _ (λ x. tt)) (record { number = pos 1; has = refl; encoding = refl }) refl refl (numbers-differ (pos 1) (negsuc 0) refl)
+
+int64-uint32 : Loses (field_one (optional kind.Int64)) (field_one (optional kind.Uint32))
+unfolding IsValue has_number encoded value taken number_read
+int64-uint32 = other-value kind.Int64 kind.Uint32 none_has (Varint 18446744073709551615) (Number (negsuc 0) ∷ []) (Number (pos 4294967295) ∷ []) (λ P. all_of _ (λ x. tt)) (record { number = negsuc 0; has = refl; encoding = refl }) refl refl (numbers-differ (negsuc 0) (pos 4294967295) refl)
+
+int64-sint32 : Loses (field_one (optional kind.Int64)) (field_one (optional kind.Sint32))
+unfolding IsValue has_number encoded value taken number_read
+int64-sint32 = other-value kind.Int64 kind.Sint32 none_has (Varint 1) (Number (pos 1) ∷ []) (Number (negsuc 0) ∷ []) (λ P. all_of _ (λ x. tt)) (record { number = pos 1; has = refl; encoding = refl }) refl refl (numbers-differ (pos 1) (negsuc 0) refl)
+
+int64-sint64 : Loses (field_one (optional kind.Int64)) (field_one (optional kind.Sint64))
+unfolding IsValue has_number encoded value taken number_read
+int64-sint64 = other-value kind.Int64 kind.Sint64 none_has (Varint 1) (Number (pos 1) ∷ []) (Number (negsuc 0) ∷ []) (λ P. all_of _ (λ x. tt)) (record { number = pos 1; has = refl; encoding = refl }) refl refl (numbers-differ (pos 1) (negsuc 0) refl)
+
+int64-boolean : Loses (field_one (optional kind.Int64)) (field_one (optional kind.Boolean))
+unfolding IsValue has_number encoded value taken number_read
+int64-boolean = other-value kind.Int64 kind.Boolean none_has (Varint 2) (Number (pos 2) ∷ []) (Number (pos 1) ∷ []) (λ P. all_of _ (λ x. tt)) (record { number = pos 2; has = refl; encoding = refl }) refl refl (numbers-differ (pos 2) (pos 1) refl)
+
+uint32-sint32 : Loses (field_one (optional kind.Uint32)) (field_one (optional kind.Sint32))
+unfolding IsValue has_number encoded value taken number_read
+uint32-sint32 = other-value kind.Uint32 kind.Sint32 none_has (Varint 1) (Number (pos 1) ∷ []) (Number (negsuc 0) ∷ []) (λ P. all_of _ (λ x. tt)) (record { number = pos 1; has = refl; encoding = refl }) refl refl (numbers-differ (pos 1) (negsuc 0) refl)
+
+uint32-sint64 : Loses (field_one (optional kind.Uint32)) (field_one (optional kind.Sint64))
+unfolding IsValue has_number encoded value taken number_read
+uint32-sint64 = other-value kind.Uint32 kind.Sint64 none_has (Varint 1) (Number (pos 1) ∷ []) (Number (negsuc 0) ∷ []) (λ P. all_of _ (λ x. tt)) (record { number = pos 1; has = refl; encoding = refl }) refl refl (numbers-differ (pos 1) (negsuc 0) refl)
+
+uint32-boolean : Loses (field_one (optional kind.Uint32)) (field_one (optional kind.Boolean))
+unfolding IsValue has_number encoded value taken number_read
+uint32-boolean = other-value kind.Uint32 kind.Boolean none_has (Varint 2) (Number (pos 2) ∷ []) (Number (pos 1) ∷ []) (λ P. all_of _ (λ x. tt)) (record { number = pos 2; has = refl; encoding = refl }) refl refl (numbers-differ (pos 2) (pos 1) refl)
+
+uint64-int32 : Loses (field_one (optional kind.Uint64)) (field_one (optional kind.Int32))
+unfolding IsValue has_number encoded value taken number_read
+uint64-int32 = other-value kind.Uint64 kind.Int32 none_has (Varint 1099511627776) (Number (pos 1099511627776) ∷ []) (Number (pos 0) ∷ []) (λ P. all_of _ (λ x. tt)) (record { number = pos 1099511627776; has = refl; encoding = refl }) refl refl (numbers-differ (pos 1099511627776) (pos 0) refl)
+
+uint64-sint32 : Loses (field_one (optional kind.Uint64)) (field_one (optional kind.Sint32))
+unfolding IsValue has_number encoded value taken number_read
+uint64-sint32 = other-value kind.Uint64 kind.Sint32 none_has (Varint 1) (Number (pos 1) ∷ []) (Number (negsuc 0) ∷ []) (λ P. all_of _ (λ x. tt)) (record { number = pos 1; has = refl; encoding = refl }) refl refl (numbers-differ (pos 1) (negsuc 0) refl)
+
+uint64-sint64 : Loses (field_one (optional kind.Uint64)) (field_one (optional kind.Sint64))
+unfolding IsValue has_number encoded value taken number_read
+uint64-sint64 = other-value kind.Uint64 kind.Sint64 none_has (Varint 1) (Number (pos 1) ∷ []) (Number (negsuc 0) ∷ []) (λ P. all_of _ (λ x. tt)) (record { number = pos 1; has = refl; encoding = refl }) refl refl (numbers-differ (pos 1) (negsuc 0) refl)
+
+uint64-boolean : Loses (field_one (optional kind.Uint64)) (field_one (optional kind.Boolean))
+unfolding IsValue has_number encoded value taken number_read
+uint64-boolean = other-value kind.Uint64 kind.Boolean none_has (Varint 2) (Number (pos 2) ∷ []) (Number (pos 1) ∷ []) (λ P. all_of _ (λ x. tt)) (record { number = pos 2; has = refl; encoding = refl }) refl refl (numbers-differ (pos 2) (pos 1) refl)
+
+sint32-int64 : Loses (field_one (optional kind.Sint32)) (field_one (optional kind.Int64))
+unfolding IsValue has_number encoded value taken number_read
+sint32-int64 = other-value kind.Sint32 kind.Int64 none_has (Varint 2) (Number (pos 1) ∷ []) (Number (pos 2) ∷ []) (λ P. all_of _ (λ x. tt)) (record { number = pos 1; has = refl; encoding = refl }) refl refl (numbers-differ (pos 1) (pos 2) refl)
+
+sint32-uint32 : Loses (field_one (optional kind.Sint32)) (field_one (optional kind.Uint32))
+unfolding IsValue has_number encoded value taken number_read
+sint32-uint32 = other-value kind.Sint32 kind.Uint32 none_has (Varint 2) (Number (pos 1) ∷ []) (Number (pos 2) ∷ []) (λ P. all_of _ (λ x. tt)) (record { number = pos 1; has = refl; encoding = refl }) refl refl (numbers-differ (pos 1) (pos 2) refl)
+
+sint32-uint64 : Loses (field_one (optional kind.Sint32)) (field_one (optional kind.Uint64))
+unfolding IsValue has_number encoded value taken number_read
+sint32-uint64 = other-value kind.Sint32 kind.Uint64 none_has (Varint 2) (Number (pos 1) ∷ []) (Number (pos 2) ∷ []) (λ P. all_of _ (λ x. tt)) (record { number = pos 1; has = refl; encoding = refl }) refl refl (numbers-differ (pos 1) (pos 2) refl)
+
+sint32-boolean : Loses (field_one (optional kind.Sint32)) (field_one (optional kind.Boolean))
+unfolding IsValue has_number encoded value taken number_read
+sint32-boolean = other-value kind.Sint32 kind.Boolean none_has (Varint 4) (Number (pos 2) ∷ []) (Number (pos 1) ∷ []) (λ P. all_of _ (λ x. tt)) (record { number = pos 2; has = refl; encoding = refl }) refl refl (numbers-differ (pos 2) (pos 1) refl)
+
+sint64-int32 : Loses (field_one (optional kind.Sint64)) (field_one (optional kind.Int32))
+unfolding IsValue has_number encoded value taken number_read
+sint64-int32 = other-value kind.Sint64 kind.Int32 none_has (Varint 2) (Number (pos 1) ∷ []) (Number (pos 2) ∷ []) (λ P. all_of _ (λ x. tt)) (record { number = pos 1; has = refl; encoding = refl }) refl refl (numbers-differ (pos 1) (pos 2) refl)
+
+sint64-int64 : Loses (field_one (optional kind.Sint64)) (field_one (optional kind.Int64))
+unfolding IsValue has_number encoded value taken number_read
+sint64-int64 = other-value kind.Sint64 kind.Int64 none_has (Varint 2) (Number (pos 1) ∷ []) (Number (pos 2) ∷ []) (λ P. all_of _ (λ x. tt)) (record { number = pos 1; has = refl; encoding = refl }) refl refl (numbers-differ (pos 1) (pos 2) refl)
+
+sint64-uint32 : Loses (field_one (optional kind.Sint64)) (field_one (optional kind.Uint32))
+unfolding IsValue has_number encoded value taken number_read
+sint64-uint32 = other-value kind.Sint64 kind.Uint32 none_has (Varint 2) (Number (pos 1) ∷ []) (Number (pos 2) ∷ []) (λ P. all_of _ (λ x. tt)) (record { number = pos 1; has = refl; encoding = refl }) refl refl (numbers-differ (pos 1) (pos 2) refl)
+
+sint64-uint64 : Loses (field_one (optional kind.Sint64)) (field_one (optional kind.Uint64))
+unfolding IsValue has_number encoded value taken number_read
+sint64-uint64 = other-value kind.Sint64 kind.Uint64 none_has (Varint 2) (Number (pos 1) ∷ []) (Number (pos 2) ∷ []) (λ P. all_of _ (λ x. tt)) (record { number = pos 1; has = refl; encoding = refl }) refl refl (numbers-differ (pos 1) (pos 2) refl)
+
+sint64-boolean : Loses (field_one (optional kind.Sint64)) (field_one (optional kind.Boolean))
+unfolding IsValue has_number encoded value taken number_read
+sint64-boolean = other-value kind.Sint64 kind.Boolean none_has (Varint 4) (Number (pos 2) ∷ []) (Number (pos 1) ∷ []) (λ P. all_of _ (λ x. tt)) (record { number = pos 2; has = refl; encoding = refl }) refl refl (numbers-differ (pos 2) (pos 1) refl)
+
+boolean-sint32 : Loses (field_one (optional kind.Boolean)) (field_one (optional kind.Sint32))
+unfolding IsValue has_number encoded value taken number_read
+boolean-sint32 = other-value kind.Boolean kind.Sint32 none_has (Varint 1) (Number (pos 1) ∷ []) (Number (negsuc 0) ∷ []) (λ P. all_of _ (λ x. tt)) (record { number = pos 1; has = refl; encoding = refl }) refl refl (numbers-differ (pos 1) (negsuc 0) refl)
+
+boolean-sint64 : Loses (field_one (optional kind.Boolean)) (field_one (optional kind.Sint64))
+unfolding IsValue has_number encoded value taken number_read
+boolean-sint64 = other-value kind.Boolean kind.Sint64 none_has (Varint 1) (Number (pos 1) ∷ []) (Number (negsuc 0) ∷ []) (λ P. all_of _ (λ x. tt)) (record { number = pos 1; has = refl; encoding = refl }) refl refl (numbers-differ (pos 1) (negsuc 0) refl)
+
+sfixed32-float : Loses (field_one (optional kind.Sfixed32)) (field_one (optional kind.Float))
+unfolding IsValue has_number encoded value taken number_read
+sfixed32-float = other-value kind.Sfixed32 kind.Float none_has (Fixed32 1) (Number (pos 1) ∷ []) (Bits (pos 1) ∷ []) (λ P. all_of _ (λ x. tt)) (record { number = pos 1; has = refl; encoding = refl }) refl refl (λ e. bits-differ (pos 1) (pos 1) (sym e))
+
+sfixed64-double : Loses (field_one (optional kind.Sfixed64)) (field_one (optional kind.Double))
+unfolding IsValue has_number encoded value taken number_read
+sfixed64-double = other-value kind.Sfixed64 kind.Double none_has (Fixed64 1) (Number (pos 1) ∷ []) (Bits (pos 1) ∷ []) (λ P. all_of _ (λ x. tt)) (record { number = pos 1; has = refl; encoding = refl }) refl refl (λ e. bits-differ (pos 1) (pos 1) (sym e))
+
 number-bytes : Loses (field_one (optional kind.Int32)) (field_one (optional kind.Bytes))
 unfolding IsValue has_number encoded value taken number_read
 number-bytes = other-value kind.Int32 kind.Bytes none_has (Varint 1) (Number (pos 1) ∷ []) [] (λ P. all_of _ (λ x. tt)) (record { number = pos 1; has = refl; encoding = refl }) refl refl (none-there _)
-
-bytes-number : Loses (field_one (optional kind.Bytes)) (field_one (optional kind.Int32))
-unfolding IsValue value taken number_read
-bytes-number = other-value kind.Bytes kind.Int32 none_has (Bytes []) (Text [] ∷ []) [] (λ P. all_of _ (λ x. tt)) refl refl refl (none-there _)
 
 to-closed : Loses (field_one (optional kind.Int32)) (field_one (optional (kind.Enum 0)))
 unfolding IsValue has_number encoded value taken number_read
@@ -185,6 +273,88 @@ to-closed = other-value kind.Int32 (kind.Enum 0) none_has (Varint 1) (Number (po
 fewer-values : Loses (enum_of (pos 5)) (field_one (optional (kind.Enum 0)))
 unfolding IsValue has_number encoded value taken number_read
 fewer-values = other-value (kind.Enum 0) (kind.Enum 0) (λ x. int_eq x (pos 5)) (Varint 5) (Number (pos 5) ∷ []) [] (λ P. all_of _ (λ x. tt)) (record { number = pos 5; has = refl; encoding = refl }) refl refl (none-there _)
+
+open-closed : Loses open_enum (field_one (optional (kind.Enum 0)))
+unfolding IsValue has_number encoded value taken number_read
+open-closed = other-value (kind.Enum 0) (kind.Enum 0) (λ x. true) (Varint 1) (Number (pos 1) ∷ []) [] (λ P. all_of _ (λ x. tt)) (record { number = pos 1; has = refl; encoding = refl }) refl refl (none-there _)
+
+-- ---- kinds of other wire types, to which a value is unknown
+
+nothing-of : (l : Kind) (v : Value) → taken (field_one (optional l)) (optional l) v ≡ Unknown → value (field_one (optional l)) 0 1 (optional l) (at 1 v ∷ []) ≡ []
+unfolding value
+nothing-of l v h = ap (λ t. counted Optional ([] ++ items_in t)) h
+
+unknown-to : (k : Kind) (v : Value) (x : Item) → ((P : Fact) (zs : List Item) → OfMessages P k zs) → IsValue (field_one (optional k)) (optional k) v → value (field_one (optional k)) 0 1 (optional k) (at 1 v ∷ []) ≡ x ∷ []
+    → (ls : List Kind) → AllByRecursion (λ l. taken (field_one (optional l)) (optional l) v ≡ Unknown) ls → AllByRecursion (λ l. Loses (field_one (optional k)) (field_one (optional l))) ls
+unknown-to k v x bare is e [] h = tt
+unknown-to k v x bare is e (l ∷ ls) h = (other-value k l none_has v (x ∷ []) [] bare is e (nothing-of l v h.0) (none-there x), unknown-to k v x bare is e ls h.1)
+
+varints-lost : AllLose varints (fours ++ (eights ++ texts))
+unfolding IsValue has_number encoded value taken number_read
+varints-lost = (
+  unknown-to kind.Int32 (Varint 1) (Number (pos 1)) (λ P. all_of _ (λ x. tt)) (record { number = pos 1; has = refl; encoding = refl }) refl (fours ++ (eights ++ texts)) (refl, (refl, (refl, (refl, (refl, (refl, (refl, (refl, (refl, tt))))))))),
+  (
+    unknown-to kind.Int64 (Varint 1) (Number (pos 1)) (λ P. all_of _ (λ x. tt)) (record { number = pos 1; has = refl; encoding = refl }) refl (fours ++ (eights ++ texts)) (refl, (refl, (refl, (refl, (refl, (refl, (refl, (refl, (refl, tt))))))))),
+    (
+      unknown-to kind.Uint32 (Varint 1) (Number (pos 1)) (λ P. all_of _ (λ x. tt)) (record { number = pos 1; has = refl; encoding = refl }) refl (fours ++ (eights ++ texts)) (refl, (refl, (refl, (refl, (refl, (refl, (refl, (refl, (refl, tt))))))))),
+      (
+        unknown-to kind.Uint64 (Varint 1) (Number (pos 1)) (λ P. all_of _ (λ x. tt)) (record { number = pos 1; has = refl; encoding = refl }) refl (fours ++ (eights ++ texts)) (refl, (refl, (refl, (refl, (refl, (refl, (refl, (refl, (refl, tt))))))))),
+        (
+          unknown-to kind.Sint32 (Varint 2) (Number (pos 1)) (λ P. all_of _ (λ x. tt)) (record { number = pos 1; has = refl; encoding = refl }) refl (fours ++ (eights ++ texts)) (refl, (refl, (refl, (refl, (refl, (refl, (refl, (refl, (refl, tt))))))))),
+          (
+            unknown-to kind.Sint64 (Varint 2) (Number (pos 1)) (λ P. all_of _ (λ x. tt)) (record { number = pos 1; has = refl; encoding = refl }) refl (fours ++ (eights ++ texts)) (refl, (refl, (refl, (refl, (refl, (refl, (refl, (refl, (refl, tt))))))))),
+            (
+              unknown-to kind.Boolean (Varint 1) (Number (pos 1)) (λ P. all_of _ (λ x. tt)) (record { number = pos 1; has = refl; encoding = refl }) refl (fours ++ (eights ++ texts)) (refl, (refl, (refl, (refl, (refl, (refl, (refl, (refl, (refl, tt))))))))),
+              tt,
+            ),
+          ),
+        ),
+      ),
+    ),
+  ),
+)
+
+fours-lost : AllLose fours (varints ++ (eights ++ texts))
+unfolding IsValue has_number encoded value taken number_read
+fours-lost = (
+  unknown-to kind.Fixed32 (Fixed32 1) (Number (pos 1)) (λ P. all_of _ (λ x. tt)) (record { number = pos 1; has = refl; encoding = refl }) refl (varints ++ (eights ++ texts)) (refl, (refl, (refl, (refl, (refl, (refl, (refl, (refl, (refl, (refl, (refl, (refl, (refl, tt))))))))))))),
+  (
+    unknown-to kind.Sfixed32 (Fixed32 1) (Number (pos 1)) (λ P. all_of _ (λ x. tt)) (record { number = pos 1; has = refl; encoding = refl }) refl (varints ++ (eights ++ texts)) (refl, (refl, (refl, (refl, (refl, (refl, (refl, (refl, (refl, (refl, (refl, (refl, (refl, tt))))))))))))),
+    (
+      unknown-to kind.Float (Fixed32 1) (Bits (pos 1)) (λ P. all_of _ (λ x. tt)) (record { number = pos 1; has = refl; encoding = refl }) refl (varints ++ (eights ++ texts)) (refl, (refl, (refl, (refl, (refl, (refl, (refl, (refl, (refl, (refl, (refl, (refl, (refl, tt))))))))))))),
+      tt,
+    ),
+  ),
+)
+
+eights-lost : AllLose eights (varints ++ (fours ++ texts))
+unfolding IsValue has_number encoded value taken number_read
+eights-lost = (
+  unknown-to kind.Fixed64 (Fixed64 1) (Number (pos 1)) (λ P. all_of _ (λ x. tt)) (record { number = pos 1; has = refl; encoding = refl }) refl (varints ++ (fours ++ texts)) (refl, (refl, (refl, (refl, (refl, (refl, (refl, (refl, (refl, (refl, (refl, (refl, (refl, tt))))))))))))),
+  (
+    unknown-to kind.Sfixed64 (Fixed64 1) (Number (pos 1)) (λ P. all_of _ (λ x. tt)) (record { number = pos 1; has = refl; encoding = refl }) refl (varints ++ (fours ++ texts)) (refl, (refl, (refl, (refl, (refl, (refl, (refl, (refl, (refl, (refl, (refl, (refl, (refl, tt))))))))))))),
+    (
+      unknown-to kind.Double (Fixed64 1) (Bits (pos 1)) (λ P. all_of _ (λ x. tt)) (record { number = pos 1; has = refl; encoding = refl }) refl (varints ++ (fours ++ texts)) (refl, (refl, (refl, (refl, (refl, (refl, (refl, (refl, (refl, (refl, (refl, (refl, (refl, tt))))))))))))),
+      tt,
+    ),
+  ),
+)
+
+texts-lost : AllLose texts (varints ++ (fours ++ eights))
+unfolding IsValue value taken is_utf8 chars
+texts-lost = (
+  unknown-to kind.Bytes (Bytes []) (Text []) (λ P. all_of _ (λ x. tt)) refl refl (varints ++ (fours ++ eights)) (refl, (refl, (refl, (refl, (refl, (refl, (refl, (refl, (refl, (refl, (refl, (refl, (refl, tt))))))))))))),
+  (
+    unknown-to (kind.Text false) (Bytes []) (Text []) (λ P. all_of _ (λ x. tt)) refl refl (varints ++ (fours ++ eights)) (refl, (refl, (refl, (refl, (refl, (refl, (refl, (refl, (refl, (refl, (refl, (refl, (refl, tt))))))))))))),
+    (
+      unknown-to (kind.Text true) (Bytes []) (Text []) (λ P. all_of _ (λ x. tt)) refl refl (varints ++ (fours ++ eights)) (refl, (refl, (refl, (refl, (refl, (refl, (refl, (refl, (refl, (refl, (refl, (refl, (refl, tt))))))))))))),
+      tt,
+    ),
+  ),
+)
+
+pub widths-lost : LosesWidths
+widths-lost = record { of_varints = varints-lost; of_fours = fours-lost; of_eights = eights-lost; of_texts = texts-lost }
 
 -- ---- texts, which the new schema refuses
 
@@ -257,6 +427,20 @@ wanted = record {
   levels = 0;
   values = [];
   written = written-one (optional kind.Int32) none_has [] optional-free (λ P. all_of _ (λ x. tt)) tt;
+  lost = λ read carried. (read.complete).required 1 (required kind.Int32) refl refl refl;
+}
+
+wanted-anew : Loses no_field (field_one (required kind.Int32))
+unfolding IsWritten IsComplete value
+wanted-anew = record {
+  levels = 0;
+  values = [];
+  written = record {
+    known = tt;
+    oneofs = λ n k g h e e' one a b. absurd cc;
+    required = λ n g e req. absurd cc;
+    within = λ n g e. absurd cc;
+  };
   lost = λ read carried. (read.complete).required 1 (required kind.Int32) refl refl refl;
 }
 
@@ -430,5 +614,8 @@ used-again = record {
   both = number-bytes;
 }
 
+pub numbers-lost : AllByRecursion (λ p. Loses (field_one (optional p.0)) (field_one (optional p.1))) losing_numbers
+numbers-lost = (negative, (negative-long, (by-turns, (int32-sint64, (truth, (long, (int64-uint32, (signed-long, (int64-sint32, (int64-sint64, (int64-boolean, (unsigned, (uint32-sint32, (uint32-sint64, (uint32-boolean, (uint64-int32, (unsigned-long, (long-unsigned, (uint64-sint32, (uint64-sint64, (uint64-boolean, (no-turns, (sint32-int64, (sint32-uint32, (sint32-uint64, (sint32-boolean, (sint64-int32, (sint64-int64, (sint64-uint32, (sint64-uint64, (long-turns, (sint64-boolean, (boolean-sint32, (boolean-sint64, (fixed-signed, (fixed-float, (fixed-unsigned, (sfixed32-float, (float-fixed, (float-signed, (long-fixed-signed, (fixed-double, (long-fixed-unsigned, (sfixed64-double, (double-fixed, (double-signed, tt))))))))))))))))))))))))))))))))))))))))))))))
+
 pub all-lost : AllByRecursion (λ p. Loses p.0 p.1) losing
-all-lost = (long, (long-unsigned, (negative, (negative-long, (unsigned, (unsigned-long, (signed-long, (truth, (by-turns, (no-turns, (long-turns, (fixed-signed, (fixed-unsigned, (long-fixed-signed, (long-fixed-unsigned, (other-width, (wider-fixed, (float-fixed, (fixed-float, (float-signed, (double-fixed, (fixed-double, (double-signed, (number-bytes, (bytes-number, (to-closed, (fewer-values, (no-more, (came-together, (wanted, (other-message, (message-group, (group-message, (message-bytes, (bytes-message, (parts-apart, tt))))))))))))))))))))))))))))))))))))
+all-lost = (to-closed, (open-closed, (fewer-values, (no-more, (came-together, (wanted, (wanted-anew, (other-message, (message-group, (group-message, (message-bytes, (bytes-message, (parts-apart, tt)))))))))))))

@@ -1,5 +1,6 @@
 -- Changes of schemas by which something is lost, each by the least schemas that show it.
-use Rattle.std.specs.Prelude.{◌≡◌, ℕ, ℤ, pos, Bool, true, false, List, [], ◌∷◌, Option, None, Some, ◌==◌, if◌then◌else◌}
+use Rattle.std.specs.Prelude.{◌≡◌, ℕ, ℤ, pos, Bool, true, false, List, [], ◌∷◌, ◌++◌, Option, None, Some, ◌==◌, if◌then◌else◌}
+use Rattle.std.specs.List.{AllByRecursion}
 use Rattle.std.specs.Ordering.{int_eq}
 use Rattle.std.specs.Str.{is_utf8}
 use Rattle.message_values.specs.Values.{Numbered}
@@ -60,6 +61,10 @@ two_fields f = fields_one_and_two f (Some f) (λ x. false)
 abbrev pub enum_of : ℤ → Schema
 enum_of n = fields_one_and_two (optional (kind.Enum 0)) None (λ x. int_eq x n)
 
+-- a schema with a field of an enum that has all numbers
+abbrev pub open_enum : Schema
+open_enum = fields_one_and_two (optional (kind.Enum 0)) None (λ x. true)
+
 -- a schema whose messages have no field
 abbrev pub no_field : Schema
 no_field = record { field = λ m n. None; has_value = λ e x. false }
@@ -93,39 +98,100 @@ LosesTexts = (bytes : List ℕ) → is_utf8 bytes ≡ false
     → Loses (field_one (optional kind.Bytes)) (field_one (optional (kind.Text true)))
     × Loses (field_one (optional (kind.Text false))) (field_one (optional (kind.Text true)))
 
+-- the kinds of numbers that are varints
+abbrev pub varints : List Kind
+varints = kind.Int32 ∷ kind.Int64 ∷ kind.Uint32 ∷ kind.Uint64 ∷ kind.Sint32 ∷ kind.Sint64
+    ∷ kind.Boolean ∷ []
+
+-- those of four bytes
+abbrev pub fours : List Kind
+fours = kind.Fixed32 ∷ kind.Sfixed32 ∷ kind.Float ∷ []
+
+-- those of eight bytes
+abbrev pub eights : List Kind
+eights = kind.Fixed64 ∷ kind.Sfixed64 ∷ kind.Double ∷ []
+
+-- the kinds of texts and bytes
+abbrev pub texts : List Kind
+texts = kind.Bytes ∷ kind.Text false ∷ kind.Text true ∷ []
+
+-- a field of a kind loses something where it becomes one of each of others
+abbrev pub LosesToEach : List Kind → Kind → Type 0
+LosesToEach ls k = AllByRecursion (λ l. Loses (field_one (optional k)) (field_one (optional l))) ls
+
+-- a field of each of some kinds does
+abbrev pub AllLose : List Kind → List Kind → Type 0
+AllLose ks ls = AllByRecursion (LosesToEach ls) ks
+
+-- kinds of one wire type lose something where they become kinds of another
+pub record LosesWidths : Type 0 where
+  pub of_varints : AllLose varints (fours ++ (eights ++ texts))
+  pub of_fours : AllLose fours (varints ++ (eights ++ texts))
+  pub of_eights : AllLose eights (varints ++ (fours ++ texts))
+  pub of_texts : AllLose texts (varints ++ (fours ++ eights))
+
+-- kinds of numbers, each with one of the same wire type that loses some number of it: all pairs but
+-- those that keep each number
+abbrev pub losing_numbers : List (Kind × Kind)
+losing_numbers =
+    (kind.Int32, kind.Uint32)
+    ∷ (kind.Int32, kind.Uint64)
+    ∷ (kind.Int32, kind.Sint32)
+    ∷ (kind.Int32, kind.Sint64)
+    ∷ (kind.Int32, kind.Boolean)
+    ∷ (kind.Int64, kind.Int32)
+    ∷ (kind.Int64, kind.Uint32)
+    ∷ (kind.Int64, kind.Uint64)
+    ∷ (kind.Int64, kind.Sint32)
+    ∷ (kind.Int64, kind.Sint64)
+    ∷ (kind.Int64, kind.Boolean)
+    ∷ (kind.Uint32, kind.Int32)
+    ∷ (kind.Uint32, kind.Sint32)
+    ∷ (kind.Uint32, kind.Sint64)
+    ∷ (kind.Uint32, kind.Boolean)
+    ∷ (kind.Uint64, kind.Int32)
+    ∷ (kind.Uint64, kind.Int64)
+    ∷ (kind.Uint64, kind.Uint32)
+    ∷ (kind.Uint64, kind.Sint32)
+    ∷ (kind.Uint64, kind.Sint64)
+    ∷ (kind.Uint64, kind.Boolean)
+    ∷ (kind.Sint32, kind.Int32)
+    ∷ (kind.Sint32, kind.Int64)
+    ∷ (kind.Sint32, kind.Uint32)
+    ∷ (kind.Sint32, kind.Uint64)
+    ∷ (kind.Sint32, kind.Boolean)
+    ∷ (kind.Sint64, kind.Int32)
+    ∷ (kind.Sint64, kind.Int64)
+    ∷ (kind.Sint64, kind.Uint32)
+    ∷ (kind.Sint64, kind.Uint64)
+    ∷ (kind.Sint64, kind.Sint32)
+    ∷ (kind.Sint64, kind.Boolean)
+    ∷ (kind.Boolean, kind.Sint32)
+    ∷ (kind.Boolean, kind.Sint64)
+    ∷ (kind.Fixed32, kind.Sfixed32)
+    ∷ (kind.Fixed32, kind.Float)
+    ∷ (kind.Sfixed32, kind.Fixed32)
+    ∷ (kind.Sfixed32, kind.Float)
+    ∷ (kind.Float, kind.Fixed32)
+    ∷ (kind.Float, kind.Sfixed32)
+    ∷ (kind.Fixed64, kind.Sfixed64)
+    ∷ (kind.Fixed64, kind.Double)
+    ∷ (kind.Sfixed64, kind.Fixed64)
+    ∷ (kind.Sfixed64, kind.Double)
+    ∷ (kind.Double, kind.Fixed64)
+    ∷ (kind.Double, kind.Sfixed64)
+    ∷ []
+
 -- old schemas, each with a new one that loses something of it
 abbrev pub losing : List (Schema × Schema)
 losing =
-    kinds kind.Int64 kind.Int32
-    ∷ kinds kind.Uint64 kind.Uint32
-    ∷ kinds kind.Int32 kind.Uint32
-    ∷ kinds kind.Int32 kind.Uint64
-    ∷ kinds kind.Uint32 kind.Int32
-    ∷ kinds kind.Uint64 kind.Int64
-    ∷ kinds kind.Int64 kind.Uint64
-    ∷ kinds kind.Int32 kind.Boolean
-    ∷ kinds kind.Int32 kind.Sint32
-    ∷ kinds kind.Sint32 kind.Int32
-    ∷ kinds kind.Sint64 kind.Sint32
-    ∷ kinds kind.Fixed32 kind.Sfixed32
-    ∷ kinds kind.Sfixed32 kind.Fixed32
-    ∷ kinds kind.Fixed64 kind.Sfixed64
-    ∷ kinds kind.Sfixed64 kind.Fixed64
-    ∷ kinds kind.Int32 kind.Fixed32
-    ∷ kinds kind.Fixed32 kind.Fixed64
-    ∷ kinds kind.Float kind.Fixed32
-    ∷ kinds kind.Fixed32 kind.Float
-    ∷ kinds kind.Float kind.Sfixed32
-    ∷ kinds kind.Double kind.Fixed64
-    ∷ kinds kind.Fixed64 kind.Double
-    ∷ kinds kind.Double kind.Sfixed64
-    ∷ kinds kind.Int32 kind.Bytes
-    ∷ kinds kind.Bytes kind.Int32
-    ∷ kinds kind.Int32 (kind.Enum 0)
+    kinds kind.Int32 (kind.Enum 0)
+    ∷ (open_enum, field_one (optional (kind.Enum 0)))
     ∷ (enum_of (pos 5), field_one (optional (kind.Enum 0)))
     ∷ (field_one (repeated kind.Int32), field_one (optional kind.Int32))
     ∷ (two_fields (optional kind.Int32), two_fields (in_oneof kind.Int32))
     ∷ (field_one (optional kind.Int32), field_one (required kind.Int32))
+    ∷ (no_field, field_one (required kind.Int32))
     ∷ (message_of kind.Int32, message_of kind.Sint32)
     ∷ (holding (kind.Message 1), holding (kind.Group 1))
     ∷ (holding (kind.Group 1), holding (kind.Message 1))

@@ -1,12 +1,10 @@
 -- No pool changes anything of itself.
-use Rattle.std.proofs.Common.{◌≡◌, ◌<◌, ◌+◌, ◌==◌, ◌&&◌, ◌||◌, ℕ, zero, suc, Bool, true, false, not, cond, Option, Some, None, List, [], ◌∷◌, ◌++◌, length, map, flat_map, option_map, option_and_then, slice_get, is_some, unwrap_or, refl, ap, sym, subst, subst₂, ◌∙◌, eqb, arith}
+use Rattle.std.proofs.Common.{◌≡◌, ◌<◌, ◌+◌, ◌==◌, ◌&&◌, ◌||◌, ℕ, zero, suc, Bool, true, false, not, cond, Option, Some, None, List, [], ◌∷◌, ◌++◌, length, map, flat_map, option_map, option_and_then, slice_get, is_some, unwrap_or, refl, ap, sym, subst, ◌∙◌, arith}
 use Rattle.std.proofs.lemmas.Bool.{and_from, eqb-true, eq-eqb, false≢true, or_left, or_right}
 use Rattle.std.proofs.lemmas.Slice.Eq.{bytes_eq-Decides}
 use Rattle.std.specs.FinMap as finite
 use Rattle.std.specs.List.{AllByRecursion, list_all}
 use Rattle.std.specs.Option.{IfSome, option_map_or, option_or}
-use Rattle.std.specs.Prelude.{⊤}
-use Rattle.std.specs.Str.{bytes_eq}
 use Rattle.std.proofs.lemmas.Bool.Decides.{Decides-int_eq}
 use Rattle.std.specs.Ordering.{int_eq}
 use Rattle.pool_types.specs.Contents.{Contents}
@@ -26,21 +24,19 @@ use Rattle.message_values.specs.Fields.{in_one}
 use Rattle.descriptor_pool.specs.Invariant.{IsPool}
 use Rattle.descriptor_pool.specs.Maps.{fields_in}
 use Rattle.descriptor_pool.proofs.Extendees.{numbers_are_unique}
-use Rattle.schema_changes.specs.declared.change.MessageChange.{MessageChange}
-use Rattle.schema_changes.specs.declared.change.WireChange.{WireChange}
 use Rattle.schema_changes.specs.declared.change.WireChangeKind.{WireChangeKind}
 use Rattle.schema_changes.specs.declared.change.WireChangeKind.TheVariants as change
 use Rattle.schema_changes.specs.declared.entries.Entry.{Entry}
-use Rattle.schema_changes.specs.Changes.{Compared, entry_changes, extension_changes, first_some, joined_changes, kept_changes, members_changes, message_changes, new_entry, old_entry, old_member, oneof_changes, required_changes, required_extension_changes, unless, was_required}
+use Rattle.schema_changes.specs.Changes.{Compared, entry_changes, extension_changes, first_some, joined_changes, kept_changes, members_changes, message_changes, old_entry, old_member, oneof_changes, required_changes, required_extension_changes, unless, was_required}
 use Rattle.schema_changes.specs.Entries.{entry_numbered, extension_at, extension_entry, extension_in, field_entry}
-use Rattle.schema_changes.specs.Kinds.{holds, holds_all, is_repeated, is_required, keeps_cardinality, keeps_check, keeps_numbers, messages_of, text_check}
+use Rattle.schema_changes.specs.Kinds.{holds, holds_all, is_required, keeps_cardinality, keeps_check, keeps_numbers, messages_of, text_check}
 use Rattle.schema_changes.specs.MapEntries.{are_paired, keep_maps, keeps_kind, map_entry_at}
 use Rattle.schema_changes.specs.Parts.{Parts, are_named_alike, has_value, in_proto3, is_open, one_name, parts_of, values_of}
 use Rattle.schema_changes.specs.Pools.{changes_from, changes_with, message_named, of_message, wire_changes}
 use Rattle.schema_changes.proofs.Keeping.{at-index, followed, mapped}
-use Rattle.pool_changes.proofs.Lists.{IsFirst, each-weaker, first-found, first-passes, flat-none, passing, passing-at, picked-are}
+use Rattle.pool_changes.proofs.Lists.{first-found, flat-none, passing-at, picked-are}
 use Rattle.pool_changes.proofs.Looking.{extends-it, extends_one, leads, lies, lists, names_mean, number-leads, one-of, stands_in}
-use Rattle.pool_changes.proofs.Lying.{HoldsOne, KindLies, Lies, made-lies}
+use Rattle.pool_changes.proofs.Lying.{HoldsOne, KindLies, made-lies}
 
 -- ---- kinds
 

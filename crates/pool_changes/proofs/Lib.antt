@@ -1,4 +1,5 @@
 pub mod Lists
+pub mod Steps
 pub mod Lying
 pub mod Looking
 pub mod Itself

@@ -1,5 +1,5 @@
 -- The maps of the messages of a pool lead to what has the number, and its names mean its messages.
-use Rattle.std.proofs.Common.{◌≡◌, ◌<◌, ◌+◌, ◌==◌, ◌&&◌, ℕ, Bool, true, false, Option, Some, None, List, [], ◌∷◌, ◌++◌, length, map, option_map, option_and_then, slice_get, refl, ap, sym, subst, ◌∙◌, eqb, arith}
+use Rattle.std.proofs.Common.{◌≡◌, ◌<◌, ◌+◌, ◌==◌, ℕ, Bool, true, false, Option, Some, None, List, [], ◌∷◌, length, option_map, option_and_then, slice_get, refl, ap, sym, subst, ◌∙◌, arith}
 use Rattle.std.proofs.lemmas.Bool.{and_parts, eqb-true, eq-eqb}
 use Rattle.std.proofs.lemmas.List.Elements.{All-get_or}
 use Rattle.std.proofs.lemmas.Option.{get_or_from_slice_get, slice_get_within}
@@ -7,9 +7,8 @@ use Rattle.std.specs.FinMap as finite
 use Rattle.std.specs.List.{All, AllByRecursion, Contains}
 use Rattle.std.specs.Option.{IfSome, option_map_or}
 use Rattle.pool_types.specs.Contents.{Contents}
-use Rattle.pool_types.specs.Extension.{extending, extension_numbered, has_number, number_held}
+use Rattle.pool_types.specs.Extension.{extension_numbered, has_number}
 use Rattle.pool_types.specs.declared.contents.definition.Definition.{Definition}
-use Rattle.pool_types.specs.declared.contents.definition.DefinitionKind.{DefinitionKind}
 use Rattle.pool_types.specs.declared.contents.definition.DefinitionKind.TheVariants as definition
 use Rattle.pool_types.specs.declared.contents.extension.ExtensionDescriptorInner.{ExtensionDescriptorInner}
 use Rattle.pool_types.specs.declared.contents.field.FieldDescriptorInner.{FieldDescriptorInner}
@@ -27,8 +26,8 @@ use Rattle.schema_changes.specs.Parts.{parts_of}
 use Rattle.schema_changes.specs.Pools.{NamesMean, message_meant, message_named}
 use Rattle.schema_changes.specs.Unchanged.{LookUp, LooksUp}
 use Rattle.schema_changes.proofs.Keeping.{at-index}
-use Rattle.pool_changes.proofs.Lists.{IsFirst, first-passes, made-at, passing, passing-has, picked-has}
-use Rattle.pool_changes.proofs.Lying.{Lies, OneofLies, PartsLie, made-lies}
+use Rattle.pool_changes.proofs.Lists.{first-passes, made-at, passing, passing-has, picked-has}
+use Rattle.pool_changes.proofs.Lying.{Lies, OneofLies, made-lies}
 
 -- what holds of all elements of a list, at an index
 pub one-of : {X : Type 0} (P : X → Type 0) (xs : List X) (i : ℕ) (x : X) → All P xs → slice_get xs i ≡ Some x → P x

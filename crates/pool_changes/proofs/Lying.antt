@@ -1,5 +1,5 @@
 -- In each pool the oneof of a field is one of those of its message, and what a field or an extension holds is a message of the pool.
-use Rattle.std.proofs.Common.{◌≡◌, ◌≤◌, ◌<◌, ℕ, ℤ, zero, suc, pos, negsuc, Option, Some, None, List, [], ◌∷◌, ◌++◌, drop, length, map, option_map, option_and_then, slice_get, unwrap_or, refl, ap, sym, subst, ◌∙◌, arith}
+use Rattle.std.proofs.Common.{◌≡◌, ◌≤◌, ◌<◌, ℕ, ℤ, pos, negsuc, Option, Some, None, List, [], ◌∷◌, ◌++◌, drop, length, option_map, option_and_then, slice_get, unwrap_or, refl, sym, subst, arith}
 use Rattle.std.proofs.lemmas.List.{length-append}
 use Rattle.std.proofs.lemmas.List.Elements.{All-append, All-from_recursion, All-nil, All-weaker}
 use Rattle.std.proofs.lemmas.Option.{slice_get_within}
@@ -9,7 +9,6 @@ use Rattle.std.specs.List.{All, AllByRecursion}
 use Rattle.std.specs.Option.{IfSome}
 use Rattle.std.specs.Ordering.{nat_cmp}
 use Rattle.std.specs.Prelude.{⊤}
-use Rattle.plain_data.specs.Each.{map_enumerated}
 use Rattle.plain_data.specs.Lists.{at}
 use Rattle.proto_types.specs.Readers.{text_of, type_of}
 use Rattle.proto_types.specs.declared.file.FileDescriptorProto.{FileDescriptorProto}
@@ -20,7 +19,6 @@ use Rattle.proto_types.specs.declared.records.field.FieldType.{FieldType}
 use Rattle.proto_types.specs.declared.records.field.FieldType.TheVariants as written
 use Rattle.pool_types.specs.Contents.{Contents, no_contents}
 use Rattle.pool_types.specs.Kinds.{named_kind, simple_kind}
-use Rattle.pool_types.specs.declared.contents.definition.Definition.{Definition}
 use Rattle.pool_types.specs.declared.contents.definition.DefinitionKind.{DefinitionKind}
 use Rattle.pool_types.specs.declared.contents.definition.DefinitionKind.TheVariants as definition
 use Rattle.pool_types.specs.declared.contents.extension.ExtensionDescriptorInner.{ExtensionDescriptorInner}

@@ -7,8 +7,7 @@ use Rattle.schema_changes.specs.Pools.{message_named, of_message, changes_with, 
 use Rattle.schema_changes.specs.declared.change.MessageChange.{MessageChange}
 use Rattle.schema_changes.specs.declared.change.WireChange.{WireChange}
 use Rattle.schema_changes.proofs.Keeping.{left-none, right-none}
-use Rattle.verdict_texts.specs.declared.telling.ToldFault.{ToldFault}
-use Rattle.pool_changes.specs.Comparing.{told_if, message_told, messages_told, at_wire, told_at, changes}
+use Rattle.pool_changes.specs.Comparing.{told_if, set_changes, message_told, messages_told, at_wire, changes}
 use Rattle.pool_changes.specs.Services.{services_changes}
 use Rattle.pool_changes.specs.Sides.{Versions, both_of}
 use Rattle.pool_changes.specs.declared.direction.Direction.TheVariants.{Backward}
@@ -28,7 +27,8 @@ none-of : (old new : Contents) (m : ℕ) (x : MessageDescriptorInner) (y : Optio
 none-of old new m x None untold = refl
 none-of old new m x (Some y) untold =
     let c = both_of (backward old new) x y in
-    ap (map (of_message m)) (none-found old new c (message_changes c) untold)
+    let found = flat_map (told_if (backward old new) c) (message_changes c) in
+    ap (map (of_message m)) (none-found old new c (message_changes c) (left-none found (set_changes (backward old new) x y) untold))
 
 none-from : (old new : Contents) (m : ℕ) (xs : List MessageDescriptorInner) → flat_map (λ x. message_told (backward old new) x (message_named new x.id.full_name)) xs ≡ [] → changes_from old new m xs ≡ []
 none-from old new m [] untold = refl

@@ -1,9 +1,13 @@
 -- What changes of an element that both sides tell, and at which level.
-use Rattle.std.specs.Prelude.{ℕ, List, codes}
+use Rattle.std.specs.Prelude.{ℕ, List, [], ◌∷◌, codes}
 use Rattle.pool_changes.specs.declared.kinds.Level.{Level}
 use Rattle.pool_changes.specs.declared.kinds.Level.TheVariants.{Wire, Json, Source}
 use Rattle.pool_changes.specs.declared.kinds.ElementChange.{ElementChange}
 use Rattle.pool_changes.specs.declared.kinds.ElementChange.TheVariants as element
+
+-- the levels, each before those that contain it
+abbrev pub levels : List Level
+levels = Wire ∷ Json ∷ Source ∷ []
 
 -- the word for a level
 abbrev pub level_word : Level → List ℕ
@@ -18,6 +22,7 @@ element_code element.MethodRemoved = codes "method-removed"
 element_code element.MethodInput = codes "method-input"
 element_code element.MethodOutput = codes "method-output"
 element_code element.MethodStreaming = codes "method-streaming"
+element_code element.MessageSet = codes "message-set"
 element_code element.FieldRemoved = codes "field-removed"
 element_code element.FieldJsonName = codes "field-json-name"
 element_code element.FieldJson = codes "field-json"
@@ -36,6 +41,7 @@ element_code element.EnumRemoved = codes "enum-removed"
 element_code element.EnumOpen = codes "enum-open"
 element_code element.FilePackage = codes "file-package"
 element_code element.FileSyntax = codes "file-syntax"
+element_code element.OptionChanged = codes "option-changed"
 
 -- what to do about a call that one side lacks
 abbrev pub call_note : List ℕ
@@ -72,6 +78,7 @@ element_note element.MethodRemoved = call_note
 element_note element.MethodInput = method_note
 element_note element.MethodOutput = method_note
 element_note element.MethodStreaming = method_note
+element_note element.MessageSet = codes "its extensions are encoded otherwise: take a new message"
 element_note element.FieldRemoved =
     codes "a parser of JSON refuses its name: keep it, and mark it as deprecated"
 element_note element.FieldJsonName =
@@ -93,3 +100,4 @@ element_note element.EnumRemoved = code_note
 element_note element.EnumOpen = missing_note
 element_note element.FilePackage = file_note
 element_note element.FileSyntax = file_note
+element_note element.OptionChanged = file_note

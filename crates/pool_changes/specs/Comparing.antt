@@ -1,10 +1,12 @@
 -- What a new version changes of an older one in a direction, as it is told.
-use Rattle.std.specs.Prelude.{ℕ, List, [], ◌++◌, length, take, Option, Some, None}
+use Rattle.std.specs.Prelude.{ℕ, Bool, true, false, codes, List, [], ◌++◌, length, take, Option, Some, None}
 use Rattle.std.specs.List.{flat_map}
 use Rattle.plain_data.specs.Lists.{only_if}
 use Rattle.pool_types.specs.Contents.{Contents}
 use Rattle.pool_types.specs.declared.contents.message.MessageDescriptorInner.{MessageDescriptorInner}
 use Rattle.schema_changes.specs.Changes.{Compared, message_changes}
+use Rattle.schema_changes.specs.MessageSets.{is_message_set}
+use Rattle.schema_changes.specs.Parts.{parts_of}
 use Rattle.schema_changes.specs.Pools.{message_named}
 use Rattle.schema_changes.specs.declared.change.WireChange.{WireChange}
 use Rattle.verdict_texts.specs.declared.telling.ToldFault.{ToldFault}
@@ -12,9 +14,10 @@ use Rattle.pool_changes.specs.AtLevels.{at_json, at_source}
 use Rattle.pool_changes.specs.Members.{by_writer}
 use Rattle.pool_changes.specs.Removed.{is_told}
 use Rattle.pool_changes.specs.Services.{services_changes}
-use Rattle.pool_changes.specs.Sides.{Versions, both_of, writer, reader}
+use Rattle.pool_changes.specs.Sides.{Versions, Side, both_of, writer, reader, there, differing}
 use Rattle.pool_changes.specs.Telling.{told_change}
 use Rattle.pool_changes.specs.declared.direction.Direction.TheVariants.{Backward}
+use Rattle.pool_changes.specs.declared.kinds.ElementChange.TheVariants as element
 use Rattle.pool_changes.specs.declared.kinds.Level.{Level}
 use Rattle.pool_changes.specs.declared.kinds.Level.TheVariants.{Wire, Json, Source}
 use Rattle.pool_changes.specs.declared.told.ToldChanges.{ToldChanges}
@@ -24,11 +27,25 @@ abbrev pub told_if : Versions → Compared → WireChange → List ToldFault
 told_if v c w =
     only_if (is_told v.direction w.kind) (told_change v.direction (by_writer v.direction c) w)
 
+-- the words for whether a message is a message set on the wire
+abbrev pub set_word : Bool → List ℕ
+set_word true = codes "message set"
+set_word false = codes "plain message"
+
+-- whether a message is one, as a side
+abbrev pub set_side : Contents → MessageDescriptorInner → Side
+set_side p x = there x.id (set_word (is_message_set (parts_of p) x)) []
+
+-- what changes where one of two messages is a message set, and the other is not
+abbrev pub set_changes : Versions → MessageDescriptorInner → MessageDescriptorInner → List ToldFault
+set_changes v x y = differing v element.MessageSet (set_side (writer v) x) (set_side (reader v) y)
+
 -- what is told of a message of the writer, by the reader's with its name
 abbrev pub message_told : Versions → MessageDescriptorInner → Option MessageDescriptorInner
     → List ToldFault
 message_told v x None = []
 message_told v x (Some y) = flat_map (told_if v (both_of v x y)) (message_changes (both_of v x y))
+    ++ set_changes v x y
 
 -- what is told of all messages
 abbrev pub messages_told : Versions → List ToldFault
@@ -39,28 +56,40 @@ messages_told v =
 abbrev pub at_wire : Versions → List ToldFault
 at_wire v = messages_told v ++ services_changes v
 
--- the changes at json, if a level has them
-abbrev pub json_at : Versions → Level → List ToldFault
-json_at v Wire = []
-json_at v Json = at_json v
-json_at v Source = at_json v
+-- changes at json, if a level has them
+abbrev pub json_in : Level → List ToldFault → List ToldFault
+json_in Wire told = []
+json_in Json told = told
+json_in Source told = told
 
--- the changes at source, if a level has them
-abbrev pub source_at : Versions → Level → List ToldFault
-source_at v Wire = []
-source_at v Json = []
-source_at v Source = at_source v
+-- changes at source, if a level has them
+abbrev pub source_in : Level → List ToldFault → List ToldFault
+source_in Wire told = []
+source_in Json told = []
+source_in Source told = told
 
 -- the changes at a level, with those at the levels that it contains before them
 abbrev pub told_at : Versions → Level → List ToldFault
-told_at v level = at_wire v ++ (json_at v level ++ source_at v level)
+told_at v level = at_wire v ++ (json_in level (at_json v) ++ source_in level (at_source v))
 
 -- the changes of two pools at a level
 abbrev pub changes : Level → Contents → Contents → List ToldFault
 changes level old new = told_at (record { direction = Backward; old = old; new = new }) level
 
+-- how many changes at json a level leaves out, of so many
+abbrev pub json_beyond : Level → ℕ → ℕ
+json_beyond Wire n = n
+json_beyond Json n = 0
+json_beyond Source n = 0
+
+-- how many changes at source a level leaves out, of so many
+abbrev pub source_beyond : Level → ℕ → ℕ
+source_beyond Wire n = n
+source_beyond Json n = n
+source_beyond Source n = 0
+
 -- what a new version changes of an older one that has a name: so many of the changes at most, how
--- many there are at wire, at wire and json, and at all
+-- many there are at wire, at wire and json, and at all, and how many the level leaves out
 abbrev pub told_changes : Versions → Level → List ℕ → ℕ → ToldChanges
 told_changes v level name most = record {
   direction = v.direction;
@@ -68,6 +97,8 @@ told_changes v level name most = record {
   against = name;
   told = take most (told_at v level);
   wire = length (at_wire v);
-  json = length (at_wire v ++ json_at v level);
+  json = length (at_wire v ++ json_in level (at_json v));
   count = length (told_at v level);
+  json_beyond = json_beyond level (length (at_json v));
+  source_beyond = source_beyond level (length (at_source v));
 }

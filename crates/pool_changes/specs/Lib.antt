@@ -4,6 +4,7 @@ pub mod Members
 pub mod Words
 pub mod Sides
 pub mod Services
+pub mod Options
 pub mod Removed
 pub mod FieldParts
 pub mod FieldChanges

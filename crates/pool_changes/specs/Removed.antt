@@ -1,5 +1,5 @@
 -- What a reader lacks of what a writer has: files, messages, enums and their parts.
-use Rattle.std.specs.Prelude.{ℕ, ℤ, Bool, true, false, ◌&&◌, ◌||◌, ◌==◌, List, [], ◌∷◌, ◌++◌, codes, find, slice_get, option_and_then, Option, Some, None, if◌then◌else◌}
+use Rattle.std.specs.Prelude.{ℕ, ℤ, Bool, true, false, ◌&&◌, ◌||◌, ◌==◌, List, [], ◌∷◌, ◌++◌, codes, slice_get, option_and_then, Option, Some, None, if◌then◌else◌}
 use Rattle.std.specs.FinMap as finite
 use Rattle.std.specs.List.{list_any}
 use Rattle.std.specs.Option.{option_or, option_map_or}
@@ -28,9 +28,10 @@ use Rattle.schema_changes.specs.declared.change.WireChangeKind.TheVariants as ch
 use Rattle.schema_changes.specs.Parts.{parts_of}
 use Rattle.schema_changes.specs.MapEntries.{is_map_entry}
 use Rattle.verdict_texts.specs.declared.telling.ToldFault.{ToldFault}
-use Rattle.pool_changes.specs.Sides.{Versions, Side, writer, reader, there, around, in_file, file_side, removed, told_between, differing}
+use Rattle.pool_changes.specs.Options.{options_changes}
+use Rattle.pool_changes.specs.Sides.{Versions, Side, writer, reader, there, around, in_file, file_told, removed, told_between, differing}
 use Rattle.pool_changes.specs.declared.direction.Direction.{Direction}
-use Rattle.pool_changes.specs.declared.direction.Direction.TheVariants.{Backward, Forward}
+use Rattle.pool_changes.specs.declared.direction.Direction.TheVariants.{Forward}
 use Rattle.pool_changes.specs.declared.kinds.ElementChange.TheVariants as element
 
 -- the enum of a pool that a definition is
@@ -91,11 +92,6 @@ abbrev pub value_changes : Versions → EnumDescriptorInner → EnumValueDescrip
 value_changes v f x =
     if list_any (is_value_like x) f.values then [] else value_lost v f x (value_numbered f x.number)
 
--- a file of a pool as a side, with what is told of it
-abbrev pub file_told : Contents → FileDescriptorInner → List ℕ → List ℕ → Side
-file_told p f word name =
-    file_side (finite.get p.file_names (text_of f.raw.name)) (text_of f.raw.name) word name
-
 -- the word before the package of a file, which may be none
 abbrev pub package_word : List ℕ → List ℕ
 package_word [] = codes "no package"
@@ -120,7 +116,8 @@ abbrev pub file_changes : Versions → FileDescriptorInner → Option FileDescri
     → List ToldFault
 file_changes v f (Some g) =
     differing v element.FilePackage (package_side (writer v) f) (package_side (reader v) g)
-    ++ differing v element.FileSyntax (syntax_side (writer v) f) (syntax_side (reader v) g)
+    ++ (differing v element.FileSyntax (syntax_side (writer v) f) (syntax_side (reader v) g)
+    ++ options_changes v f g)
 file_changes v f None =
     told_between v element.FileRemoved (file_told (writer v) f (codes "file") [])
     (in_file None (codes "file")) ∷ []

@@ -4,6 +4,7 @@ use Rattle.std.specs.FinMap as finite
 use Rattle.std.specs.Str.{bytes_eq}
 use Rattle.pool_types.specs.Contents.{Contents}
 use Rattle.pool_types.specs.declared.contents.definition.Identity.{Identity}
+use Rattle.pool_types.specs.declared.contents.file.FileDescriptorInner.{FileDescriptorInner}
 use Rattle.pool_types.specs.declared.contents.message.MessageDescriptorInner.{MessageDescriptorInner}
 use Rattle.pool_faults.specs.Labels.{span_at}
 use Rattle.proto_types.specs.Readers.{text_of}
@@ -119,6 +120,11 @@ file_side file shown word name = record {
   word = word;
   name = name;
 }
+
+-- a file of a pool as a side, with what is told of it
+abbrev pub file_told : Contents → FileDescriptorInner → List ℕ → List ℕ → Side
+file_told p f word name =
+    file_side (finite.get p.file_names (text_of f.raw.name)) (text_of f.raw.name) word name
 
 -- what is told of a side
 abbrev pub side_text : Side → List ℕ

@@ -1,15 +1,14 @@
 -- What a new version changes of an older one, as lines for people and as objects of JSON.
-use Rattle.std.specs.Prelude.{ℕ, suc, zero, ◌-◌, ◌+◌, ◌==◌, nat_lt, List, [], ◌∷◌, ◌++◌, codes, length, if◌then◌else◌}
+use Rattle.std.specs.Prelude.{ℕ, suc, zero, ◌-◌, ◌==◌, List, [], ◌∷◌, ◌++◌, codes, length, take, drop, if◌then◌else◌}
 use Rattle.std.specs.Fmt.{decimal}
 use Rattle.std.specs.List.{flat_map}
-use Rattle.plain_data.specs.Each.{map_enumerated}
 use Rattle.verdict_texts.specs.JsonFaults.{json_fault}
 use Rattle.verdict_texts.specs.JsonStrings.{json_string}
 use Rattle.verdict_texts.specs.Lines.{line}
 use Rattle.verdict_texts.specs.PlainFaults.{fault_lines}
 use Rattle.verdict_texts.specs.declared.telling.ToldFault.{ToldFault}
 use Rattle.pool_changes.specs.declared.told.ToldChanges.{ToldChanges}
-use Rattle.pool_changes.specs.ChangeKinds.{level_word}
+use Rattle.pool_changes.specs.ChangeKinds.{level_word, levels}
 use Rattle.pool_changes.specs.Words.{direction_word}
 use Rattle.pool_changes.specs.declared.kinds.Level.{Level}
 use Rattle.pool_changes.specs.declared.kinds.Level.TheVariants.{Wire, Json, Source}
@@ -42,10 +41,16 @@ abbrev pub direction_words : ToldChanges → List ℕ
 direction_words r =
     codes ", " ++ (direction_word r.direction ++ untold_words (untold_changes r))
 
--- the last line: how many changes there are, at which level, against which older version, and in
--- which direction
+-- how many changes there are at a level that was not asked for, if any
+unfoldable pub beyond_words : Level → ℕ → List ℕ
+beyond_words level zero = []
+beyond_words level (suc n) = codes "; " ++ (decimal (suc n) ++ (codes " at " ++ level_word level))
+
+-- the last line: how many changes there are, at which level, against which older version, in which
+-- direction, and how many there are at the levels that were not asked for
 abbrev pub last_words : ToldChanges → List ℕ
-last_words r = compared_words r ++ direction_words r
+last_words r = compared_words r ++ (direction_words r
+    ++ (beyond_words Json r.json_beyond ++ beyond_words Source r.source_beyond))
 
 -- the lines of the changes that are told, and the last one
 abbrev pub changes_lines : ToldChanges → List ℕ
@@ -56,9 +61,12 @@ abbrev pub behind_first : ℕ → List ℕ → List ℕ
 behind_first first [] = []
 behind_first first (c ∷ rest) = if c == first then rest else c ∷ rest
 
--- the level of the change with an index: those at wire come first, and then those at json
-abbrev pub level_at : ToldChanges → ℕ → Level
-level_at r i = if nat_lt i r.wire then Wire else (if nat_lt i r.json then Json else Source)
+-- the changes that are told and are at a level themselves: those at wire come first, and then those
+-- at json
+abbrev pub changes_of : ToldChanges → Level → List ToldFault
+changes_of r Wire = take r.wire r.told
+changes_of r Json = drop r.wire (take r.json r.told)
+changes_of r Source = drop r.json r.told
 
 -- the first members of a change: its level, its direction, and the older version
 abbrev pub change_head : ToldChanges → Level → List ℕ
@@ -71,20 +79,26 @@ change_head r level = codes "{\"level\":\"" ++ (level_word level
 unfoldable pub json_change : ToldChanges → Level → ToldFault → List ℕ
 json_change r level told = change_head r level ++ behind_first 123 (json_fault told)
 
--- a change with an index, with a comma before it
-abbrev pub json_change_at : ToldChanges → ℕ → ToldFault → List ℕ
-json_change_at r i told = 44 ∷ json_change r (level_at r i) told
+-- the changes at a level that are told against an older version, with a comma before each
+abbrev pub json_changes_at : ToldChanges → Level → List ℕ
+json_changes_at r level = flat_map (λ told. 44 ∷ json_change r level told) (changes_of r level)
 
 -- the changes that are told against an older version, with a comma before each
 abbrev pub json_changes : ToldChanges → List ℕ
-json_changes r = flat_map (λ text. text) (map_enumerated (json_change_at r) 0 r.told)
+json_changes r = flat_map (json_changes_at r) levels
 
--- the last members of a comparison: the direction, how many changes there are, and how many are not
--- told
+-- how many changes there are at the levels that were not asked for, as an object
+abbrev pub beyond_object : ToldChanges → List ℕ
+beyond_object r = codes "{\"json\":" ++ (decimal r.json_beyond
+    ++ (codes ",\"source\":" ++ (decimal r.source_beyond ++ codes "}")))
+
+-- the last members of a comparison: the direction, how many changes there are, how many are not
+-- told, and how many there are at the levels that were not asked for
 abbrev pub counted_members : ToldChanges → List ℕ
 counted_members r = codes "\"direction\":\"" ++ (direction_word r.direction
     ++ (codes "\",\"count\":" ++ (decimal r.count ++ (codes ",\"more\":"
-    ++ (decimal (untold_changes r) ++ codes "}")))))
+    ++ (decimal (untold_changes r) ++ (codes ",\"beyond\":"
+    ++ (beyond_object r ++ codes "}")))))))
 
 -- a comparison: the older version, and these members
 unfoldable pub json_compared : ToldChanges → List ℕ

@@ -1,6 +1,6 @@
 //! What changes at each level, in the order of the writer's items.
 
-ghost use Rattle.std.specs.Prelude.{◌≡◌, ◌++◌, OnOk, Some, option_map};
+ghost use Rattle.std.specs.Prelude.{◌≡◌, ◌++◌, IfOk, OnOk, Some, option_map};
 ghost use Rattle.std.specs.List.{flat_map};
 ghost use Rattle.proto_types.specs.Readers.{text_of};
 ghost use Rattle.schema_changes.specs.Changes.{compared};
@@ -12,6 +12,7 @@ ghost use Rattle.pool_changes.specs.Removed.{enum_named, file_changes, file_name
 ghost use Rattle.pool_changes.specs.FieldParts.{extension_part_at, field_part, part};
 ghost use Rattle.pool_changes.specs.Sides.{both_of, reader, side, versions, writer};
 
+use crate::by_level::{BehindWire, ByLevel};
 use crate::fields::{Part, extension_part_at, field_part, part_numbered};
 use crate::kinds::ElementChange;
 use crate::members::by_writer;
@@ -40,6 +41,25 @@ fn open_side<'a>(pool: &DescriptorPool, enumeration: &'a EnumDescriptorInner) ->
 {
     let is_open = parts_of(pool).in_proto3(enumeration.id.file);
     Side::there(&enumeration.id, open_word(is_open), "")
+}
+
+/// The words for whether a message is a message set on the wire.
+fn set_word(is_set: bool) -> &'static str
+    ensures { result.now ≡ comparing.set_word is_set }
+{
+    if is_set {
+        "message set"
+    } else {
+        "plain message"
+    }
+}
+
+/// Whether a message is a message set on the wire, as a side.
+fn set_side<'a>(pool: &DescriptorPool, message: &'a MessageDescriptorInner) -> Side<'a>
+    ensures { side result ≡ comparing.set_side pool.now message.now }
+{
+    let is_set = parts_of(pool).is_message_set(message);
+    Side::there(&message.id, set_word(is_set), "")
 }
 
 impl<'a> Telling<'a> {
@@ -92,132 +112,209 @@ impl<'a> Telling<'a> {
         Ok(())
     }
 
-    /// Appends what changes at wire of a message of the writer.
-    fn tell_message(
+    /// Appends what changes where one of two messages is a message set, and the other is not.
+    fn tell_set(
         self,
         told: &mut Items<ToldFault>,
         before: &MessageDescriptorInner,
+        after: &MessageDescriptorInner,
     ) -> Result<(), AllocError>
         ensures { OnOk result (told.new ≡ told.old
-            ++ comparing.message_told (versions self.entry) before.now
-            (message_named (reader (versions self.entry)) before.now.id.full_name)) }
+            ++ comparing.set_changes (versions self.entry) before.now after.now) }
     {
-        let Some(after) = message_named(self.alloc, self.reader(), before.id.full_name())? else {
-            return Ok(());
-        };
-        let sides = self.both_of(before, after);
-        let mut found = Vec::new(self.alloc);
-        sides.tell(&mut found)?;
-        self.tell_each(told, sides, found.as_slice())
+        let before = set_side(self.writer(), before);
+        let after = set_side(self.reader(), after);
+        self.tell_differing(told, ElementChange::MessageSet, before, after)
     }
 
-    /// Appends what changes at wire of all messages.
-    pub(crate) fn tell_messages(self, told: &mut Items<ToldFault>) -> Result<(), AllocError>
-        ensures { OnOk result (told.new ≡ told.old
-            ++ comparing.messages_told (versions self.entry)) }
-    {
-        for message in self.writer().messages() {
-            self.tell_message(told, message)?;
-        }
-        Ok(())
-    }
-
-    /// Appends what changes at json of a field or an extension, which is looked up by its number.
-    fn tell_entry_json(
+    /// Appends what changes at wire of a message of the writer and the reader's with its name.
+    fn tell_wire(
         self,
         told: &mut Items<ToldFault>,
+        sides: Compared<'_>,
+        pair: Kept<'_>,
+    ) -> Result<(), AllocError>
+        ensures { OnOk result (told.new ≡ told.old
+            ++ (flat_map (comparing.told_if (versions self.entry) (compared sides.entry))
+            pair.entry.found.now
+            ++ comparing.set_changes (versions self.entry) pair.entry.before.now
+            pair.entry.after.now)) }
+    {
+        self.tell_each(told, sides, pair.found)?;
+        self.tell_set(told, pair.before, pair.after)
+    }
+
+    /// Appends what changes at json and at source of a field or an extension, which is looked up by
+    /// its number.
+    fn tell_entry(
+        self,
+        told: &mut BehindWire,
         pair: Kept<'_>,
         field: Part<'_>,
     ) -> Result<(), AllocError>
-        ensures { OnOk result (told.new ≡ told.old ++ spec.numbered_json (versions self.entry)
-            pair.entry.after.now pair.entry.found.now (part field.entry)) }
+        ensures json { OnOk result (told.new.json ≡ told.old.json ++ spec.numbered_json
+            (versions self.entry) pair.entry.after.now pair.entry.found.now (part field.entry)) }
+        ensures source { OnOk result (told.new.source ≡ told.old.source ++ spec.numbered_source
+            (versions self.entry) pair.entry.before.now pair.entry.after.now
+            pair.entry.found.now (part field.entry)) }
     {
         match part_numbered(self.reader(), pair.after, field.entry.number) {
-            Some(kept) => self.tell_part_json(told, pair, field, kept),
-            None => self.tell_field_removed(told, pair, field.id, field.entry.number),
+            Some(kept) => {
+                self.tell_part_json(&mut told.json, pair, field, kept)?;
+                self.tell_part_source(&mut told.source, pair, field, kept)
+            }
+            None => self.tell_field_removed(&mut told.json, pair, field.id, field.entry.number),
         }
     }
 
-    /// Appends what changes at json of an extension, if there is one.
-    fn tell_extension_json(
+    /// Appends what changes at json and at source of an extension, if there is one.
+    fn tell_extension(
         self,
-        told: &mut Items<ToldFault>,
+        told: &mut BehindWire,
         pair: Kept<'_>,
         extension: Option<Part<'_>>,
     ) -> Result<(), AllocError>
-        ensures { OnOk result (told.new ≡ told.old ++ spec.extension_json (versions self.entry)
-            pair.entry.after.now pair.entry.found.now (option_map part extension.entry)) }
+        ensures json { OnOk result (told.new.json ≡ told.old.json ++ spec.extension_json
+            (versions self.entry) pair.entry.after.now pair.entry.found.now
+            (option_map part extension.entry)) }
+        ensures source { OnOk result (told.new.source ≡ told.old.source ++ spec.extension_source
+            (versions self.entry) pair.entry.before.now pair.entry.after.now
+            pair.entry.found.now (option_map part extension.entry)) }
     {
         match extension {
-            Some(extension) => self.tell_entry_json(told, pair, extension),
+            Some(extension) => self.tell_entry(told, pair, extension),
             None => Ok(()),
         }
     }
 
-    /// Appends what changes at json of the fields of a message.
-    fn tell_fields_json(self, told: &mut Items<ToldFault>, pair: Kept<'_>) -> Result<(), AllocError>
-        ensures { OnOk result (told.new ≡ told.old ++ flat_map
+    /// Appends what changes at json and at source of the fields of a message.
+    fn tell_fields(self, told: &mut BehindWire, pair: Kept<'_>) -> Result<(), AllocError>
+        ensures json { OnOk result (told.new.json ≡ told.old.json ++ flat_map
             (λ f. spec.numbered_json (versions self.entry) pair.entry.after.now
             pair.entry.found.now (field_part f)) pair.entry.before.now.fields) }
+        ensures source { OnOk result (told.new.source ≡ told.old.source ++ flat_map
+            (λ f. spec.numbered_source (versions self.entry) pair.entry.before.now
+            pair.entry.after.now pair.entry.found.now (field_part f))
+            pair.entry.before.now.fields) }
     {
         for field in pair.before.fields.as_slice() {
-            self.tell_entry_json(told, pair, field_part(field))?;
+            self.tell_entry(told, pair, field_part(field))?;
         }
         Ok(())
     }
 
-    /// Appends what changes at json of the extensions of a message.
-    fn tell_extensions_json(
-        self,
-        told: &mut Items<ToldFault>,
-        pair: Kept<'_>,
-    ) -> Result<(), AllocError>
-        ensures { OnOk result (told.new ≡ told.old ++ flat_map
+    /// Appends what changes at json and at source of the extensions of a message.
+    fn tell_extensions(self, told: &mut BehindWire, pair: Kept<'_>) -> Result<(), AllocError>
+        ensures json { OnOk result (told.new.json ≡ told.old.json ++ flat_map
             (λ i. spec.extension_json (versions self.entry) pair.entry.after.now
             pair.entry.found.now (extension_part_at (writer (versions self.entry)) i))
+            pair.entry.before.now.extensions) }
+        ensures source { OnOk result (told.new.source ≡ told.old.source ++ flat_map
+            (λ i. spec.extension_source (versions self.entry) pair.entry.before.now
+            pair.entry.after.now pair.entry.found.now
+            (extension_part_at (writer (versions self.entry)) i))
             pair.entry.before.now.extensions) }
     {
         for index in pair.before.extensions.as_slice() {
             let extension = extension_part_at(self.writer(), *index);
-            self.tell_extension_json(told, pair, extension)?;
+            self.tell_extension(told, pair, extension)?;
         }
         Ok(())
     }
 
-    /// Appends what changes at json of the fields and the extensions of a message.
-    #[tactic(auto, unfolding(crate::specs::AtLevels::entries_json))]
-    fn tell_entries_json(
-        self,
-        told: &mut Items<ToldFault>,
-        pair: Kept<'_>,
-    ) -> Result<(), AllocError>
-        ensures { OnOk result (told.new ≡ told.old ++ spec.entries_json (versions self.entry)
-            pair.entry.before.now pair.entry.after.now pair.entry.found.now) }
+    /// Appends which oneofs of the writer's a reader's message lacks.
+    fn tell_oneofs(self, told: &mut Items<ToldFault>, pair: Kept<'_>) -> Result<(), AllocError>
+        ensures { OnOk result (told.new ≡ told.old ++ flat_map
+            (oneof_changes (versions self.entry) pair.entry.before.now pair.entry.after.now)
+            pair.entry.before.now.oneofs) }
     {
-        self.tell_fields_json(told, pair)?;
-        self.tell_extensions_json(told, pair)
+        for oneof in pair.before.oneofs.as_slice() {
+            self.tell_oneof(told, pair.before, pair.after, oneof)?;
+        }
+        Ok(())
     }
 
-    /// Appends what changes at json of a message of the writer.
-    fn tell_message_json(
-        self,
-        told: &mut Items<ToldFault>,
-        before: &MessageDescriptorInner,
-    ) -> Result<(), AllocError>
-        ensures { OnOk result (told.new ≡ told.old ++ spec.message_json (versions self.entry)
-            before.now (message_named (reader (versions self.entry)) before.now.id.full_name)) }
+    /// Appends what changes at json and at source of the fields, the extensions and the oneofs of a
+    /// message.
+    #[tactic(auto, unfolding(crate::specs::AtLevels::entries_json, crate::specs::AtLevels::parts_source))]
+    fn tell_parts(self, told: &mut BehindWire, pair: Kept<'_>) -> Result<(), AllocError>
+        ensures json { OnOk result (told.new.json ≡ told.old.json ++ spec.entries_json
+            (versions self.entry) pair.entry.before.now pair.entry.after.now pair.entry.found.now) }
+        ensures source { OnOk result (told.new.source ≡ told.old.source ++ spec.parts_source
+            (versions self.entry) pair.entry.before.now pair.entry.after.now
+            pair.entry.found.now) }
     {
-        let Some(after) = message_named(self.alloc, self.reader(), before.id.full_name())? else {
-            return Ok(());
-        };
+        self.tell_fields(told, pair)?;
+        self.tell_extensions(told, pair)?;
+        self.tell_oneofs(&mut told.source, pair)
+    }
+
+    /// Appends what changes of a message of the writer and the reader's with its name, at each
+    /// level.
+    fn tell_kept_message(
+        self,
+        told: &mut ByLevel,
+        before: &MessageDescriptorInner,
+        after: &MessageDescriptorInner,
+    ) -> Result<(), AllocError>
+        ensures wire { OnOk result (told.new.wire ≡ told.old.wire
+            ++ comparing.message_told (versions self.entry) before.now (Some after.now)) }
+        ensures json { OnOk result (told.new.behind.json ≡ told.old.behind.json
+            ++ spec.message_json (versions self.entry) before.now (Some after.now)) }
+        ensures source { OnOk result (told.new.behind.source ≡ told.old.behind.source
+            ++ spec.message_source (versions self.entry) before.now (Some after.now)) }
+    {
+        let sides = self.both_of(before, after);
         let mut found = Vec::new(self.alloc);
-        self.both_of(before, after).tell(&mut found)?;
+        sides.tell(&mut found)?;
         let pair = Kept {
             before,
             after,
             found: found.as_slice(),
         };
-        self.tell_entries_json(told, pair)
+        self.tell_wire(&mut told.wire, sides, pair)?;
+        self.tell_parts(&mut told.behind, pair)
+    }
+
+    /// Appends what changes of a message of the writer, at each level.
+    fn tell_message(
+        self,
+        told: &mut ByLevel,
+        before: &MessageDescriptorInner,
+    ) -> Result<(), AllocError>
+        ensures wire { OnOk result (told.new.wire ≡ told.old.wire
+            ++ comparing.message_told (versions self.entry) before.now
+            (message_named (reader (versions self.entry)) before.now.id.full_name)) }
+        ensures json { OnOk result (told.new.behind.json ≡ told.old.behind.json
+            ++ spec.message_json (versions self.entry) before.now
+            (message_named (reader (versions self.entry)) before.now.id.full_name)) }
+        ensures source { OnOk result (told.new.behind.source ≡ told.old.behind.source
+            ++ spec.message_source (versions self.entry) before.now
+            (message_named (reader (versions self.entry)) before.now.id.full_name)) }
+    {
+        match message_named(self.alloc, self.reader(), before.id.full_name())? {
+            Some(after) => self.tell_kept_message(told, before, after),
+            None => self.tell_message_removed(&mut told.behind.source, before),
+        }
+    }
+
+    /// Appends what changes of all messages, at each level.
+    fn tell_messages(self, told: &mut ByLevel) -> Result<(), AllocError>
+        ensures wire { OnOk result (told.new.wire ≡ told.old.wire
+            ++ comparing.messages_told (versions self.entry)) }
+        ensures json { OnOk result (told.new.behind.json ≡ told.old.behind.json ++ flat_map
+            (λ x. spec.message_json (versions self.entry) x
+            (message_named (reader (versions self.entry)) x.id.full_name))
+            (writer (versions self.entry)).messages) }
+        ensures source { OnOk result (told.new.behind.source ≡ told.old.behind.source ++ flat_map
+            (λ x. spec.message_source (versions self.entry) x
+            (message_named (reader (versions self.entry)) x.id.full_name))
+            (writer (versions self.entry)).messages) }
+    {
+        for message in self.writer().messages() {
+            self.tell_message(told, message)?;
+        }
+        Ok(())
     }
 
     /// Appends what a reader's enum changes of the values of a writer's.
@@ -236,208 +333,65 @@ impl<'a> Telling<'a> {
         Ok(())
     }
 
-    /// Appends what changes at json of an enum of the writer.
-    fn tell_enum_json(
+    /// Appends what a reader's enum changes of a writer's with its name, at json and at source.
+    fn tell_kept_enum(
         self,
-        told: &mut Items<ToldFault>,
+        told: &mut BehindWire,
+        before: &EnumDescriptorInner,
+        after: &EnumDescriptorInner,
+    ) -> Result<(), AllocError>
+        ensures json { OnOk result (told.new.json ≡ told.old.json
+            ++ spec.enum_json (versions self.entry) before.now (Some after.now)) }
+        ensures source { OnOk result (told.new.source ≡ told.old.source
+            ++ spec.enum_source (versions self.entry) before.now (Some after.now)) }
+    {
+        self.tell_values(&mut told.json, before, after)?;
+        let before = open_side(self.writer(), before);
+        let after = open_side(self.reader(), after);
+        self.tell_differing(&mut told.source, ElementChange::EnumOpen, before, after)
+    }
+
+    /// Appends what changes of an enum of the writer, at json and at source.
+    fn tell_enum(
+        self,
+        told: &mut BehindWire,
         before: &EnumDescriptorInner,
     ) -> Result<(), AllocError>
-        ensures { OnOk result (told.new ≡ told.old ++ spec.enum_json (versions self.entry)
-            before.now (enum_named (reader (versions self.entry)) before.now.id.full_name)) }
+        ensures json { OnOk result (told.new.json ≡ told.old.json
+            ++ spec.enum_json (versions self.entry) before.now
+            (enum_named (reader (versions self.entry)) before.now.id.full_name)) }
+        ensures source { OnOk result (told.new.source ≡ told.old.source
+            ++ spec.enum_source (versions self.entry) before.now
+            (enum_named (reader (versions self.entry)) before.now.id.full_name)) }
     {
         match enum_named(self.alloc, self.reader(), before.id.full_name())? {
-            Some(after) => self.tell_values(told, before, after),
-            None => Ok(()),
+            Some(after) => self.tell_kept_enum(told, before, after),
+            None => {
+                let source = &mut told.source;
+                self.tell_removed(source, ElementChange::EnumRemoved, &before.id, "enum")
+            }
         }
     }
 
-    /// Appends what changes at json of all messages.
-    fn tell_messages_json(self, told: &mut Items<ToldFault>) -> Result<(), AllocError>
-        ensures { OnOk result (told.new ≡ told.old ++ flat_map
-            (λ x. spec.message_json (versions self.entry) x
-            (message_named (reader (versions self.entry)) x.id.full_name))
-            (writer (versions self.entry)).messages) }
-    {
-        for message in self.writer().messages() {
-            self.tell_message_json(told, message)?;
-        }
-        Ok(())
-    }
-
-    /// Appends what changes at json of all enums.
-    fn tell_enums_json(self, told: &mut Items<ToldFault>) -> Result<(), AllocError>
-        ensures { OnOk result (told.new ≡ told.old ++ flat_map
+    /// Appends what changes of all enums, at json and at source.
+    fn tell_enums(self, told: &mut BehindWire) -> Result<(), AllocError>
+        ensures json { OnOk result (told.new.json ≡ told.old.json ++ flat_map
             (λ e. spec.enum_json (versions self.entry) e
+            (enum_named (reader (versions self.entry)) e.id.full_name))
+            (writer (versions self.entry)).enums) }
+        ensures source { OnOk result (told.new.source ≡ told.old.source ++ flat_map
+            (λ e. spec.enum_source (versions self.entry) e
             (enum_named (reader (versions self.entry)) e.id.full_name))
             (writer (versions self.entry)).enums) }
     {
         for enumeration in self.writer().enums() {
-            self.tell_enum_json(told, enumeration)?;
+            self.tell_enum(told, enumeration)?;
         }
         Ok(())
-    }
-
-    /// Appends what changes at json.
-    pub(crate) fn tell_json(self, told: &mut Items<ToldFault>) -> Result<(), AllocError>
-        ensures { OnOk result (told.new ≡ told.old ++ spec.at_json (versions self.entry)) }
-    {
-        self.tell_messages_json(told)?;
-        self.tell_enums_json(told)
-    }
-
-    /// Appends what changes at source of a field or an extension, which is looked up by its number.
-    fn tell_entry_source(
-        self,
-        told: &mut Items<ToldFault>,
-        pair: Kept<'_>,
-        field: Part<'_>,
-    ) -> Result<(), AllocError>
-        ensures { OnOk result (told.new ≡ told.old ++ spec.numbered_source
-            (versions self.entry) pair.entry.before.now pair.entry.after.now
-            pair.entry.found.now (part field.entry)) }
-    {
-        match part_numbered(self.reader(), pair.after, field.entry.number) {
-            Some(kept) => self.tell_part_source(told, pair, field, kept),
-            None => Ok(()),
-        }
-    }
-
-    /// Appends what changes at source of an extension, if there is one.
-    fn tell_extension_source(
-        self,
-        told: &mut Items<ToldFault>,
-        pair: Kept<'_>,
-        extension: Option<Part<'_>>,
-    ) -> Result<(), AllocError>
-        ensures { OnOk result (told.new ≡ told.old ++ spec.extension_source
-            (versions self.entry) pair.entry.before.now pair.entry.after.now
-            pair.entry.found.now (option_map part extension.entry)) }
-    {
-        match extension {
-            Some(extension) => self.tell_entry_source(told, pair, extension),
-            None => Ok(()),
-        }
-    }
-
-    /// Appends what changes at source of the fields of a message.
-    fn tell_fields_source(
-        self,
-        told: &mut Items<ToldFault>,
-        pair: Kept<'_>,
-    ) -> Result<(), AllocError>
-        ensures { OnOk result (told.new ≡ told.old ++ flat_map
-            (λ f. spec.numbered_source (versions self.entry) pair.entry.before.now
-            pair.entry.after.now pair.entry.found.now (field_part f))
-            pair.entry.before.now.fields) }
-    {
-        for field in pair.before.fields.as_slice() {
-            self.tell_entry_source(told, pair, field_part(field))?;
-        }
-        Ok(())
-    }
-
-    /// Appends what changes at source of the extensions of a message.
-    fn tell_extensions_source(
-        self,
-        told: &mut Items<ToldFault>,
-        pair: Kept<'_>,
-    ) -> Result<(), AllocError>
-        ensures { OnOk result (told.new ≡ told.old ++ flat_map
-            (λ i. spec.extension_source (versions self.entry) pair.entry.before.now
-            pair.entry.after.now pair.entry.found.now
-            (extension_part_at (writer (versions self.entry)) i))
-            pair.entry.before.now.extensions) }
-    {
-        for index in pair.before.extensions.as_slice() {
-            let extension = extension_part_at(self.writer(), *index);
-            self.tell_extension_source(told, pair, extension)?;
-        }
-        Ok(())
-    }
-
-    /// Appends which oneofs of the writer's a reader's message lacks.
-    fn tell_oneofs(self, told: &mut Items<ToldFault>, pair: Kept<'_>) -> Result<(), AllocError>
-        ensures { OnOk result (told.new ≡ told.old ++ flat_map
-            (oneof_changes (versions self.entry) pair.entry.before.now pair.entry.after.now)
-            pair.entry.before.now.oneofs) }
-    {
-        for oneof in pair.before.oneofs.as_slice() {
-            self.tell_oneof(told, pair.before, pair.after, oneof)?;
-        }
-        Ok(())
-    }
-
-    /// Appends what changes at source of the fields, the extensions and the oneofs of a message.
-    #[tactic(auto, unfolding(crate::specs::AtLevels::parts_source))]
-    fn tell_parts_source(
-        self,
-        told: &mut Items<ToldFault>,
-        pair: Kept<'_>,
-    ) -> Result<(), AllocError>
-        ensures { OnOk result (told.new ≡ told.old ++ spec.parts_source (versions self.entry)
-            pair.entry.before.now pair.entry.after.now pair.entry.found.now) }
-    {
-        self.tell_fields_source(told, pair)?;
-        self.tell_extensions_source(told, pair)?;
-        self.tell_oneofs(told, pair)
-    }
-
-    /// Appends what changes at source of a message of the writer and the reader's with its name.
-    fn tell_kept_message_source(
-        self,
-        told: &mut Items<ToldFault>,
-        before: &MessageDescriptorInner,
-        after: &MessageDescriptorInner,
-    ) -> Result<(), AllocError>
-        ensures { OnOk result (told.new ≡ told.old ++ spec.message_source (versions self.entry)
-            before.now (Some after.now)) }
-    {
-        let mut found = Vec::new(self.alloc);
-        self.both_of(before, after).tell(&mut found)?;
-        let pair = Kept {
-            before,
-            after,
-            found: found.as_slice(),
-        };
-        self.tell_parts_source(told, pair)
-    }
-
-    /// Appends what changes at source of a message of the writer.
-    fn tell_message_source(
-        self,
-        told: &mut Items<ToldFault>,
-        before: &MessageDescriptorInner,
-    ) -> Result<(), AllocError>
-        ensures { OnOk result (told.new ≡ told.old ++ spec.message_source (versions self.entry)
-            before.now (message_named (reader (versions self.entry)) before.now.id.full_name)) }
-    {
-        match message_named(self.alloc, self.reader(), before.id.full_name())? {
-            Some(after) => self.tell_kept_message_source(told, before, after),
-            None => self.tell_message_removed(told, before),
-        }
-    }
-
-    /// Appends what changes at source of an enum of the writer.
-    fn tell_enum_source(
-        self,
-        told: &mut Items<ToldFault>,
-        before: &EnumDescriptorInner,
-    ) -> Result<(), AllocError>
-        ensures { OnOk result (told.new ≡ told.old ++ spec.enum_source (versions self.entry)
-            before.now (enum_named (reader (versions self.entry)) before.now.id.full_name)) }
-    {
-        match enum_named(self.alloc, self.reader(), before.id.full_name())? {
-            Some(after) => {
-                let before = open_side(self.writer(), before);
-                let after = open_side(self.reader(), after);
-                self.tell_differing(told, ElementChange::EnumOpen, before, after)
-            }
-            None => self.tell_removed(told, ElementChange::EnumRemoved, &before.id, "enum"),
-        }
     }
 
     /// Appends what changes at source of all files.
-    fn tell_files_source(self, told: &mut Items<ToldFault>) -> Result<(), AllocError>
+    fn tell_files(self, told: &mut Items<ToldFault>) -> Result<(), AllocError>
         ensures { OnOk result (told.new ≡ told.old ++ flat_map
             (λ f. file_changes (versions self.entry) f
             (file_named (reader (versions self.entry)) (text_of f.raw.name)))
@@ -449,38 +403,18 @@ impl<'a> Telling<'a> {
         Ok(())
     }
 
-    /// Appends what changes at source of all messages.
-    fn tell_messages_source(self, told: &mut Items<ToldFault>) -> Result<(), AllocError>
-        ensures { OnOk result (told.new ≡ told.old ++ flat_map
-            (λ x. spec.message_source (versions self.entry) x
-            (message_named (reader (versions self.entry)) x.id.full_name))
-            (writer (versions self.entry)).messages) }
+    /// The changes, those of each level by themselves.
+    pub(crate) fn by_level(self) -> Result<ByLevel, AllocError>
+        ensures wire { IfOk result (λ told. told.wire ≡ comparing.at_wire (versions self.entry)) }
+        ensures json { IfOk result (λ told. told.behind.json ≡ spec.at_json (versions self.entry)) }
+        ensures source { IfOk result (λ told. told.behind.source
+            ≡ spec.at_source (versions self.entry)) }
     {
-        for message in self.writer().messages() {
-            self.tell_message_source(told, message)?;
-        }
-        Ok(())
-    }
-
-    /// Appends what changes at source of all enums.
-    fn tell_enums_source(self, told: &mut Items<ToldFault>) -> Result<(), AllocError>
-        ensures { OnOk result (told.new ≡ told.old ++ flat_map
-            (λ e. spec.enum_source (versions self.entry) e
-            (enum_named (reader (versions self.entry)) e.id.full_name))
-            (writer (versions self.entry)).enums) }
-    {
-        for enumeration in self.writer().enums() {
-            self.tell_enum_source(told, enumeration)?;
-        }
-        Ok(())
-    }
-
-    /// Appends what changes at source.
-    pub(crate) fn tell_source(self, told: &mut Items<ToldFault>) -> Result<(), AllocError>
-        ensures { OnOk result (told.new ≡ told.old ++ spec.at_source (versions self.entry)) }
-    {
-        self.tell_files_source(told)?;
-        self.tell_messages_source(told)?;
-        self.tell_enums_source(told)
+        let mut told = ByLevel::new(self.alloc);
+        self.tell_files(&mut told.behind.source)?;
+        self.tell_messages(&mut told)?;
+        self.tell_services(&mut told.wire)?;
+        self.tell_enums(&mut told.behind)?;
+        Ok(told)
     }
 }

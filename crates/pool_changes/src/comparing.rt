@@ -1,10 +1,10 @@
 //! What a new pool changes of an older one in a direction, as it is told.
 
-ghost use Rattle.std.specs.Prelude.{◌≡◌, ◌++◌, IfOk, OnOk, take};
+ghost use Rattle.std.specs.Prelude.{◌≡◌, ◌++◌, IfOk, take};
 ghost use Rattle.pool_changes.specs.Comparing as spec;
-ghost use Rattle.pool_changes.specs.Sides.{versions};
 ghost use Rattle.pool_changes.specs.declared.direction.Direction.TheVariants.{Backward};
 
+use crate::by_level::{ByLevel, followed_by};
 use crate::sides::Telling;
 use crate::{Direction, Level, ToldChanges};
 use descriptor_pool::DescriptorPool;
@@ -30,38 +30,57 @@ fn first_told(told: Items<ToldFault>, most: usize) -> Items<ToldFault>
     Items::from_vec(told)
 }
 
-impl Telling<'_> {
-    /// Appends the changes at wire.
-    fn tell_wire(self, told: &mut Items<ToldFault>) -> Result<(), AllocError>
-        ensures { OnOk result (told.new ≡ told.old ++ spec.at_wire (versions self.entry)) }
-    {
-        self.tell_messages(told)?;
-        self.tell_services(told)
+/// Changes, and behind them those at json, if a level has them.
+fn with_json(
+    told: Items<ToldFault>,
+    json: Items<ToldFault>,
+    level: Level,
+) -> Result<Items<ToldFault>, AllocError>
+    ensures { IfOk result (λ all. all ≡ told ++ spec.json_in level json) }
+{
+    match level {
+        Level::Wire => Ok(told),
+        Level::Json | Level::Source => followed_by(told, json),
     }
+}
 
-    /// Appends the changes at json, if a level has them.
-    fn tell_json_at(self, told: &mut Items<ToldFault>, level: Level) -> Result<(), AllocError>
-        ensures { OnOk result (told.new ≡ told.old ++ spec.json_at (versions self.entry) level) }
-    {
-        match level {
-            Level::Wire => Ok(()),
-            Level::Json | Level::Source => self.tell_json(told),
-        }
+/// Changes, and behind them those at source, if a level has them.
+fn with_source(
+    told: Items<ToldFault>,
+    source: Items<ToldFault>,
+    level: Level,
+) -> Result<Items<ToldFault>, AllocError>
+    ensures { IfOk result (λ all. all ≡ told ++ spec.source_in level source) }
+{
+    match level {
+        Level::Wire | Level::Json => Ok(told),
+        Level::Source => followed_by(told, source),
     }
+}
 
-    /// Appends the changes at source, if a level has them.
-    fn tell_source_at(self, told: &mut Items<ToldFault>, level: Level) -> Result<(), AllocError>
-        ensures { OnOk result (told.new ≡ told.old ++ spec.source_at (versions self.entry) level) }
-    {
-        match level {
-            Level::Wire | Level::Json => Ok(()),
-            Level::Source => self.tell_source(told),
-        }
+/// How many changes at json a level leaves out, of so many.
+fn json_beyond(level: Level, count: usize) -> usize
+    ensures { result ≡ spec.json_beyond level count }
+{
+    match level {
+        Level::Wire => count,
+        Level::Json | Level::Source => 0,
+    }
+}
+
+/// How many changes at source a level leaves out, of so many.
+fn source_beyond(level: Level, count: usize) -> usize
+    ensures { result ≡ spec.source_beyond level count }
+{
+    match level {
+        Level::Wire | Level::Json => count,
+        Level::Source => 0,
     }
 }
 
 /// Tells what a new pool changes of an older one, by a name for that: so many of the changes at
-/// most, the first of them, and how many there are.
+/// most, the first of them, how many there are, and how many more there are at the levels that
+/// contain the one that is asked for.
 ///
 /// # Errors
 /// `AllocError` where memory was refused.
@@ -89,12 +108,13 @@ pub fn tell_changes(
         old,
         new,
     };
-    let mut told = Items::new(alloc);
-    telling.tell_wire(&mut told)?;
+    let ByLevel { wire: told, behind } = telling.by_level()?;
+    let json_beyond = json_beyond(level, behind.json.as_slice().len());
+    let source_beyond = source_beyond(level, behind.source.as_slice().len());
     let wire = told.as_slice().len();
-    telling.tell_json_at(&mut told, level)?;
+    let told = with_json(told, behind.json, level)?;
     let json = told.as_slice().len();
-    telling.tell_source_at(&mut told, level)?;
+    let told = with_source(told, behind.source, level)?;
     let count = told.as_slice().len();
     let against = Text::from_str(alloc, against)?;
     Ok(ToldChanges {
@@ -105,6 +125,8 @@ pub fn tell_changes(
         wire,
         json,
         count,
+        json_beyond,
+        source_beyond,
     })
 }
 
@@ -127,9 +149,7 @@ pub fn changes(
         old,
         new,
     };
-    let mut told = Items::new(alloc);
-    telling.tell_wire(&mut told)?;
-    telling.tell_json_at(&mut told, level)?;
-    telling.tell_source_at(&mut told, level)?;
-    Ok(told.into_vec())
+    let ByLevel { wire: told, behind } = telling.by_level()?;
+    let told = with_json(told, behind.json, level)?;
+    Ok(with_source(told, behind.source, level)?.into_vec())
 }

@@ -27,6 +27,13 @@ impl Level {
     }
 }
 
+/// The levels, each before those that contain it.
+pub fn levels() -> &'static [Level]
+    ensures { result.now ≡ spec.levels }
+{
+    &[Level::Wire, Level::Json, Level::Source]
+}
+
 /// What changes of an element, besides what `WireChangeKind` says of fields.
 #[derive(Clone, Copy, PartialEq)]
 pub(crate) enum ElementChange {
@@ -38,6 +45,8 @@ pub(crate) enum ElementChange {
     MethodOutput,
     /// A method takes or gives one message, and it was a stream, or the other way round.
     MethodStreaming,
+    /// A message is a message set on the wire, and was not, or the other way round.
+    MessageSet,
     FieldRemoved,
     FieldJsonName,
     /// Values of a field have another form in JSON.
@@ -60,6 +69,8 @@ pub(crate) enum ElementChange {
     EnumOpen,
     FilePackage,
     FileSyntax,
+    /// An option of a file that names code is another.
+    OptionChanged,
 }
 
 impl ElementChange {
@@ -73,6 +84,7 @@ impl ElementChange {
             ElementChange::MethodInput => "method-input",
             ElementChange::MethodOutput => "method-output",
             ElementChange::MethodStreaming => "method-streaming",
+            ElementChange::MessageSet => "message-set",
             ElementChange::FieldRemoved => "field-removed",
             ElementChange::FieldJsonName => "field-json-name",
             ElementChange::FieldJson => "field-json",
@@ -91,6 +103,7 @@ impl ElementChange {
             ElementChange::EnumOpen => "enum-open",
             ElementChange::FilePackage => "file-package",
             ElementChange::FileSyntax => "file-syntax",
+            ElementChange::OptionChanged => "option-changed",
         }
     }
 
@@ -107,6 +120,7 @@ impl ElementChange {
             | ElementChange::MethodStreaming => {
                 "one side of a call expects another: leave the method, and add a new one"
             }
+            ElementChange::MessageSet => "its extensions are encoded otherwise: take a new message",
             ElementChange::FieldRemoved => {
                 "a parser of JSON refuses its name: keep it, and mark it as deprecated"
             }
@@ -133,9 +147,8 @@ impl ElementChange {
             | ElementChange::EnumOpen => {
                 "code goes by what it reads where nothing was written: leave it"
             }
-            ElementChange::FilePackage | ElementChange::FileSyntax => {
-                "code that is made of the file is another: leave it"
-            }
+            ElementChange::FilePackage | ElementChange::FileSyntax | ElementChange::OptionChanged =>
+                { "code that is made of the file is another: leave it" }
         }
     }
 }

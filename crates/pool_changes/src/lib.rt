@@ -4,6 +4,7 @@
 #![tactic(auto)]
 
 mod at_levels;
+mod by_level;
 mod comparing;
 mod direction;
 mod fields;
@@ -14,6 +15,7 @@ mod lines;
 mod members;
 mod named;
 mod objects;
+mod options;
 mod pools;
 mod removed;
 mod services;
@@ -24,14 +26,14 @@ mod words;
 
 pub use comparing::{Comparison, changes, tell_changes};
 pub use direction::Direction;
-pub use kinds::Level;
+pub use kinds::{Level, levels};
 pub use laws::{
     chains, fresh_number_is_kept, keeps_itself, no_change_is_read, unchanged_is_read,
     untold_is_unchanged,
 };
 pub use lines::write_changes;
 pub use named::message_named;
-pub use objects::with_changes;
+pub use objects::{behind_comma, compared_entries, with_changes};
 pub use pools::{parts_of, wire_changes};
 pub use telling::tell_change;
 pub use told::ToldChanges;

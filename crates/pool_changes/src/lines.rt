@@ -5,7 +5,7 @@ ghost use Rattle.std.specs.List.{flat_map};
 ghost use Rattle.verdict_texts.specs.PlainFaults.{fault_lines};
 ghost use Rattle.pool_changes.specs.Texts as spec;
 
-use crate::ToldChanges;
+use crate::{Level, ToldChanges};
 use std::alloc::{AllocError, Global};
 use verdict_texts::{ToldFault, write_fault_lines, write_line};
 
@@ -61,16 +61,30 @@ fn direction_words(alloc: Global, changes: &ToldChanges) -> Result<String, Alloc
     format!(in alloc; ", {direction}{untold}")
 }
 
-/// The last line: how many changes there are, at which level, against which older version, and in
-/// which direction.
+/// Writes how many changes there are at a level that was not asked for, if any.
+#[tactic(auto, unfolding(crate::specs::Texts::beyond_words))]
+fn write_beyond(text: &mut String, level: Level, count: usize) -> Result<(), AllocError>
+    ensures { OnOk result (string_bytes text.new ≡ string_bytes text.old
+        ++ spec.beyond_words level count) }
+{
+    if count == 0 {
+        return Ok(());
+    }
+    let level = level.word();
+    write!(text, "; {count} at {level}")
+}
+
+/// The last line: how many changes there are, at which level, against which older version, in which
+/// direction, and how many there are at the levels that were not asked for.
 fn last_words(alloc: Global, changes: &ToldChanges) -> Result<String, AllocError>
     ensures { IfOk result (λ s. string_bytes s ≡ spec.last_words changes.now) }
 {
-    let compared = compared_words(alloc, changes)?;
-    let compared = compared.as_str();
+    let mut text = compared_words(alloc, changes)?;
     let direction = direction_words(alloc, changes)?;
-    let direction = direction.as_str();
-    format!(in alloc; "{compared}{direction}")
+    text.push_str(direction.as_str())?;
+    write_beyond(&mut text, Level::Json, changes.json_beyond)?;
+    write_beyond(&mut text, Level::Source, changes.source_beyond)?;
+    Ok(text)
 }
 
 /// Writes the lines of changes.

@@ -4,6 +4,7 @@ ghost use Rattle.std.specs.Prelude.{◌≡◌, ◌∷◌, ◌++◌, IfOk, OnOk, 
 ghost use Rattle.std.specs.List.{flat_map};
 ghost use Rattle.pool_changes.specs.Texts as spec;
 
+use crate::kinds::levels;
 use crate::{Level, ToldChanges};
 use std::alloc::{AllocError, Global};
 use verdict_texts::{ToldFault, json_string, write_fault_json};
@@ -19,7 +20,7 @@ fn behind_brace(text: &str) -> &str
 }
 
 /// What stands behind a comma, if a text begins with one.
-fn behind_comma(text: &str) -> &str
+pub fn behind_comma(text: &str) -> &str
     ensures { result.now ≡ spec.behind_first 44 text.now }
 {
     match text.strip_prefix(',') {
@@ -60,15 +61,31 @@ fn write_change(
     text.push_str(behind_brace(fault.as_str()))
 }
 
+/// Writes the changes at a level that are told against an older version, with a comma before each.
+fn write_level(
+    alloc: Global,
+    text: &mut String,
+    changes: &ToldChanges,
+    level: Level,
+) -> Result<(), AllocError>
+    ensures { OnOk result (string_bytes text.new ≡ string_bytes text.old
+        ++ spec.json_changes_at changes.now level) }
+{
+    let told = changes.at(level);
+    for change in told {
+        text.push(',')?;
+        write_change(alloc, text, changes, level, change)?;
+    }
+    Ok(())
+}
+
 /// Writes the changes that are told against an older version, with a comma before each.
 fn write_told(alloc: Global, text: &mut String, changes: &ToldChanges) -> Result<(), AllocError>
     ensures { OnOk result (string_bytes text.new ≡ string_bytes text.old
         ++ spec.json_changes changes.now) }
 {
-    let told = changes.told.as_slice();
-    for (index, change) in told.iter().enumerate() {
-        text.push(',')?;
-        write_change(alloc, text, changes, changes.level_at(index), change)?;
+    for level in levels() {
+        write_level(alloc, text, changes, *level)?;
     }
     Ok(())
 }
@@ -93,18 +110,31 @@ fn changes_entries(alloc: Global, all: &[ToldChanges]) -> Result<String, AllocEr
     String::from_str(alloc, behind_comma(told.as_str()))
 }
 
-/// The direction of a comparison, how many changes there are, and how many are not told.
+/// How many changes there are at the levels that were not asked for, as an object.
+fn beyond_object(alloc: Global, changes: &ToldChanges) -> Result<String, AllocError>
+    ensures { IfOk result (λ s. string_bytes s ≡ spec.beyond_object changes.now) }
+{
+    let json = changes.json_beyond;
+    let source = changes.source_beyond;
+    format!(in alloc; "{{\"json\":{json},\"source\":{source}}}")
+}
+
+/// The direction of a comparison, how many changes there are, how many are not told, and how many
+/// there are at the levels that were not asked for.
 fn counted_members(alloc: Global, changes: &ToldChanges) -> Result<String, AllocError>
     ensures { IfOk result (λ s. string_bytes s ≡ spec.counted_members changes.now) }
 {
     let direction = changes.direction.word();
     let count = changes.count;
     let more = changes.untold();
-    format!(in alloc; "\"direction\":\"{direction}\",\"count\":{count},\"more\":{more}}}")
+    let beyond = beyond_object(alloc, changes)?;
+    let beyond = beyond.as_str();
+    format!(in alloc;
+        "\"direction\":\"{direction}\",\"count\":{count},\"more\":{more},\"beyond\":{beyond}}}"
+    )
 }
 
-/// A comparison: the older version, the direction, how many changes there are, and how many are not
-/// told.
+/// A comparison: the older version, and the members of what was counted.
 #[tactic(auto, unfolding(crate::specs::Texts::json_compared))]
 fn json_compared(alloc: Global, changes: &ToldChanges) -> Result<String, AllocError>
     ensures { IfOk result (λ s. string_bytes s ≡ spec.json_compared changes.now) }
@@ -133,8 +163,11 @@ fn write_each_compared(
     Ok(())
 }
 
-/// What was compared, as entries of an array.
-fn compared_entries(alloc: Global, all: &[ToldChanges]) -> Result<String, AllocError>
+/// What was compared, as entries of an array of JSON.
+///
+/// # Errors
+/// `AllocError` where memory was refused.
+pub fn compared_entries(alloc: Global, all: &[ToldChanges]) -> Result<String, AllocError>
     ensures { IfOk result (λ s. string_bytes s ≡ spec.compared_entries all.now) }
 {
     let mut text = String::new(alloc);

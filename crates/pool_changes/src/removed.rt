@@ -11,7 +11,7 @@ ghost use Rattle.pool_changes.specs.Sides.{reader, side, versions};
 use crate::Direction;
 use crate::kinds::ElementChange;
 use crate::pools::parts_of;
-use crate::sides::{Side, Telling};
+use crate::sides::{Side, Telling, file_told};
 use descriptor_pool::DescriptorPool;
 use plain_data::Items;
 use pool_types::{
@@ -133,23 +133,6 @@ fn has_oneof(message: &MessageDescriptorInner, name: &str) -> bool
 {
     let oneofs = message.oneofs.as_slice();
     oneofs.iter().any(|oneof| oneof.id.full_name() == name)
-}
-
-/// A file of a pool as a side, with what is told of it.
-fn file_told<'a>(
-    pool: &DescriptorPool,
-    file: &'a FileDescriptorInner,
-    word: &'static str,
-    name: &'a str,
-) -> Side<'a>
-    ensures { side result ≡ spec.file_told pool.now file.now word.now name.now }
-{
-    let shown = file.raw.name();
-    let index = match pool.get_file_by_name(shown) {
-        Some(file) => Some(file.index()),
-        None => None,
-    };
-    Side::of_file(index, shown, word, name)
 }
 
 /// The word before the package of a file, which may be none.
@@ -275,7 +258,8 @@ impl Telling<'_> {
         let (before, after) = (package_side(writer, file), package_side(reader, kept));
         self.tell_differing(told, ElementChange::FilePackage, before, after)?;
         let (before, after) = (syntax_side(writer, file), syntax_side(reader, kept));
-        self.tell_differing(told, ElementChange::FileSyntax, before, after)
+        self.tell_differing(told, ElementChange::FileSyntax, before, after)?;
+        self.tell_options(told, file, kept)
     }
 
     /// Appends what the reader's file with its name changes of a writer's.

@@ -10,7 +10,7 @@ use crate::telling::position_if;
 use descriptor_pool::DescriptorPool;
 use plain_data::{Items, Text};
 use pool_faults::Label;
-use pool_types::Identity;
+use pool_types::{FileDescriptorInner, Identity};
 use proto_types::FileDescriptorProto;
 use std::alloc::{AllocError, Global};
 use verdict_texts::{ToldFault, ToldPlace, ToldSecond};
@@ -188,6 +188,23 @@ impl<'a> Side<'a> {
     {
         self.word == other.word && self.name == other.name
     }
+}
+
+/// A file of a pool as a side, with what is told of it.
+pub(crate) fn file_told<'a>(
+    pool: &DescriptorPool,
+    file: &'a FileDescriptorInner,
+    word: &'static str,
+    name: &'a str,
+) -> Side<'a>
+    ensures { spec.side result ≡ spec.file_told pool.now file.now word.now name.now }
+{
+    let shown = file.raw.name();
+    let index = match pool.get_file_by_name(shown) {
+        Some(file) => Some(file.index()),
+        None => None,
+    };
+    Side::of_file(index, shown, word, name)
 }
 
 /// The text of a change: the name of the element, and both sides.

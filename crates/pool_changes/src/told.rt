@@ -1,6 +1,6 @@
 //! What a new version changes of an older one, as it is told.
 
-ghost use Rattle.std.specs.Prelude.{◌≡◌};
+ghost use Rattle.std.specs.Prelude.{◌≡◌, take, drop};
 ghost use Rattle.pool_changes.specs.Texts as spec;
 
 use crate::{Direction, Level};
@@ -23,6 +23,32 @@ pub struct ToldChanges {
     pub json: usize,
     /// How many changes there are.
     pub count: usize,
+    /// How many changes there are at json, where the level leaves them out, or else 0.
+    pub json_beyond: usize,
+    /// How many changes there are at source, where the level leaves them out, or else 0.
+    pub source_beyond: usize,
+}
+
+/// The first of some changes.
+fn first_of(told: &[ToldFault], count: usize) -> &[ToldFault]
+    ensures { result.now ≡ take count told.now }
+{
+    if count < told.len() {
+        &told[..count]
+    } else {
+        told
+    }
+}
+
+/// Some changes without the first of them.
+fn behind(told: &[ToldFault], count: usize) -> &[ToldFault]
+    ensures { result.now ≡ drop count told.now }
+{
+    if count < told.len() {
+        &told[count..]
+    } else {
+        &[]
+    }
 }
 
 impl ToldChanges {
@@ -33,16 +59,15 @@ impl ToldChanges {
         self.count.saturating_sub(self.told.as_slice().len())
     }
 
-    /// The level of the change with an index, from 0.
-    pub(crate) fn level_at(&self, index: usize) -> Level
-        ensures { result ≡ spec.level_at self.now index }
+    /// The changes that are told and are at a level themselves.
+    pub fn at(&self, level: Level) -> &[ToldFault]
+        ensures { result.now ≡ spec.changes_of self.now level }
     {
-        if index < self.wire {
-            Level::Wire
-        } else if index < self.json {
-            Level::Json
-        } else {
-            Level::Source
+        let told = self.told.as_slice();
+        match level {
+            Level::Wire => first_of(told, self.wire),
+            Level::Json => behind(first_of(told, self.json), self.wire),
+            Level::Source => behind(told, self.json),
         }
     }
 }

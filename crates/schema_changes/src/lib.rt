@@ -8,6 +8,7 @@ mod kinds;
 mod lacking;
 mod laws;
 mod map_entries;
+mod message_sets;
 mod oneofs;
 mod parts;
 mod records;

@@ -1,5 +1,5 @@
 -- An annotation has one line feed, its last byte.
-use Rattle.std.proofs.Common.{◌≡◌, ◌≢◌, ℕ, zero, suc, ◌+◌, ◌<◌, ◌≤◌, ◌/◌, ◌%◌, ℤ, pos, negsuc, Bool, true, false, List, [], ◌∷◌, ◌++◌, length, get_or, codes, nat_lt, if◌then◌else◌, not, ◌&&◌, ◌==◌, Option, Some, None, inl, inr, ◌⊎◌, refl, sym, subst, arith, append-nil}
+use Rattle.std.proofs.Common.{◌≡◌, ◌≢◌, ℕ, zero, suc, ◌<◌, ◌≤◌, ◌/◌, ◌%◌, ℤ, pos, negsuc, Bool, true, false, List, [], ◌∷◌, ◌++◌, length, get_or, codes, if◌then◌else◌, not, ◌&&◌, ◌==◌, Option, Some, None, inl, inr, ◌⊎◌, refl, sym, subst, arith, append-nil}
 use Rattle.std.proofs.lemmas.Bool.{cases_eq, cases_lt, ne_eqb}
 use Rattle.std.proofs.lemmas.Bool.Decides.{nat_tests}
 use Rattle.std.proofs.lemmas.Str.{encode_ascii, inside_one}
@@ -10,7 +10,6 @@ use Rattle.std.specs.Str.{chars}
 use lib.Utf8.{encode}
 use Rattle.verdict_texts.specs.Lines.{ends_once}
 use Rattle.verdict_texts.specs.declared.telling.Position.{Position}
-use Rattle.verdict_texts.specs.declared.telling.ToldFault.{ToldFault}
 use Rattle.verdict_texts.specs.declared.telling.ToldPlace.{ToldPlace}
 use Rattle.verdict_formats.specs.Annotations.{annotation, place_properties, position_properties, AnnotationsEndOnce}
 use Rattle.verdict_formats.specs.Percent.{message, message_char, property, property_char}

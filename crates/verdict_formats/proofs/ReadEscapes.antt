@@ -1,12 +1,12 @@
 -- What is written for a text is read as that text.
-use Rattle.std.proofs.Common.{◌≡◌, ℕ, zero, suc, ◌+◌, ◌*◌, ◌<◌, ◌≤◌, ◌/◌, ◌%◌, Bool, true, false, List, [], ◌∷◌, ◌++◌, length, get_or, nat_lt, ◌&&◌, if◌then◌else◌, Option, Some, None, inl, inr, ◌⊎◌, refl, sym, ap, ◌∙◌, subst, arith, append_assoc, append-nil}
+use Rattle.std.proofs.Common.{◌≡◌, ℕ, zero, suc, ◌<◌, ◌≤◌, ◌/◌, ◌%◌, Bool, true, false, List, [], ◌∷◌, ◌++◌, length, get_or, nat_lt, ◌&&◌, Option, Some, None, inl, inr, ◌⊎◌, refl, sym, ap, ◌∙◌, subst, arith, append_assoc, append-nil}
 use Rattle.std.proofs.lemmas.Bool.{cases_eq, cases_lt, ne_eqb, le-ltb, lt-ltb}
 use Rattle.std.proofs.lemmas.Str.{encode_ascii, inside_one, encodes-chars}
 use Rattle.std.specs.List.{flat_map, list_all}
-use Rattle.std.specs.Option.{option_map, option_and_then}
+use Rattle.std.specs.Option.{option_and_then}
 use Rattle.std.specs.Str.{chars}
 use lib.Utf8.{encode, encodes}
-use Rattle.verdict_formats.specs.Percent.{message, message_char, property, property_char, uri, uri_byte, is_plain_byte, capital_digit, capital_value, byte_value, Within, plain, escaped, read, before, EscapesReadBack}
+use Rattle.verdict_formats.specs.Percent.{message, message_char, property, property_char, uri, uri_byte, is_plain_byte, capital_digit, capital_value, byte_value, plain, read, before, EscapesReadBack}
 
 -- what is written for a character is read as its bytes, before any text
 abbrev Passes : (ℕ → List ℕ) → ℕ → Type 0

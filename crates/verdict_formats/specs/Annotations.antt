@@ -3,7 +3,6 @@ use Rattle.std.specs.Prelude.{◌≡◌, ℕ, zero, suc, true, List, [], ◌∷�
 use Rattle.std.specs.Fmt.{decimal, signed_decimal}
 use Rattle.std.specs.List.{flat_map}
 use Rattle.std.specs.Option.{option_map_or}
-use Rattle.std.specs.declared.option.Option.{Option}
 use Rattle.verdict_texts.specs.Lines.{ends_once}
 use Rattle.verdict_texts.specs.declared.telling.Position.{Position}
 use Rattle.verdict_texts.specs.declared.telling.ToldFault.{ToldFault}

@@ -4,4 +4,5 @@ pub mod Texts
 pub mod Annotations
 pub mod Quality
 pub mod Sarif
+pub mod Changes
 pub mod Formats

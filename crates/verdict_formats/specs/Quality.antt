@@ -1,5 +1,5 @@
 -- Faults as a report of GitLab's code quality: an array of objects of JSON.
-use Rattle.std.specs.Prelude.{ℕ, ℤ, List, [], ◌∷◌, ◌++◌, codes}
+use Rattle.std.specs.Prelude.{ℕ, List, [], ◌∷◌, ◌++◌, codes}
 use Rattle.std.specs.Fmt.{signed_decimal}
 use Rattle.std.specs.List.{flat_map}
 use Rattle.std.specs.Option.{option_map_or}
@@ -46,19 +46,24 @@ unfoldable pub quality_location : Option ToldPlace → List ℕ
 quality_location place = codes "{" ++ (text_member (codes "path") (file_of place)
     ++ (next_key (codes "lines") ++ (quality_lines place ++ codes "}")))
 
--- what tells a fault from others, and how severe it is, as further members
-unfoldable pub quality_marks : ToldFault → List ℕ
-quality_marks told = next_text_member (codes "fingerprint") (fingerprint told)
-    ++ next_text_member (codes "severity") (codes "critical")
+-- how severe a fault is, as a further member
+unfoldable pub quality_severity : List ℕ
+quality_severity = next_text_member (codes "severity") (codes "critical")
 
 -- where a fault stands, as a further member
 unfoldable pub quality_place : Option ToldPlace → List ℕ
 quality_place place = next_key (codes "location") ++ quality_location place
 
--- a fault: its text, its kind, what tells it from others, how severe it is, and where it stands
+-- a fault by what tells it from others: its text, its kind, this, how severe it is, and where it
+-- stands
+unfoldable pub marked_object : List ℕ → ToldFault → List ℕ
+marked_object mark told =
+    quality_head told ++ (next_text_member (codes "fingerprint") mark ++ (quality_severity
+    ++ (quality_place told.place ++ codes "}")))
+
+-- a fault as an object
 unfoldable pub quality_object : ToldFault → List ℕ
-quality_object told =
-    quality_head told ++ (quality_marks told ++ (quality_place told.place ++ codes "}"))
+quality_object told = marked_object (fingerprint told) told
 
 -- objects with a comma between each two
 abbrev pub quality_objects : List ToldFault → List ℕ

@@ -72,10 +72,14 @@ unfoldable pub related : Option ToldSecond → List ℕ
 related second = next_key (codes "relatedLocations")
     ++ (codes "[" ++ (option_map_or second_location second [] ++ codes "]"))
 
--- a fault as a result: its kind, its text, its place and its second place
-unfoldable pub result_object : ToldFault → List ℕ
-result_object told =
-    result_head told ++ (locations told.place ++ (related told.second ++ codes "}"))
+-- the first members of a result, with its opening brace: its kind, its text, its place and its second
+-- place
+unfoldable pub result_members : ToldFault → List ℕ
+result_members told = result_head told ++ (locations told.place ++ related told.second)
+
+-- a fault as a result
+abbrev pub result_object : ToldFault → List ℕ
+result_object told = result_members told ++ codes "}"
 
 -- results with a comma between each two
 abbrev pub results : List ToldFault → List ℕ

@@ -40,7 +40,7 @@ fn write_mark(text: &mut String, place: &Option<ToldPlace>) -> Result<(), AllocE
 
 /// What tells a fault from others: its kind, its file, its path and its text, but not its line.
 #[tactic(auto, unfolding(crate::specs::Quality::fingerprint))]
-fn fingerprint(alloc: Global, told: &ToldFault) -> Result<String, AllocError>
+pub(crate) fn fingerprint(alloc: Global, told: &ToldFault) -> Result<String, AllocError>
     ensures { IfOk result (λ s. string_bytes s ≡ spec.fingerprint told.now) }
 {
     let mut text = String::from_str(alloc, told.code.as_str())?;
@@ -122,14 +122,12 @@ fn write_head(alloc: Global, text: &mut String, told: &ToldFault) -> Result<(), 
     write_next_text_member(text, "check_name", told.code.as_str())
 }
 
-/// Writes what tells a fault from others, and how severe it is, as further members.
-#[tactic(auto, unfolding(crate::specs::Quality::quality_marks))]
-fn write_marks(alloc: Global, text: &mut String, told: &ToldFault) -> Result<(), AllocError>
+/// Writes how severe a fault is, as a further member.
+#[tactic(auto, unfolding(crate::specs::Quality::quality_severity))]
+fn write_severity(text: &mut String) -> Result<(), AllocError>
     ensures { OnOk result (string_bytes text.new ≡ string_bytes text.old
-        ++ spec.quality_marks told.now) }
+        ++ spec.quality_severity) }
 {
-    let mark = fingerprint(alloc, told)?;
-    write_next_text_member(text, "fingerprint", mark.as_str())?;
     write_next_text_member(text, "severity", "critical")
 }
 
@@ -143,16 +141,33 @@ fn write_place(text: &mut String, place: &Option<ToldPlace>) -> Result<(), Alloc
     write_location(text, place)
 }
 
+/// Writes a fault as an object, by what tells it from others.
+#[tactic(auto, unfolding(crate::specs::Quality::marked_object))]
+pub(crate) fn write_marked(
+    alloc: Global,
+    text: &mut String,
+    mark: &str,
+    told: &ToldFault,
+) -> Result<(), AllocError>
+    ensures { OnOk result (string_bytes text.new ≡ string_bytes text.old
+        ++ spec.marked_object mark.now told.now) }
+{
+    write_head(alloc, text, told)?;
+    write_next_text_member(text, "fingerprint", mark)?;
+    write_severity(text)?;
+    write_place(text, &told.place)?;
+    text.push_str("}")?;
+    Ok(())
+}
+
 /// Writes a fault as an object.
 #[tactic(auto, unfolding(crate::specs::Quality::quality_object))]
 fn write_object(alloc: Global, text: &mut String, told: &ToldFault) -> Result<(), AllocError>
     ensures { OnOk result (string_bytes text.new ≡ string_bytes text.old
         ++ spec.quality_object told.now) }
 {
-    write_head(alloc, text, told)?;
-    write_marks(alloc, text, told)?;
-    write_place(text, &told.place)?;
-    text.push_str("}")
+    let mark = fingerprint(alloc, told)?;
+    write_marked(alloc, text, mark.as_str(), told)
 }
 
 /// Writes faults as objects, with a comma before each.

@@ -190,15 +190,27 @@ fn write_head(alloc: Global, text: &mut String, told: &ToldFault) -> Result<(), 
     write_text_object(text, words.as_str())
 }
 
+/// Writes the first members of a result: its kind, its text, its place and its second place.
+#[tactic(auto, unfolding(crate::specs::Sarif::result_members))]
+pub(crate) fn write_result_members(
+    alloc: Global,
+    text: &mut String,
+    told: &ToldFault,
+) -> Result<(), AllocError>
+    ensures { OnOk result (string_bytes text.new ≡ string_bytes text.old
+        ++ spec.result_members told.now) }
+{
+    write_head(alloc, text, told)?;
+    write_locations(text, &told.place)?;
+    write_related(alloc, text, &told.second)
+}
+
 /// Writes a fault as a result.
-#[tactic(auto, unfolding(crate::specs::Sarif::result_object))]
 fn write_result(alloc: Global, text: &mut String, told: &ToldFault) -> Result<(), AllocError>
     ensures { OnOk result (string_bytes text.new ≡ string_bytes text.old
         ++ spec.result_object told.now) }
 {
-    write_head(alloc, text, told)?;
-    write_locations(text, &told.place)?;
-    write_related(alloc, text, &told.second)?;
+    write_result_members(alloc, text, told)?;
     text.push_str("}")
 }
 

@@ -1,8 +1,0 @@
-use Rattle.std.proofs.Common.{◌≡◌, ◌++◌, string_bytes, take, flat_map}
-use Rattle.descriptor_check.specs.Against.{changes_annotations}
-use Rattle.descriptor_check.proofs.against.write_annotations.Given as goal
-
--- the comparisons so far are told
-abbrev pub invariant-loop-changes : goal.invariant-loop-changes
-invariant-loop-changes l =
-    string_bytes l.text ≡ string_bytes l.initial.text ++ flat_map changes_annotations (take l.changes-index l.told)

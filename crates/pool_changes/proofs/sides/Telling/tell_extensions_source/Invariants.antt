@@ -1,9 +1,0 @@
-use Rattle.std.proofs.Common.{◌≡◌, ◌++◌, take, flat_map}
-use Rattle.pool_changes.specs.AtLevels.{extension_source}
-use Rattle.pool_changes.specs.FieldParts.{extension_part_at}
-use Rattle.pool_changes.specs.Sides.{versions, writer}
-use Rattle.pool_changes.proofs.sides.Telling.tell_extensions_source.Given as goal
-
--- the extensions so far are told
-abbrev pub invariant-loop-index : goal.invariant-loop-index
-invariant-loop-index l = l.told ≡ l.initial.told ++ flat_map (λ i. extension_source (versions l.self) l.pair.before.now l.pair.after.now l.pair.found.now (extension_part_at (writer (versions l.self)) i)) (take l.index-index l.pair.before.now.extensions)

@@ -1,0 +1,33 @@
+//! Message sets, whose extensions are encoded otherwise.
+
+ghost use Rattle.std.specs.Prelude.{◌≡◌};
+ghost use Rattle.schema_changes.specs.MessageSets as spec;
+ghost use Rattle.schema_changes.specs.Parts.{parts};
+
+use crate::Parts;
+use descriptor_decoding::is_message_set;
+use pool_types::MessageDescriptorInner;
+use proto_types::DescriptorProto;
+
+/// Whether the options of a record say that it is a message set.
+fn says_message_set(message: &DescriptorProto) -> bool
+    ensures { result ≡ spec.says_message_set message.now }
+{
+    match is_message_set(message) {
+        Ok(is_set) => is_set,
+        Err(_) => false,
+    }
+}
+
+impl Parts<'_> {
+    /// Whether a message is a message set: the options of its record say so.
+    #[tactic(auto, unfolding(crate::specs::MessageSets::is_message_set))]
+    pub fn is_message_set(self, message: &MessageDescriptorInner) -> bool
+        ensures { result ≡ spec.is_message_set (parts self.entry) message.now }
+    {
+        match self.message_record(message) {
+            Some(record) => says_message_set(record),
+            None => false,
+        }
+    }
+}
