@@ -1,26 +1,33 @@
 #!/usr/bin/env python3
-"""Counts what the library takes to link sets of bytes, beside protobuf's own pool in C++ over the
-same bytes, and prints the table of docs/SPEED.md.
+"""Counts what the library takes from bytes to a pool and back, and what its peers take over the same
+bytes, and prints the tables of docs/SPEED.md.
 
-    python3 library_speed.py            over dist/lib/libprotolink.a
+    python3 library_speed.py                       over dist/lib/libprotolink.a
     python3 library_speed.py ARCHIVE
+    python3 library_speed.py --peers [--upb FOLDER]
 
-Counted are instructions, by valgrind's callgrind: of the one call `protolink_pool_add_set`; and of
-protobuf's parsing of the same set and `DescriptorPool::BuildFile` of each of its files. Neither
-frees anything within what is counted.
+Counted are instructions, by valgrind's callgrind, each of one call: `protolink_pool_add_set`, which
+links a set; `protolink_pool_linked`, which writes the linked set; `protolink_pool_changes`, which
+compares the pool with itself; and `protolink_pool_clear`, which frees it.
 
-Needed are valgrind, g++, pkg-config, protoc, and on Debian libprotobuf-dev and libprotoc-dev.
-Exit status: 0, or 2 where nothing could be counted.
+With --peers the table is that of the peers: protobuf's own pool in C++, which parses the same set and
+takes each of its files by `DescriptorPool::BuildFile`; and, with --upb, upb, which does so by
+`upb_DefPool_AddFile`. FOLDER is the unpacked source package of Debian (`apt-get source protobuf`).
+
+Needed are valgrind, g++, and protoc with protobuf's own files; with --peers gcc, pkg-config, and on
+Debian libprotobuf-dev. Exit status: 0, or 2 where nothing could be counted.
 """
 
 from __future__ import annotations
 
+import argparse
 import re
 import subprocess
 import sys
 import tempfile
 from collections.abc import Iterator
 from pathlib import Path
+from typing import Optional
 
 TOP = Path(__file__).resolve().parent.parent
 ARCHIVE = TOP / "dist/lib/libprotolink.a"
@@ -30,12 +37,39 @@ WELL_KNOWN = (
     *("timestamp", "type", "wrappers", "compiler/plugin"),
 )
 
+CALLS = ("add_set", "linked", "changes", "clear")
+"""The calls that are counted, without what the names of all calls begin with."""
+
 PROGRAM = r"""
 #include <protolink.h>
+#include <fstream>
+#include <iterator>
+#include <vector>
+
+int main(int, char **argv)
+{
+    std::ifstream input(argv[1], std::ios::binary);
+    const std::vector<char> set{std::istreambuf_iterator<char>(input), {}};
+    std::vector<uint8_t> out(4 * set.size() + 65536);
+    size_t length = 0;
+    protolink_pool pool = PROTOLINK_POOL_EMPTY;
+    const uint8_t *bytes = reinterpret_cast<const uint8_t *>(set.data());
+    if (protolink_pool_add_set(&pool, bytes, set.size()) != PROTOLINK_DONE)
+        return 1;
+    if (protolink_pool_linked(&pool, out.data(), out.size(), &length) != PROTOLINK_DONE)
+        return 1;
+    if (protolink_pool_changes(&pool, &pool, PROTOLINK_LEVEL_WIRE, out.data(), out.size(), &length)
+        != PROTOLINK_DONE)
+        return 1;
+    protolink_pool_clear(&pool);
+    return 0;
+}
+"""
+
+PROTOBUF = r"""
 #include <google/protobuf/descriptor.h>
 #include <google/protobuf/descriptor.pb.h>
 #include <fstream>
-#include <iostream>
 #include <iterator>
 #include <string>
 
@@ -51,21 +85,52 @@ extern "C" __attribute__((noinline)) int add_to_protobuf(
     return 1;
 }
 
-int main(int argc, char **argv)
+int main(int, char **argv)
 {
-    std::ifstream input(argv[2], std::ios::binary);
+    std::ifstream input(argv[1], std::ios::binary);
     const std::string bytes{std::istreambuf_iterator<char>(input), {}};
-    google::protobuf::DescriptorPool theirs;
-    protolink_pool pool = PROTOLINK_POOL_EMPTY;
-    const std::string which = argv[1];
-    if (which == "protobuf")
-        return add_to_protobuf(&theirs, &bytes) ? 0 : 1;
-    return protolink_pool_add_set(
-        &pool, reinterpret_cast<const uint8_t *>(bytes.data()), bytes.size());
+    google::protobuf::DescriptorPool pool;
+    return add_to_protobuf(&pool, &bytes) ? 0 : 1;
 }
 """
 
-COUNTED = {"protolink": "protolink_pool_add_set", "protobuf": "add_to_protobuf"}
+UPB = r"""
+#include "ruby-upb.h"
+#include <stdio.h>
+#include <stdlib.h>
+
+__attribute__((noinline)) int add_to_upb(upb_DefPool *pool, const char *bytes, size_t len)
+{
+    upb_Arena *arena = upb_Arena_New();
+    size_t count = 0;
+    google_protobuf_FileDescriptorSet *set =
+        google_protobuf_FileDescriptorSet_parse(bytes, len, arena);
+    if (set == NULL)
+        return 0;
+    const google_protobuf_FileDescriptorProto *const *files =
+        google_protobuf_FileDescriptorSet_file(set, &count);
+    for (size_t at = 0; at < count; at++) {
+        upb_Status status;
+        upb_Status_Clear(&status);
+        if (upb_DefPool_AddFile(pool, files[at], &status) == NULL)
+            return 0;
+    }
+    return 1;
+}
+
+int main(int argc, char **argv)
+{
+    FILE *input = argc > 1 ? fopen(argv[1], "rb") : NULL;
+    if (input == NULL || fseek(input, 0, SEEK_END) != 0)
+        return 2;
+    size_t len = (size_t)ftell(input);
+    char *bytes = malloc(len + 1);
+    rewind(input);
+    if (bytes == NULL || fread(bytes, 1, len, input) != len)
+        return 2;
+    return add_to_upb(upb_DefPool_New(), bytes, len) ? 0 : 1;
+}
+"""
 
 
 class ToolError(Exception):
@@ -172,51 +237,99 @@ def rows(room: Path) -> Iterator[tuple[str, bytes]]:
     )
 
 
-def instructions(program: Path, which: str, set_: Path) -> int:
-    """The instructions of what is counted of one of the two."""
+def instructions(program: Path, counted: str, set_: Path) -> float:
+    """The millions of instructions of a function in a run over a set."""
     said = must([
         *("valgrind", "--tool=callgrind", "--callgrind-out-file=/dev/null"),
-        *(f"--toggle-collect={COUNTED[which]}", str(program), which, str(set_)),
+        *(f"--toggle-collect={counted}", str(program), str(set_)),
     ])
     found = re.search(r"Collected : (\d+)", said)
     if not found or found[1] == "0":
         raise ToolError("callgrind counted nothing")
-    return int(found[1])
+    return int(found[1]) / 1e6
 
 
 def made(archive: Path, room: Path) -> Path:
-    """The program that is counted, built in a folder."""
+    """The program that makes the calls of the library, built in a folder."""
     source, program = room / "speed.cc", room / "speed"
     source.write_text(PROGRAM)
-    flags = must(["pkg-config", "--cflags", "--libs", "protobuf"]).split()
-    words = ["g++", "-std=c++17", "-O2", f"-I{TOP}/include", str(source), str(archive)]
-    must([*words, *flags, "-o", str(program)])
+    must([
+        *("g++", "-std=c++17", "-O2", f"-I{TOP}/include", str(source), str(archive)),
+        *("-o", str(program)),
+    ])
     return program
 
 
+def made_of_protobuf(room: Path) -> Path:
+    """The program that makes a pool of protobuf's in C++."""
+    source, program = room / "protobuf.cc", room / "protobuf"
+    source.write_text(PROTOBUF)
+    flags = must(["pkg-config", "--cflags", "--libs", "protobuf"]).split()
+    must(["g++", "-std=c++17", "-O2", str(source), *flags, "-o", str(program)])
+    return program
+
+
+def made_of_upb(sources: Path, room: Path) -> Path:
+    """The program that makes a pool of upb's, of protobuf's sources."""
+    source, program = room / "upb.c", room / "upb"
+    source.write_text(UPB)
+    own, utf8 = sources / "ruby/ext/google/protobuf_c", sources / "third_party/utf8_range"
+    parts = (own / "ruby-upb.c", utf8 / "naive.c", utf8 / "range2-sse.c")
+    must([
+        *("gcc", "-O3", "-DNDEBUG", "-w", f"-I{sources}", f"-I{own}", f"-I{utf8}", str(source)),
+        *(*map(str, parts), "-lm", "-o", str(program)),
+    ])
+    return program
+
+
+def own_row(program: Path, name: str, set_: Path, calls: tuple[str, ...] = CALLS) -> str:
+    """What each call takes over a set."""
+    counts = (instructions(program, f"protolink_pool_{call}", set_) for call in calls)
+    cells = " | ".join(f"{count:,.2f}" for count in counts)
+    return f"| {name} | {set_.stat().st_size / 1000:,.0f} | {cells} |"
+
+
 def tell(archive: Path) -> None:
-    """Prints the table."""
+    """Prints the table of the library."""
     with tempfile.TemporaryDirectory() as name:
         room = Path(name)
         program, set_ = made(archive, room), room / "set.pb"
-        print("| set | kB | `protolink_pool_add_set` | protobuf's pool in C++ | |")
-        print("|---|---|---|---|---|")
+        print(f"| set | kB | {' | '.join(f'`{call}`' for call in CALLS)} |")
+        print(f"|---|---|{'---|' * len(CALLS)}")
         for row, data in rows(room):
             set_.write_bytes(data)
-            ours, theirs = (instructions(program, which, set_) for which in COUNTED)
-            print(
-                f"| {row} | {len(data) / 1000:,.0f} | {ours / 1e6:,.2f} | {theirs / 1e6:,.2f} "
-                f"| {theirs / ours:.2f} times |",
-                flush=True,
-            )
+            print(own_row(program, row, set_), flush=True)
+
+
+def tell_peers(upb: Optional[Path]) -> None:
+    """Prints the table of the peers."""
+    with tempfile.TemporaryDirectory() as name:
+        room = Path(name)
+        set_ = room / "set.pb"
+        peers = {"add_to_protobuf": made_of_protobuf(room)}
+        if upb is not None:
+            peers["add_to_upb"] = made_of_upb(upb, room)
+        print(f"| set | protobuf's pool in C++ |{' upb |' if upb else ''}")
+        print(f"|---|---|{'---|' if upb else ''}")
+        for row, data in rows(room):
+            set_.write_bytes(data)
+            counts = (instructions(program, call, set_) for call, program in peers.items())
+            print(f"| {row} | {' | '.join(f'{count:,.2f}' for count in counts)} |", flush=True)
 
 
 def main() -> int:
-    if sys.argv[1:2] in (["-h"], ["--help"]):
-        print((__doc__ or "").strip())
-        return 0
+    parser = argparse.ArgumentParser(
+        description=__doc__, formatter_class=argparse.RawDescriptionHelpFormatter
+    )
+    parser.add_argument("archive", nargs="?", type=Path, default=ARCHIVE, help="the built library")
+    parser.add_argument("--peers", action="store_true", help="count the peers")
+    parser.add_argument("--upb", type=Path, metavar="FOLDER", help="protobuf's sources, with upb")
+    options = parser.parse_args()
     try:
-        tell(Path(sys.argv[1]) if len(sys.argv) > 1 else ARCHIVE)
+        if options.peers or options.upb:
+            tell_peers(options.upb)
+        else:
+            tell(options.archive)
     except (ToolError, OSError) as fault:
         print(f"library_speed.py: {fault}", file=sys.stderr)
         return 2

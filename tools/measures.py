@@ -22,6 +22,8 @@ import architecture
 TOP = Path(__file__).resolve().parent.parent
 CRATES = TOP / "crates"
 COLUMNS = 100
+ONE_PATH = re.compile(r"\s*(?:ghost )?(?:pub )?use [^,]*;?$")
+"""A line that names one thing, by a path that cannot be parted."""
 ALONE = re.compile(r"(?:The same|As|So|Of)\b")
 """How a comment begins that leans on what stands before it."""
 
@@ -101,7 +103,7 @@ def wide_lines() -> Iterator[str]:
     for pattern in ("src/**/*.rt", "specs/**/*.antt"):
         for path in files(pattern):
             for number, line in enumerate(path.read_text().splitlines(), 1):
-                if len(line) > COLUMNS:
+                if len(line) > COLUMNS and not ONE_PATH.match(line):
                     yield f"{path.relative_to(TOP)}:{number}"
 
 

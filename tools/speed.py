@@ -5,17 +5,23 @@
     python3 speed.py --sets ../crates/example_pool/out/example_pool
     python3 speed.py --library ../dist/lib/libprotolink.a
     python3 speed.py --only '4,000 files' ../crates/protolink/out/protolink
+    python3 speed.py --short --library ../dist/lib/libprotolink.a ../crates/protolink/out/protolink
     python3 speed.py --script '4,000 files' > files.script
 
 For each script: the instructions of `build_files` and of the whole program, in millions, as
 valgrind's callgrind counts them; and the requests for memory and the peak of the heap in kB, of the
-whole program, as its dhat counts them. Of sets as bytes: the instructions of what reads them and of
-what writes them, in the example of sets; and of the one call of the library for C that links a set.
-Instructions repeat themselves, whatever else a machine does. On the standard error each row is told
-beside the figures that docs/SPEED.md has, which are of the last tree.
+whole program, as its dhat counts them. Of sets as bytes: the instructions of what reads them and
+of what writes them, in the example of sets; and of the calls of the library for C that link a set,
+write it, compare it with itself, and free it (library_speed.py has its peers). Instructions repeat
+themselves, whatever else a machine does. On the standard error each row is told beside the figures
+that docs/SPEED.md has, which are of the last tree.
 
-Exit status: 0, 1 where a figure is more than 2 % above the one of that page, or 2 where something
-could not be counted, as a script with a fault, or the page has no such row.
+With --short the instructions of `build_files` alone are counted, and of `add_set`, of six rows in
+all, which takes two minutes. The gate runs that.
+
+The last line counts the rows of which no figure, and those of which one, is more than 2 % above
+that page: `N passed, M failed`. Exit status: 0, 1 where a row failed, or 2 where something could
+not be counted, as a script with a fault, or the page has no such row.
 
 Needed are valgrind, and the program, which `rt run` or the gate builds.
 """
@@ -52,6 +58,23 @@ class ToolError(Exception):
 FIGURES = ("million", "million of the whole", "requests", "kB")
 """What the figures of a row are, behind its two names."""
 
+CALLS = tuple(f"million of {call}" for call in library_speed.CALLS)
+"""What they are of a set that the library links."""
+
+SHORT = (
+    "protobuf's twelve files, linked",
+    "400 files of messages, an enum and a service, each with two imports",
+    "16,000 fields of one message, each of its type",
+    "20,000 extensions of one message, with rising numbers",
+)
+"""The scripts that the gate counts."""
+
+SHORT_SETS = (
+    "the same, with their places in the source",
+    "2,000 files of a service, each with 4 messages, 32 fields, an enum and an import",
+)
+"""The sets that the gate counts."""
+
 
 def figures(row: str) -> tuple[tuple[str, ...], list[Optional[float]]]:
     """What a row of the table is of, and its figures; none where a cell has no number."""
@@ -66,25 +89,32 @@ class Table:
 
     def __init__(self, page: str) -> None:
         self.before = dict(figures(line) for line in page.splitlines() if line.startswith("| "))
-        self.is_dearer = False
+        self.passed = self.failed = 0
         self.unknown: list[str] = []
 
-    def tell(self, row: str) -> None:
-        """Prints a row, and on the standard error how it compares with that of the page."""
+    def tell(self, row: str, what: tuple[str, ...] = FIGURES) -> None:
+        """Prints a row, and on the standard error how it compares with that of the page. Where the
+        row has fewer figures, these are the first ones."""
         print(row, flush=True)
         names, now = figures(row)
         before = self.before.get(names, [])
-        if [old is None for old in before] != [new is None for new in now]:
+        if [old is None for old in before[: len(now)]] != [new is None for new in now]:
             self.unknown.append(names[0])
             print(f"  {PAGE.name} has no such row with these figures", file=sys.stderr)
             return
-        for what, old, new in zip(FIGURES, before, now):
-            if old is None or new is None:
-                continue
-            is_dearer = new > old * MORE
-            self.is_dearer |= is_dearer
-            word = ", dearer" if is_dearer else ""
-            print(f"  {old:,.10g} before, {new:,.10g} now, {what}{word}", file=sys.stderr)
+        is_dearer = [self.compare(*figure) for figure in zip(what, before, now)]
+        self.failed += any(is_dearer)
+        self.passed += not any(is_dearer)
+
+    @staticmethod
+    def compare(what: str, old: Optional[float], new: Optional[float]) -> bool:
+        """Tells a figure beside that of the page, and answers whether it is dearer."""
+        if old is None or new is None:
+            return False
+        is_dearer = new > old * MORE
+        word = ", dearer" if is_dearer else ""
+        print(f"  {old:,.10g} before, {new:,.10g} now, {what}{word}", file=sys.stderr)
+        return is_dearer
 
 
 def field(name: str, number: int, type_: str = "int32", type_name: str = "~") -> str:
@@ -347,11 +377,13 @@ def main() -> None:
     parser.add_argument("program", nargs="?", help="the built program protolink")
     parser.add_argument("--sets", metavar="PROGRAM", help="the built program example_pool")
     parser.add_argument("--library", metavar="ARCHIVE", help="the built library for C")
+    parser.add_argument("--short", action="store_true", help="the six rows of the gate alone")
     parser.add_argument("--only", metavar="WORDS", help="the rows with these words alone")
     parser.add_argument("--script", metavar="WORDS", help="print the script of a row, and end")
     options = parser.parse_args()
     wanted = options.script or options.only or ""
-    rows = {name: make for name, make in SCRIPTS.items() if wanted in name}
+    names = SHORT if options.short else SCRIPTS
+    rows = {name: SCRIPTS[name] for name in names if wanted in name}
     try:
         if not rows:
             raise ToolError(f"no row has the words '{wanted}'")
@@ -365,7 +397,8 @@ def main() -> None:
             tell(options, rows, table, Path(name))
         if table.unknown:
             raise ToolError(f"the page lacks {len(table.unknown)} rows: {'; '.join(table.unknown)}")
-        sys.exit(1 if table.is_dearer else 0)
+        print(f"{table.passed} passed, {table.failed} failed")
+        sys.exit(1 if table.failed else 0)
     except (ToolError, library_speed.ToolError, OSError) as error:
         print(f"speed.py: {error}", file=sys.stderr)
         sys.exit(2)
@@ -377,30 +410,36 @@ def tell(
     table: Table,
     folder: Path,
 ) -> None:
-    """Prints the table: the rows of scripts, of sets, and of the library, of what is given."""
-    print("| batch | counted | million | of the whole | requests for memory | peak in kB |")
-    print("|---|---|---|---|---|---|")
+    """Prints the tables: of scripts and of sets, and of the library, of what is given."""
+    if options.program or options.sets:
+        print("| batch | counted | million | of the whole | requests for memory | peak in kB |")
+        print("|---|---|---|---|---|---|")
     if options.program:
-        tell_scripts(str(Path(options.program).resolve()), rows, table, folder)
+        program = str(Path(options.program).resolve())
+        tell_scripts(program, rows, table, folder, options.short)
     if options.sets:
         tell_sets(str(Path(options.sets).resolve()), table, folder)
     if options.library:
-        tell_library(Path(options.library).resolve(), table, folder)
+        tell_library(Path(options.library).resolve(), table, folder, options.short)
 
 
 def tell_scripts(
-    program: str, rows: dict[str, Callable[[], str]], table: Table, folder: Path
+    program: str,
+    rows: dict[str, Callable[[], str]],
+    table: Table,
+    folder: Path,
+    is_short: bool,
 ) -> None:
     script = folder / "script"
     for row, make in rows.items():
         script.write_text(make())
         linked = instructions([program], LINKED, script, folder)
-        whole = instructions([program], "", script, folder)
-        requests, peak = heap(program, script, folder)
-        table.tell(
-            f"| {row} | `build_files` | {linked:.2f} | {whole:.2f} | {requests:,} "
-            f"| {peak / 1000:,.0f} |"
-        )
+        told = f"| {row} | `build_files` | {linked:.2f} |"
+        if not is_short:
+            whole = instructions([program], "", script, folder)
+            requests, peak = heap(program, script, folder)
+            told += f" {whole:.2f} | {requests:,} | {peak / 1000:,.0f} |"
+        table.tell(told)
 
 
 def tell_sets(program: str, table: Table, folder: Path) -> None:
@@ -415,12 +454,17 @@ def tell_sets(program: str, table: Table, folder: Path) -> None:
         )
 
 
-def tell_library(archive: Path, table: Table, folder: Path) -> None:
+def tell_library(archive: Path, table: Table, folder: Path, is_short: bool) -> None:
+    """Each call over each set, or where it is short, what links two of them."""
     program, set_ = library_speed.made(archive, folder), folder / "set.pb"
+    calls = library_speed.CALLS[:1] if is_short else library_speed.CALLS
+    print(f"| set | kB | {' | '.join(f'`{call}`' for call in calls)} |")
+    print(f"|---|---|{'---|' * len(calls)}")
     for row, data in library_speed.rows(folder):
+        if is_short and row not in SHORT_SETS:
+            continue
         set_.write_bytes(data)
-        count = library_speed.instructions(program, "protolink", set_) / 1e6
-        table.tell(f"| {row}, as a set | `protolink_pool_add_set` | {count:.2f} | | | |")
+        table.tell(library_speed.own_row(program, row, set_, calls), CALLS)
 
 
 if __name__ == "__main__":

@@ -16,7 +16,7 @@ pub struct Wanted {
     pub most: usize,
     /// What `protoc` refuses besides is refused too.
     pub strict: bool,
-    /// Of unequal files of one name the first counts, and the others are passed over.
+    /// The first of unequal files of one name counts, and the others are passed over.
     pub first_counts: bool,
     /// Each declaration is told.
     pub lists: bool,

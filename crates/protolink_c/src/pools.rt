@@ -63,8 +63,8 @@ pub extern "C" fn protolink_pool_add_file(alloc: Global, pool: &mut Handle, byte
     closed(alloc, pool, answers, status)
 }
 
-/// The same with several encoded `FileDescriptorProto`s, in any order, which stand behind one
-/// another in the bytes, by their lengths.
+/// Links the files of several encoded `FileDescriptorProto`s, in any order, in one batch. They stand
+/// behind one another in the bytes, by their lengths.
 #[unsafe(no_mangle)]
 pub extern "C" fn protolink_pool_add_files(
     alloc: Global,
