@@ -6,7 +6,7 @@ ghost use Rattle.descriptor_decoding.specs.Parts.{int32, int32_merged, bool_merg
 use crate::context::Context;
 use crate::error::DecodeError;
 use crate::merging::{Message, merge};
-use plain_data::{Items, Text};
+use plain_data::{Items, Numbers, Text};
 use std::alloc::{AllocError, Global};
 use wire_format::{Value, WireFault, WireFaultKind, next_number};
 
@@ -77,22 +77,19 @@ pub fn merge_texts(
 }
 
 /// Takes room for packed numbers where none came yet: each ends with a byte below 128. Those of
-/// further parts find room by leaps. Up to six bytes are not counted, since room for six numbers is
-/// in the least block of memory that is handed out.
-fn take_room(items: &mut Items<i32>, bytes: &[u8]) -> Result<(), AllocError>
+/// further parts find room by leaps. Up to seven bytes are not counted, since a list has room for
+/// seven numbers in itself.
+fn take_room(items: &mut Numbers, bytes: &[u8]) -> Result<(), AllocError>
     ensures { items.new ≡ items.old }
 {
-    if !items.as_slice().is_empty() {
+    if bytes.len() <= 7 || !items.as_slice().is_empty() {
         return Ok(());
-    }
-    if bytes.len() <= 6 {
-        return items.reserve_exact(bytes.len());
     }
     items.reserve_exact(bytes.iter().filter(|b| **b < 128).count())
 }
 
 /// Reads packed numbers.
-fn merge_packed(items: &mut Items<i32>, ends: usize, bytes: &[u8]) -> Result<(), DecodeError>
+fn merge_packed(items: &mut Numbers, ends: usize, bytes: &[u8]) -> Result<(), DecodeError>
     ensures { Leaves result items.new (packed_merged ends bytes.now items.old) }
 {
     take_room(items, bytes)?;
@@ -106,7 +103,7 @@ fn merge_packed(items: &mut Items<i32>, ends: usize, bytes: &[u8]) -> Result<(),
 
 /// Reads repeated numbers, packed or not.
 #[tactic(auto, unfolding(crate::specs::Parts::int32s_merged))]
-pub fn merge_int32s(items: &mut Items<i32>, value: &Value<'_>) -> Result<(), DecodeError>
+pub fn merge_int32s(items: &mut Numbers, value: &Value<'_>) -> Result<(), DecodeError>
     ensures { Leaves result items.new (int32s_merged (value_seen value.now) items.old) }
 {
     match value {

@@ -7,4 +7,6 @@ pub mod WholeNumbers
 pub mod TruthValues
 pub mod TextRows
 pub mod NumberRows
+pub mod Numbers
 pub mod Paths
+pub mod Texts

@@ -7,7 +7,7 @@ use crate::{
     EnumDescriptorProto, FieldDescriptorProto, Options, ServiceDescriptorProto, SourceCodeInfo,
     Unread, or_empty,
 };
-use plain_data::{Duplicate, Items, Text, duplicate_option};
+use plain_data::{Duplicate, Items, Numbers, Text, duplicate_option};
 use std::alloc::{AllocError, Global};
 
 /// The files of one description.
@@ -30,9 +30,9 @@ pub struct FileDescriptorProto {
     pub options: Option<Options<Unread>>,
     pub source_code_info: Option<SourceCodeInfo>,
     /// The positions of the public imports in the list of imports, from 0.
-    pub public_dependency: Items<i32>,
+    pub public_dependency: Numbers,
     /// The positions of the weak imports in the list of imports, from 0.
-    pub weak_dependency: Items<i32>,
+    pub weak_dependency: Numbers,
     pub syntax: Option<Text>,
 }
 
@@ -74,8 +74,8 @@ impl FileDescriptorProto {
             extension: Items::new(alloc),
             options: None,
             source_code_info: None,
-            public_dependency: Items::new(alloc),
-            weak_dependency: Items::new(alloc),
+            public_dependency: Numbers::new(alloc),
+            weak_dependency: Numbers::new(alloc),
             syntax: None,
         }
     }
@@ -131,8 +131,8 @@ impl FileDescriptorProto {
             extension,
             options: duplicate_option(alloc, &self.options)?,
             source_code_info: duplicate_option(alloc, &self.source_code_info)?,
-            public_dependency: Items::from_slice(alloc, self.public_dependency.as_slice())?,
-            weak_dependency: Items::from_slice(alloc, self.weak_dependency.as_slice())?,
+            public_dependency: self.public_dependency.clone(alloc)?,
+            weak_dependency: self.weak_dependency.clone(alloc)?,
             syntax: duplicate_option(alloc, &self.syntax)?,
         })
     }

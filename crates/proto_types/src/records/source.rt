@@ -1,7 +1,7 @@
 ghost use Rattle.std.specs.Prelude.{◌≡◌, IfOk};
 ghost use Rattle.proto_types.specs.Source.{no_source, no_location};
 
-use plain_data::{Duplicate, Items, Text, duplicate_option};
+use plain_data::{Duplicate, Items, Numbers, Text, duplicate_option};
 use std::alloc::{AllocError, Global};
 
 /// Where the declarations of a file stand in its source.
@@ -14,8 +14,8 @@ pub struct SourceCodeInfo {
 /// count from 0.
 #[derive(PartialEq, Drop)]
 pub struct Location {
-    pub path: Items<i32>,
-    pub span: Items<i32>,
+    pub path: Numbers,
+    pub span: Numbers,
     pub leading_comments: Option<Text>,
     pub trailing_comments: Option<Text>,
     pub leading_detached_comments: Items<Text>,
@@ -56,8 +56,8 @@ impl Location {
         ensures { result ≡ no_location }
     {
         Location {
-            path: Items::new(alloc),
-            span: Items::new(alloc),
+            path: Numbers::new(alloc),
+            span: Numbers::new(alloc),
             leading_comments: None,
             trailing_comments: None,
             leading_detached_comments: Items::new(alloc),
@@ -72,8 +72,8 @@ impl Location {
         ensures { IfOk result (λ copy. copy ≡ self.now) }
     {
         Ok(Location {
-            path: Items::from_slice(alloc, self.path.as_slice())?,
-            span: Items::from_slice(alloc, self.span.as_slice())?,
+            path: self.path.clone(alloc)?,
+            span: self.span.clone(alloc)?,
             leading_comments: duplicate_option(alloc, &self.leading_comments)?,
             trailing_comments: duplicate_option(alloc, &self.trailing_comments)?,
             leading_detached_comments: self.leading_detached_comments.clone(alloc)?,
