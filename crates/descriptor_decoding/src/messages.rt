@@ -1,5 +1,5 @@
 ghost use Rattle.std.specs.Prelude.{◌≡◌};
-ghost use Rattle.wire_format.specs.Tokens.{value_seen};
+ghost use Rattle.wire_format.specs.Tokens.{value_seen, Len};
 ghost use Rattle.descriptor_decoding.specs.Merging.{merged_from, within, Leaves};
 ghost use Rattle.descriptor_decoding.specs.Parts.{inner_merged, messages_merged};
 ghost use Rattle.proto_types.specs.Message.{no_oneof, no_extension_range, no_reserved_range, no_message};
@@ -91,6 +91,7 @@ impl Message for DescriptorProto {
 }
 
 /// Reads a field into a message.
+#[inline(always)]
 #[cycle(message)]
 #[tactic(auto, unfolding(crate::specs::Messages::message_row))]
 fn merge_message_field(
@@ -118,6 +119,7 @@ fn merge_message_field(
 }
 
 /// Reads one of the messages in a message.
+#[inline(always)]
 #[cycle(message)]
 #[tactic(auto, unfolding(crate::specs::Parts::messages_merged))]
 fn merge_nested(
@@ -129,11 +131,28 @@ fn merge_nested(
         (messages_merged no_message (within context.levels message_merged_at)
         (value_seen value.now) items.old) }
 {
-    if let Value::Len(bytes, ends) = value {
-        let mut message = DescriptorProto::empty(context.alloc);
-        merge_nested_inner(&mut message, context, *ends, bytes)?;
-        items.push(message)?;
+    match value {
+        Value::Len(bytes, ends) => add_nested(items, context, *ends, bytes),
+        _ => Ok(()),
     }
+}
+
+/// Puts a message of these bytes behind the others, if a level is left.
+#[cycle(message)]
+#[tactic(auto, unfolding(crate::specs::Parts::messages_merged))]
+fn add_nested(
+    items: &mut Items<DescriptorProto>,
+    context: Context,
+    ends: usize,
+    bytes: &[u8],
+) -> Result<(), DecodeError>
+    ensures { Leaves result items.new
+        (messages_merged no_message (within context.levels message_merged_at)
+        (Len bytes.now ends) items.old) }
+{
+    let mut message = DescriptorProto::empty(context.alloc);
+    merge_nested_inner(&mut message, context, ends, bytes)?;
+    items.push(message)?;
     Ok(())
 }
 

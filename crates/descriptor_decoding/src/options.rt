@@ -1,5 +1,5 @@
 ghost use Rattle.std.specs.Prelude.{◌≡◌};
-ghost use Rattle.wire_format.specs.Tokens.{value_seen};
+ghost use Rattle.wire_format.specs.Tokens.{value_seen, Len};
 ghost use Rattle.descriptor_decoding.specs.Merging.{within, Leaves};
 ghost use Rattle.descriptor_decoding.specs.Options.{given, options_merged, no_field_options, no_enum_options, unread, field_options_merged, enum_options_merged, unread_merged};
 
@@ -26,6 +26,7 @@ fn taken<T: Message>(part: &mut Option<Options<T>>, alloc: Global) -> Options<T>
 }
 
 /// Reads options that may be there already.
+#[inline(always)]
 #[tactic(auto, unfolding(crate::specs::Options::options_merged))]
 pub fn merge_options<T: Message>(
     part: &mut Option<Options<T>>,
@@ -36,12 +37,28 @@ pub fn merge_options<T: Message>(
         (options_merged T.nothing (within context.levels T.merged)
         (value_seen value.now) part.old) }
 {
-    if let Value::Len(bytes, ends) = value {
-        let mut options = taken(part, context.alloc);
-        options.encoded.extend_from_slice(bytes)?;
-        merge_inner(&mut options.value, context, *ends, bytes)?;
-        *part = Some(options);
+    match value {
+        Value::Len(bytes, ends) => extend_options(part, context, *ends, bytes),
+        _ => Ok(()),
     }
+}
+
+/// Reads options of these bytes behind those that may be there.
+#[tactic(auto, unfolding(crate::specs::Options::options_merged))]
+fn extend_options<T: Message>(
+    part: &mut Option<Options<T>>,
+    context: Context,
+    ends: usize,
+    bytes: &[u8],
+) -> Result<(), DecodeError>
+    ensures { Leaves result part.new
+        (options_merged T.nothing (within context.levels T.merged)
+        (Len bytes.now ends) part.old) }
+{
+    let mut options = taken(part, context.alloc);
+    options.encoded.extend_from_slice(bytes)?;
+    merge_inner(&mut options.value, context, ends, bytes)?;
+    *part = Some(options);
     Ok(())
 }
 

@@ -1,5 +1,5 @@
 ghost use Rattle.std.specs.Prelude.{◌≡◌, unwrap_or};
-ghost use Rattle.wire_format.specs.Tokens.{value_seen};
+ghost use Rattle.wire_format.specs.Tokens.{value_seen, Len};
 ghost use Rattle.descriptor_decoding.specs.Merging.{within, Leaves, Gives};
 ghost use Rattle.descriptor_decoding.specs.Parts.{int32, int32_merged, bool_merged, text_of, text_merged, texts_merged, packed_merged, int32s_merged, inner_merged, message_merged, messages_merged};
 
@@ -47,6 +47,7 @@ fn text(alloc: Global, ends: usize, bytes: &[u8]) -> Result<Text, DecodeError>
 }
 
 /// Reads a text.
+#[inline(always)]
 #[tactic(auto, unfolding(crate::specs::Parts::text_merged))]
 pub fn merge_text(
     part: &mut Option<Text>,
@@ -55,13 +56,29 @@ pub fn merge_text(
 ) -> Result<(), DecodeError>
     ensures { Leaves result part.new (text_merged (value_seen value.now) part.old) }
 {
-    if let Value::Len(bytes, ends) = value {
-        *part = Some(text(context.alloc, *ends, bytes)?);
+    match value {
+        Value::Len(bytes, ends) => put_text(part, context.alloc, *ends, bytes),
+        _ => Ok(()),
     }
+}
+
+/// Puts a text of these bytes in the place of the one that may be there.
+#[inline(never)]
+#[tactic(auto, unfolding(crate::specs::Parts::text_merged))]
+fn put_text(
+    part: &mut Option<Text>,
+    alloc: Global,
+    ends: usize,
+    bytes: &[u8],
+) -> Result<(), DecodeError>
+    ensures { Leaves result part.new (text_merged (Len bytes.now ends) part.old) }
+{
+    *part = Some(text(alloc, ends, bytes)?);
     Ok(())
 }
 
 /// Reads one of repeated texts.
+#[inline(always)]
 #[tactic(auto, unfolding(crate::specs::Parts::texts_merged))]
 pub fn merge_texts(
     items: &mut Items<Text>,
@@ -70,9 +87,24 @@ pub fn merge_texts(
 ) -> Result<(), DecodeError>
     ensures { Leaves result items.new (texts_merged (value_seen value.now) items.old) }
 {
-    if let Value::Len(bytes, ends) = value {
-        items.push(text(context.alloc, *ends, bytes)?)?;
+    match value {
+        Value::Len(bytes, ends) => add_text(items, context.alloc, *ends, bytes),
+        _ => Ok(()),
     }
+}
+
+/// Puts a text of these bytes behind the others.
+#[inline(never)]
+#[tactic(auto, unfolding(crate::specs::Parts::texts_merged))]
+fn add_text(
+    items: &mut Items<Text>,
+    alloc: Global,
+    ends: usize,
+    bytes: &[u8],
+) -> Result<(), DecodeError>
+    ensures { Leaves result items.new (texts_merged (Len bytes.now ends) items.old) }
+{
+    items.push(text(alloc, ends, bytes)?)?;
     Ok(())
 }
 
@@ -102,6 +134,7 @@ fn merge_packed(items: &mut Numbers, ends: usize, bytes: &[u8]) -> Result<(), De
 }
 
 /// Reads repeated numbers, packed or not.
+#[inline(always)]
 #[tactic(auto, unfolding(crate::specs::Parts::int32s_merged))]
 pub fn merge_int32s(items: &mut Numbers, value: &Value<'_>) -> Result<(), DecodeError>
     ensures { Leaves result items.new (int32s_merged (value_seen value.now) items.old) }
@@ -142,6 +175,7 @@ fn taken<M: Message>(part: &mut Option<M>, alloc: Global) -> M
 }
 
 /// Reads a message that may be there already.
+#[inline(always)]
 #[tactic(auto, unfolding(crate::specs::Parts::message_merged))]
 pub fn merge_message<M: Message>(
     part: &mut Option<M>,
@@ -161,6 +195,7 @@ pub fn merge_message<M: Message>(
 }
 
 /// Reads one of repeated messages.
+#[inline(always)]
 #[tactic(auto, unfolding(crate::specs::Parts::messages_merged))]
 pub fn merge_messages<M: Message>(
     items: &mut Items<M>,
@@ -171,10 +206,26 @@ pub fn merge_messages<M: Message>(
         (messages_merged M.nothing (within context.levels M.merged)
         (value_seen value.now) items.old) }
 {
-    if let Value::Len(bytes, ends) = value {
-        let mut message = M::empty(context.alloc);
-        merge_inner(&mut message, context, *ends, bytes)?;
-        items.push(message)?;
+    match value {
+        Value::Len(bytes, ends) => add_message(items, context, *ends, bytes),
+        _ => Ok(()),
     }
+}
+
+/// Puts a message of these bytes behind the others, if a level is left.
+#[tactic(auto, unfolding(crate::specs::Parts::messages_merged))]
+fn add_message<M: Message>(
+    items: &mut Items<M>,
+    context: Context,
+    ends: usize,
+    bytes: &[u8],
+) -> Result<(), DecodeError>
+    ensures { Leaves result items.new
+        (messages_merged M.nothing (within context.levels M.merged)
+        (Len bytes.now ends) items.old) }
+{
+    let mut message = M::empty(context.alloc);
+    merge_inner(&mut message, context, ends, bytes)?;
+    items.push(message)?;
     Ok(())
 }

@@ -24,11 +24,27 @@ pub fn next_field(
         (fields levels ends bytes.now) }
     ensures shorter { IfOk result (λ next. IfSome next (λ x. length x.1.now < length bytes.now)) }
 {
+    if bytes.is_empty() {
+        return Ok(None);
+    }
     if let Some((field, rest)) = short_field(ends, bytes) {
         return Ok(Some((field, rest)));
     }
-    // It is taken apart, so that the place of this answer is no call's, and a field that is read in
-    // one step stays in registers.
+    long_field(levels, ends, bytes)
+}
+
+/// The same as `field_of_tokens`, whose answer is taken apart here, so that a field that is read in
+/// one step needs no place for it and stays in registers.
+#[inline(always)]
+fn long_field(
+    levels: u32,
+    ends: usize,
+    bytes: &[u8],
+) -> Result<Option<(Field<'_>, &[u8])>, WireFault>
+    ensures first { IsFirst (λ x. (seen x.0, x.1.now)) (fields levels ends) result
+        (fields levels ends bytes.now) }
+    ensures shorter { IfOk result (λ next. IfSome next (λ x. length x.1.now < length bytes.now)) }
+{
     match field_of_tokens(levels, ends, bytes)? {
         Some((field, rest)) => Ok(Some((field, rest))),
         None => Ok(None),

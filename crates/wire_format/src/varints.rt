@@ -19,6 +19,7 @@ pub fn varint(ends: usize, bytes: &[u8]) -> Result<(u64, &[u8]), WireFault>
 {
     match bytes {
         [b, rest @ ..] if *b < 128 => Ok((u64::from(*b), rest)),
+        [b, c, rest @ ..] if *c < 128 => Ok((u64::from(*b % 128) + 128 * u64::from(*c), rest)),
         _ => long_varint(ends, bytes),
     }
 }
