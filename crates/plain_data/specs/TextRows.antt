@@ -1,7 +1,8 @@
 -- Rows that say where a text stands in a list of bytes, each with a number.
-use Rattle.std.specs.Prelude.{◌≡◌, ◌≢◌, ℕ, ◌+◌, ◌*◌, ◌%◌, ◌^◌, bit_xor, ◌<◌, ◌≤◌, List, [], ◌∷◌, map as each, length, slice_range, slice_index_or}
+use Rattle.std.specs.Prelude.{◌≡◌, ◌≢◌, ℕ, zero, suc, ◌+◌, ◌*◌, ◌/◌, ◌%◌, ◌^◌, bit_xor, ◌<◌, ◌≤◌, List, [], ◌∷◌, map as each, length, take, drop, slice_range, slice_index_or}
 use Rattle.std.specs.Cmp.Lexicographic.{slice_cmp}
 use Rattle.std.specs.FinMap as map
+use Rattle.std.specs.Int.{w64, from_le_bytes}
 use Rattle.std.specs.List.{IsDistinct}
 use Rattle.std.specs.Map.{keys_of, lookup}
 use Rattle.std.specs.Ordering.{nat_cmp, ordering_then}
@@ -32,18 +33,25 @@ no_row = record { start = 0; end = 0; number = 0; hash = 0 }
 abbrev pub text_at : List ℕ → List Row → ℕ → List ℕ
 text_at bytes rows at = text_of bytes (slice_index_or rows at no_row)
 
--- a digest with one byte more: 32 bits, as FNV-1a takes them in
+-- a digest with one number more
 abbrev pub taken_in : ℕ → ℕ → ℕ
-taken_in digest byte = bit_xor digest byte * 16777619 % 2 ^ 32
+taken_in digest number = bit_xor digest number * 11400714819323198485 % 2 ^ 64
 
--- a digest with further bytes
+-- a digest with further bytes, one at a time
 abbrev pub digest_from : ℕ → List ℕ → ℕ
 digest_from digest [] = digest
 digest_from digest (byte ∷ bytes) = digest_from (taken_in digest byte) bytes
 
--- the digest of a text, by which texts are told apart at first sight
+-- a digest with so many words of eight bytes, and then with the bytes behind them
+abbrev pub digest_by_words : ℕ → ℕ → List ℕ → ℕ
+digest_by_words zero digest bytes = digest_from digest bytes
+digest_by_words (suc words) digest bytes =
+    digest_by_words words (taken_in digest (from_le_bytes w64 (take 8 bytes))) (drop 8 bytes)
+
+-- the digest of a text, by which texts are told apart at first sight: the high half of what its
+-- words and its last bytes make
 abbrev pub digest_of : List ℕ → ℕ
-digest_of text = digest_from 2166136261 text
+digest_of text = digest_by_words (length text / 8) 14695981039346656037 text / 2 ^ 32
 
 -- texts by that number, and those of one number by their bytes
 abbrev pub text_order : List ℕ → List ℕ → Ordering

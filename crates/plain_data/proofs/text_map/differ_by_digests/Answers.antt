@@ -1,4 +1,4 @@
-use Rattle.std.proofs.Common.{◌≡◌, ◌∙◌, ◌+◌, ◌<◌, ◌≤◌, ◌%◌, ◌⊎◌, inl, inr, ℕ, Bool, true, false, IsTrue, List, length, take, get_or, set, sym, ap, arith, length-take}
+use Rattle.std.proofs.Common.{◌≡◌, ◌∙◌, ◌+◌, ◌<◌, ◌≤◌, ◌/◌, ◌%◌, ◌⊎◌, inl, inr, ℕ, Bool, true, false, IsTrue, List, length, take, get_or, set, sym, ap, arith, length-take}
 use Rattle.std.proofs.lemmas.List.{get_or-take}
 use Rattle.std.proofs.Math.ListN.{length-set}
 use Rattle.std.proofs.lemmas.Grind.{common_steps}
@@ -12,11 +12,11 @@ one_more : (P : ℕ → Type 0) (at : ℕ) → ((j : ℕ) → j < at → P j) �
 one_more P at below here j lt = grind (arith, below, here)
 
 -- a text whose bits are not seen is none so far
-unseen : (bytes : List ℕ) (rows : List Row) (at d : ℕ) (key : List ℕ) (seen : List Bool) → ((j : ℕ) → j < at → get_or seen (digest_of (text_at bytes rows j) % 512) false ≡ true)
-    → d ≡ digest_of key → get_or seen (d % 512) false ≡ false → LacksFrom bytes rows key 0 at
+unseen : (bytes : List ℕ) (rows : List Row) (at d : ℕ) (key : List ℕ) (seen : List Bool) → ((j : ℕ) → j < at → get_or seen (digest_of (text_at bytes rows j) / 8388608 % 512) false ≡ true)
+    → d ≡ digest_of key → get_or seen (d / 8388608 % 512) false ≡ false → LacksFrom bytes rows key 0 at
 unseen bytes rows at d key seen each is free i le lt same =
     let e : digest_of (text_at bytes rows i) ≡ d = ap digest_of same ∙ sym is in
-    let s : get_or seen (d % 512) false ≡ true = ap (λ (n : ℕ). get_or seen (n % 512) false) (sym e) ∙ each i lt in
+    let s : get_or seen (d / 8388608 % 512) false ≡ true = ap (λ (n : ℕ). get_or seen (n / 8388608 % 512) false) (sym e) ∙ each i lt in
     absurd cc
 
 -- a text that no row up to a position has
@@ -41,7 +41,7 @@ loop-at-preserved c =
     let at = c.loop-at.at in
     let seen = c.loop-at.seen in
     let key = text_at bytes rows at in
-    let bits = c.digest.result % 512 in
+    let bits = c.digest.result / 8388608 % 512 in
     let text = c.text-text.ensures in
     let digest : c.digest.result ≡ digest_of key = c.digest.ensures ∙ ap digest_of text in
     let lacks : LacksFrom bytes rows key 0 at =
@@ -51,10 +51,10 @@ loop-at-preserved c =
       | else-seen-bits-via-else-seen-bits w ↦ unseen bytes rows at _ key seen c.loop-at.invariant.seen digest w.if-seen-bits.false
     ] in
     let long = c.loop-at.invariant.long in
-    let here = marked seen (digest_of key % 512) bits (ap (λ (n : ℕ). n % 512) (sym digest)) (omega (arith, long)) in
+    let here = marked seen (digest_of key / 8388608 % 512) bits (ap (λ (n : ℕ). n / 8388608 % 512) (sym digest)) (omega (arith, long)) in
     record {
       apart = one_more (λ j. LacksFrom bytes rows (text_at bytes rows j) 0 j) at c.loop-at.invariant.apart lacks;
-      seen = one_more (λ j. get_or (set seen bits true) (digest_of (text_at bytes rows j) % 512) false ≡ true) at
+      seen = one_more (λ j. get_or (set seen bits true) (digest_of (text_at bytes rows j) / 8388608 % 512) false ≡ true) at
           (λ j lt. kept seen _ bits (omega (arith, long)) (c.loop-at.invariant.seen j lt)) here;
       long = length-set seen bits true ∙ long;
     }
