@@ -4,24 +4,15 @@ use Rattle.std.proofs.lemmas.Bool.Decides.{nat_tests}
 use Rattle.std.proofs.lemmas.List.Sorted.{sum_by-IsPermutation}
 use Rattle.std.proofs.lemmas.List.Recursion.{is_sum_by}
 use Rattle.std.proofs.lemmas.Slice.Eq.{bytes_eq-Decides}
-use Rattle.std.specs.List.{AllAdjacentBelow, enumerate_from}
+use Rattle.std.specs.List.{enumerate_from}
 use Rattle.std.specs.List.Sorted.{IsPermutation}
 use Rattle.std.specs.Option.{option_map}
 use Rattle.std.specs.Str.{bytes_eq}
-use Rattle.proto_types.specs.Readers.{text_of}
 use Rattle.proto_types.specs.declared.file.FileDescriptorProto.{FileDescriptorProto}
 use Rattle.proto_types.specs.declared.records.field.FieldDescriptorProto.{FieldDescriptorProto}
 use Rattle.plain_data.specs.Lists.{after_each, listed}
-use Rattle.name_pass.specs.CamelCase.{Placed, camel_case_fault, camel_case_faults, camel_case_key, key_at, shared_key_faults}
-use Rattle.name_pass.specs.KeyDigests.{digest_of}
-
--- the digest of the key of a field
-abbrev pub digest_at : FieldDescriptorProto → ℕ
-digest_at f = digest_of (camel_case_key (text_of f.name))
-
--- each number of a list is less than the next
-abbrev pub IsRising : List ℕ → Type 0
-IsRising xs = AllAdjacentBelow (λ x y. x < y) xs (length xs)
+use Rattle.name_pass.specs.CamelCase.{Placed, camel_case_fault, camel_case_faults, key_at, shared_key_faults}
+use Rattle.name_pass.specs.KeyDigests.{AreDistinct, IsRising, digest_at, digest_of}
 
 -- how often a number stands in a list
 abbrev times : ℕ → List ℕ → ℕ
@@ -109,9 +100,9 @@ module _ (files : List FileDescriptorProto) (file : ℕ) (path : List ℤ) where
       (λ j. listed (option_map (λ first. camel_case_fault files file path first e) (none-held e before none j)) ++ none-told (before ++ e ∷ []) es later j)
 
 -- so fields whose digests can be put into an order in which they rise have no fault
-pub distinct : (fields : List FieldDescriptorProto) (sorted : List ℕ) → IsPermutation (map digest_at fields) sorted → IsRising sorted
-    → (files : List FileDescriptorProto) (file : ℕ) (path : List ℤ) → camel_case_faults files file path fields ≡ []
-distinct fields sorted moved rising files file path =
+pub distinct : (fields : List FieldDescriptorProto) → AreDistinct (map digest_at fields) → (files : List FileDescriptorProto) (file : ℕ) (path : List ℤ)
+    → camel_case_faults files file path fields ≡ []
+distinct fields (sorted, moved, rising) files file path =
     none-told files file path [] (enumerate_from 0 fields)
     (λ n. let are = holders-are n 0 fields in
     let permuted = times-permuted n (map digest_at fields) sorted moved in

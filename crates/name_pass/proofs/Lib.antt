@@ -1,6 +1,7 @@
 pub mod Keys
 pub mod Holders
 pub mod CamelCase
+pub mod KeyBytes
 pub mod Distinct
 pub mod Fronts
 pub mod Behind

@@ -1,6 +1,6 @@
 use Rattle.std.proofs.Common.{◌≡◌, map, take}
-use Rattle.name_pass.proofs.Distinct.{digest_at}
-use Rattle.name_pass.proofs.key_digests.have_distinct_digests.Given as goal
+use Rattle.name_pass.specs.KeyDigests.{digest_at}
+use Rattle.name_pass.proofs.key_digests.many_are_distinct.Given as goal
 
 -- the digests of the fields so far
 abbrev pub invariant-loop-field : goal.invariant-loop-field
