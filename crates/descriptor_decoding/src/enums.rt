@@ -20,7 +20,12 @@ impl Message for EnumValueDescriptorProto {
     }
 
     #[tactic(auto, unfolding(crate::specs::Enums::value_merged))]
-    fn merge_field(&mut self, context: Context, field: &Field<'_>) -> Result<(), DecodeError> {
+    fn merge_field(
+        &mut self,
+        context: Context,
+        field: &Field<'_>,
+        _after: &[u8],
+    ) -> Result<(), DecodeError> {
         let value = &field.value;
         match field.number {
             1 => merge_text(&mut self.name, context, value),
@@ -41,7 +46,12 @@ impl Message for EnumReservedRange {
     }
 
     #[tactic(auto, unfolding(crate::specs::Enums::enum_range_merged))]
-    fn merge_field(&mut self, _context: Context, field: &Field<'_>) -> Result<(), DecodeError> {
+    fn merge_field(
+        &mut self,
+        _context: Context,
+        field: &Field<'_>,
+        _after: &[u8],
+    ) -> Result<(), DecodeError> {
         let value = &field.value;
         match field.number {
             1 => Ok(merge_int32(&mut self.start, value)),
@@ -61,13 +71,18 @@ impl Message for EnumDescriptorProto {
     }
 
     #[tactic(auto, unfolding(crate::specs::Enums::enum_merged))]
-    fn merge_field(&mut self, context: Context, field: &Field<'_>) -> Result<(), DecodeError> {
+    fn merge_field(
+        &mut self,
+        context: Context,
+        field: &Field<'_>,
+        after: &[u8],
+    ) -> Result<(), DecodeError> {
         let value = &field.value;
         match field.number {
             1 => merge_text(&mut self.name, context, value),
-            2 => merge_messages(&mut self.value, context, value),
+            2 => merge_messages(&mut self.value, context, field, after),
             3 => merge_options(&mut self.options, context, value),
-            4 => merge_messages(&mut self.reserved_range, context, value),
+            4 => merge_messages(&mut self.reserved_range, context, field, after),
             5 => merge_texts(&mut self.reserved_name, context, value),
             _ => Ok(()),
         }

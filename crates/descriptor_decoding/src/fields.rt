@@ -20,7 +20,12 @@ impl Message for FieldDescriptorProto {
     }
 
     #[tactic(auto, unfolding(crate::specs::Fields::field_merged))]
-    fn merge_field(&mut self, context: Context, field: &Field<'_>) -> Result<(), DecodeError> {
+    fn merge_field(
+        &mut self,
+        context: Context,
+        field: &Field<'_>,
+        _after: &[u8],
+    ) -> Result<(), DecodeError> {
         let value = &field.value;
         match field.number {
             1 => merge_text(&mut self.name, context, value),

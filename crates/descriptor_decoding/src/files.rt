@@ -20,16 +20,21 @@ impl Message for FileDescriptorProto {
     }
 
     #[tactic(auto, unfolding(crate::specs::Files::file_merged))]
-    fn merge_field(&mut self, context: Context, field: &Field<'_>) -> Result<(), DecodeError> {
+    fn merge_field(
+        &mut self,
+        context: Context,
+        field: &Field<'_>,
+        after: &[u8],
+    ) -> Result<(), DecodeError> {
         let value = &field.value;
         match field.number {
             1 => merge_text(&mut self.name, context, value),
             2 => merge_text(&mut self.package, context, value),
             3 => merge_texts(&mut self.dependency, context, value),
-            4 => merge_messages(&mut self.message_type, context, value),
-            5 => merge_messages(&mut self.enum_type, context, value),
-            6 => merge_messages(&mut self.service, context, value),
-            7 => merge_messages(&mut self.extension, context, value),
+            4 => merge_messages(&mut self.message_type, context, field, after),
+            5 => merge_messages(&mut self.enum_type, context, field, after),
+            6 => merge_messages(&mut self.service, context, field, after),
+            7 => merge_messages(&mut self.extension, context, field, after),
             8 => merge_options(&mut self.options, context, value),
             9 => merge_message(&mut self.source_code_info, context, value),
             10 => merge_int32s(&mut self.public_dependency, value),
@@ -50,10 +55,15 @@ impl Message for FileDescriptorSet {
     }
 
     #[tactic(auto, unfolding(crate::specs::Files::file_set_merged))]
-    fn merge_field(&mut self, context: Context, field: &Field<'_>) -> Result<(), DecodeError> {
+    fn merge_field(
+        &mut self,
+        context: Context,
+        field: &Field<'_>,
+        after: &[u8],
+    ) -> Result<(), DecodeError> {
         let value = &field.value;
         match field.number {
-            1 => merge_messages(&mut self.file, context, value),
+            1 => merge_messages(&mut self.file, context, field, after),
             _ => Ok(()),
         }
     }

@@ -12,8 +12,10 @@ mod merging;
 mod messages;
 mod options;
 mod parts;
+mod room;
 mod services;
 mod sources;
+mod utf8;
 
 pub use decoding::{LEVELS, decode, decode_file};
 pub use error::DecodeError;

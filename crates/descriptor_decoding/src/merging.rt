@@ -19,11 +19,17 @@ pub trait Message: Drop {
     fn empty(alloc: Global) -> Self
         ensures { result ≡ nothing };
 
-    /// Reads a field into the message. After an `Err` nothing is known of the message.
+    /// Reads a field into the message. What is after it tells how much room a list will need. After
+    /// an `Err` nothing is known of the message.
     ///
     /// # Errors
     /// `Fault` with the first fault of the field's value, or `OutOfMemory`.
-    fn merge_field(&mut self, context: Context, field: &Field<'_>) -> Result<(), DecodeError>
+    fn merge_field(
+        &mut self,
+        context: Context,
+        field: &Field<'_>,
+        after: &[u8],
+    ) -> Result<(), DecodeError>
         ensures { Leaves result self.new
             (merged context.levels field.now.number (value_seen field.now.value) self.old) };
 }
@@ -43,7 +49,7 @@ pub fn merge<M: Message>(
 {
     let mut rest = bytes;
     while let Some((field, after)) = next_field(context.levels, ends, rest)? {
-        message.merge_field(context, &field)?;
+        message.merge_field(context, &field, after)?;
         rest = after;
     }
     Ok(())

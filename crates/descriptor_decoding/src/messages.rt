@@ -10,6 +10,7 @@ use crate::error::DecodeError;
 use crate::merging::Message;
 use crate::options::merge_options;
 use crate::parts::{merge_int32, merge_messages, merge_text, merge_texts};
+use crate::room::make_room;
 use plain_data::Items;
 use proto_types::{DescriptorProto, ExtensionRange, OneofDescriptorProto, ReservedRange};
 use std::alloc::Global;
@@ -25,7 +26,12 @@ impl Message for OneofDescriptorProto {
     }
 
     #[tactic(auto, unfolding(crate::specs::Messages::oneof_merged))]
-    fn merge_field(&mut self, context: Context, field: &Field<'_>) -> Result<(), DecodeError> {
+    fn merge_field(
+        &mut self,
+        context: Context,
+        field: &Field<'_>,
+        _after: &[u8],
+    ) -> Result<(), DecodeError> {
         let value = &field.value;
         match field.number {
             1 => merge_text(&mut self.name, context, value),
@@ -45,7 +51,12 @@ impl Message for ExtensionRange {
     }
 
     #[tactic(auto, unfolding(crate::specs::Messages::extension_range_merged))]
-    fn merge_field(&mut self, context: Context, field: &Field<'_>) -> Result<(), DecodeError> {
+    fn merge_field(
+        &mut self,
+        context: Context,
+        field: &Field<'_>,
+        _after: &[u8],
+    ) -> Result<(), DecodeError> {
         let value = &field.value;
         match field.number {
             1 => Ok(merge_int32(&mut self.start, value)),
@@ -66,7 +77,12 @@ impl Message for ReservedRange {
     }
 
     #[tactic(auto, unfolding(crate::specs::Messages::reserved_range_merged))]
-    fn merge_field(&mut self, _context: Context, field: &Field<'_>) -> Result<(), DecodeError> {
+    fn merge_field(
+        &mut self,
+        _context: Context,
+        field: &Field<'_>,
+        _after: &[u8],
+    ) -> Result<(), DecodeError> {
         let value = &field.value;
         match field.number {
             1 => Ok(merge_int32(&mut self.start, value)),
@@ -85,8 +101,13 @@ impl Message for DescriptorProto {
         DescriptorProto::empty(alloc)
     }
 
-    fn merge_field(&mut self, context: Context, field: &Field<'_>) -> Result<(), DecodeError> {
-        merge_message_field(self, context, field)
+    fn merge_field(
+        &mut self,
+        context: Context,
+        field: &Field<'_>,
+        after: &[u8],
+    ) -> Result<(), DecodeError> {
+        merge_message_field(self, context, field, after)
     }
 }
 
@@ -98,6 +119,7 @@ fn merge_message_field(
     message: &mut DescriptorProto,
     context: Context,
     field: &Field<'_>,
+    after: &[u8],
 ) -> Result<(), DecodeError>
     ensures { Leaves result message.new
         (message_at context.levels field.now.number (value_seen field.now.value) message.old) }
@@ -105,14 +127,14 @@ fn merge_message_field(
     let value = &field.value;
     match field.number {
         1 => merge_text(&mut message.name, context, value),
-        2 => merge_messages(&mut message.field, context, value),
-        3 => merge_nested(&mut message.nested_type, context, value),
-        4 => merge_messages(&mut message.enum_type, context, value),
-        5 => merge_messages(&mut message.extension_range, context, value),
-        6 => merge_messages(&mut message.extension, context, value),
+        2 => merge_messages(&mut message.field, context, field, after),
+        3 => merge_nested(&mut message.nested_type, context, field, after),
+        4 => merge_messages(&mut message.enum_type, context, field, after),
+        5 => merge_messages(&mut message.extension_range, context, field, after),
+        6 => merge_messages(&mut message.extension, context, field, after),
         7 => merge_options(&mut message.options, context, value),
-        8 => merge_messages(&mut message.oneof_decl, context, value),
-        9 => merge_messages(&mut message.reserved_range, context, value),
+        8 => merge_messages(&mut message.oneof_decl, context, field, after),
+        9 => merge_messages(&mut message.reserved_range, context, field, after),
         10 => merge_texts(&mut message.reserved_name, context, value),
         _ => Ok(()),
     }
@@ -125,14 +147,18 @@ fn merge_message_field(
 fn merge_nested(
     items: &mut Items<DescriptorProto>,
     context: Context,
-    value: &Value<'_>,
+    field: &Field<'_>,
+    after: &[u8],
 ) -> Result<(), DecodeError>
     ensures { Leaves result items.new
         (messages_merged no_message (within context.levels message_merged_at)
-        (value_seen value.now) items.old) }
+        (value_seen field.now.value) items.old) }
 {
-    match value {
-        Value::Len(bytes, ends) => add_nested(items, context, *ends, bytes),
+    match &field.value {
+        Value::Len(bytes, ends) => {
+            make_room(items, field.number, after)?;
+            add_nested(items, context, *ends, bytes)
+        }
         _ => Ok(()),
     }
 }
@@ -185,7 +211,7 @@ fn merge_nested_fields(
 {
     let mut rest = bytes;
     while let Some((field, after)) = next_field(context.levels, ends, rest)? {
-        merge_message_field(message, context, &field)?;
+        merge_message_field(message, context, &field, after)?;
         rest = after;
     }
     Ok(())

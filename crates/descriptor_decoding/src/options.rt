@@ -72,7 +72,12 @@ impl Message for FieldOptions {
     }
 
     #[tactic(auto, unfolding(crate::specs::Options::field_options_merged))]
-    fn merge_field(&mut self, _context: Context, field: &Field<'_>) -> Result<(), DecodeError> {
+    fn merge_field(
+        &mut self,
+        _context: Context,
+        field: &Field<'_>,
+        _after: &[u8],
+    ) -> Result<(), DecodeError> {
         if field.number == 2 {
             merge_bool(&mut self.packed, &field.value);
         }
@@ -90,7 +95,12 @@ impl Message for EnumOptions {
     }
 
     #[tactic(auto, unfolding(crate::specs::Options::enum_options_merged))]
-    fn merge_field(&mut self, _context: Context, field: &Field<'_>) -> Result<(), DecodeError> {
+    fn merge_field(
+        &mut self,
+        _context: Context,
+        field: &Field<'_>,
+        _after: &[u8],
+    ) -> Result<(), DecodeError> {
         if field.number == 2 {
             merge_bool(&mut self.allow_alias, &field.value);
         }
@@ -108,7 +118,12 @@ impl Message for Unread {
     }
 
     #[tactic(auto, unfolding(crate::specs::Options::unread_merged))]
-    fn merge_field(&mut self, _context: Context, _field: &Field<'_>) -> Result<(), DecodeError> {
+    fn merge_field(
+        &mut self,
+        _context: Context,
+        _field: &Field<'_>,
+        _after: &[u8],
+    ) -> Result<(), DecodeError> {
         Ok(())
     }
 }

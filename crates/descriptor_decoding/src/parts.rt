@@ -6,9 +6,11 @@ ghost use Rattle.descriptor_decoding.specs.Parts.{int32, int32_merged, bool_merg
 use crate::context::Context;
 use crate::error::DecodeError;
 use crate::merging::{Message, merge};
+use crate::room::make_room;
+use crate::utf8::read_utf8;
 use plain_data::{Items, Numbers, Text};
 use std::alloc::{AllocError, Global};
-use wire_format::{Value, WireFault, WireFaultKind, next_number};
+use wire_format::{Field, Value, WireFault, WireFaultKind, next_number};
 
 fn int32(number: u64) -> i32
     ensures { result ≡ int32 number }
@@ -37,12 +39,13 @@ pub fn merge_bool(part: &mut Option<bool>, value: &Value<'_>)
 }
 
 /// A text of these bytes, which end at offset `ends` of the input.
+#[inline(always)]
 fn text(alloc: Global, ends: usize, bytes: &[u8]) -> Result<Text, DecodeError>
     ensures { Gives result (text_of ends bytes.now) }
 {
-    match str::from_utf8(bytes) {
-        Ok(text) => Ok(Text::from_str(alloc, text)?),
-        Err(_) => Err(DecodeError::Fault(WireFault::new(WireFaultKind::NotUtf8, ends, bytes))),
+    match read_utf8(bytes) {
+        Some(text) => Ok(Text::from_str(alloc, text)?),
+        None => Err(DecodeError::Fault(WireFault::new(WireFaultKind::NotUtf8, ends, bytes))),
     }
 }
 
@@ -200,14 +203,18 @@ pub fn merge_message<M: Message>(
 pub fn merge_messages<M: Message>(
     items: &mut Items<M>,
     context: Context,
-    value: &Value<'_>,
+    field: &Field<'_>,
+    after: &[u8],
 ) -> Result<(), DecodeError>
     ensures { Leaves result items.new
         (messages_merged M.nothing (within context.levels M.merged)
-        (value_seen value.now) items.old) }
+        (value_seen field.now.value) items.old) }
 {
-    match value {
-        Value::Len(bytes, ends) => add_message(items, context, *ends, bytes),
+    match &field.value {
+        Value::Len(bytes, ends) => {
+            make_room(items, field.number, after)?;
+            add_message(items, context, *ends, bytes)
+        }
         _ => Ok(()),
     }
 }

@@ -20,7 +20,12 @@ impl Message for MethodDescriptorProto {
     }
 
     #[tactic(auto, unfolding(crate::specs::Services::method_merged))]
-    fn merge_field(&mut self, context: Context, field: &Field<'_>) -> Result<(), DecodeError> {
+    fn merge_field(
+        &mut self,
+        context: Context,
+        field: &Field<'_>,
+        _after: &[u8],
+    ) -> Result<(), DecodeError> {
         let value = &field.value;
         match field.number {
             1 => merge_text(&mut self.name, context, value),
@@ -44,11 +49,16 @@ impl Message for ServiceDescriptorProto {
     }
 
     #[tactic(auto, unfolding(crate::specs::Services::service_merged))]
-    fn merge_field(&mut self, context: Context, field: &Field<'_>) -> Result<(), DecodeError> {
+    fn merge_field(
+        &mut self,
+        context: Context,
+        field: &Field<'_>,
+        after: &[u8],
+    ) -> Result<(), DecodeError> {
         let value = &field.value;
         match field.number {
             1 => merge_text(&mut self.name, context, value),
-            2 => merge_messages(&mut self.method, context, value),
+            2 => merge_messages(&mut self.method, context, field, after),
             3 => merge_options(&mut self.options, context, value),
             _ => Ok(()),
         }

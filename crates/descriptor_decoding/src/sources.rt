@@ -19,7 +19,12 @@ impl Message for Location {
     }
 
     #[tactic(auto, unfolding(crate::specs::Sources::location_merged))]
-    fn merge_field(&mut self, context: Context, field: &Field<'_>) -> Result<(), DecodeError> {
+    fn merge_field(
+        &mut self,
+        context: Context,
+        field: &Field<'_>,
+        _after: &[u8],
+    ) -> Result<(), DecodeError> {
         let value = &field.value;
         match field.number {
             1 => merge_int32s(&mut self.path, value),
@@ -42,10 +47,15 @@ impl Message for SourceCodeInfo {
     }
 
     #[tactic(auto, unfolding(crate::specs::Sources::source_merged))]
-    fn merge_field(&mut self, context: Context, field: &Field<'_>) -> Result<(), DecodeError> {
+    fn merge_field(
+        &mut self,
+        context: Context,
+        field: &Field<'_>,
+        after: &[u8],
+    ) -> Result<(), DecodeError> {
         let value = &field.value;
         match field.number {
-            1 => merge_messages(&mut self.location, context, value),
+            1 => merge_messages(&mut self.location, context, field, after),
             _ => Ok(()),
         }
     }

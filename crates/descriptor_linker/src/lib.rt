@@ -57,6 +57,7 @@ pub use name_tables::Scope;
 pub use name_tables::ScopedNames;
 pub use plain_data::Items;
 pub use plain_data::NumberMap;
+pub use plain_data::Numbers;
 pub use plain_data::Path;
 pub use plain_data::Text;
 pub use plain_data::TextMap;

@@ -1,5 +1,5 @@
 ghost use Rattle.std.specs.Prelude.{◌≡◌, ◌<◌, ◌^◌, true, length, is_some};
-ghost use Rattle.std.specs.Prelude.{if◌then◌else◌, IfOk, IfSome, OnOk};
+ghost use Rattle.std.specs.Prelude.{if◌then◌else◌, IfOk, IfSome, IsTrue, OnOk};
 ghost use Rattle.std.specs.List.{list_any, position_from};
 ghost use Rattle.proto_types.specs.declared.message.DescriptorProto.{out-DescriptorProto};
 ghost use Rattle.record_walk.specs.Counts.{fits_list};
@@ -130,11 +130,25 @@ fn extension_range_fault(
     })
 }
 
-/// Whether one of the extension ranges holds a number.
+/// Whether one of the extension ranges holds a number. They mostly stand in order, so the one that
+/// holds it there is looked at first, and then all.
 pub(crate) fn any_extends(ranges: &[ExtensionRange], number: i32) -> bool
     ensures { result ≡ list_any (extends number) ranges.now }
 {
-    ranges
-        .iter()
-        .any(|range| holds((range.start(), range.end()), number))
+    last_begun_extends(ranges, number) || ranges.iter().any(|range| extends(range, number))
+}
+
+/// Whether the last range that starts by a number holds it, as far as the ranges stand in order.
+fn last_begun_extends(ranges: &[ExtensionRange], number: i32) -> bool
+    ensures { IsTrue result → list_any (extends number) ranges.now ≡ true }
+{
+    let begun = ranges.partition_point(|range| range.start() <= number);
+    begun > 0 && extends(&ranges[begun - 1], number)
+}
+
+/// Whether an extension range holds a number.
+fn extends(range: &ExtensionRange, number: i32) -> bool
+    ensures { result ≡ extends number range.now }
+{
+    holds((range.start(), range.end()), number)
 }

@@ -1,8 +1,6 @@
-ghost use Rattle.std.specs.Prelude.{◌≡◌, ◌≤◌, ◌/◌, ◌-◌, ◌∷◌, [], false, IfOk, OnOk, Some, length, map};
-ghost use Rattle.std.specs.Option.{option_copied, option_map_or};
+ghost use Rattle.std.specs.Prelude.{◌≡◌, ◌≤◌, ◌/◌, ◌-◌, ◌∷◌, [], IfOk, OnOk, Some, length, map};
 ghost use Rattle.proto_types.specs.Names.{fronts};
 ghost use Rattle.record_walk.specs.Faults.{Tells, named_files};
-ghost use Rattle.pool_types.specs.Definition.{is_package};
 ghost use Rattle.name_pass.specs.Names.{definition_at, naming_field, packages, package_entry};
 ghost use Rattle.name_pass.specs.FirstPass.{holder_faults};
 
@@ -94,14 +92,14 @@ impl NameVisitor<'_, '_> {
         ensures stays { Stays self.old self.new }
     {
         self.names.open(name.level, name.name)?;
-        if kind.is_package() && means_package(self.names.holder()) {
-            return Ok(());
-        }
-        let path = Path::part(self.alloc, path, naming_field(kind))?;
-        let definition = Definition { file, path, kind };
         let Some(holder) = self.names.holder() else {
+            let definition = definition_at(self.alloc, file, path, kind)?;
             return self.names.define(definition);
         };
+        if kind.is_package() && holder.kind.is_package() {
+            return Ok(());
+        }
+        let definition = definition_at(self.alloc, file, path, kind)?;
         check_clash(self.faults, name.full_name, holder, &definition)
     }
 
@@ -318,14 +316,19 @@ impl Visitor for NameVisitor<'_, '_> {
     }
 }
 
-/// Whether what a name means is a package.
-fn means_package(holder: Option<&Definition>) -> bool
-    ensures { result ≡ option_map_or (λ held. is_package held.kind) (option_copied holder.entry) false }
+/// What the name means that a record at a path in a file declares.
+// Inlined, so that it is made where it stays.
+#[inline(always)]
+fn definition_at(
+    alloc: Global,
+    file: u32,
+    path: &[i32],
+    kind: DefinitionKind,
+) -> Result<Definition, AllocError>
+    ensures { IfOk result (λ definition. definition ≡ definition_at file path.now kind) }
 {
-    match holder {
-        Some(holder) => holder.kind.is_package(),
-        None => false,
-    }
+    let path = Path::part(alloc, path, naming_field(kind))?;
+    Ok(Definition { file, path, kind })
 }
 
 /// The number of the field of a record that names what it declares.
@@ -341,6 +344,8 @@ fn naming_field(kind: DefinitionKind) -> i32
 
 /// Appends to `faults` that of a name that has a holder; a package may be entered again as a
 /// package.
+// Not inlined, since few names clash.
+#[inline(never)]
 fn check_clash(
     faults: &mut Faults,
     name: &str,

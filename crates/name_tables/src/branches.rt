@@ -21,6 +21,8 @@ pub(crate) struct Branches {
 
 impl Branches {
     /// What a name means, or none where it has no branch.
+    // Not inlined, so that a look at a branch whose number is known stays short.
+    #[inline(never)]
     pub(crate) fn get(&self, name: &str) -> Option<&Definition>
         requires { AreBranches self.now.tree self.now.definitions }
         ensures { option_copied result

@@ -113,6 +113,7 @@ impl ScopedNames {
     }
 
     /// What the text of the innermost open scope means as a name, or none where the table lacks it.
+    #[inline(always)]
     pub fn holder(&self) -> Option<&Definition>
         requires { 0 < length self.now.1 }
         ensures { option_copied result

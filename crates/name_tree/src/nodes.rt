@@ -79,6 +79,8 @@ fn set_child(nodes: &mut [Node], slot: Slot, child: u32)
 }
 
 /// The slot of the child of a branch with a part, or the one at which it would be inserted.
+// Inlined, as all that inserts a branch is: the key then stays in registers.
+#[inline(always)]
 pub(crate) fn find_slot(nodes: &[Node], texts: &PartTexts, key: Key) -> Slot
     requires trie { AreTrie texts.now nodes.now }
     requires parent { key.parent < length nodes.now }
@@ -140,6 +142,7 @@ pub(crate) fn has_name(nodes: &[Node], texts: &PartTexts, at: u32, name: &str) -
 ///
 /// # Errors
 /// `AllocError` where memory was refused, as it is past 4,294,967,296 branches.
+#[inline(always)]
 pub(crate) fn insert(
     texts: &mut PartTexts,
     nodes: &mut Vec<Node>,
@@ -171,6 +174,7 @@ pub(crate) fn insert(
 ///
 /// # Errors
 /// `AllocError` where memory was refused.
+#[inline(always)]
 pub(crate) fn push_leaf(
     texts: &mut PartTexts,
     nodes: &mut Vec<Node>,

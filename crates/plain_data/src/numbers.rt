@@ -86,20 +86,32 @@ impl Numbers {
     ///
     /// # Errors
     /// `AllocError` where memory was refused. The list is then as it was.
-    #[inline]
+    #[inline(always)]
     pub fn push(&mut self, number: i32) -> Result<(), AllocError>
         ensures ok { OnOk result (self.new ≡ self.old ++ number ∷ []) }
         ensures err { OnErr result (self.new ≡ self.old) }
     {
         match &mut self.held {
-            Held::Many(many) => many.push(number)?,
             Held::Few(len, _) if (*len as usize) < INLINE => {
                 let at = *len as usize;
                 *len += 1;
                 if let Held::Few(_, few) = &mut self.held {
                     few[at] = number;
                 }
+                Ok(())
             }
+            _ => self.push_far(number),
+        }
+    }
+
+    /// Puts a number behind the others, out of the list itself.
+    #[inline(never)]
+    fn push_far(&mut self, number: i32) -> Result<(), AllocError>
+        ensures ok { OnOk result (self.new ≡ self.old ++ number ∷ []) }
+        ensures err { OnErr result (self.new ≡ self.old) }
+    {
+        match &mut self.held {
+            Held::Many(many) => many.push(number)?,
             Held::Few(..) => {
                 let mut many = with_room(self.alloc, self.as_slice(), INLINE)?;
                 many.push(number)?;

@@ -29,7 +29,7 @@ pub use name_resolution::{
     resolve_name, visible_from,
 };
 pub use name_tables::{FileNames, HashedNames, NameTable, PartNames, Parts, PoolNames, Scope};
-pub use plain_data::{Items, NumberMap, Path, Text, TextMap};
+pub use plain_data::{Items, NumberMap, Numbers, Path, Text, TextMap};
 pub use pool_faults::{AllFaults, DescriptorError, DescriptorErrorKind, Label, Labelled, label_at};
 pub use pool_types::{
     Cardinality, DefaultValue, Definition, DefinitionKind, EnumDescriptor, EnumDescriptorInner,

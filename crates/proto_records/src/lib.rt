@@ -28,7 +28,8 @@ pub use descriptor_decoding::{
 };
 pub use descriptor_encoding::{encode, encode_file};
 pub use plain_data::{
-    Duplicate, ExactEq, Items, NumberMap, Text, TextMap, duplicate_option, duplicates, same,
+    Duplicate, ExactEq, Items, NumberMap, Numbers, Text, TextMap, duplicate_option, duplicates,
+    same,
 };
 pub use pool_faults::{DescriptorErrorKind, Label, Labelled};
 pub use pool_types::{

@@ -24,11 +24,11 @@ pub fn next_field(
         (fields levels ends bytes.now) }
     ensures shorter { IfOk result (λ next. IfSome next (λ x. length x.1.now < length bytes.now)) }
 {
-    if bytes.is_empty() {
-        return Ok(None);
-    }
     if let Some((field, rest)) = short_field(ends, bytes) {
         return Ok(Some((field, rest)));
+    }
+    if bytes.is_empty() {
+        return Ok(None);
     }
     long_field(levels, ends, bytes)
 }

@@ -3,7 +3,7 @@
 
 ghost use Rattle.std.specs.Prelude.{◌≡◌};
 
-use plain_data::{Items, Text};
+use plain_data::{Numbers, Text};
 use proto_types::{
     EnumValueDescriptorProto, FieldDescriptorProto, Location, MethodDescriptorProto,
 };
@@ -13,8 +13,8 @@ use std::marker::Model;
 /// A location of the source, by its path and its span.
 #[derive(Drop)]
 pub struct SaidLocation {
-    pub path: Items<i32>,
-    pub span: Items<i32>,
+    pub path: Numbers,
+    pub span: Numbers,
 }
 
 impl Model for SaidLocation {

@@ -10,7 +10,7 @@ ghost use Rattle.link_script.specs.Script.Answers.{IsAnswer, IsFirstNumber};
 use super::cuts::{cut_at, is_same, parted};
 use super::line_error::LineError;
 use super::statement::ScriptFault;
-use plain_data::{Items, Text, parse_bool, parse_int32};
+use plain_data::{Numbers, Text, parse_bool, parse_int32};
 use std::alloc::{AllocError, Global};
 
 /// The labels, in the order of their numbers from 1 on.
@@ -166,12 +166,13 @@ fn first_number(text: &str) -> Result<(i32, Option<&str>), ScriptFault>
 }
 
 /// The numbers between commas.
-fn between_commas(alloc: Global, word: &str) -> Result<Items<i32>, LineError>
+fn between_commas(alloc: Global, word: &str) -> Result<Numbers, LineError>
     ensures { IsAnswer (spec.each_number (slice_split (λ c. c == 44) word.now)) result }
 {
     // A comma stands between each two numbers.
     let most = word.len() / 2 + 1;
-    let mut numbers = Items::from_vec(Vec::with_capacity(alloc, most)?);
+    let mut numbers = Numbers::new(alloc);
+    numbers.reserve_exact(most)?;
     let mut left = word;
     loop {
         let (number, rest) = first_number(left)?;
@@ -184,11 +185,11 @@ fn between_commas(alloc: Global, word: &str) -> Result<Items<i32>, LineError>
 }
 
 /// Numbers between commas, or none in two quotes.
-pub(super) fn numbers(alloc: Global, word: &str) -> Result<Items<i32>, LineError>
+pub(super) fn numbers(alloc: Global, word: &str) -> Result<Numbers, LineError>
     ensures { IsAnswer (spec.numbers_in word.now) result }
 {
     if is_same(word, "''") {
-        return Ok(Items::new(alloc));
+        return Ok(Numbers::new(alloc));
     }
     between_commas(alloc, word)
 }

@@ -7,11 +7,11 @@ use pool_parts::{
     FieldDescriptor, FieldDescriptorInner, FieldLabel, FieldType, FileDescriptor,
     FileDescriptorInner, FileDescriptorProto, FileNames, HashedNames, Identity, Items, Kind,
     KindIndex, Label, Labelled, MessageDescriptor, MessageDescriptorInner, MethodDescriptor,
-    MethodDescriptorInner, NameTable, NumberMap, OneofDescriptor, OneofDescriptorInner, PartNames,
-    Parts, Path, PoolNames, ResolveNameFilter, ResolveNameResult, Scope, ServiceDescriptor,
-    ServiceDescriptorInner, Syntax, Text, TextMap, ValueFault, cardinality_of, label_at,
-    named_kind, parents_count, parse_simple_value, resolve_in_parts, resolve_name, simple_kind,
-    unescape_c_escape_string, visible_from,
+    MethodDescriptorInner, NameTable, NumberMap, Numbers, OneofDescriptor, OneofDescriptorInner,
+    PartNames, Parts, Path, PoolNames, ResolveNameFilter, ResolveNameResult, Scope,
+    ServiceDescriptor, ServiceDescriptorInner, Syntax, Text, TextMap, ValueFault, cardinality_of,
+    label_at, named_kind, parents_count, parse_simple_value, resolve_in_parts, resolve_name,
+    simple_kind, unescape_c_escape_string, visible_from,
 };
 use std::test::Fail;
 

@@ -58,6 +58,7 @@ use descriptor_linker::NameTable;
 use descriptor_linker::NameVisitor;
 use descriptor_linker::NewItems;
 use descriptor_linker::NumberMap;
+use descriptor_linker::Numbers;
 use descriptor_linker::Obeys;
 use descriptor_linker::OneofDescriptor;
 use descriptor_linker::OneofDescriptorInner;

@@ -1,6 +1,6 @@
 use Rattle.std.proofs.Common.{◌≡◌, ◌∙◌, ◌+◌, ◌/◌, ℕ, suc, List, length, take, drop, w64, ap, sym, arith}
 use Rattle.std.specs.Int.{from_le_bytes}
-use Rattle.plain_data.specs.TextRows.{digest_by_words, taken_in}
+use Rattle.plain_data.specs.TextRows.{with_words, taken_in}
 use Rattle.plain_data.proofs.text_map.digest.Goals as goal
 
 -- eight bytes less are one word less
@@ -9,8 +9,8 @@ word_less rest behind fewer = omega (arith, fewer)
 
 -- a word taken in makes the digest of what is left the same
 step : (digest : ℕ) (rest : List ℕ) → length (drop 8 rest) + 8 ≡ length rest
-    → digest_by_words (length (drop 8 rest) / 8) (taken_in digest (from_le_bytes w64 (take 8 rest))) (drop 8 rest) ≡ digest_by_words (length rest / 8) digest rest
-step digest rest fewer = ap (λ words. digest_by_words words digest rest) (sym (word_less rest (drop 8 rest) fewer))
+    → with_words (length (drop 8 rest) / 8) (taken_in digest (from_le_bytes w64 (take 8 rest))) (drop 8 rest) ≡ with_words (length rest / 8) digest rest
+step digest rest fewer = ap (λ words. with_words words digest rest) (sym (word_less rest (drop 8 rest) fewer))
 
 pub loop-word-preserved : goal.loop-word-preserved
 loop-word-preserved c =

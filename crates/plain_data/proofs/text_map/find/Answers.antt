@@ -16,3 +16,7 @@ pub find_in_run-at-requires-clause-digested : goal.find_in_run-at-requires-claus
 find_in_run-at-requires-clause-digested c =
     let up = c.requires.sorted.rising (c.loop-to.to-index + 1) (length c.args.runs.now) (omega arith) (omega arith) in
     λ at below. c.requires.sorted.digested at (let end = subst (λ n. at < n) (sym (bound-next c.args.runs.now c.loop-to.to-index)) below in omega arith)
+
+pub find_in_run-at-requires-clause-run : goal.find_in_run-at-requires-clause-run
+find_in_run-at-requires-clause-run c =
+    rw (c.loop-to.invariant.0, ← bound-next c.args.runs.now c.loop-to.to-index) (c.requires.sorted.each c.loop-to.to-index (omega arith))
