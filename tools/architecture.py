@@ -10,8 +10,8 @@ In crates.txt a line `# storey N` stands before those of a storey, from the lowe
 The table of the layers has each crate of crates.txt, in that order. Each rule of the table "Each
 rule twice" has all five columns. Each file that this table and the one of a new rule name is there,
 in the crate of the row or in the one before a colon; a word in brackets behind a file stands in
-that file, and any other word in backquotes in some file of src/ or specs/. What is amiss is told,
-with status 1.
+that file, and any other word in backquotes in some file of src/ or specs/. The counts of files that
+a new rule touches add up to the one that stands above them. What is amiss is told, with status 1.
 """
 
 from __future__ import annotations
@@ -128,8 +128,12 @@ def faults() -> Iterator[str]:
         yield "crates.txt is not in the order of its storeys: architecture.py --storeys writes it"
     if [row[0].strip("`") for row in section("Layers")] != listed:
         yield "the layers are not the crates of crates.txt, in that order"
-    for step, files in section("To add a rule on fields"):
+    steps = section("To add a rule on fields")
+    for step, files, _ in steps:
         yield from (f"{step}: {fault}" for fault in cell_faults([], files))
+    count = sum(int(row[2]) for row in steps)
+    if f"touches these and no others: {count}," not in PAGE.read_text():
+        yield f"the steps of a rule on fields touch {count} files, and the page says otherwise"
     for row in section("Each rule twice"):
         if len(row) != 5 or not all(row):
             yield f"{row[0]}: not all columns"

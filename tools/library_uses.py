@@ -50,6 +50,7 @@ import protolink
 data = open(sys.argv[1], "rb").read()
 files = descriptor_pb2.FileDescriptorSet.FromString(data).file
 names = [f"{file.package}.{it.name}" for file in files for it in file.message_type]
+paths = [file.name for file in files]
 ours, theirs = protolink.Pool(), descriptor_pool.DescriptorPool()
 ours.add_set(data)
 for file in files:
@@ -70,7 +71,8 @@ rows = (
     ("FindMessageTypeByName", names, ours.clone),
     ("FindMessageTypeByName", names, lambda: ours),
     ("FindFileContainingSymbol", names, lambda: ours),
-    ("FindFileByName", [file.name for file in files], lambda: ours),
+    ("FindFileByName", paths, ours.clone),
+    ("FindFileByName", paths, lambda: ours),
 )
 print(json.dumps([[best(m, c, n), best(lambda: theirs, c, n)] for c, n, m in rows]))
 """
@@ -80,7 +82,8 @@ ROWS = (
     "`FindMessageTypeByName` of a name that was not asked for before",
     "the same name again, while the pool keeps it (10,000 of them)",
     "`FindFileContainingSymbol`",
-    "`FindFileByName`",
+    "`FindFileByName` of a name that was not asked for before",
+    "the same name again, while the pool keeps it (10,000 of them)",
 )
 
 SERVICES = """\

@@ -23,6 +23,7 @@ import textwrap
 import threading
 import unittest
 import weakref
+from collections.abc import Callable
 from pathlib import Path
 
 import protolink
@@ -154,6 +155,44 @@ def tour() -> protolink.Pool:
     pool = protolink.Pool()
     pool.add_script(TOUR)
     return pool
+
+
+WAIT = 60
+"""How many seconds a thread may take that waits for nothing for ever."""
+
+
+def look_ups(
+    pool: protolink.Pool, outer: protolink.Descriptor, service: protolink.ServiceDescriptor
+) -> list[Callable[[], object]]:
+    """Calls of all kinds that read the pool of tour()."""
+    core = pool._core
+    return [
+        lambda: pool.find("tour.Outer"),
+        lambda: pool.find("tour.None"),
+        lambda: pool.message("tour.Outer.Inner"),
+        lambda: pool["tour.Outer.choice"],
+        lambda: pool.file("tour.proto"),
+        lambda: core.file_named(b"tour.proto"),
+        lambda: core.file_named(b"none.proto"),
+        lambda: pool.file_of("tour.Outer.DONE"),
+        lambda: pool.full_name("field", 0, 1),
+        lambda: pool.file_name(0),
+        lambda: len(pool) > 0,
+        lambda: outer.field(1),
+        lambda: outer.field_named("state"),
+        lambda: protolink.Descriptor(core, 0).fields,
+        lambda: protolink.Descriptor(core, 0).name,
+        lambda: protolink.Descriptor(core, 0).nested_types,
+        lambda: protolink.Descriptor(core, 0).path,
+        lambda: protolink.FieldDescriptor(core, 0, 3).enum_type,
+        lambda: protolink.FileDescriptor(core, 0).message_types,
+        lambda: protolink.FileDescriptor(core, 0).dependencies,
+        lambda: pool.enum("tour.Outer.State").value(2),
+        lambda: pool.enum("tour.Outer.State").value_named("DONE"),
+        lambda: service.method("Get").input_type,
+        lambda: outer.extension(100),
+        lambda: outer.options,
+    ]
 
 
 class Descriptors(unittest.TestCase):
@@ -652,6 +691,161 @@ class Pools(unittest.TestCase):
             thread.join()
         self.assertEqual(wrong, [])
         self.assertEqual(len(pool), 122)
+
+    def test_look_ups_wait_for_no_lock(self) -> None:
+        pool = tour()
+        outer, shop_ = pool.message("tour.Outer"), pool.service("tour.Shop")
+        found: list[object] = []
+
+        def look_up() -> None:
+            found.extend(call() for call in look_ups(pool, outer, shop_))
+
+        with pool._core._lock:
+            thread = threading.Thread(target=look_up, daemon=True)
+            thread.start()
+            thread.join(WAIT)
+        self.assertEqual(len(found), len(look_ups(pool, outer, shop_)))
+
+    def test_a_look_up_waits_for_a_call_that_changes_the_pool(self) -> None:
+        """It finds what was there before, and what was added."""
+        for ask in (
+            lambda pool: pool.find("shop.Order").kind,
+            lambda pool: pool.message("shop.Order").name,
+            lambda pool: pool.file("shop/base.proto").index,
+            lambda pool: pool.message("late.Late").full_name,
+            lambda pool: pool.file("late.proto").name,
+            lambda pool: pool.find("late.Late").path,
+            lambda pool: len(pool),
+            lambda pool: pool.full_name("message", 0),
+            lambda pool: [it.name for it in pool.files()[0].message_types],
+            lambda pool: pool.report(),
+            lambda pool: "shop.None" in pool,
+            lambda pool: len(pool.linked()) > 100,
+            lambda pool: len(pool.clone()),
+        ):
+            pool, begun, end, answers = shop(), threading.Event(), threading.Event(), []
+
+            def add_late(*told: object) -> int:
+                begun.set()
+                self.assertTrue(end.wait(WAIT))
+                return int(protolink._library.lib.pool_add_script(*told))
+
+            script = b"file late.proto\npackage late\nmessage Late\nend\nend\n"
+            threads = [
+                threading.Thread(target=pool._core.add, args=(add_late, script), daemon=True),
+                threading.Thread(target=lambda: answers.append(ask(pool)), daemon=True),
+            ]
+            threads[0].start()
+            self.assertTrue(begun.wait(WAIT))
+            threads[1].start()
+            threads[1].join(0.02)
+            self.assertEqual(answers, [])
+            end.set()
+            for thread in threads:
+                thread.join(WAIT)
+            self.assertEqual(answers, [ask(pool)])
+
+    def test_threads_look_up_all_there_is_while_files_are_added(self) -> None:
+        """And are refused, and other pools are freed; nothing that was there is missed."""
+        pool, wrong = tour(), []
+        outer, service = pool.message("tour.Outer"), pool.service("tour.Shop")
+        wanted = [call() for call in look_ups(pool, outer, service)]
+
+        def look_up(_: int) -> None:
+            for number in range(100):
+                asked = look_ups(pool, outer, service)
+                wrong.extend(it for it, call in enumerate(asked) if call() != wanted[it])
+                if number % 10 == 0:
+                    pool._forget()
+
+        def add(thread: int) -> None:
+            for number in range(40):
+                name = f"n{thread}x{number}"
+                script = f"file {name}.proto\nmessage {name}\nend\nend\n"
+                with protolink.Pool() as other:
+                    other.add_script(script)
+                pool.add_script(script)
+                if pool.message(name).file.message_types != [pool.message(name)]:
+                    wrong.append(name)
+                try:
+                    pool.add_script(f"file {name}y.proto\nmessage {name}\nend\nend\n")
+                except protolink.Refused as refused:
+                    wrong.extend(it for it in refused.faults if it.element != name)
+
+        tasks = [look_up, add, look_up, add, look_up]
+        threads = [
+            threading.Thread(target=it, args=(n,), daemon=True) for n, it in enumerate(tasks)
+        ]
+        interval = sys.getswitchinterval()
+        sys.setswitchinterval(1e-5)
+        try:
+            for thread in threads:
+                thread.start()
+            for thread in threads:
+                thread.join(WAIT)
+        finally:
+            sys.setswitchinterval(interval)
+        self.assertFalse(any(thread.is_alive() for thread in threads))
+        self.assertEqual(wrong, [])
+        self.assertEqual(len(pool), 81)
+
+    def test_a_call_that_fails_gives_the_pool_back(self) -> None:
+        class Ended(Exception):
+            pass
+
+        def fail(*_: object) -> int:
+            raise Ended
+
+        pool = shop()
+        for call in (fail, lambda *_: pool.message("shop.Order") and fail()):
+            with self.assertRaises(Ended):
+                pool._core.add(call, b"")
+            self.assertEqual(pool._core._begun, pool._core._ended)
+            self.assertEqual(pool.message("shop.Order").fields[0].name, "id")
+        pool.add_script(TOUR)
+        self.assertEqual(len(pool), 3)
+
+    def test_a_change_within_a_change_leaves_the_pool_hidden(self) -> None:
+        """As one in a handler of signals: the outer one has the pool for itself to its end."""
+        pool, seen = shop(), []
+
+        def add_twice(*told: object) -> int:
+            pool.add_script("file inner.proto\nend\n")
+            seen.append(pool._core._view.at)
+            return int(protolink._library.lib.pool_add_script(*told))
+
+        pool._core.add(add_twice, b"file outer.proto\nend\n")
+        self.assertEqual(seen, [None])
+        self.assertIsNotNone(pool._core._view.at)
+        self.assertEqual([it.name for it in pool.files()[2:]], ["inner.proto", "outer.proto"])
+
+    def test_without_a_lock_of_the_interpreter_look_ups_wait(self) -> None:
+        pool = protolink.pool.pool_of(protolink._core.CoreInTurn())
+        pool.add_script(TOUR)
+        outer, service = pool.message("tour.Outer"), pool.service("tour.Shop")
+        other = tour()
+        asked = look_ups(other, other.message("tour.Outer"), other.service("tour.Shop"))
+        for ours, theirs in zip(look_ups(pool, outer, service), asked):
+            self.assertEqual(repr(ours()), repr(theirs()))
+        self.assertIsNone(pool.find("tour.None"))
+        self.assertIs(type(pool.clone()._core), protolink._core.CoreInTurn)
+        done = threading.Event()
+        thread = threading.Thread(target=lambda: len(pool) and done.set(), daemon=True)
+        with pool._core._lock:
+            thread.start()
+            self.assertFalse(done.wait(0.02))
+        self.assertTrue(done.wait(WAIT))
+
+    def test_what_was_found_is_kept_and_does_not_grow_without_end(self) -> None:
+        pool = tour()
+        self.assertIs(pool.file("tour.proto"), pool.FindFileByName("tour.proto"))
+        self.assertEqual(pool.file(b"tour.proto"), pool.file("tour.proto"))
+        pool._files.update(dict.fromkeys(map(str, range(protolink.pool.MOST_KEPT))))
+        pool._kept.update(dict.fromkeys(map(str, range(protolink.pool.MOST_KEPT))))
+        del pool._files["tour.proto"]
+        self.assertEqual(pool.file("tour.proto").name, "tour.proto")
+        self.assertEqual(pool.message("tour.Outer").name, "Outer")
+        self.assertEqual((len(pool._files), len(pool._kept)), (1, 1))
 
     def test_a_pool_is_printed_by_its_counts(self) -> None:
         told = "<protolink.Pool: files=0, messages=0, enums=0, services=0, extensions=0>"

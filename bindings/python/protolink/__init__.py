@@ -14,7 +14,7 @@ has is told by the names of protobuf's own descriptors, and by those of its desc
 
 The library is `libprotolink.so.0`: in the folder that PROTOLINK_LIB_DIR names, else beside this
 file, else where the system finds it. Without it the import raises an ImportError. Threads may share
-a pool: calls on it wait for one another.
+a pool: look-ups take no lock, and wait only for calls that change it.
 """
 
 from ._library import KINDS, LABELS, LEVELS, SONAME, TYPES, version

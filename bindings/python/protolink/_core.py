@@ -4,6 +4,7 @@ from __future__ import annotations
 
 import ctypes
 import json
+import sys
 import threading
 import weakref
 from collections.abc import Callable, Iterator
@@ -45,16 +46,26 @@ I = TypeVar("I")
 
 class Core:
     """A pool of the library. It lives as long as the pool that is made of it, and its descriptors.
+
+    A look-up takes no lock but that of the interpreter, which it has from before it reads the view
+    until its answer is written. A call that changes the pool lets go of the interpreter's lock. So
+    it takes the view away before, and look-ups then see an empty pool. What one tells counts where
+    no change had begun by its end that had not ended before it; else it is asked again in turn.
     """
 
     def __init__(self) -> None:
-        self._raw = RawPool()
-        self._at = ctypes.byref(self._raw)
-        self._names = Names(self._raw)
-        # A call that may take long lets other threads of the interpreter run.
+        self._pool = RawPool()
+        """What calls are passed that change the pool: one at a time, which has the lock."""
+        self._view = RawPool()
+        """A copy of its pointer, for look-ups; none while the pool changes."""
+        self._at = ctypes.byref(self._view)
+        self._names = Names(self._view)
+        self._begun = 0
+        self._ended = 0
+        """How many changes have begun, and how many of those have ended."""
         self._lock = threading.RLock()
-        self._views = 0
-        self._no_view = threading.Condition(self._lock)
+        self._long_reads = 0
+        self._no_long_read = threading.Condition(self._lock)
         self._below: dict[str, Below] = {}
         self.owner: Optional[weakref.ReferenceType[Pool]] = None
 
@@ -64,43 +75,58 @@ class Core:
 
     def read(self, call: Callable[..., int], *told: object) -> int:
         """Makes a call that reads the pool, and answers its status."""
+        ended = self._ended
+        status = call(self._at, *told)
+        return status if self._begun == ended else self._read_in_turn(call, *told)
+
+    def _read_in_turn(self, call: Callable[..., int], *told: object) -> int:
+        """The same when no call changes the pool."""
         with self._lock:
-            return call(self._at, *told)
+            return call(ctypes.byref(RawPool(self._pool.at)), *told)
 
     def read_long(self, call: Callable[..., int], *told: object) -> int:
-        """Makes a call that reads the pool and may take long. It is passed a copy of the pool's
-        pointer, so that only calls wait for it that change the pool."""
+        """The same of a call that may take long, and lets go of the interpreter's lock. It is passed
+        a view of its own, and only calls wait for it that change the pool."""
         with self._lock:
-            view = RawPool(self._raw.at)
-            self._views += 1
+            view = RawPool(self._pool.at)
+            self._long_reads += 1
         try:
             return call(ctypes.byref(view), *told)
         finally:
             with self._lock:
-                self._views -= 1
-                self._no_view.notify_all()
+                self._long_reads -= 1
+                self._no_long_read.notify_all()
 
     @contextmanager
-    def _alone(self) -> Iterator[None]:
-        """Has the pool for a call that changes it."""
+    def _alone(self) -> Iterator[object]:
+        """Has the pool for a call that changes it, and lends it."""
         with self._lock:
-            while self._views:
-                self._no_view.wait()
-            yield
+            while self._long_reads:
+                self._no_long_read.wait()
+            self._begun += 1
+            self._view.at = None
+            try:
+                yield ctypes.byref(self._pool)
+            finally:
+                # one in a handler of signals stands within another
+                if self._ended + 1 == self._begun:
+                    self._view.at = self._pool.at
+                self._ended += 1
 
     def clear(self) -> None:
         """Frees what the pool owns."""
-        with self._alone():
-            lib.pool_clear(self._at)
+        with self._alone() as pool:
+            lib.pool_clear(pool)
             self._below = {}
 
     def add(self, call: Callable[..., int], data: bytes, *more: object) -> RawAdded:
         """Links files and answers what became of them, or raises why they are not linked."""
         added = RawAdded()
-        with self._alone():
-            status = call(self._at, data, len(data), *more)
+        with self._lock:
+            with self._alone() as pool:
+                status = call(pool, data, len(data), *more)
             if status == DONE:
-                lib.pool_added(self._at, added)
+                self.read(lib.pool_added, added)
                 return added
             if status == NO_MEMORY:
                 raise MemoryError
@@ -112,15 +138,16 @@ class Core:
         raise Unreadable(told["error"])
 
     def limit_faults(self, most: int) -> None:
-        with self._alone():
-            if lib.pool_limit_faults(self._at, min(most, MOST)) != DONE:
+        with self._alone() as pool:
+            if lib.pool_limit_faults(pool, min(most, MOST)) != DONE:
                 raise MemoryError
 
     def clone(self) -> Core:
         """A pool with equal contents, which shares nothing with this one."""
-        copy = Core()
-        if self.read_long(lib.pool_clone, copy._at) != DONE:
-            raise MemoryError
+        copy = type(self)()
+        with copy._alone() as pool:
+            if self.read_long(lib.pool_clone, pool) != DONE:
+                raise MemoryError
         return copy
 
     def counts(self) -> RawCounts:
@@ -130,18 +157,34 @@ class Core:
 
     def found(self, name: bytes) -> Optional[Found]:
         """What a full name means, or None."""
-        with self._lock:
-            return self._names.found(name)
+        ended = self._ended
+        found = self._names.found(name)
+        # an empty pool has no names
+        if found is not None or self._begun == ended:
+            return found
+        return self._in_turn(lambda names: names.found(name))
 
     def defined(self, name: bytes) -> Optional[Defined]:
         """What a full name means, and where it is declared, or None."""
-        with self._lock:
-            return self._names.defined(name)
+        ended = self._ended
+        defined = self._names.defined(name)
+        if defined is not None or self._begun == ended:
+            return defined
+        return self._in_turn(lambda names: names.defined(name))
 
     def file_named(self, name: bytes) -> Optional[int]:
         """The index of the file with a name, or None."""
+        ended = self._ended
+        index = self._names.file(name)
+        if index is not None or self._begun == ended:
+            return index
+        return self._in_turn(lambda names: names.file(name))
+
+    def _in_turn(self, look_up: Callable[[Names], I]) -> I:
+        """Looks up a name when no call changes the pool."""
         with self._lock:
-            return self._names.file(name)
+            view = RawPool(self._pool.at)
+            return look_up(Names(view))
 
     def linked(self) -> bytes:
         """The linked files."""
@@ -236,24 +279,25 @@ class Core:
 
     def below(self, kind: str, file: int, message: int = NONE) -> list[int]:
         """The indexes of what is declared in a file and in no message, or right in a message. All of
-        a kind are asked once, and then those that were added."""
+        a kind are asked once, and then those that were added. Of two threads that ask at once both
+        may note an index."""
         call, make, count = BELOW[kind]
-        with self._lock:
-            lists = self._below.setdefault(kind, Below())
-            for index in range(lists.seen, getattr(self.counts(), count)):
-                info: Any = self.told(call, make(), index)
-                place = (info.file, getattr(info, "parent", NONE))
-                lists.indexes.setdefault(place, []).append(index)
-                lists.seen = index + 1
-            return lists.indexes.get((file, message), [])
+        lists = self._below.setdefault(kind, Below())
+        for index in range(lists.seen, getattr(self.counts(), count)):
+            info: Any = self.told(call, make(), index)
+            place = (info.file, getattr(info, "parent", NONE))
+            lists.indexes.setdefault(place, {})[index] = None
+            lists.seen = index + 1
+        return list(lists.indexes.get((file, message), ()))
 
 
 class Below:
-    """The indexes of one kind, by the file and the message in which they are declared."""
+    """The indexes of one kind, in rising order, by the file and the message in which they are
+    declared: all below the one that was not seen yet."""
 
     def __init__(self) -> None:
         self.seen = 0
-        self.indexes: dict[tuple[int, int], list[int]] = {}
+        self.indexes: dict[tuple[int, int], dict[int, None]] = {}
 
 
 BELOW: dict[str, tuple[Callable[..., int], type, str]] = {
@@ -264,10 +308,35 @@ BELOW: dict[str, tuple[Callable[..., int], type, str]] = {
 }
 
 
+class CoreInTurn(Core):
+    """The same for an interpreter without a lock of its own: look-ups wait for one another."""
+
+    def read(self, call: Callable[..., int], *told: object) -> int:
+        return self._read_in_turn(call, *told)
+
+    def found(self, name: bytes) -> Optional[Found]:
+        return self._in_turn(lambda names: names.found(name))
+
+    def defined(self, name: bytes) -> Optional[Defined]:
+        return self._in_turn(lambda names: names.defined(name))
+
+    def file_named(self, name: bytes) -> Optional[int]:
+        return self._in_turn(lambda names: names.file(name))
+
+
+def new_core() -> Core:
+    """An empty pool, as the interpreter wants it."""
+    has_lock = getattr(sys, "_is_gil_enabled", lambda: True)()
+    return Core() if has_lock else CoreInTurn()
+
+
 def name_bytes(name: Union[str, bytes]) -> bytes:
     """A name as the library takes it. What is no text means nothing there."""
     if isinstance(name, str):
-        return name.encode("utf-8", "surrogatepass")
+        try:
+            return name.encode()
+        except UnicodeEncodeError:
+            return name.encode("utf-8", "surrogatepass")
     if isinstance(name, bytes):
         return name
     raise TypeError(f"a name is a str, and not of type {type(name).__name__}")

@@ -7,7 +7,8 @@ import ctypes
 from collections.abc import Callable
 from importlib.machinery import PathFinder
 from importlib.util import module_from_spec
-from typing import Any, Optional
+from struct import Struct
+from typing import Any, Optional, cast
 
 from ._library import DONE, FOLDER, PACKAGE, SHORT, Item, RawPool, lib
 
@@ -36,7 +37,8 @@ finding = _load()
 
 
 class Names:
-    """The look-ups of a pool by name, of which one is made at a time. The pool lives as long."""
+    """The look-ups by name in the pool to which a pointer leads, which lives as long. Each reads the
+    pointer and makes its call of the library while its thread has the lock of the interpreter."""
 
     def __init__(self, pool: RawPool) -> None:
         self.found: Callable[[bytes], Optional[Found]]
@@ -59,13 +61,58 @@ def _address(call: Any) -> Optional[int]:
     return ctypes.cast(call, ctypes.c_void_p).value
 
 
+# By ctypes. Most of its time goes to the conversion of arguments, so that here they are prepared.
+
+
+def _prepared(call: Any) -> Any:
+    """A call of the library that takes bytes, and what `byref` and `from_param` make, unread."""
+    made = type(call)(_address(call))
+    made.restype = call.restype
+    return made
+
+
+_size: Callable[[int], Any] = ctypes.c_size_t.from_param
+
+_MANY = 256
+_SIZES = tuple(map(_size, range(_MANY)))
+"""The lengths of most names."""
+
+_ROOMS: list[tuple[bytearray, Any, Any]] = []
+"""Buffers for an item and a file that no thread uses, each with its two pointers."""
+
+_NUMBERS: list[tuple[ctypes.c_uint32, Any]] = []
+"""The same for a number."""
+
+_item_and_file: Callable[[bytearray], Found] = cast(Any, Struct("=IIII").unpack)
+
+
+def _room() -> tuple[bytearray, Any, Any]:
+    """A buffer for an item and a file, and a pointer to each."""
+    buffer = bytearray(ctypes.sizeof(Item) + ctypes.sizeof(ctypes.c_uint32))
+    kept = (ctypes.c_char * len(buffer)).from_buffer(buffer)
+    return buffer, ctypes.byref(kept), ctypes.byref(kept, ctypes.sizeof(Item))
+
+
+def _number() -> tuple[ctypes.c_uint32, Any]:
+    """A number, and a pointer to it."""
+    number = ctypes.c_uint32()
+    return number, ctypes.byref(number)
+
+
 def _found_by_ctypes(pool: RawPool) -> Callable[[bytes], Optional[Found]]:
-    find, item, file = lib.pool_find, Item(), ctypes.c_uint32()
+    find, at = _prepared(lib.pool_find), ctypes.byref(pool)
 
     def found(name: bytes) -> Optional[Found]:
-        if find(pool, name, len(name), item, file) != DONE:
-            return None
-        return item.kind, item.index, item.position, file.value
+        length = len(name)
+        try:
+            room = _ROOMS.pop()
+        except IndexError:
+            room = _room()
+        buffer, item, file = room
+        status = find(at, name, _SIZES[length] if length < _MANY else _size(length), item, file)
+        told = _item_and_file(buffer) if status == DONE else None
+        _ROOMS.append(room)
+        return told
 
     return found
 
@@ -73,14 +120,17 @@ def _found_by_ctypes(pool: RawPool) -> Callable[[bytes], Optional[Found]]:
 def _defined_by_ctypes(
     pool: RawPool, find: Callable[[bytes], Optional[Found]]
 ) -> Callable[[bytes], Optional[Defined]]:
-    find_path, length = lib.pool_find_path, ctypes.c_size_t()
+    find_path = lib.pool_find_path
 
     def defined(name: bytes) -> Optional[Defined]:
-        found, room = find(name), FIRST_PATH
+        found, room, length = find(name), FIRST_PATH, ctypes.c_size_t()
         while found is not None:
             path = (ctypes.c_int32 * room)()
-            if find_path(pool, name, len(name), path, room, length) != SHORT:
+            status = find_path(pool, name, len(name), path, room, length)
+            if status == DONE:
                 return (*found, tuple(path[: length.value]))
+            if status != SHORT:
+                break
             room = length.value
         return None
 
@@ -88,9 +138,18 @@ def _defined_by_ctypes(
 
 
 def _file_by_ctypes(pool: RawPool) -> Callable[[bytes], Optional[int]]:
-    find, file = lib.file_by_name, ctypes.c_uint32()
+    find, at = _prepared(lib.file_by_name), ctypes.byref(pool)
 
     def found(name: bytes) -> Optional[int]:
-        return file.value if find(pool, name, len(name), file) == DONE else None
+        length = len(name)
+        try:
+            room = _NUMBERS.pop()
+        except IndexError:
+            room = _number()
+        number, file = room
+        status = find(at, name, _SIZES[length] if length < _MANY else _size(length), file)
+        told = number.value if status == DONE else None
+        _NUMBERS.append(room)
+        return told
 
     return found

@@ -10,7 +10,7 @@ from collections.abc import Callable, Iterable, Iterator
 from pathlib import Path
 from typing import Any, NamedTuple, Optional, Protocol, TypeVar, Union, cast
 
-from ._core import Core, name_bytes
+from ._core import Core, name_bytes, new_core
 from ._library import KINDS, LEVELS, NONE, Item, lib
 from ._names import Found
 from ._records import name_of
@@ -37,7 +37,7 @@ Name = Union[str, bytes]
 """What names may be asked for by."""
 
 MOST_KEPT = 10_000
-"""How many descriptors a pool keeps that were found by name."""
+"""How many descriptors a pool keeps that were found by name, and as many files."""
 
 PACKAGE: Found = (0, NONE, 0, NONE)
 """A package, of which there is no descriptor."""
@@ -95,19 +95,25 @@ class Pool:
     """
 
     def __init__(self) -> None:
-        self._set_core(Core())
+        self._set_core(new_core())
 
     def _set_core(self, core: Core) -> None:
         """Makes it the pool of a core. Descriptors know the core alone, so that what is kept of them
         makes no circle."""
         self._core = core
-        self._kept: dict[tuple[object, Name], Any] = {}
+        self._forget()
         core.owner = weakref.ref(self)
+
+    def _forget(self) -> None:
+        """Keeps nothing that was found by name. A look-up that has begun keeps it where nothing
+        looks any more."""
+        self._kept: dict[tuple[object, Name], Any] = {}
+        self._files: dict[Name, FileDescriptor] = {}
 
     def close(self) -> None:
         """Frees what the pool owns. It has no files then, and its descriptors tell nothing."""
         self._core.clear()
-        self._kept = {}
+        self._forget()
 
     def __enter__(self) -> Pool:
         return self
@@ -276,10 +282,18 @@ class Pool:
 
     def file(self, name: Name) -> FileDescriptor:
         """The file with a name, or a KeyError."""
+        files = self._files
+        kept = files.get(name)
+        if kept is not None:
+            return kept
         index = self._core.file_named(name_bytes(name))
         if index is None:
             raise KeyError(f"the pool has no file {name!r}")
-        return FileDescriptor(self._core, index)
+        made = FileDescriptor(self._core, index)
+        if len(files) >= MOST_KEPT:
+            files.clear()
+        files[name] = made
+        return made
 
     def file_of(self, full_name: Name) -> FileDescriptor:
         """The file that declares a full name, or a KeyError; of a package the first that has it."""
@@ -367,7 +381,8 @@ class Pool:
 
     def _named(self, full_name: Name, wanted: Callable[[Core, int, int], D]) -> D:
         """The descriptor of what a name means, where it is of a kind."""
-        kept = self._kept.get((wanted, full_name))
+        known = self._kept
+        kept = known.get((wanted, full_name))
         if kept is not None:
             return cast(D, kept)
         kind, index, position, _ = self._found(full_name) or PACKAGE
@@ -375,9 +390,9 @@ class Pool:
             name = KINDS[CLASSES.index(cast(Any, wanted))].replace("_", " ")
             raise KeyError(f"the pool has no {name} {full_name!r}")
         made = wanted(self._core, index, position)
-        if len(self._kept) >= MOST_KEPT:
-            self._kept = {}
-        self._kept[wanted, full_name] = made
+        if len(known) >= MOST_KEPT:
+            known.clear()
+        known[wanted, full_name] = made
         return made
 
 
