@@ -6,7 +6,7 @@ ghost use Rattle.descriptor_encoding.specs.Parts.{bits, int32_listed, bool_liste
 
 use crate::front::FrontBuffer;
 use crate::wire::{put_bytes_field, put_length, put_number_field, put_varint};
-use plain_data::{Items, Text};
+use plain_data::{Items, Numbers, Text};
 use proto_types::Options;
 use std::alloc::AllocError;
 
@@ -95,7 +95,7 @@ pub fn put_texts(out: &mut FrontBuffer, field: u32, items: &Items<Text>) -> Resu
 
 /// Puts repeated numbers, each as a field.
 #[tactic(auto, using(crate::proofs::Appending::one_more))]
-pub fn put_int32s(out: &mut FrontBuffer, field: u32, items: &Items<i32>) -> Result<(), AllocError>
+pub fn put_int32s(out: &mut FrontBuffer, field: u32, items: &Numbers) -> Result<(), AllocError>
     requires { field < 2 ^ 29 }
     ensures { Puts result out.old out.new (int32s_listed field items.now) }
 {
@@ -123,7 +123,7 @@ fn put_numbers(out: &mut FrontBuffer, numbers: &[i32]) -> Result<(), AllocError>
 
 /// Puts repeated numbers, packed.
 #[tactic(auto, using(crate::proofs::Appending::measured))]
-pub fn put_packed(out: &mut FrontBuffer, field: u32, items: &Items<i32>) -> Result<(), AllocError>
+pub fn put_packed(out: &mut FrontBuffer, field: u32, items: &Numbers) -> Result<(), AllocError>
     requires { field < 2 ^ 29 }
     ensures { Puts result out.old out.new (packed_listed field items.now) }
 {

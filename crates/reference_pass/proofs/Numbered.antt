@@ -1,18 +1,23 @@
 -- The new extensions by their messages and numbers, with one more.
-use Rattle.std.proofs.Common.{◌≡◌, ◌+◌, ◌==◌, ◌&&◌, ℕ, Bool, not, true, false, cond, Option, Some, None, List, [], ◌∷◌, ◌++◌, length, refl, ap, sym, ◌∙◌, true≢false, arith}
+use Rattle.std.proofs.Common.{◌≡◌, ◌+◌, ◌-◌, ◌<◌, ◌==◌, ◌&&◌, ℕ, suc, Bool, not, true, false, cond, Option, Some, None, List, [], ◌∷◌, ◌++◌, length, take, get_or, refl, ap, subst, sym, ◌∙◌, true≢false, arith, length-append, length-take}
 use Rattle.std.proofs.lemmas.Bool.Decides.{nat_tests}
 use Rattle.std.specs.BTreeMap.{BTreeMap, Updates, get, is_at}
 use Rattle.std.specs.Map.{lookup}
 use Rattle.std.specs.Cmp.{unsigned_tied}
-use Rattle.std.specs.List.{position_from}
-use Rattle.std.specs.Option.{is_none, is_some, option_or}
+use Rattle.std.specs.List.{All, AllByRecursion, AllPass, find, position_from}
+use Rattle.std.specs.Option.{IfSome, is_none, is_some, option_or}
+use Rattle.std.specs.Prelude.{slice_get}
+use Rattle.std.proofs.Math.Seq.{get_or-append_seam}
+use Rattle.std.proofs.lemmas.List.{take_more}
+use Rattle.std.proofs.lemmas.List.Elements.{All-push, All-weaker}
+use Rattle.std.proofs.lemmas.Option.{slice_get-get_or}
 use Rattle.std.specs.Ordering.{eq_by_cmp, is_eq, nat_cmp, ordering_then}
 use Rattle.std.specs.declared.cmp.Ordering.{Ordering}
 use Rattle.std.specs.declared.cmp.Ordering.TheVariants.{Less, Equal, Greater}
 use Rattle.pool_types.specs.declared.contents.extension.ExtensionDescriptorInner.{ExtensionDescriptorInner}
 use Rattle.pool_types.specs.Extension.{extension_numbered, has_number}
 use Rattle.plain_data.proofs.Positions.{position-append}
-use Rattle.reference_pass.specs.Numbered.{EntersFirst, LeadsToFirst, pair_cmp}
+use Rattle.reference_pass.specs.Numbered.{ComesBehind, EntersFirst, LastIsGreatest, LeadsToFirst, comes_before, pair_cmp}
 
 both-tied : (a b : Ordering) → is_eq (ordering_then a b) ≡ (is_eq a && is_eq b)
 both-tied Less b = refl
@@ -85,3 +90,46 @@ leads-more xs ys x old new leads is enters message number =
     ∙ ap (λ n. option_or (position_from p 0 xs) (cond (p x) (Some n) None)) (sym last)
     ∙ sym (position-append p 0 xs (x ∷ []))
     ∙ ap (position_from p 0) (sym is)
+
+-- the map of the extensions before a position, with the one there
+pub leads-next : (xs : List ExtensionDescriptorInner) (k : ℕ) (x : ExtensionDescriptorInner) (old new : BTreeMap (ℕ × ℕ) ℕ) → k < length xs → x ≡ get_or xs k x
+    → LeadsToFirst (take k xs) old → EntersFirst old new (x.extendee, x.number) k → LeadsToFirst (take (k + 1) xs) new
+leads-next xs k x old new below is leads enters =
+    let many : length (take k xs) ≡ k = omega (arith, length-take k xs, below) in
+    leads-more (take k xs) (take (k + 1) xs) x old new leads (take_more xs k x below ∙ ap (λ y. take k xs ++ y ∷ []) (sym is))
+    (subst (EntersFirst old new (x.extendee, x.number)) (sym many) enters)
+
+-- an extension that comes before a message and a number doesn't have them
+has-others : (message number : ℕ) (x : ExtensionDescriptorInner) → comes_before message number x ≡ true → has_number message number x ≡ false
+has-others message number x before = grind (arith, nat_tests, before)
+
+by-recursion : {X : Type 0} (P : X → Type 0) (xs : List X) → All P xs → AllByRecursion P xs
+by-recursion P [] all = tt
+by-recursion P (x ∷ xs) all = (all 0 x (omega arith), by-recursion P xs (λ k d below. all (suc k) d (omega (arith, below))))
+
+none-found : (message number : ℕ) (xs : List ExtensionDescriptorInner) → AllByRecursion (λ x. comes_before message number x ≡ true) xs → find (has_number message number) xs ≡ None
+none-found message number [] all = refl
+none-found message number (x ∷ xs) all =
+    ap (λ b. cond b (Some x) (find (has_number message number) xs)) (has-others message number x all.0) ∙ none-found message number xs all.1
+
+pub none-has : (message number : ℕ) (xs : List ExtensionDescriptorInner) → AllPass (comes_before message number) xs → find (has_number message number) xs ≡ None
+none-has message number xs all = none-found message number xs (by-recursion (λ x. comes_before message number x ≡ true) xs all)
+
+-- what comes before an extension comes before all that this one comes before
+before-both : (message number : ℕ) (x y : ExtensionDescriptorInner) → comes_before message number x ≡ true → comes_before x.extendee x.number y ≡ true → comes_before message number y ≡ true
+before-both message number x y later earlier = grind (arith, nat_tests, later, earlier)
+
+-- the last of some extensions
+last-of : (xs : List ExtensionDescriptorInner) (x : ExtensionDescriptorInner) → slice_get (xs ++ x ∷ []) (length (xs ++ x ∷ []) - 1) ≡ Some x
+last-of xs x =
+    let whole = length-append xs (x ∷ []) in
+    let last : length (xs ++ x ∷ []) - 1 ≡ length xs = omega (arith, whole) in
+    ap (slice_get (xs ++ x ∷ [])) last ∙ slice_get-get_or (xs ++ x ∷ []) (length xs) x (omega (arith, whole)) ∙ ap Some (get_or-append_seam xs x [] x)
+
+-- an extension behind the last one is the greatest
+pub greatest-more : (xs ys : List ExtensionDescriptorInner) (x : ExtensionDescriptorInner) → LastIsGreatest xs → ys ≡ xs ++ x ∷ [] → ComesBehind xs x.extendee x.number → LastIsGreatest ys
+greatest-more xs ys x greatest is behind message number before =
+    let Before : ExtensionDescriptorInner → Type 0 = λ y. comes_before message number y ≡ true in
+    let here : Before x = subst (λ got. IfSome got Before) (ap (λ zs. slice_get zs (length zs - 1)) is ∙ last-of xs x) before in
+    let earlier = All-weaker (λ y. comes_before x.extendee x.number y ≡ true) Before (λ y. before-both message number x y here) xs (greatest x.extendee x.number behind) in
+    subst (All Before) (sym is) (All-push Before xs x earlier here)

@@ -24,38 +24,47 @@ use plain_data::duplicate_option;
 use pool_types::{
     DefaultValue, FieldDescriptorInner, Identity, KindIndex, Syntax, cardinality_of, syntax_at,
 };
-use proto_types::{FieldDescriptorProto, OneofDescriptorProto, tag};
+use proto_types::{FieldDescriptorProto, tag};
 use record_walk::Place;
 use std::alloc::AllocError;
+
+/// A message whose fields are read: its ranges of numbers, and whether its file is written in proto3.
+#[derive(Clone, Copy)]
+pub(crate) struct FieldOwner<'a> {
+    pub(crate) owner: Owner<'a>,
+    pub(crate) ranges: &'a MessageRanges,
+    pub(crate) is_proto3: bool,
+}
 
 /// The item of the field of a message with a position. What the field breaks by itself is appended
 /// to `reading`: its number, its type, its default value, its oneof.
 pub(crate) fn read_field(
     reading: &mut Reading,
-    owner: Owner,
-    ranges: &MessageRanges,
+    of: FieldOwner,
     position: usize,
 ) -> Result<FieldDescriptorInner, AllocError>
-    requires short { lists_fit (of_message owner.message.now) ≡ true }
-    requires ranges { AreRangesOf ranges.now owner.message.now }
-    requires there { position < length (out-DescriptorProto owner.message.now).field }
+    requires short { lists_fit (of_message of.owner.message.now) ≡ true }
+    requires ranges { AreRangesOf of.ranges.now of.owner.message.now }
+    requires proto3 { of.is_proto3
+        ≡ is_proto3 (syntax_at (setting_of reading.old).files of.owner.place.file) }
+    requires there { position < length (out-DescriptorProto of.owner.message.now).field }
     ensures item { IfOk result (λ item. item
         ≡ field_item (setting_of reading.old)
-        (out-DescriptorProto owner.entry.message.now).oneof_decl
-        (field_at (inside_of owner.entry.place) position
-        (get_or (out-DescriptorProto owner.entry.message.now).field position no_field))
-        (get_or (out-DescriptorProto owner.entry.message.now).field position no_field)) }
+        (out-DescriptorProto of.entry.owner.message.now).oneof_decl
+        (field_at (inside_of of.entry.owner.place) position
+        (get_or (out-DescriptorProto of.entry.owner.message.now).field position no_field))
+        (get_or (out-DescriptorProto of.entry.owner.message.now).field position no_field)) }
     ensures begins { IfOk result (λ item. BeginsAtBoundary item.id) }
     ensures faults { OnOk result (ReadingTells reading.old reading.new
         (field_record_faults (setting_of reading.old)
-        (message_at owner.entry.place owner.entry.message.now, owner.entry.message.now)
-        (field_at (inside_of owner.entry.place) position
-        (get_or (out-DescriptorProto owner.entry.message.now).field position no_field))
-        (get_or (out-DescriptorProto owner.entry.message.now).field position no_field))) }
+        (message_at of.entry.owner.place of.entry.owner.message.now, of.entry.owner.message.now)
+        (field_at (inside_of of.entry.owner.place) position
+        (get_or (out-DescriptorProto of.entry.owner.message.now).field position no_field))
+        (get_or (out-DescriptorProto of.entry.owner.message.now).field position no_field))) }
 {
     let alloc = reading.faults.alloc;
-    let around = owner.place;
-    let field = &owner.message.field.as_slice()[position];
+    let around = of.owner.place;
+    let field = &of.owner.message.field.as_slice()[position];
     let id = identity_inside(alloc, around, tag::message::FIELD, position, field.name())?;
     let place = Place {
         file: around.file,
@@ -64,9 +73,8 @@ pub(crate) fn read_field(
         path: id.path.as_slice(),
         full_name: id.full_name.as_str(),
     };
-    let (kind, default) = check_field(reading, owner, ranges, place, field)?;
-    let oneofs = owner.message.oneof_decl.as_slice();
-    item_at(reading, oneofs, id, field, kind, default)
+    let (kind, default) = check_field(reading, of.owner, of.ranges, place, field)?;
+    item_at(reading, of, id, field, kind, default)
 }
 
 /// The kind of the type of a field of a message and its default value, where one is given; where
@@ -102,25 +110,27 @@ fn check_field(
 /// The item of a field with an identity, whose type is of a kind, with a default value.
 fn item_at(
     reading: &Reading,
-    oneofs: &[OneofDescriptorProto],
+    of: FieldOwner,
     id: Identity,
     field: &FieldDescriptorProto,
     kind: KindIndex,
     default: Option<DefaultValue>,
 ) -> Result<FieldDescriptorInner, AllocError>
+    requires { of.is_proto3 ≡ is_proto3 (syntax_at (setting_of reading.now).files id.file) }
     ensures { IfOk result (λ item. item
-        ≡ item_at (setting_of reading.now) oneofs.now id field.now kind default) }
+        ≡ item_at (setting_of reading.now) (out-DescriptorProto of.entry.owner.message.now).oneof_decl
+        id field.now kind default) }
 {
     let alloc = reading.faults.alloc;
-    let is_proto3 = is_proto3(reading, id.file);
+    let oneofs = of.owner.message.oneof_decl.as_slice();
     Ok(FieldDescriptorInner {
         id,
         number: item_number(field.number()),
         json_name: duplicate_option(alloc, &field.json_name)?,
         kind,
         oneof: oneof_of(oneofs, field),
-        is_packed: is_packed(is_proto3, kind, field),
-        supports_presence: supports_presence(is_proto3, kind, field),
+        is_packed: is_packed(of.is_proto3, kind, field),
+        supports_presence: supports_presence(of.is_proto3, kind, field),
         cardinality: cardinality_of(field.label()),
         default,
     })

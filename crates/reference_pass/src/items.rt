@@ -1,13 +1,14 @@
 //! The items that the second pass makes.
 
-ghost use Rattle.std.specs.Prelude.{◌≡◌, ◌++◌, ◌∷◌, [], IfOk, OnOk, OnErr};
+ghost use Rattle.std.specs.Prelude.{◌≡◌, ◌++◌, ◌∷◌, [], IfOk, IfNone, IsTrue, OnOk, OnErr};
+ghost use Rattle.std.proofs.Props.{props};
 ghost use Rattle.std.specs.List.{find};
 ghost use Rattle.std.specs.Option.{option_copied};
 ghost use Rattle.pool_types.specs.Extension.{has_number};
 ghost use Rattle.field_rules.specs.NamesBegin.{EnumNamesBegin};
 ghost use Rattle.reference_pass.specs.NamesBegin.{ExtensionNameBegins, MessageNamesBegin, NamesBegin, ServiceNamesBegin};
 ghost use Rattle.std.specs.BTreeMap.{get};
-ghost use Rattle.reference_pass.specs.Numbered.{EntersFirst, LeadsToFirst, pair_cmp};
+ghost use Rattle.reference_pass.specs.Numbered.{AreNumbered, ComesBehind, EntersFirst, LastIsGreatest, LeadsToFirst, pair_cmp};
 
 use crate::room::room_of_files;
 use pool_types::{
@@ -24,9 +25,10 @@ pub struct NewItems {
     pub enums: Vec<EnumDescriptorInner>,
     pub services: Vec<ServiceDescriptorInner>,
     pub extensions: Vec<ExtensionDescriptorInner>,
-    /// Where the first extension stands that has a message and a number.
-    pub positions: BTreeMap<(u32, u32), usize>,
-    ghost numbered: { LeadsToFirst extensions.items positions },
+    /// Where the first extension stands that has a message and a number. While these rise from each
+    /// extension to the next, there is no such map.
+    pub positions: Option<BTreeMap<(u32, u32), usize>>,
+    ghost numbered: { AreNumbered extensions.items positions } by { Prim.hlevel props },
 }
 
 impl NewItems {
@@ -42,7 +44,7 @@ impl NewItems {
             enums: Vec::new(alloc),
             services: Vec::new(alloc),
             extensions: Vec::new(alloc),
-            positions: BTreeMap::new(alloc),
+            positions: None,
         }
     }
 
@@ -70,8 +72,10 @@ impl NewItems {
         ensures { option_copied result
             ≡ find (has_number message number) self.now.extensions.items }
     {
-        let position = position_of(&self.positions, (message, number))?;
-        self.extensions.get(position)
+        match &self.positions {
+            Some(positions) => extension_at(&self.extensions, positions, (message, number)),
+            None => extension_in_order(&self.extensions, message, number),
+        }
     }
 
     /// Appends the item of a message.
@@ -138,8 +142,107 @@ impl NewItems {
     }
 }
 
-/// Appends the item of an extension, and enters its position for its message and its number.
+/// The extension that stands where a message and a number lead.
+fn extension_at<'a>(
+    extensions: &'a [ExtensionDescriptorInner],
+    positions: &BTreeMap<(u32, u32), usize>,
+    key: (u32, u32),
+) -> Option<&'a ExtensionDescriptorInner>
+    requires { LeadsToFirst extensions.now positions.now }
+    ensures { option_copied result ≡ find (has_number key.0 key.1) extensions.now }
+{
+    let position = position_of(positions, key)?;
+    extensions.get(position)
+}
+
+/// The first extension of a message that has a number, where these rise: a message and a number
+/// behind those of the last extension have none.
+fn extension_in_order(
+    extensions: &[ExtensionDescriptorInner],
+    message: u32,
+    number: u32,
+) -> Option<&ExtensionDescriptorInner>
+    requires { LastIsGreatest extensions.now }
+    ensures { option_copied result ≡ find (has_number message number) extensions.now }
+{
+    if comes_behind(extensions, message, number) {
+        return None;
+    }
+    extensions.iter().find(|extension| extension.extendee == message && extension.number == number)
+}
+
+/// Whether a message and a number come behind those of the last extension, if there is one.
+fn comes_behind(extensions: &[ExtensionDescriptorInner], message: u32, number: u32) -> bool
+    ensures { IsTrue result → ComesBehind extensions.now message number }
+{
+    match extensions.last() {
+        Some(last) => {
+            last.extendee < message || last.extendee == message && last.number < number
+        }
+        None => true,
+    }
+}
+
+/// Appends the item of an extension. Its position is entered for its message and its number, unless
+/// these have risen so far.
 fn push_numbered(
+    extensions: &mut Vec<ExtensionDescriptorInner>,
+    positions: &mut Option<BTreeMap<(u32, u32), usize>>,
+    extension: ExtensionDescriptorInner,
+) -> Result<(), AllocError>
+    requires { AreNumbered extensions.old.items positions.old }
+    ensures numbered { AreNumbered extensions.new.items positions.new }
+    ensures ok { OnOk result (extensions.new.items ≡ extensions.old.items ++ extension ∷ []) }
+    ensures err { OnErr result (extensions.new.items ≡ extensions.old.items) }
+{
+    enter_others(extensions, positions, &extension)?;
+    match positions {
+        Some(positions) => push_entered(extensions, positions, extension),
+        None => {
+            extensions.push(extension)?;
+            Ok(())
+        }
+    }
+}
+
+/// Enters the positions of all extensions, where the next one is the first whose message and number
+/// do not rise.
+fn enter_others(
+    extensions: &Vec<ExtensionDescriptorInner>,
+    positions: &mut Option<BTreeMap<(u32, u32), usize>>,
+    next: &ExtensionDescriptorInner,
+) -> Result<(), AllocError>
+    requires { AreNumbered extensions.now.items positions.old }
+    ensures numbered { AreNumbered extensions.now.items positions.new }
+    ensures behind { OnOk result (IfNone positions.new
+        (ComesBehind extensions.now.items next.now.extendee next.now.number)) }
+{
+    if positions.is_some() || comes_behind(extensions, next.extendee, next.number) {
+        return Ok(());
+    }
+    let entered = positions_of(*extensions.allocator(), extensions)?;
+    *positions = Some(entered);
+    Ok(())
+}
+
+/// The position of the first of some extensions that has a message and a number, for each of these.
+fn positions_of(
+    alloc: Global,
+    extensions: &[ExtensionDescriptorInner],
+) -> Result<BTreeMap<(u32, u32), usize>, AllocError>
+    ensures { IfOk result (λ positions. LeadsToFirst extensions.now positions) }
+{
+    let mut positions = BTreeMap::new(alloc);
+    for position in 0..extensions.len() {
+        let extension = &extensions[position];
+        let key = (extension.extendee, extension.number);
+        enter(&mut positions, key, position)?;
+    }
+    Ok(positions)
+}
+
+/// Appends the item of an extension, and enters its position for its message and its number.
+fn push_entered(
     extensions: &mut Vec<ExtensionDescriptorInner>,
     positions: &mut BTreeMap<(u32, u32), usize>,
     extension: ExtensionDescriptorInner,

@@ -11,9 +11,10 @@ ghost use Rattle.reference_pass.specs.Items.{field_items, message_item, oneof_it
 ghost use Rattle.field_rules.specs.NamesBegin.{BeginsAtBoundary};
 ghost use Rattle.reference_pass.specs.NamesBegin.{MessageNamesBegin};
 ghost use Rattle.record_walk.specs.Place.{inside_of, message_at};
+ghost use Rattle.pool_types.specs.Syntaxes.{is_proto3, syntax_at};
 ghost use Rattle.reference_pass.specs.Reading.{ReadingTells, setting_of};
 
-use crate::field::read_field;
+use crate::field::{FieldOwner, is_proto3, read_field};
 use crate::reading::Reading;
 use field_rules::{FieldMaps, MessageRanges, Owner, identity, identity_inside, members};
 use plain_data::{Items, NumberMap};
@@ -49,7 +50,12 @@ pub fn read_message(
     let id = identity(alloc, place, message.name())?;
     let mut maps = FieldMaps::new(alloc, message.field.as_slice())?;
     let ranges = MessageRanges::new(alloc, message)?;
-    let fields = read_fields(reading, Owner { place, message }, &ranges, &mut maps)?;
+    let of = FieldOwner {
+        owner: Owner { place, message },
+        ranges: &ranges,
+        is_proto3: is_proto3(reading, place.file),
+    };
+    let fields = read_fields(reading, of, &mut maps)?;
     let oneofs = read_oneofs(alloc, place, message)?;
     Ok(MessageDescriptorInner {
         id,
@@ -67,31 +73,32 @@ pub fn read_message(
 /// The items of the fields of a message, which are entered into its maps.
 fn read_fields(
     reading: &mut Reading,
-    owner: Owner,
-    ranges: &MessageRanges,
+    of: FieldOwner,
     maps: &mut FieldMaps,
 ) -> Result<Vec<FieldDescriptorInner>, AllocError>
-    requires short { lists_fit (of_message owner.message.now) ≡ true }
-    requires ranges { AreRangesOf ranges.now owner.message.now }
-    requires maps { AreMapsOf maps.old (out-DescriptorProto owner.message.now).field 0 }
+    requires short { lists_fit (of_message of.owner.message.now) ≡ true }
+    requires ranges { AreRangesOf of.ranges.now of.owner.message.now }
+    requires proto3 { of.is_proto3
+        ≡ is_proto3 (syntax_at (setting_of reading.old).files of.owner.place.file) }
+    requires maps { AreMapsOf maps.old (out-DescriptorProto of.owner.message.now).field 0 }
     ensures items { IfOk result (λ items. items.items
         ≡ field_items (setting_of reading.old)
-        (out-DescriptorProto owner.entry.message.now).oneof_decl
-        (inside_of owner.entry.place) (out-DescriptorProto owner.entry.message.now).field) }
+        (out-DescriptorProto of.entry.owner.message.now).oneof_decl
+        (inside_of of.entry.owner.place) (out-DescriptorProto of.entry.owner.message.now).field) }
     ensures begin { IfOk result (λ items. All (λ f. BeginsAtBoundary f.id) items.items) }
     ensures maps { OnOk result (AreMapsOf maps.new
-        (out-DescriptorProto owner.entry.message.now).field
-        (length (out-DescriptorProto owner.entry.message.now).field)) }
+        (out-DescriptorProto of.entry.owner.message.now).field
+        (length (out-DescriptorProto of.entry.owner.message.now).field)) }
     ensures faults { OnOk result (ReadingTells reading.old reading.new
         (faults_of_fields (setting_of reading.old)
-        (message_at owner.entry.place owner.entry.message.now, owner.entry.message.now)
-        (out-DescriptorProto owner.entry.message.now).field)) }
+        (message_at of.entry.owner.place of.entry.owner.message.now, of.entry.owner.message.now)
+        (out-DescriptorProto of.entry.owner.message.now).field)) }
 {
-    let fields = owner.message.field.as_slice();
+    let fields = of.owner.message.field.as_slice();
     let mut items = Vec::with_capacity(reading.faults.alloc, fields.len())?;
     for position in 0..fields.len() {
-        items.push(read_field(reading, owner, ranges, position)?)?;
-        maps.insert(&mut reading.faults, owner, position)?;
+        items.push(read_field(reading, of, position)?)?;
+        maps.insert(&mut reading.faults, of.owner, position)?;
     }
     Ok(items)
 }

@@ -7,6 +7,6 @@ use Rattle.reference_pass.proofs.extension.check_number.Goals as goal
 -- no list of the message is too long
 pub check_extension_number-requires : goal.check_extension_number-requires
 check_extension_number-requires c =
-    let def = c.in-Found.def.now in
+    let def = c.args.extendee.def.now in
     let found = sym c.message_record.ensures ∙ ap option_copied c.in-Some.is in
     message-fits (setting_of c.args.reading.now) def c.in-Some.message.now c.args.reading.now.faults.short found

@@ -19,6 +19,7 @@ use Rattle.reference_pass.specs.SecondPass.{Owner, field_record_faults}
 use Rattle.reference_pass.specs.Defaults.{field_default}
 use Rattle.reference_pass.specs.Types.{field_kind}
 use Rattle.reference_pass.specs.Items.{item_at}
+use Rattle.pool_types.specs.Syntaxes.{is_proto3, syntax_at}
 use Rattle.reference_pass.specs.Reading.{setting_of}
 use Rattle.reference_pass.proofs.Made.{known-ok}
 use Rattle.reference_pass.proofs.Readings.{reads-as, same-setting}
@@ -29,13 +30,20 @@ pub returns-clause-begins : goal.returns-clause-begins
 returns-clause-begins c =
     IfOk-weaker c.item_at.result _ _ (λ item is. subst BeginsAtBoundary (sym (ap (λ i. i.id) is)) c.in_ok-id.ensures.begins) c.item_at.ensures
 
+-- the file is still of its syntax
+pub item_at-requires : goal.item_at-requires
+item_at-requires c =
+    let place = c.args.of.owner.place in
+    let file : c.in_ok-id.id.file ≡ place.file = ap (λ (d : Identity). d.file) c.in_ok-id.ensures.id in
+    c.requires.proto3 ∙ sym (λ j. is_proto3 (syntax_at (same-setting c.in_ok-kind.ensures.faults j).files (file j)))
+
 -- the field is read where it stands
 pub returns-clause-item : goal.returns-clause-item
 returns-clause-item c =
     let s = setting_of c.args.reading.now in
-    let place = c.args.owner.place in
+    let place = c.args.of.owner.place in
     let i = c.args.position in
-    let m = out-DescriptorProto c.args.owner.message.now in
+    let m = out-DescriptorProto c.args.of.owner.message.now in
     let g = c.index-as_slice-position.result in
     let f = get_or m.field i no_field in
     let is = subst (λ (fs : List FieldDescriptorProto). g ≡ get_or fs i g) c.as_slice.ensures c.index-as_slice-position.is in
@@ -53,16 +61,16 @@ returns-clause-item c =
     } in
     let kind = c.in_ok-kind.ensures.kind ∙ (λ j. unwrap_or (field_kind s (same j) (own j)) Double) in
     let default = c.in_ok-kind.ensures.default ∙ (λ j. field_default s (same j) (own j)) in
-    IfOk-weaker c.item_at.result _ _ (λ _ made. made ∙ (λ j. item_at (same-setting c.in_ok-kind.ensures.faults j) (c.as_slice-oneofs.ensures j) (id j) (own j) (kind j) (default j)))
+    IfOk-weaker c.item_at.result _ _ (λ _ made. made ∙ (λ j. item_at (same-setting c.in_ok-kind.ensures.faults j) m.oneof_decl (id j) (own j) (kind j) (default j)))
     c.item_at.ensures
 
 pub returns-clause-faults : goal.returns-clause-faults
 returns-clause-faults c =
     let s = setting_of c.args.reading.now in
-    let place = c.args.owner.place in
+    let place = c.args.of.owner.place in
     let i = c.args.position in
-    let m = out-DescriptorProto c.args.owner.message.now in
-    let owner : Owner = (message_at place c.args.owner.message.now, c.args.owner.message.now) in
+    let m = out-DescriptorProto c.args.of.owner.message.now in
+    let owner : Owner = (message_at place c.args.of.owner.message.now, c.args.of.owner.message.now) in
     let g = c.index-as_slice-position.result in
     let f = get_or m.field i no_field in
     let is = subst (λ (fs : List FieldDescriptorProto). g ≡ get_or fs i g) c.as_slice.ensures c.index-as_slice-position.is in

@@ -10,7 +10,9 @@ use Rattle.field_rules.specs.Duplicates.{duplicate_faults}
 use Rattle.field_rules.specs.MapsOf.{AreMapsOf}
 use Rattle.reference_pass.specs.SecondPass.{Owner, field_faults}
 use Rattle.reference_pass.specs.Items.{field_item}
+use Rattle.pool_types.specs.Syntaxes.{is_proto3, syntax_at}
 use Rattle.reference_pass.specs.Reading.{setting_of}
+use Rattle.reference_pass.specs.Setting.{Setting}
 use Rattle.field_rules.specs.NamesBegin.{BeginsAtBoundary}
 use Rattle.record_walk.specs.Place.{field_at, inside_of, message_at}
 use Rattle.field_rules.proofs.Each.{each-next}
@@ -18,13 +20,18 @@ use Rattle.reference_pass.proofs.Entries.{found-again}
 use Rattle.reference_pass.proofs.Readings.{reads-as, reads-next, reads-told, reads-two, same-setting}
 use Rattle.reference_pass.proofs.message.read_fields.Goals as goal
 
+-- the file is still of its syntax
+pub read_field-requires-clause-proto3 : goal.read_field-requires-clause-proto3
+read_field-requires-clause-proto3 c =
+    c.requires.proto3 ∙ sym (ap (λ (t : Setting). is_proto3 (syntax_at t.files c.args.of.owner.place.file)) (same-setting c.loop-position.invariant.faults))
+
 -- one more field is read, and entered
 pub loop-position-preserved : goal.loop-position-preserved
 loop-position-preserved c =
     let s = setting_of c.args.reading.now in
-    let m = out-DescriptorProto c.args.owner.message.now in
-    let owner : Owner = (message_at c.args.owner.place c.args.owner.message.now, c.args.owner.message.now) in
-    let here = inside_of c.args.owner.place in
+    let m = out-DescriptorProto c.args.of.owner.message.now in
+    let owner : Owner = (message_at c.args.of.owner.place c.args.of.owner.message.now, c.args.of.owner.message.now) in
+    let here = inside_of c.args.of.owner.place in
     let i = c.loop-position.position in
     let f = get_or m.field i no_field in
     let below = subst (λ (xs : List FieldDescriptorProto). i < length xs) c.as_slice-fields.ensures c.loop-position-test.true in
@@ -52,7 +59,7 @@ returns-clause-items c = grind (arith, common_steps)
 -- all fields are entered
 pub returns-clause-maps : goal.returns-clause-maps
 returns-clause-maps c =
-    let m = out-DescriptorProto c.args.owner.message.now in
+    let m = out-DescriptorProto c.args.of.owner.message.now in
     let same : length c.as_slice-fields.result.now ≡ length m.field = ap length c.as_slice-fields.ensures in
     let done : c.loop-position.position ≡ length m.field = grind (arith, common_steps, same) in
     subst (AreMapsOf c.loop-position.maps m.field) done c.loop-position.invariant.maps

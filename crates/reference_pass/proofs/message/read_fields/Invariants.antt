@@ -13,11 +13,11 @@ use Rattle.reference_pass.proofs.message.read_fields.Given as goal
 abbrev pub invariant-loop-position : goal.invariant-loop-position
 invariant-loop-position l =
     let s = setting_of l.initial.reading in
-    let m = l.owner.message.now in
+    let m = l.of.owner.message.now in
     let so_far = take l.position (out-DescriptorProto m).field in
     record {
-      items : l.items.items ≡ field_items s (out-DescriptorProto m).oneof_decl (inside_of l.owner.place) so_far;
+      items : l.items.items ≡ field_items s (out-DescriptorProto m).oneof_decl (inside_of l.of.owner.place) so_far;
       begin : All (λ f. BeginsAtBoundary f.id) l.items.items;
       maps : AreMapsOf l.maps (out-DescriptorProto m).field l.position;
-      faults : ReadingTells l.initial.reading l.reading (faults_of_fields s (message_at l.owner.place m, m) so_far);
+      faults : ReadingTells l.initial.reading l.reading (faults_of_fields s (message_at l.of.owner.place m, m) so_far);
     }
