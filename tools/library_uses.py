@@ -1,7 +1,8 @@
 #!/usr/bin/env python3
 """Measures uses of the library in Python, Rust and C++, and prints the tables of docs/SPEED.md.
 
-    python3 library_uses.py     over dist/, which tools/library has built
+    python3 library_uses.py            over dist/, which tools/library has built
+    python3 library_uses.py SET...     and services.cc over further sets (googleapis.py makes one)
 
 Look-ups in Python are those of protobuf's descriptor_pool, with the extension of the module and by
 ctypes alone, beside protobuf's own package. The uses are the examples registry.py, gateway.rs and
@@ -51,10 +52,17 @@ data = open(sys.argv[1], "rb").read()
 files = descriptor_pb2.FileDescriptorSet.FromString(data).file
 names = [f"{file.package}.{it.name}" for file in files for it in file.message_type]
 paths = [file.name for file in files]
-ours, theirs = protolink.Pool(), descriptor_pool.DescriptorPool()
+records = [file.SerializeToString() for file in files]
+ours = protolink.Pool()
 ours.add_set(data)
-for file in files:
-    theirs.AddSerializedFile(file.SerializeToString())
+
+def another():
+    made = descriptor_pool.DescriptorPool()
+    for record in records:
+        made.AddSerializedFile(record)
+    return made
+
+theirs = another()
 
 def rate(pool, call, asked):
     find = getattr(pool, call)
@@ -68,13 +76,15 @@ def best(make, call, asked):
 
 rate(theirs, "FindMessageTypeByName", names)
 rows = (
-    ("FindMessageTypeByName", names, ours.clone),
-    ("FindMessageTypeByName", names, lambda: ours),
-    ("FindFileContainingSymbol", names, lambda: ours),
-    ("FindFileByName", paths, ours.clone),
-    ("FindFileByName", paths, lambda: ours),
+    ("FindMessageTypeByName", names, True),
+    ("FindMessageTypeByName", names, False),
+    ("FindFileContainingSymbol", names, False),
+    ("FindFileByName", paths, True),
+    ("FindFileByName", paths, False),
 )
-print(json.dumps([[best(m, c, n), best(lambda: theirs, c, n)] for c, n, m in rows]))
+for call, asked, is_new in rows:
+    pools = (ours.clone, another) if is_new else (lambda: ours, lambda: theirs)
+    print(json.dumps([best(make, call, asked) for make in pools]))
 """
 """Look-ups a second, here and by protobuf."""
 
@@ -99,7 +109,8 @@ for file in descriptor_pb2.FileDescriptorSet.FromString(open(sys.argv[1], "rb").
         for it in service.method:
             taken = side(it.input_type, it.client_streaming)
             given = side(it.output_type, it.server_streaming)
-            print(f"  rpc {it.name}{taken} returns {given};")
+            mark = " // deprecated" if it.options.deprecated else ""
+            print(f"  rpc {it.name}{taken} returns {given};{mark}")
         print("}")
 """
 """What services.cc has to print."""
@@ -152,7 +163,7 @@ def look_ups(room: Path, set_: Path) -> None:
         _, said = timed(words, env=environment((LIB, alone)[run % 2]))
         if said.returncode:
             raise ToolError("look-ups in Python failed")
-        for row, (ours, theirs) in zip(best, json.loads(said.stdout)):
+        for row, (ours, theirs) in zip(best, map(json.loads, said.stdout.splitlines())):
             row[run % 2], row[2] = max(row[run % 2], ours), max(row[2], theirs)
     print("| a second | with the extension | by `ctypes` | protobuf |")
     print("|---|---|---|---|")
@@ -239,8 +250,8 @@ def services(room: Path, set_: Path) -> str:
     return f"{does} | {seconds:.2f} s"
 
 
-def tell() -> None:
-    """Prints the tables."""
+def tell(sets: list[Path]) -> None:
+    """Prints the tables, with a row of services.cc for each of some sets."""
     if not (LIB / SONAME).is_file():
         raise ToolError(f"{LIB / SONAME} is not built")
     with tempfile.TemporaryDirectory() as name:
@@ -251,15 +262,16 @@ def tell() -> None:
         print("\n| use | what it does | |\n|---|---|---|")
         print(f"| a registry: registry.py | {registry(room)} |")
         print(f"| a gateway: gateway.rs | {gateway(room, set_)} |")
-        print(f"| a generator: services.cc | {services(room, set_)} |")
+        for file in (set_, *sets):
+            print(f"| a generator: services.cc | {services(room, file)} |")
 
 
 def main() -> int:
-    if sys.argv[1:]:
+    if any(argument.startswith("-") for argument in sys.argv[1:]):
         print((__doc__ or "").strip())
         return 0 if sys.argv[1:] in (["-h"], ["--help"]) else 2
     try:
-        tell()
+        tell([Path(argument) for argument in sys.argv[1:]])
     except (ToolError, OSError) as fault:
         print(f"library_uses.py: {fault}", file=sys.stderr)
         return 2

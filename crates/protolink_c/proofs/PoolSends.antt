@@ -6,6 +6,7 @@ use denote.Struct.Struct.{Struct}
 use Rattle.std.proofs.Crossing.{crosses, Vec-send}
 use Rattle.std.proofs.MapsCrossingOver as sets
 use Rattle.plain_data.proofs.items.Items.TheSendSync as items
+use Rattle.plain_data.proofs.numbers.Numbers.TheSendSync as short_numbers
 use Rattle.plain_data.proofs.text.Text.TheSendSync as text
 use Rattle.proto_types.specs.contracts.file.FileDescriptorProto as proto
 use Rattle.proto_types.specs.contracts.message.DescriptorProto as message
@@ -39,7 +40,7 @@ pub message_send : IsSend message.the_row
 message_send = search (knot.crosses, items.the_send, text.the_send, fields.the_send, enums.the_send, extension_ranges.the_send, options.the_send, unread.the_send, oneofs.the_send, reserved_ranges.the_send, sendable) depth 60 fits 20000
 
 pub proto_send : IsSend (proto.the_field).row
-proto_send = search (message_send, items.the_send, text.the_send, enums.the_send, services.the_send, fields.the_send, options.the_send, unread.the_send, sources.the_send, sendable) depth 60 fits 20000
+proto_send = search (message_send, items.the_send, short_numbers.the_send, text.the_send, enums.the_send, services.the_send, fields.the_send, options.the_send, unread.the_send, sources.the_send, sendable) depth 60 fits 20000
 
 pub file_send : IsSend file.the_row
 file_send =

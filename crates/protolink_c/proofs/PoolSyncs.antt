@@ -6,6 +6,7 @@ use denote.Struct.Struct.{Struct}
 use Rattle.std.proofs.Crossing.{crosses, Vec-sync}
 use Rattle.std.proofs.MapsCrossingOver as sets
 use Rattle.plain_data.proofs.items.Items.TheSendSync as items
+use Rattle.plain_data.proofs.numbers.Numbers.TheSendSync as short_numbers
 use Rattle.plain_data.proofs.text.Text.TheSendSync as text
 use Rattle.proto_types.specs.contracts.file.FileDescriptorProto as proto
 use Rattle.proto_types.specs.contracts.message.DescriptorProto as message
@@ -39,7 +40,7 @@ pub message_sync : IsSync message.the_row
 message_sync = search (knot.crosses, items.the_sync, text.the_sync, fields.the_sync, enums.the_sync, extension_ranges.the_sync, options.the_sync, unread.the_sync, oneofs.the_sync, reserved_ranges.the_sync, sendable) depth 60 fits 20000
 
 pub proto_sync : IsSync (proto.the_field).row
-proto_sync = search (message_sync, items.the_sync, text.the_sync, enums.the_sync, services.the_sync, fields.the_sync, options.the_sync, unread.the_sync, sources.the_sync, sendable) depth 60 fits 20000
+proto_sync = search (message_sync, items.the_sync, short_numbers.the_sync, text.the_sync, enums.the_sync, services.the_sync, fields.the_sync, options.the_sync, unread.the_sync, sources.the_sync, sendable) depth 60 fits 20000
 
 pub file_sync : IsSync file.the_row
 file_sync =
