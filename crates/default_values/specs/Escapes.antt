@@ -1,12 +1,16 @@
 -- Texts with C escapes, and the bytes that they stand for.
-use Rattle.std.specs.Prelude.{◌≡◌, ◌≢◌, ◌↔◌, ℕ, zero, suc, ◌+◌, ◌*◌, ◌≤◌, Bool, false, ◌==◌, ◌||◌, ◌&&◌, IsTrue, IsFalse, List, [], ◌∷◌, ◌++◌, length, nat_le, if◌then◌else◌}
+use Rattle.std.specs.Prelude.{◌≡◌, ◌≢◌, ◌↔◌, ℕ, zero, suc, ◌+◌, ◌*◌, ◌≤◌, Bool, false, ◌==◌, ◌||◌}
+use Rattle.std.specs.Prelude.{◌&&◌, IsTrue, IsFalse, List, [], ◌∷◌, ◌++◌, length, nat_le}
+use Rattle.std.specs.Prelude.{if◌then◌else◌}
 use Rattle.std.specs.Char.{is_digit, digit_value}
 use Rattle.std.specs.declared.option.Option.{Option}
 use Rattle.std.specs.declared.option.Option.TheVariants.{None, Some}
 use Rattle.std.specs.declared.result.Result.{Result}
 use Rattle.std.specs.declared.result.Result.TheVariants.{Ok, Err}
 use Rattle.default_values.specs.declared.faults.EscapeFault.{EscapeFault}
-use Rattle.default_values.specs.declared.faults.EscapeFault.TheVariants.{MissingEscape, HexTooShort, InvalidHex, OctalTooLarge, InvalidEscape, OutOfMemory}
+use Rattle.default_values.specs.declared.faults.EscapeFault.TheVariants.{MissingEscape, HexTooShort}
+use Rattle.default_values.specs.declared.faults.EscapeFault.TheVariants.{InvalidHex, OctalTooLarge}
+use Rattle.default_values.specs.declared.faults.EscapeFault.TheVariants.{InvalidEscape, OutOfMemory}
 
 -- whether a byte is a backslash
 abbrev pub is_backslash : ℕ → Bool

@@ -1,6 +1,7 @@
 -- What the check of some inputs answers against older versions: the verdict, and behind it what an
 -- accepted batch changes of each.
-use Rattle.std.specs.Prelude.{ℕ, Bool, not, ◌==◌, List, [], ◌∷◌, Result, Ok, Err, map, unwrap_or, if◌then◌else◌}
+use Rattle.std.specs.Prelude.{ℕ, Bool, not, ◌==◌, List, [], ◌∷◌, Result, Ok, Err, map, unwrap_or}
+use Rattle.std.specs.Prelude.{if◌then◌else◌}
 use Rattle.std.specs.List.{flat_map, list_any}
 use Rattle.std.specs.declared.option.Option.{Option}
 use Rattle.std.specs.declared.option.Option.TheVariants.{None, Some}
@@ -12,14 +13,16 @@ use Rattle.pool_changes.specs.declared.direction.Direction.{Direction}
 use Rattle.pool_changes.specs.declared.direction.Direction.TheVariants as direction
 use Rattle.pool_changes.specs.declared.kinds.Level.{Level}
 use Rattle.pool_changes.specs.declared.kinds.Level.TheVariants.{Wire}
-use Rattle.descriptor_check.specs.Answers.{answer, judged_answer, passed_over, unread_answer, with_complaints}
+use Rattle.descriptor_check.specs.Answers.{answer, judged_answer, passed_over, unread_answer}
+use Rattle.descriptor_check.specs.Answers.{with_complaints}
 use Rattle.descriptor_check.specs.Batches.{batch_of}
 use Rattle.descriptor_check.specs.ChangeFormats.{report_with}
 use Rattle.descriptor_check.specs.Olders.{olders_of}
 use Rattle.descriptor_check.specs.Strict.{judgement_of}
 use Rattle.descriptor_check.specs.declared.answer.Answer.{Answer}
 use Rattle.descriptor_check.specs.declared.answer.Compatibility.{Compatibility}
-use Rattle.descriptor_check.specs.declared.answer.Compatibility.TheVariants.{Backward, Forward, Full}
+use Rattle.descriptor_check.specs.declared.answer.Compatibility.TheVariants.{Backward, Forward}
+use Rattle.descriptor_check.specs.declared.answer.Compatibility.TheVariants.{Full}
 use Rattle.descriptor_check.specs.declared.answer.LinkedSet.{LinkedSet}
 use Rattle.descriptor_check.specs.declared.answer.Status.{Status}
 use Rattle.descriptor_check.specs.declared.answer.Status.TheVariants as status
@@ -29,7 +32,8 @@ use Rattle.descriptor_check.specs.declared.inputs.Input.{Input}
 use Rattle.descriptor_check.specs.declared.olders.Older.{Older}
 use Rattle.descriptor_check.specs.declared.strict.Judgement.{Judgement}
 use Rattle.descriptor_check.specs.declared.verdicts.Verdict.{Verdict}
-use Rattle.descriptor_check.specs.declared.verdicts.Verdict.TheVariants.{Accepted, Refused, TooMany, Unequal}
+use Rattle.descriptor_check.specs.declared.verdicts.Verdict.TheVariants.{Accepted, Refused, TooMany}
+use Rattle.descriptor_check.specs.declared.verdicts.Verdict.TheVariants.{Unequal}
 
 -- the directions that are wanted, in order
 abbrev pub directions : Option Compatibility → List Direction

@@ -1,5 +1,5 @@
--- What the check of some inputs answers: a status, what is written to the standard output and to the
--- standard error, and the set of the linked files.
+-- What the check of some inputs answers: a status, what is written to the standard output and to
+-- the standard error, and the set of the linked files.
 use Rattle.std.specs.Prelude.{ℕ, List, [], ◌∷◌, ◌++◌, Result, Ok, Err, if◌then◌else◌}
 use Rattle.std.specs.List.{flat_map}
 use Rattle.std.specs.Option.{option_map}
@@ -20,7 +20,8 @@ use Rattle.descriptor_check.specs.Complaints.{complaint, no_answer}
 use Rattle.descriptor_check.specs.Described.{described, unknown_names}
 use Rattle.descriptor_check.specs.Listed.{listed}
 use Rattle.verdict_formats.specs.Formats as formats
-use Rattle.verdict_formats.specs.Formats.{is_for_people, refused_report, too_many_report, unread_report}
+use Rattle.verdict_formats.specs.Formats.{is_for_people, refused_report, too_many_report}
+use Rattle.verdict_formats.specs.Formats.{unread_report}
 use Rattle.verdict_texts.specs.Refused.{told_refusal}
 use Rattle.descriptor_check.specs.Unread.{unread_words}
 use Rattle.descriptor_check.specs.Strict.{judgement_of}
@@ -34,7 +35,8 @@ use Rattle.descriptor_check.specs.declared.inputs.Input.{Input}
 use Rattle.descriptor_check.specs.declared.strict.Judgement.{Judgement}
 use Rattle.descriptor_check.specs.declared.verdicts.Refusal.{Refusal}
 use Rattle.descriptor_check.specs.declared.verdicts.Verdict.{Verdict}
-use Rattle.descriptor_check.specs.declared.verdicts.Verdict.TheVariants.{Accepted, Refused, TooMany, Unequal}
+use Rattle.descriptor_check.specs.declared.verdicts.Verdict.TheVariants.{Accepted, Refused, TooMany}
+use Rattle.descriptor_check.specs.declared.verdicts.Verdict.TheVariants.{Unequal}
 
 -- a verdict, told by a text, and the set of the linked files
 abbrev pub told_with : Status → List ℕ → Option LinkedSet → Answer

@@ -1,5 +1,6 @@
 -- The arguments: words, read from left to right.
-use Rattle.std.specs.Prelude.{ℕ, Bool, true, false, not, ◌&&◌, ◌||◌, ◌==◌, nat_eq, nat_lt, is_some, List, [], ◌∷◌, ◌++◌, codes, fold, length, if◌then◌else◌}
+use Rattle.std.specs.Prelude.{ℕ, Bool, true, false, not, ◌&&◌, ◌||◌, ◌==◌, nat_eq, nat_lt, is_some}
+use Rattle.std.specs.Prelude.{List, [], ◌∷◌, ◌++◌, codes, fold, length, if◌then◌else◌}
 use Rattle.std.specs.List.{after_first, before_first, position_or_len}
 use Rattle.std.specs.Option.{option_and_then, option_map}
 use Rattle.std.specs.Str.{bytes_eq}
@@ -8,21 +9,25 @@ use Rattle.std.specs.declared.option.Option.TheVariants.{None, Some}
 use Rattle.plain_data.specs.WholeNumbers.{whole_signed}
 use Rattle.pool_faults.specs.Labels.{non_negative}
 use Rattle.descriptor_check.specs.declared.answer.Compatibility.{Compatibility}
-use Rattle.descriptor_check.specs.declared.answer.Compatibility.TheVariants.{Backward, Forward, Full}
+use Rattle.descriptor_check.specs.declared.answer.Compatibility.TheVariants.{Backward, Forward}
+use Rattle.descriptor_check.specs.declared.answer.Compatibility.TheVariants.{Full}
 use Rattle.descriptor_check.specs.declared.answer.Wanted.{Wanted}
 use Rattle.descriptor_check.specs.declared.arguments.Job.{Job}
 use Rattle.descriptor_check.specs.declared.arguments.Reading.{Reading}
 use Rattle.descriptor_check.specs.declared.arguments.Reading.TheVariants as reading
 use Rattle.descriptor_check.specs.declared.arguments.Request.{Request}
-use Rattle.descriptor_check.specs.declared.arguments.Request.TheVariants.{Check, Help, Version, Wrong}
+use Rattle.descriptor_check.specs.declared.arguments.Request.TheVariants.{Check, Help, Version}
+use Rattle.descriptor_check.specs.declared.arguments.Request.TheVariants.{Wrong}
 use Rattle.descriptor_check.specs.declared.arguments.Valued.{Valued}
 use Rattle.descriptor_check.specs.declared.arguments.Valued.TheVariants as valued
-use Rattle.descriptor_check.specs.declared.arguments.Valued.TheVariants.{MaxFaults, Describe, Linked}
+use Rattle.descriptor_check.specs.declared.arguments.Valued.TheVariants.{MaxFaults, Describe}
+use Rattle.descriptor_check.specs.declared.arguments.Valued.TheVariants.{Linked}
 use Rattle.pool_changes.specs.declared.kinds.Level.{Level}
 use Rattle.pool_changes.specs.declared.kinds.Level.TheVariants as level
 use Rattle.verdict_formats.specs.Formats.{is_for_people}
 use Rattle.verdict_formats.specs.declared.formats.Format.{Format}
-use Rattle.verdict_formats.specs.declared.formats.Format.TheVariants.{Text, Json, GitHub, GitLab, Sarif}
+use Rattle.verdict_formats.specs.declared.formats.Format.TheVariants.{Text, Json, GitHub, GitLab}
+use Rattle.verdict_formats.specs.declared.formats.Format.TheVariants.{Sarif}
 
 -- arguments that ask nothing, and why
 abbrev pub wrong : List ℕ → Request
@@ -233,7 +238,8 @@ compares_nothing job =
 abbrev pub with_files : Job → Request
 with_files job = if length job.files == 0 then Wrong (codes "no file is named")
     else (if asks_too_much job.wanted
-    then Wrong (codes "a format for programs tells the verdict alone: leave out --list and --describe")
+    then Wrong
+    (codes "a format for programs tells the verdict alone: leave out --list and --describe")
     else (if compares_nothing job
     then Wrong (codes "--compatibility and --level are about older versions: give --against")
     else Check job))

@@ -16,7 +16,8 @@ use Rattle.descriptor_check.specs.declared.batches.BatchError.{BatchError}
 use Rattle.descriptor_check.specs.declared.batches.BatchError.TheVariants as error
 
 -- the files of a set that has some
-abbrev pub some_files : List ℕ → List FileDescriptorProto → Result (List FileDescriptorProto) NotASet
+abbrev pub some_files : List ℕ → List FileDescriptorProto
+    → Result (List FileDescriptorProto) NotASet
 some_files name [] = Err (record { name = name; flaw = NoFiles })
 some_files name (f ∷ fs) = Ok (f ∷ fs)
 

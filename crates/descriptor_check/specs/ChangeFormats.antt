@@ -2,14 +2,17 @@
 use Rattle.std.specs.Prelude.{ℕ, List, [], ◌∷◌, ◌++◌}
 use Rattle.std.specs.List.{flat_map}
 use Rattle.pool_changes.specs.ChangeKinds.{level_word, levels}
-use Rattle.pool_changes.specs.Texts.{behind_first, changes_lines, changes_of, compared_entries, untold_changes, with_changes}
+use Rattle.pool_changes.specs.Texts.{behind_first, changes_lines, changes_of, compared_entries}
+use Rattle.pool_changes.specs.Texts.{untold_changes, with_changes}
 use Rattle.pool_changes.specs.Words.{direction_word}
 use Rattle.pool_changes.specs.declared.kinds.Level.{Level}
 use Rattle.pool_changes.specs.declared.told.ToldChanges.{ToldChanges}
 use Rattle.verdict_formats.specs.Annotations.{annotations}
-use Rattle.verdict_formats.specs.Changes.{Marks, quality_changes, quality_of, sarif_changes, sarif_of}
+use Rattle.verdict_formats.specs.Changes.{Marks, quality_changes, quality_of, sarif_changes}
+use Rattle.verdict_formats.specs.Changes.{sarif_of}
 use Rattle.verdict_formats.specs.declared.formats.Format.{Format}
-use Rattle.verdict_formats.specs.declared.formats.Format.TheVariants.{Text, Json, GitHub, GitLab, Sarif}
+use Rattle.verdict_formats.specs.declared.formats.Format.TheVariants.{Text, Json, GitHub, GitLab}
+use Rattle.verdict_formats.specs.declared.formats.Format.TheVariants.{Sarif}
 
 -- the annotations of what a new version changes of an older one
 abbrev pub changes_annotations : ToldChanges → List ℕ

@@ -5,7 +5,8 @@ use Rattle.std.specs.declared.option.Option.TheVariants.{None, Some}
 use Rattle.descriptor_check.specs.declared.guises.Guise.{Guise}
 use Rattle.descriptor_check.specs.declared.guises.Guise.TheVariants.{Gzip, Json, Source}
 
--- what bytes look like that do not begin as gzip does, by the first: a brace, a small letter or a slash
+-- what bytes look like that do not begin as gzip does, by the first: a brace, a small letter or a
+-- slash
 abbrev pub text_guise : ℕ → Option Guise
 text_guise c = if c == 123 then Some Json
     else (if (nat_le 97 c && nat_le c 122) || c == 47 then Some Source else None)

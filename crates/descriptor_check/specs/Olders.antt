@@ -18,7 +18,8 @@ use Rattle.descriptor_check.specs.declared.olders.OlderError.{OlderError}
 use Rattle.descriptor_check.specs.declared.olders.OlderError.TheVariants as error
 use Rattle.descriptor_check.specs.declared.verdicts.Refusal.{Refusal}
 use Rattle.descriptor_check.specs.declared.verdicts.Verdict.{Verdict}
-use Rattle.descriptor_check.specs.declared.verdicts.Verdict.TheVariants.{Accepted, Refused, TooMany, Unequal}
+use Rattle.descriptor_check.specs.declared.verdicts.Verdict.TheVariants.{Accepted, Refused, TooMany}
+use Rattle.descriptor_check.specs.declared.verdicts.Verdict.TheVariants.{Unequal}
 
 -- that an older version is refused, by its name
 abbrev pub refused_words : List ℕ → List ℕ

@@ -14,7 +14,8 @@ use Rattle.descriptor_check.specs.declared.answer.Status.{Status}
 use Rattle.descriptor_check.specs.declared.answer.Status.TheVariants as status
 use Rattle.descriptor_check.specs.declared.arguments.Job.{Job}
 use Rattle.descriptor_check.specs.declared.arguments.Request.{Request}
-use Rattle.descriptor_check.specs.declared.arguments.Request.TheVariants.{Check, Help, Version, Wrong}
+use Rattle.descriptor_check.specs.declared.arguments.Request.TheVariants.{Check, Help, Version}
+use Rattle.descriptor_check.specs.declared.arguments.Request.TheVariants.{Wrong}
 use Rattle.descriptor_check.specs.declared.devices.DeviceError.{DeviceError}
 use Rattle.descriptor_check.specs.declared.devices.DeviceError.TheVariants.{OutOfMemory, Failed}
 use Rattle.descriptor_check.specs.declared.inputs.Input.{Input}

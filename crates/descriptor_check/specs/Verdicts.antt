@@ -15,7 +15,8 @@ use Rattle.descriptor_pool.specs.declared.error.BuildError.TheVariants as build
 use Rattle.proto_types.specs.declared.file.FileDescriptorProto.{FileDescriptorProto}
 use Rattle.descriptor_check.specs.declared.verdicts.Refusal.{Refusal}
 use Rattle.descriptor_check.specs.declared.verdicts.Verdict.{Verdict}
-use Rattle.descriptor_check.specs.declared.verdicts.Verdict.TheVariants.{Accepted, Refused, TooMany, Unequal}
+use Rattle.descriptor_check.specs.declared.verdicts.Verdict.TheVariants.{Accepted, Refused, TooMany}
+use Rattle.descriptor_check.specs.declared.verdicts.Verdict.TheVariants.{Unequal}
 
 -- a batch that breaks rules, by all its faults: so many are kept, and the others counted
 abbrev pub refusal : ℕ → Batch → List DescriptorErrorKind → Refusal

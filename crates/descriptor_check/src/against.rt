@@ -20,8 +20,8 @@ use plain_data::Text;
 use pool_changes::{Comparison, Direction, Level, ToldChanges, tell_changes};
 use std::alloc::{AllocError, Global};
 
-/// The verdict on the files of some inputs as `check` tells it, and behind it what an accepted batch
-/// changes of older versions, the files of each of which are linked alone, and first. Where
+/// The verdict on the files of some inputs as `check` tells it, and behind it what an accepted
+/// batch changes of older versions, the files of each of which are linked alone, and first. Where
 /// something changes, the status is `Refused`, and no set is written. Where an older version is
 /// refused, there is no verdict.
 ///
@@ -213,8 +213,8 @@ fn unless_changed(
     }
 }
 
-/// An answer with what was compared. Where something changes, the status is that of a refused batch,
-/// and no set is written.
+/// An answer with what was compared. Where something changes, the status is that of a refused
+/// batch, and no set is written.
 fn with_told(
     alloc: Global,
     wanted: &Wanted,

@@ -96,8 +96,8 @@ enum Reading {
     Done(Request),
 }
 
-/// What some arguments ask, without the name of the program. Of an option that stands twice the last
-/// counts; each `--describe` adds a name, and each `--against` an older version.
+/// What some arguments ask, without the name of the program. Of an option that stands twice the
+/// last counts; each `--describe` adds a name, and each `--against` an older version.
 ///
 /// # Errors
 /// `AllocError` where memory was refused.

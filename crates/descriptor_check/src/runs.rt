@@ -116,7 +116,8 @@ fn read_input<D: CheckDevices>(
     name: &Text,
 ) -> Result<Input, DeviceError>
     ensures ok { IfOk result (spec.IsInputOf (D.told devices.now).bytes_of name.now) }
-    ensures err { IfErr result (spec.TellsFailure ((D.told devices.now).bytes_of name.now) name.now) }
+    ensures err { IfErr result
+        (spec.TellsFailure ((D.told devices.now).bytes_of name.now) name.now) }
 {
     match devices.read(alloc, name.as_str()) {
         Ok(bytes) => {

@@ -63,7 +63,8 @@ fn strict_in(
     }
 }
 
-/// The verdict on the files of sets, and what `protoc` refuses in them besides, where this is wanted.
+/// The verdict on the files of sets, and what `protoc` refuses in them besides, where this is
+/// wanted.
 pub(crate) fn judge(
     alloc: Global,
     wanted: &Wanted,

@@ -1,12 +1,14 @@
 -- Fields of enums.
 use Rattle.std.specs.Prelude.{ℕ, [], ◌∷◌, Ok}
 use Rattle.descriptor_decoding.specs.Merging.{Merge, within, by_number, row}
-use Rattle.descriptor_decoding.specs.Parts.{int32_merged, messages_merged, text_merged, texts_merged}
+use Rattle.descriptor_decoding.specs.Parts.{int32_merged, messages_merged, text_merged}
+use Rattle.descriptor_decoding.specs.Parts.{texts_merged}
 use Rattle.proto_types.specs.Enumeration.{no_enum_range, no_value}
 use Rattle.proto_types.specs.declared.records.enumeration.EnumValueDescriptorProto.{EnumValueDescriptorProto}
 use Rattle.proto_types.specs.declared.records.enumeration.EnumReservedRange.{EnumReservedRange}
 use Rattle.proto_types.specs.declared.records.enumeration.EnumDescriptorProto.{EnumDescriptorProto}
-use Rattle.descriptor_decoding.specs.Options.{options_merged, no_enum_options, enum_options_merged, unread, unread_merged}
+use Rattle.descriptor_decoding.specs.Options.{options_merged, no_enum_options, enum_options_merged}
+use Rattle.descriptor_decoding.specs.Options.{unread, unread_merged}
 
 -- what a field makes of a value of an enum
 unfoldable pub value_merged : ℕ → Merge EnumValueDescriptorProto

@@ -3,7 +3,8 @@ use Rattle.std.specs.Prelude.{ℕ, [], ◌∷◌, Ok}
 use Rattle.descriptor_decoding.specs.Merging.{Merge, within, by_number, row}
 use Rattle.descriptor_decoding.specs.Parts.{bool_merged, int32_merged, text_merged}
 use Rattle.proto_types.specs.declared.records.field.FieldDescriptorProto.{FieldDescriptorProto}
-use Rattle.descriptor_decoding.specs.Options.{options_merged, no_field_options, field_options_merged}
+use Rattle.descriptor_decoding.specs.Options.{options_merged, no_field_options}
+use Rattle.descriptor_decoding.specs.Options.{field_options_merged}
 
 -- what a field makes of a field
 unfoldable pub field_merged : ℕ → Merge FieldDescriptorProto

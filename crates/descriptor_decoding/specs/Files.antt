@@ -1,7 +1,8 @@
 -- Fields of files.
 use Rattle.std.specs.Prelude.{ℕ, [], ◌∷◌}
 use Rattle.descriptor_decoding.specs.Merging.{Merge, within, by_number, row}
-use Rattle.descriptor_decoding.specs.Parts.{int32s_merged, message_merged, messages_merged, text_merged, texts_merged}
+use Rattle.descriptor_decoding.specs.Parts.{int32s_merged, message_merged, messages_merged}
+use Rattle.descriptor_decoding.specs.Parts.{text_merged, texts_merged}
 use Rattle.proto_types.specs.Source.{no_source}
 use Rattle.proto_types.specs.Service.{no_service}
 use Rattle.proto_types.specs.Enumeration.{no_enum}

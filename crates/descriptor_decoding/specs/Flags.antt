@@ -1,5 +1,6 @@
 -- Truth values that options have in their bytes alone.
-use Rattle.std.specs.Prelude.{ℕ, Bool, false, List, [], ◌∷◌, length, Option, None, Some, Result, Ok, unwrap_or}
+use Rattle.std.specs.Prelude.{ℕ, Bool, false, List, [], ◌∷◌, length, Option, None, Some, Result, Ok}
+use Rattle.std.specs.Prelude.{unwrap_or}
 use Rattle.wire_format.specs.declared.fault.WireFault.{WireFault}
 use Rattle.wire_format.specs.Reading.{◌>>=◌}
 use Rattle.proto_types.specs.declared.records.options.Options.{Options}

@@ -1,5 +1,6 @@
 -- A message is what its fields make of an empty one, one after the other.
-use Rattle.std.specs.Prelude.{◌≡◌, ℕ, zero, suc, List, [], ◌∷◌, Option, None, Some, Result, Ok, Err, ◌==◌, if◌then◌else◌}
+use Rattle.std.specs.Prelude.{◌≡◌, ℕ, zero, suc, List, [], ◌∷◌, Option, None, Some, Result, Ok, Err}
+use Rattle.std.specs.Prelude.{◌==◌, if◌then◌else◌}
 use Rattle.wire_format.specs.declared.fault.WireFault.{WireFault}
 use Rattle.descriptor_decoding.specs.declared.error.DecodeError.{DecodeError}
 use Rattle.descriptor_decoding.specs.declared.error.DecodeError.TheVariants as error

@@ -1,14 +1,16 @@
 -- Fields of messages.
 use Rattle.std.specs.Prelude.{ℕ, [], ◌∷◌, Ok, zero, suc, Option, None, Some}
 use Rattle.descriptor_decoding.specs.Merging.{Merge, Reader, merged_from, within, by_number, row}
-use Rattle.descriptor_decoding.specs.Parts.{int32_merged, messages_merged, text_merged, texts_merged}
+use Rattle.descriptor_decoding.specs.Parts.{int32_merged, messages_merged, text_merged}
+use Rattle.descriptor_decoding.specs.Parts.{texts_merged}
 use Rattle.proto_types.specs.Enumeration.{no_enum}
 use Rattle.proto_types.specs.Field.{no_field}
 use Rattle.proto_types.specs.Message.{no_extension_range, no_message, no_oneof, no_reserved_range}
 use Rattle.proto_types.specs.declared.message.OneofDescriptorProto.{OneofDescriptorProto}
 use Rattle.proto_types.specs.declared.message.ExtensionRange.{ExtensionRange}
 use Rattle.proto_types.specs.declared.message.ReservedRange.{ReservedRange}
-use Rattle.proto_types.specs.declared.message.DescriptorProto.{DescriptorProto, out-DescriptorProto, roll-DescriptorProto}
+use Rattle.proto_types.specs.declared.message.DescriptorProto.{DescriptorProto, out-DescriptorProto}
+use Rattle.proto_types.specs.declared.message.DescriptorProto.{roll-DescriptorProto}
 use Rattle.descriptor_decoding.specs.Options.{options_merged, unread, unread_merged}
 use Rattle.descriptor_decoding.specs.Enums.{enum_merged}
 use Rattle.descriptor_decoding.specs.Fields.{field_merged}

@@ -1,7 +1,8 @@
 -- Fields of sources.
 use Rattle.std.specs.Prelude.{ℕ, [], ◌∷◌}
 use Rattle.descriptor_decoding.specs.Merging.{Merge, within, by_number, row}
-use Rattle.descriptor_decoding.specs.Parts.{int32s_merged, messages_merged, text_merged, texts_merged}
+use Rattle.descriptor_decoding.specs.Parts.{int32s_merged, messages_merged, text_merged}
+use Rattle.descriptor_decoding.specs.Parts.{texts_merged}
 use Rattle.proto_types.specs.Source.{no_location}
 use Rattle.proto_types.specs.declared.records.source.Location.{Location}
 use Rattle.proto_types.specs.declared.records.source.SourceCodeInfo.{SourceCodeInfo}

@@ -2,8 +2,11 @@ ghost use Rattle.std.specs.Prelude.{◌≡◌};
 ghost use Rattle.wire_format.specs.Tokens.{value_seen, Len};
 ghost use Rattle.descriptor_decoding.specs.Merging.{merged_from, within, Leaves};
 ghost use Rattle.descriptor_decoding.specs.Parts.{inner_merged, messages_merged};
-ghost use Rattle.proto_types.specs.Message.{no_oneof, no_extension_range, no_reserved_range, no_message};
-ghost use Rattle.descriptor_decoding.specs.Messages.{oneof_merged, extension_range_merged, reserved_range_merged, message_merged_at, message_at};
+ghost use Rattle.proto_types.specs.Message.{no_oneof, no_extension_range, no_reserved_range};
+ghost use Rattle.proto_types.specs.Message.{no_message};
+ghost use Rattle.descriptor_decoding.specs.Messages.{oneof_merged, extension_range_merged};
+ghost use Rattle.descriptor_decoding.specs.Messages.{reserved_range_merged, message_merged_at};
+ghost use Rattle.descriptor_decoding.specs.Messages.{message_at};
 
 use crate::context::Context;
 use crate::error::DecodeError;

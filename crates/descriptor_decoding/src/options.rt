@@ -1,7 +1,9 @@
 ghost use Rattle.std.specs.Prelude.{◌≡◌};
 ghost use Rattle.wire_format.specs.Tokens.{value_seen, Len};
 ghost use Rattle.descriptor_decoding.specs.Merging.{within, Leaves};
-ghost use Rattle.descriptor_decoding.specs.Options.{given, options_merged, no_field_options, no_enum_options, unread, field_options_merged, enum_options_merged, unread_merged};
+ghost use Rattle.descriptor_decoding.specs.Options.{given, options_merged, no_field_options};
+ghost use Rattle.descriptor_decoding.specs.Options.{no_enum_options, unread, field_options_merged};
+ghost use Rattle.descriptor_decoding.specs.Options.{enum_options_merged, unread_merged};
 
 use crate::context::Context;
 use crate::error::DecodeError;

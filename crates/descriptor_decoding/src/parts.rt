@@ -1,7 +1,10 @@
 ghost use Rattle.std.specs.Prelude.{◌≡◌, unwrap_or};
 ghost use Rattle.wire_format.specs.Tokens.{value_seen, Len};
 ghost use Rattle.descriptor_decoding.specs.Merging.{within, Leaves, Gives};
-ghost use Rattle.descriptor_decoding.specs.Parts.{int32, int32_merged, bool_merged, text_of, text_merged, texts_merged, packed_merged, int32s_merged, inner_merged, message_merged, messages_merged};
+ghost use Rattle.descriptor_decoding.specs.Parts.{int32, int32_merged, bool_merged, text_of};
+ghost use Rattle.descriptor_decoding.specs.Parts.{text_merged, texts_merged, packed_merged};
+ghost use Rattle.descriptor_decoding.specs.Parts.{int32s_merged, inner_merged, message_merged};
+ghost use Rattle.descriptor_decoding.specs.Parts.{messages_merged};
 
 use crate::context::Context;
 use crate::error::DecodeError;

@@ -4,7 +4,8 @@ use Rattle.wire_format.specs.Encoding.{Numbered}
 use Rattle.proto_types.specs.declared.records.enumeration.EnumDescriptorProto.{EnumDescriptorProto}
 use Rattle.proto_types.specs.declared.records.enumeration.EnumReservedRange.{EnumReservedRange}
 use Rattle.proto_types.specs.declared.records.enumeration.EnumValueDescriptorProto.{EnumValueDescriptorProto}
-use Rattle.descriptor_encoding.specs.Parts.{int32_listed, text_listed, options_listed, texts_listed, messages_listed}
+use Rattle.descriptor_encoding.specs.Parts.{int32_listed, text_listed, options_listed, texts_listed}
+use Rattle.descriptor_encoding.specs.Parts.{messages_listed}
 
 -- the fields that a value of an enum is encoded as
 abbrev pub value_listed : EnumValueDescriptorProto → List Numbered

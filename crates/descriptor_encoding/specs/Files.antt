@@ -3,7 +3,8 @@ use Rattle.std.specs.Prelude.{List, ◌++◌, map}
 use Rattle.wire_format.specs.Encoding.{Numbered}
 use Rattle.proto_types.specs.declared.file.FileDescriptorSet.{FileDescriptorSet}
 use Rattle.proto_types.specs.declared.file.FileDescriptorProto.{FileDescriptorProto}
-use Rattle.descriptor_encoding.specs.Parts.{text_listed, options_listed, texts_listed, int32s_listed, message_listed, messages_listed}
+use Rattle.descriptor_encoding.specs.Parts.{text_listed, options_listed, texts_listed}
+use Rattle.descriptor_encoding.specs.Parts.{int32s_listed, message_listed, messages_listed}
 use Rattle.descriptor_encoding.specs.Enums.{enum_listed}
 use Rattle.descriptor_encoding.specs.Fields.{field_listed}
 use Rattle.descriptor_encoding.specs.Messages.{descriptor_listed}

@@ -7,7 +7,8 @@ use Rattle.proto_types.specs.declared.message.DescriptorProto.TheFolds.{fold-Des
 use Rattle.proto_types.specs.declared.message.ExtensionRange.{ExtensionRange}
 use Rattle.proto_types.specs.declared.message.ReservedRange.{ReservedRange}
 use Rattle.proto_types.specs.declared.message.OneofDescriptorProto.{OneofDescriptorProto}
-use Rattle.descriptor_encoding.specs.Parts.{int32_listed, text_listed, options_listed, texts_listed, messages_listed}
+use Rattle.descriptor_encoding.specs.Parts.{int32_listed, text_listed, options_listed, texts_listed}
+use Rattle.descriptor_encoding.specs.Parts.{messages_listed}
 use Rattle.descriptor_encoding.specs.Enums.{enum_listed}
 use Rattle.descriptor_encoding.specs.Fields.{field_listed}
 

@@ -3,7 +3,8 @@ use Rattle.std.specs.Prelude.{List, ◌++◌, map}
 use Rattle.wire_format.specs.Encoding.{Numbered}
 use Rattle.proto_types.specs.declared.records.service.ServiceDescriptorProto.{ServiceDescriptorProto}
 use Rattle.proto_types.specs.declared.records.service.MethodDescriptorProto.{MethodDescriptorProto}
-use Rattle.descriptor_encoding.specs.Parts.{bool_listed, text_listed, options_listed, messages_listed}
+use Rattle.descriptor_encoding.specs.Parts.{bool_listed, text_listed, options_listed}
+use Rattle.descriptor_encoding.specs.Parts.{messages_listed}
 
 -- the fields that a method is encoded as
 abbrev pub method_listed : MethodDescriptorProto → List Numbered

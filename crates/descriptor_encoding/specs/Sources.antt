@@ -3,7 +3,8 @@ use Rattle.std.specs.Prelude.{List, ◌++◌, map}
 use Rattle.wire_format.specs.Encoding.{Numbered}
 use Rattle.proto_types.specs.declared.records.source.SourceCodeInfo.{SourceCodeInfo}
 use Rattle.proto_types.specs.declared.records.source.Location.{Location}
-use Rattle.descriptor_encoding.specs.Parts.{text_listed, texts_listed, packed_listed, messages_listed}
+use Rattle.descriptor_encoding.specs.Parts.{text_listed, texts_listed, packed_listed}
+use Rattle.descriptor_encoding.specs.Parts.{messages_listed}
 
 -- the fields that a location is encoded as
 abbrev pub location_listed : Location → List Numbered

@@ -1,7 +1,8 @@
 ghost use Rattle.std.specs.Prelude.{◌≡◌, ◌++◌, map};
 ghost use Rattle.descriptor_encoding.specs.Wire.{Puts};
 ghost use Rattle.descriptor_encoding.specs.Parts.{messages_listed};
-ghost use Rattle.descriptor_encoding.specs.Messages.{descriptor_listed, oneof_listed, extension_range_listed, reserved_range_listed};
+ghost use Rattle.descriptor_encoding.specs.Messages.{descriptor_listed, oneof_listed};
+ghost use Rattle.descriptor_encoding.specs.Messages.{extension_range_listed, reserved_range_listed};
 
 use crate::front::FrontBuffer;
 use crate::parts::{Encode, put_int32, put_messages, put_options, put_text, put_texts};

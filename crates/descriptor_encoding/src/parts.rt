@@ -2,7 +2,10 @@ ghost use Rattle.std.specs.Prelude.{◌≡◌, ◌<◌, ◌^◌, List, [], ◌�
 ghost use Rattle.wire_format.specs.Encoding.{Numbered, encoding};
 ghost use Rattle.descriptor_encoding.specs.Fronts.{in_front};
 ghost use Rattle.descriptor_encoding.specs.Wire.{bytes_field, Puts};
-ghost use Rattle.descriptor_encoding.specs.Parts.{bits, int32_listed, bool_listed, text_listed, options_listed, texts_listed, int32s_listed, packed, packed_listed, message_listed, messages_listed};
+ghost use Rattle.descriptor_encoding.specs.Parts.{bits, int32_listed, bool_listed, text_listed};
+ghost use Rattle.descriptor_encoding.specs.Parts.{options_listed, texts_listed, int32s_listed};
+ghost use Rattle.descriptor_encoding.specs.Parts.{packed, packed_listed, message_listed};
+ghost use Rattle.descriptor_encoding.specs.Parts.{messages_listed};
 
 use crate::front::FrontBuffer;
 use crate::wire::{put_bytes_field, put_length, put_number_field, put_varint};

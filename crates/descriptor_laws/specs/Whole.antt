@@ -22,7 +22,9 @@ use Rattle.proto_types.specs.declared.records.service.MethodDescriptorProto.{Met
 use Rattle.proto_types.specs.declared.records.source.SourceCodeInfo.{SourceCodeInfo}
 use Rattle.proto_types.specs.declared.records.source.Location.{Location}
 use Rattle.descriptor_decoding.specs.Merging.{Merge, merged_from}
-use Rattle.descriptor_decoding.specs.Options.{no_field_options, no_enum_options, unread, field_options_merged, enum_options_merged, unread_merged}
+use Rattle.descriptor_decoding.specs.Options.{no_field_options, no_enum_options, unread}
+use Rattle.descriptor_decoding.specs.Options.{field_options_merged, enum_options_merged}
+use Rattle.descriptor_decoding.specs.Options.{unread_merged}
 
 -- a number has 32 bits
 abbrev pub IsInt32 : ℤ → Type 0

@@ -1,5 +1,5 @@
-//! The linker of file descriptors: the pool, its laws, scripts, and the run of a script over devices.
-//! Every record, item and index that these name is handed on.
+//! The linker of file descriptors: the pool, its laws, scripts, and the run of a script over
+//! devices. Every record, item and index that these name is handed on.
 //!
 //! # Example
 //!

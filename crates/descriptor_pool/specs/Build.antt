@@ -12,7 +12,8 @@ use Rattle.record_walk.specs.Declarations.{declarations}
 use Rattle.record_walk.specs.Shown.{Shown}
 use Rattle.reference_pass.specs.SecondPass.{Faults, second_pass}
 use Rattle.plain_data.specs.Each.{map_enumerated}
-use Rattle.reference_pass.specs.Items.{file_items, message_items, enum_items, service_items, extension_items}
+use Rattle.reference_pass.specs.Items.{file_items, message_items, enum_items, service_items}
+use Rattle.reference_pass.specs.Items.{extension_items}
 use Rattle.reference_pass.specs.Setting.{Setting}
 use Rattle.name_pass.specs.Names.{entries, file_entries}
 use Rattle.pool_contents.specs.Extended.{with_extended}

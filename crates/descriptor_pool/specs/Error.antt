@@ -5,7 +5,8 @@ use Rattle.std.specs.declared.result.Result.{Result}
 use Rattle.record_walk.specs.Telling.{first_of, rest_of}
 use Rattle.reference_pass.specs.SecondPass.{Faults}
 use Rattle.descriptor_pool.specs.declared.error.BuildError.{BuildError}
-use Rattle.descriptor_pool.specs.declared.error.BuildError.TheVariants.{TooMany, Descriptor, OutOfMemory}
+use Rattle.descriptor_pool.specs.declared.error.BuildError.TheVariants.{TooMany, Descriptor}
+use Rattle.descriptor_pool.specs.declared.error.BuildError.TheVariants.{OutOfMemory}
 
 -- an error tells faults, and how many more there are, unless memory was refused
 abbrev pub TellsFirst : BuildError → Faults → ℕ → Type 0

@@ -6,7 +6,8 @@ use Rattle.record_walk.specs.declared.counts.CountKind.{CountKind}
 use Rattle.pool_types.specs.Contents.{Contents}
 use Rattle.pool_faults.specs.declared.error.DescriptorError.{DescriptorError}
 use Rattle.descriptor_pool.specs.declared.error.BuildError.{BuildError}
-use Rattle.descriptor_pool.specs.declared.error.BuildError.TheVariants.{TooMany, Descriptor, OutOfMemory}
+use Rattle.descriptor_pool.specs.declared.error.BuildError.TheVariants.{TooMany, Descriptor}
+use Rattle.descriptor_pool.specs.declared.error.BuildError.TheVariants.{OutOfMemory}
 use Rattle.descriptor_pool.specs.Pool.{Batch, faults, counts_after, Accepts, Fits, link}
 
 -- the batch fits and breaks no rule, and the pool is the one that the definitions give

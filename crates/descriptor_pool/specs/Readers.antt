@@ -14,11 +14,13 @@ use Rattle.pool_types.specs.declared.indexes.OneofDescriptor.{OneofDescriptor}
 
 -- the field at a position of the message with an index
 abbrev pub field_at : Contents → FieldDescriptor → Option FieldDescriptorInner
-field_at p d = option_and_then (λ m. slice_get m.fields d.index) (slice_get p.messages d.parent.index)
+field_at p d =
+    option_and_then (λ m. slice_get m.fields d.index) (slice_get p.messages d.parent.index)
 
 -- the oneof at a position of the message with an index
 abbrev pub oneof_at : Contents → OneofDescriptor → Option OneofDescriptorInner
-oneof_at p d = option_and_then (λ m. slice_get m.oneofs d.index) (slice_get p.messages d.parent.index)
+oneof_at p d =
+    option_and_then (λ m. slice_get m.oneofs d.index) (slice_get p.messages d.parent.index)
 
 -- the value at a position of the enum with an index
 abbrev pub value_at : Contents → EnumValueDescriptor → Option EnumValueDescriptorInner
@@ -26,4 +28,5 @@ value_at p d = option_and_then (λ e. slice_get e.values d.index) (slice_get p.e
 
 -- the method at a position of the service with an index
 abbrev pub method_at : Contents → MethodDescriptor → Option MethodDescriptorInner
-method_at p d = option_and_then (λ s. slice_get s.methods d.index) (slice_get p.services d.parent.index)
+method_at p d =
+    option_and_then (λ s. slice_get s.methods d.index) (slice_get p.services d.parent.index)

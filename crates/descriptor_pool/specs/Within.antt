@@ -7,7 +7,8 @@ use Rattle.pool_types.specs.Contents.{Contents}
 use Rattle.pool_faults.specs.declared.error.DescriptorError.{DescriptorError}
 use Rattle.record_walk.specs.Telling.{first_of, rest_of}
 use Rattle.descriptor_pool.specs.declared.error.BuildError.{BuildError}
-use Rattle.descriptor_pool.specs.declared.error.BuildError.TheVariants.{TooMany, Descriptor, OutOfMemory}
+use Rattle.descriptor_pool.specs.declared.error.BuildError.TheVariants.{TooMany, Descriptor}
+use Rattle.descriptor_pool.specs.declared.error.BuildError.TheVariants.{OutOfMemory}
 use Rattle.descriptor_pool.specs.Outcome.{IsLinked, IsOutOfMemory, IsTooMany}
 use Rattle.descriptor_pool.specs.Pool.{Batch, faults, Fits}
 

@@ -1,6 +1,7 @@
 //! How a batch is linked: the two passes over its declarations, and the roll-back.
 
-ghost use Rattle.std.specs.Prelude.{◌≡◌, ◌≤◌, ◌++◌, [], IsTrue, IsOk, IfOk, IfErr, OnOk, OnErr, length, map, drop};
+ghost use Rattle.std.specs.Prelude.{◌≡◌, ◌≤◌, ◌++◌, [], IsTrue, IsOk, IfOk, IfErr, OnOk, OnErr};
+ghost use Rattle.std.specs.Prelude.{length, map, drop};
 ghost use Rattle.std.specs.List.{AllByRecursion, fold};
 ghost use Rattle.pool_types.specs.Contents.{files_of};
 ghost use Rattle.record_walk.specs.Counts.{counts_in};
@@ -14,7 +15,8 @@ ghost use Rattle.descriptor_pool.specs.Build.{batch_faults, with_batch, with_ite
 ghost use Rattle.pool_contents.specs.Extended.{with_extended};
 ghost use Rattle.pool_types.specs.Extension.{NumbersLead};
 ghost use Rattle.name_pass.specs.FirstPass.{first_pass};
-ghost use Rattle.pool_contents.specs.Growing.{before_items, first_extension, rolled_back, new_records, records_from};
+ghost use Rattle.pool_contents.specs.Growing.{before_items, first_extension, rolled_back};
+ghost use Rattle.pool_contents.specs.Growing.{new_records, records_from};
 ghost use Rattle.name_tables.specs.NameTables.{file_names_before, without_files_from};
 ghost use Rattle.name_pass.specs.Steps.{name_step, state_at};
 ghost use Rattle.descriptor_pool.specs.Items.{HasImports, HasItems, LinksNew, with_new_items};

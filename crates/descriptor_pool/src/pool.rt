@@ -45,14 +45,16 @@ impl DescriptorPool {
     ghost use Rattle.pool_types.specs.Contents.{no_contents, files_of};
     ghost use Rattle.record_walk.specs.Counts.{counts_in, no_counts};
     ghost use Rattle.record_walk.specs.Fits.{counts_with};
-    ghost use Rattle.descriptor_pool.specs.Extensions.{ExtendeesLieIn, ListsAreWhole, NumbersAreUnique};
+    ghost use Rattle.descriptor_pool.specs.Extensions.{ExtendeesLieIn, ListsAreWhole};
+    ghost use Rattle.descriptor_pool.specs.Extensions.{NumbersAreUnique};
     ghost use Rattle.pool_types.specs.Extension.{extension_numbered};
     ghost use Rattle.descriptor_pool.specs.FullNames.{FullNamesMean};
     ghost use Rattle.descriptor_pool.specs.Invariant.{IsPool};
     ghost use Rattle.descriptor_pool.specs.Maps.{MapsLead, ValuesLead};
     ghost use Rattle.pool_contents.specs.LookUps.{definition_named};
     ghost use Rattle.field_rules.specs.NamesBegin.{EnumNamesBegin};
-    ghost use Rattle.reference_pass.specs.NamesBegin.{ExtensionNameBegins, MessageNamesBegin, ServiceNamesBegin};
+    ghost use Rattle.reference_pass.specs.NamesBegin.{ExtensionNameBegins, MessageNamesBegin};
+    ghost use Rattle.reference_pass.specs.NamesBegin.{ServiceNamesBegin};
     ghost use Rattle.descriptor_pool.specs.GivenBack.{GivesBack};
     ghost use Rattle.descriptor_pool.specs.Outcome.{Outcome};
     ghost use Rattle.descriptor_pool.specs.Pool.{new_files};
@@ -84,8 +86,8 @@ impl DescriptorPool {
         })
     }
 
-    /// What the pool has under a full name, which may have one leading dot. Under that of a message or
-    /// of an enum of the pool it has this one, so no two of these have one full name.
+    /// What the pool has under a full name, which may have one leading dot. Under that of a message
+    /// or of an enum of the pool it has this one, so no two of these have one full name.
     #[tactic(auto, using(crate::proofs::Apart::full_names_mean))]
     pub fn get_by_name(&self, name: &str) -> Option<&Definition>
         ensures found { option_copied result ≡ definition_named self.now name.now }
@@ -111,8 +113,8 @@ impl DescriptorPool {
 
     /// The message with an index, or none past the end. Its name, and that of each of its fields
     /// and oneofs, begins in the full name where a character begins. It lists the indexes of all
-    /// extensions of the pool that extend it, in rising order. Its maps lead from a number, a name and
-    /// a given JSON name to the one field that has it, and its oneofs list the fields in them.
+    /// extensions of the pool that extend it, in rising order. Its maps lead from a number, a name
+    /// and a given JSON name to the one field that has it, and its oneofs list the fields in them.
     #[tactic(auto, using(crate::proofs::Extendees::lists_are_whole))]
     pub fn message(&self, message: MessageDescriptor) -> Option<&MessageDescriptorInner>
         ensures item { option_copied result ≡ slice_get self.now.messages message.index }
@@ -125,8 +127,8 @@ impl DescriptorPool {
 
     /// The enum with an index, or none past the end. Its name, and that of each of its values,
     /// begins in the full name where a character begins. Its map leads from a name to the one value
-    /// that has it, its table has the number of each value, and without aliases no two values have one
-    /// number.
+    /// that has it, its table has the number of each value, and without aliases no two values have
+    /// one number.
     pub fn enum_(&self, enumeration: EnumDescriptor) -> Option<&EnumDescriptorInner>
         ensures item { option_copied result ≡ slice_get self.now.enums enumeration.index }
         ensures names { IfSome result (λ e. EnumNamesBegin e.now) }
@@ -148,8 +150,8 @@ impl DescriptorPool {
 
     /// The extension of a message that has a number, which is the field number that its item has.
     /// There is none where no extension of the pool extends the message with that number, or where
-    /// the index of the message is past the end. No two extensions of a message have one number: that
-    /// is a rule of this linker.
+    /// the index of the message is past the end. No two extensions of a message have one number:
+    /// that is a rule of this linker.
     #[tactic(auto, using(crate::proofs::Extendees::numbers_are_unique))]
     pub fn get_extension(
         &self,
@@ -229,8 +231,8 @@ impl DescriptorPool {
     ///
     /// # Errors
     /// `TooMany` with the first kind, in the order of `CountKind`, of which the new files alone or
-    /// together with the pool have too much, told before any pass; `Descriptor` with all faults of the
-    /// first failing pass, in order; `OutOfMemory` where memory was refused.
+    /// together with the pool have too much, told before any pass; `Descriptor` with all faults of
+    /// the first failing pass, in order; `OutOfMemory` where memory was refused.
     pub fn build_files(&mut self, mut files: Vec<FileDescriptorProto>) -> Result<(), BuildError>
         ensures outcome { Outcome self.old files.items result self.new }
         ensures nothing_new { new_files self.old files.items ≡ [] → IsOk result }

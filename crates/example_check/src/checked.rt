@@ -13,14 +13,15 @@ use std::io;
 use stored_pools::{linked_is_loaded, load};
 use verdict_formats::Format;
 
-/// The file `a.proto` of the package `a`, with a message `M`, whose field `m` has the type name `M`.
+/// The file `a.proto` of the package `a`, with a message `M`, whose field `m` has the type name
+/// `M`.
 const SET: &[u8] = b"\x0a\x1d\x0a\x07a.proto\x12\x01a\
     \x22\x0f\x0a\x01M\x12\x0a\x0a\x01m\x18\x01\x20\x01\x32\x01M";
 
-/// The set of the linked files that a check answers makes the pool with which the check accepts: its
-/// bytes are read as files that, linked at once from nothing, break no rule, are not too many, and
-/// make an equal pool. An answer that accepts has a set where one is wanted. The call does nothing:
-/// its contract is the law.
+/// The set of the linked files that a check answers makes the pool with which the check accepts:
+/// its bytes are read as files that, linked at once from nothing, break no rule, are not too many,
+/// and make an equal pool. An answer that accepts has a set where one is wanted. The call does
+/// nothing: its contract is the law.
 pub fn checked_is_loaded(wanted: &Wanted, inputs: &[Input], answer: &Answer)
     ensures { CheckedIsLoaded wanted.now inputs.now answer.now }
 {

@@ -1,5 +1,5 @@
-//! An example: a descriptor set is checked, and the pool with which the check accepts is loaded from
-//! the set of its linked files.
+//! An example: a descriptor set is checked, and the pool with which the check accepts is loaded
+//! from the set of its linked files.
 #![tactic(auto)]
 
 mod checked;

@@ -4,7 +4,8 @@ use Rattle.std.specs.Prelude.{Bool, true, false, not, ◌&&◌, ◌||◌, is_som
 use Rattle.std.specs.Option.{option_and_then}
 use Rattle.std.specs.declared.option.Option.{Option}
 use Rattle.proto_types.specs.declared.records.field.FieldDescriptorProto.{FieldDescriptorProto}
-use Rattle.proto_types.specs.declared.records.field.FieldLabel.TheVariants.{Optional, Required, Repeated}
+use Rattle.proto_types.specs.declared.records.field.FieldLabel.TheVariants.{Optional, Required}
+use Rattle.proto_types.specs.declared.records.field.FieldLabel.TheVariants.{Repeated}
 use Rattle.proto_types.specs.declared.records.options.FieldOptions.{FieldOptions}
 use Rattle.proto_types.specs.declared.records.options.Options.{Options}
 use Rattle.proto_types.specs.Readers.{flag_of, label_of}

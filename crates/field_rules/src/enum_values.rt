@@ -1,4 +1,5 @@
-ghost use Rattle.std.specs.Prelude.{◌≡◌, ◌⊎◌, ◌<◌, ◌^◌, ℤ, Some, true, IsTrue, IfOk, IfSome, OnOk, unwrap_or, if◌then◌else◌};
+ghost use Rattle.std.specs.Prelude.{◌≡◌, ◌⊎◌, ◌<◌, ◌^◌, ℤ, Some, true, IsTrue, IfOk, IfSome, OnOk};
+ghost use Rattle.std.specs.Prelude.{unwrap_or, if◌then◌else◌};
 ghost use Rattle.std.specs.BTreeMap.{get};
 ghost use Rattle.std.specs.Option.{option_map};
 ghost use Rattle.std.specs.Ordering.{int_cmp, int_eq};

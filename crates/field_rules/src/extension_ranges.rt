@@ -91,7 +91,8 @@ fn check_not_in_ranges(
     requires there { IfSome holder (λ found. found
         < length (out-DescriptorProto owner.message.now).extension_range) }
     ensures { OnOk result (Tells faults.old faults.new
-        (extension_range_faults (named_files faults.old) place.entry.file place.entry.path.now number
+        (extension_range_faults (named_files faults.old) place.entry.file place.entry.path.now
+        number
         (inside_of owner.entry.place)
         (out-DescriptorProto owner.entry.message.now).extension_range)) }
 {
@@ -116,7 +117,8 @@ fn extension_range_fault(
 ) -> Result<DescriptorErrorKind, AllocError>
     requires { entry.0 < 2 ^ 31 }
     ensures fault { IfOk result (λ fault. fault
-        ≡ extension_range_fault (named_files faults.old) place.entry.file place.entry.path.now number
+        ≡ extension_range_fault (named_files faults.old) place.entry.file place.entry.path.now
+        number
         (inside_of owner.entry) (entry.entry.0, entry.entry.1.now)) }
     ensures stays { faults.new ≡ faults.old }
 {

@@ -1,6 +1,7 @@
 ghost use Rattle.std.specs.Prelude.{◌≡◌, ◌<◌, ◌^◌, ◌∷◌, [], true, OnOk};
 ghost use Rattle.pool_faults.specs.Labels.{entry_label, part_label};
-ghost use Rattle.pool_faults.specs.declared.fault.DescriptorErrorKind.TheVariants.{FieldNumberInReservedRange, InvalidFieldNumber};
+ghost use Rattle.pool_faults.specs.declared.fault.DescriptorErrorKind.TheVariants.{FieldNumberInReservedRange};
+ghost use Rattle.pool_faults.specs.declared.fault.DescriptorErrorKind.TheVariants.{InvalidFieldNumber};
 ghost use Rattle.proto_types.specs.declared.tag.field.TheConstants.{NUMBER};
 ghost use Rattle.proto_types.specs.declared.tag.message.TheConstants.{RESERVED_RANGE};
 ghost use Rattle.proto_types.specs.Readers.{number_of};

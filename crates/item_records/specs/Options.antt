@@ -9,7 +9,8 @@ use Rattle.pool_types.specs.declared.contents.definition.DefinitionKind.{Definit
 use Rattle.pool_types.specs.declared.contents.definition.DefinitionKind.TheVariants as kind
 use Rattle.pool_types.specs.declared.contents.definition.Identity.{Identity}
 use Rattle.pool_types.specs.declared.contents.file.FileDescriptorInner.{FileDescriptorInner}
-use Rattle.item_records.specs.Records.{enum_record, field_record, message_record, method_record, oneof_record, service_record, value_record}
+use Rattle.item_records.specs.Records.{enum_record, field_record, message_record, method_record}
+use Rattle.item_records.specs.Records.{oneof_record, service_record, value_record}
 
 -- the bytes of options; where there are none, no bytes
 abbrev pub encoded : {T : Type 0} → Option (Options T) → List ℕ

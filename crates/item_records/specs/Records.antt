@@ -16,7 +16,8 @@ use Rattle.proto_types.specs.declared.records.service.ServiceDescriptorProto.{Se
 use Rattle.pool_types.specs.declared.contents.definition.Identity.{Identity}
 use Rattle.pool_types.specs.declared.contents.file.FileDescriptorInner.{FileDescriptorInner}
 use Rattle.record_walk.specs.Leads.{leads}
-use Rattle.record_walk.specs.Protos.{Proto, as_enum, as_extension, as_field, as_message, as_method, as_oneof, as_service, as_value}
+use Rattle.record_walk.specs.Protos.{Proto, as_enum, as_extension, as_field, as_message, as_method}
+use Rattle.record_walk.specs.Protos.{as_oneof, as_service, as_value}
 use Rattle.item_records.specs.declared.records.EnumParts.{EnumParts}
 use Rattle.item_records.specs.declared.records.FieldParts.{FieldParts}
 use Rattle.item_records.specs.declared.records.MessageParts.{MessageParts}

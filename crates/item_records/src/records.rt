@@ -232,8 +232,8 @@ pub fn method_parts(files: &[FileDescriptorInner], id: &Identity) -> MethodParts
     }
 }
 
-/// Whether the record of a value of an enum of a pool says that it is deprecated, by the identity of
-/// the value.
+/// Whether the record of a value of an enum of a pool says that it is deprecated, by the identity
+/// of the value.
 pub fn is_value_deprecated(files: &[FileDescriptorInner], id: &Identity) -> bool
     ensures { result ≡ spec.is_value_deprecated files.now id.now }
 {

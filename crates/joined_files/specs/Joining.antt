@@ -1,6 +1,7 @@
 -- The files of several sets as one batch: files of one name that are equal apart from their places
 -- count once, and of others the first.
-use Rattle.std.specs.Prelude.{◌≡◌, ℕ, Bool, List, [], ◌∷◌, ◌++◌, fold, is_some, map, refl, if◌then◌else◌}
+use Rattle.std.specs.Prelude.{◌≡◌, ℕ, Bool, List, [], ◌∷◌, ◌++◌, fold, is_some, map, refl}
+use Rattle.std.specs.Prelude.{if◌then◌else◌}
 use Rattle.std.specs.Coded.{Coded, code_by, coded_list, coded×}
 use Rattle.std.specs.FinMap as finite
 use Rattle.std.specs.List.{find, position_from}

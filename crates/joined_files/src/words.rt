@@ -3,7 +3,9 @@
 ghost use Rattle.std.specs.Prelude.{◌≡◌, ◌++◌, IfOk, string_bytes};
 ghost use Rattle.std.specs.Option.{option_copied};
 ghost use Rattle.joined_files.specs.Words as spec;
-ghost use Rattle.joined_files.specs.declared.differences.FilePart.TheVariants.{Import, Message, Enum, Service, Extension};
+ghost use Rattle.joined_files.specs.declared.differences.FilePart.TheVariants.{Import, Message};
+ghost use Rattle.joined_files.specs.declared.differences.FilePart.TheVariants.{Enum, Service};
+ghost use Rattle.joined_files.specs.declared.differences.FilePart.TheVariants.{Extension};
 
 use crate::differences::FilePart;
 use plain_data::Items;

@@ -8,7 +8,9 @@ use Rattle.proto_types.specs.Enumeration.{no_enum}
 use Rattle.proto_types.specs.Message.{no_message, no_oneof}
 use Rattle.proto_types.specs.File.{no_file}
 use Rattle.proto_types.specs.declared.file.FileDescriptorProto.{FileDescriptorProto}
-use Rattle.proto_types.specs.declared.message.DescriptorProto.{DescriptorProto, DescriptorProto-F, out-DescriptorProto, roll-DescriptorProto}
+use Rattle.proto_types.specs.declared.message.DescriptorProto.{DescriptorProto, DescriptorProto-F}
+use Rattle.proto_types.specs.declared.message.DescriptorProto.{out-DescriptorProto}
+use Rattle.proto_types.specs.declared.message.DescriptorProto.{roll-DescriptorProto}
 use Rattle.proto_types.specs.declared.records.field.FieldDescriptorProto.{FieldDescriptorProto}
 use Rattle.proto_types.specs.declared.records.enumeration.EnumDescriptorProto.{EnumDescriptorProto}
 use Rattle.proto_types.specs.declared.records.service.ServiceDescriptorProto.{ServiceDescriptorProto}

@@ -1,9 +1,11 @@
 //! Records as the statements of a script build them.
 
 ghost use Rattle.std.specs.Prelude.{◌≡◌, [], OnOk};
-ghost use Rattle.proto_types.specs.declared.message.DescriptorProto.{out-DescriptorProto, roll-DescriptorProto};
+ghost use Rattle.proto_types.specs.declared.message.DescriptorProto.{out-DescriptorProto};
+ghost use Rattle.proto_types.specs.declared.message.DescriptorProto.{roll-DescriptorProto};
 ghost use Rattle.link_script.specs.declared.script.statement.Statement.TheVariants as say;
-ghost use Rattle.link_script.specs.Building.{change_last, more_said, in_file, in_message, in_enum, in_service};
+ghost use Rattle.link_script.specs.Building.{change_last, more_said, in_file, in_message, in_enum};
+ghost use Rattle.link_script.specs.Building.{in_service};
 
 use crate::script::{SaidLocation, Statement};
 use plain_data::{Items, Text};

@@ -22,7 +22,8 @@ use std::mem;
 /// refused.
 #[tactic(auto, using(crate::proofs::Obeying::all_built))]
 pub fn files_of(alloc: Global, bytes: &[u8]) -> Result<Vec<FileDescriptorProto>, ScriptError>
-    ensures { DeclaresFiles (script bytes.now) (result_map_both (λ files. files.items) (λ e. e) result) }
+    ensures { DeclaresFiles (script bytes.now)
+        (result_map_both (λ files. files.items) (λ e. e) result) }
 {
     let mut builder = RecordBuilder::new(alloc);
     ScriptReader::new(alloc, bytes).obey(&mut builder)?;
@@ -63,25 +64,29 @@ impl RecordBuilder {
     }
 
     fn open_file(&mut self, name: Option<Text>) -> Result<(), AllocError>
-        ensures { OnOk result (building_in self.new ≡ built (building_in self.old) (say.File name)) }
+        ensures { OnOk result
+            (building_in self.new ≡ built (building_in self.old) (say.File name)) }
     {
         self.open(Open::file(self.alloc, name))
     }
 
     fn open_message(&mut self, name: Option<Text>) -> Result<(), AllocError>
-        ensures { OnOk result (building_in self.new ≡ built (building_in self.old) (say.Message name)) }
+        ensures { OnOk result
+            (building_in self.new ≡ built (building_in self.old) (say.Message name)) }
     {
         self.open(Open::message(self.alloc, name))
     }
 
     fn open_enum(&mut self, name: Option<Text>) -> Result<(), AllocError>
-        ensures { OnOk result (building_in self.new ≡ built (building_in self.old) (say.Enum name)) }
+        ensures { OnOk result
+            (building_in self.new ≡ built (building_in self.old) (say.Enum name)) }
     {
         self.open(Open::enumeration(self.alloc, name))
     }
 
     fn open_service(&mut self, name: Option<Text>) -> Result<(), AllocError>
-        ensures { OnOk result (building_in self.new ≡ built (building_in self.old) (say.Service name)) }
+        ensures { OnOk result
+            (building_in self.new ≡ built (building_in self.old) (say.Service name)) }
     {
         self.open(Open::service(self.alloc, name))
     }

@@ -1,10 +1,13 @@
 -- What a field takes of the numbered values of a message.
-use Rattle.std.specs.Prelude.{ℕ, ℤ, Bool, true, false, not, ◌&&◌, ◌||◌, List, [], ◌∷◌, ◌++◌, Option, None, Some, filter_map, option_map, ◌==◌, if◌then◌else◌}
+use Rattle.std.specs.Prelude.{ℕ, ℤ, Bool, true, false, not, ◌&&◌, ◌||◌, List, [], ◌∷◌, ◌++◌, Option}
+use Rattle.std.specs.Prelude.{None, Some, filter_map, option_map, ◌==◌, if◌then◌else◌}
 use Rattle.std.specs.Str.{is_utf8}
 use Rattle.message_values.specs.Values.{Value, Bytes, Group, Numbered, listed, values}
-use Rattle.message_values.specs.Schema.{Schema, Kind, Field, Cardinality, Optional, Required, Repeated}
+use Rattle.message_values.specs.Schema.{Schema, Kind, Field, Cardinality, Optional, Required}
+use Rattle.message_values.specs.Schema.{Repeated}
 use Rattle.message_values.specs.Schema as kind
-use Rattle.message_values.specs.Numbers.{Coding, FloatBits, DoubleBits, Form, form, raw, packed, number_read}
+use Rattle.message_values.specs.Numbers.{Coding, FloatBits, DoubleBits, Form, form, raw, packed}
+use Rattle.message_values.specs.Numbers.{number_read}
 use Rattle.message_values.specs.Numbers as form
 
 -- a value that a field has: a number; a float or a double, by its bits; a text or bytes; or a

@@ -4,7 +4,8 @@ use Rattle.message_values.specs.Values.{Value, Values, listed, values}
 use Rattle.message_values.specs.Schema.{Schema, Kind, Field}
 use Rattle.message_values.specs.Numbers.{Form, form, has_number}
 use Rattle.message_values.specs.Numbers as form
-use Rattle.message_values.specs.Fields.{Item, Number, Bits, Text, Message, Items, has_text, number_item, taken}
+use Rattle.message_values.specs.Fields.{Item, Number, Bits, Text, Message, Items, has_text}
+use Rattle.message_values.specs.Fields.{number_item, taken}
 use Rattle.message_values.specs.Writing.{IsValue}
 
 -- an item of a kind: a number that it has, or its bits, a text, or a message that bytes or a group

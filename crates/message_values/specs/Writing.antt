@@ -1,6 +1,7 @@
 -- What a writer of a schema writes of a message: values of its fields, with the numbers that their
 -- kinds have. It may pass on unknown values, with the numbers that it is allowed besides.
-use Rattle.std.specs.Prelude.{◌≡◌, ◌≢◌, ℕ, zero, suc, ℤ, Bool, true, List, [], Option, None, Some, ⊤, ◌==◌}
+use Rattle.std.specs.Prelude.{◌≡◌, ◌≢◌, ℕ, zero, suc, ℤ, Bool, true, List, [], Option, None, Some}
+use Rattle.std.specs.Prelude.{⊤, ◌==◌}
 use Rattle.std.specs.List.{AllByRecursion, list_any}
 use Rattle.message_values.specs.Values.{Value, Bytes, Group, Numbered, values}
 use Rattle.message_values.specs.Schema.{Schema, Kind, Field, Required}

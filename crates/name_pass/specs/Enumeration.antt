@@ -9,7 +9,8 @@ use Rattle.proto_types.specs.Readers.{number_of}
 use Rattle.proto_types.specs.declared.file.FileDescriptorProto.{FileDescriptorProto}
 use Rattle.pool_faults.specs.Labels.{label_in}
 use Rattle.pool_faults.specs.declared.fault.DescriptorErrorKind.{DescriptorErrorKind}
-use Rattle.pool_faults.specs.declared.fault.DescriptorErrorKind.TheVariants.{EmptyEnum, InvalidProto3EnumDefault}
+use Rattle.pool_faults.specs.declared.fault.DescriptorErrorKind.TheVariants.{EmptyEnum}
+use Rattle.pool_faults.specs.declared.fault.DescriptorErrorKind.TheVariants.{InvalidProto3EnumDefault}
 use Rattle.pool_types.specs.Syntaxes.{syntax_at, is_proto3}
 
 -- the path of the number of an enum's first value, by the path of the enum

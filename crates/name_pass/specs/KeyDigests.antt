@@ -1,5 +1,6 @@
 -- Digests of what the names of fields are told apart by.
-use Rattle.std.specs.Prelude.{ℕ, ◌<◌, ◌*◌, ◌%◌, ◌^◌, ◌==◌, bit_xor, List, [], ◌∷◌, length, if◌then◌else◌}
+use Rattle.std.specs.Prelude.{ℕ, ◌<◌, ◌*◌, ◌%◌, ◌^◌, ◌==◌, bit_xor, List, [], ◌∷◌, length}
+use Rattle.std.specs.Prelude.{if◌then◌else◌}
 use Rattle.std.specs.List.{AllAdjacentBelow}
 use Rattle.std.specs.List.Sorted.{IsPermutation}
 use Rattle.proto_types.specs.Readers.{text_of}

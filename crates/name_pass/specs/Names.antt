@@ -11,7 +11,8 @@ use Rattle.pool_types.specs.Definition.{is_package}
 use Rattle.name_tables.specs.Entries.{Entry}
 use Rattle.proto_types.specs.Names.{fronts}
 use Rattle.proto_types.specs.Readers.{text_of}
-use Rattle.record_walk.specs.Protos.{of_file, of_message, of_field, of_oneof, of_service, of_method, of_enum, of_value, of_extension}
+use Rattle.record_walk.specs.Protos.{of_file, of_message, of_field, of_oneof, of_service, of_method}
+use Rattle.record_walk.specs.Protos.{of_enum, of_value, of_extension}
 use Rattle.record_walk.specs.Shown.{Shown}
 
 -- what the name of a declaration means: a message, enum, service or extension holds its own index,

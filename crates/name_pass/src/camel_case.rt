@@ -1,11 +1,13 @@
-ghost use Rattle.std.specs.Prelude.{◌≡◌, ◌<◌, ◌^◌, ℕ, List, Some, true, unwrap_or, if◌then◌else◌, IfOk, OnOk, string_bytes};
+ghost use Rattle.std.specs.Prelude.{◌≡◌, ◌<◌, ◌^◌, ℕ, List, Some, true, unwrap_or, if◌then◌else◌};
+ghost use Rattle.std.specs.Prelude.{IfOk, OnOk, string_bytes};
 ghost use Rattle.std.specs.HashMap.{get_by_text};
 ghost use Rattle.std.specs.Str.{bytes_eq};
 ghost use Rattle.record_walk.specs.Counts.{fits_list, lists_fit};
 ghost use Rattle.record_walk.specs.Protos.{of_message};
 ghost use Rattle.pool_faults.specs.Labels.{label_in};
 ghost use Rattle.record_walk.specs.Faults.{Tells, named_files};
-ghost use Rattle.name_pass.specs.CamelCase.{camel_case_key, name_path, camel_case_fault, camel_case_faults, message_own_faults};
+ghost use Rattle.name_pass.specs.CamelCase.{camel_case_key, name_path, camel_case_fault};
+ghost use Rattle.name_pass.specs.CamelCase.{camel_case_faults, message_own_faults};
 
 use crate::key_digests::have_distinct_digests;
 use plain_data::Text;

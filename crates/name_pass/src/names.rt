@@ -33,8 +33,8 @@ pub struct NameVisitor<'a, 'f> {
     pub faults: &'a mut Faults<'f>,
 }
 
-/// A name as it comes in: the level of the open scope in which it stands, from 0, the name there, and
-/// the full name.
+/// A name as it comes in: the level of the open scope in which it stands, from 0, the name there,
+/// and the full name.
 #[derive(Clone, Copy)]
 struct NameInScope<'a> {
     level: usize,
@@ -72,10 +72,11 @@ impl<'a> NameInScope<'a> {
 
 impl NameVisitor<'_, '_> {
     ghost use Rattle.name_pass.specs.Steps.{entered, file_named};
-    ghost use Rattle.name_pass.specs.State.{first_new, opened, records_of, scopes_of, StandsIn, state_of, Stays};
+    ghost use Rattle.name_pass.specs.State.{first_new, opened, records_of, scopes_of, StandsIn};
+    ghost use Rattle.name_pass.specs.State.{state_of, Stays};
 
-    /// Enters the name of what stands at a path in a new file; where it clashes with a holder, that is
-    /// a fault.
+    /// Enters the name of what stands at a path in a new file; where it clashes with a holder, that
+    /// is a fault.
     fn enter(
         &mut self,
         name: NameInScope,
@@ -103,7 +104,8 @@ impl NameVisitor<'_, '_> {
         check_clash(self.faults, name.full_name, holder, &definition)
     }
 
-    /// Enters a package and those around it, from the outermost in, and leaves its scope alone open.
+    /// Enters a package and those around it, from the outermost in, and leaves its scope alone
+    /// open.
     fn enter_packages(&mut self, file: u32, name: &str) -> Result<(), AllocError>
         requires { first_new self.old ≤ file }
         ensures ok { OnOk result (state_of self.new ≡ entered (records_of self.old)
@@ -187,7 +189,8 @@ impl NameVisitor<'_, '_> {
 impl Visitor for NameVisitor<'_, '_> {
     ghost use Rattle.std.specs.List.{fold};
     ghost use Rattle.name_pass.specs.Steps.{name_progress, name_step};
-    ghost use Rattle.name_pass.specs.State.{borrows_of, front-ready, IsReady, kept_of, records_of, state_of};
+    ghost use Rattle.name_pass.specs.State.{borrows_of, front-ready, IsReady, kept_of, records_of};
+    ghost use Rattle.name_pass.specs.State.{state_of};
 
     ghost after = { λ v ds. name_progress (fold (name_step (records_of v)) (state_of v) ds) };
 

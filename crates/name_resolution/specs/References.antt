@@ -3,11 +3,14 @@ use Rattle.std.specs.Prelude.{ℕ, ℤ, List}
 use Rattle.std.specs.declared.option.Option.{Option}
 use Rattle.std.specs.declared.option.Option.TheVariants.{None, Some}
 use Rattle.pool_faults.specs.declared.fault.DescriptorErrorKind.{DescriptorErrorKind}
-use Rattle.pool_faults.specs.declared.fault.DescriptorErrorKind.TheVariants.{NameNotFound, NameShadowed, InvalidType}
+use Rattle.pool_faults.specs.declared.fault.DescriptorErrorKind.TheVariants.{NameNotFound}
+use Rattle.pool_faults.specs.declared.fault.DescriptorErrorKind.TheVariants.{NameShadowed}
+use Rattle.pool_faults.specs.declared.fault.DescriptorErrorKind.TheVariants.{InvalidType}
 use Rattle.proto_types.specs.declared.file.FileDescriptorProto.{FileDescriptorProto}
 use Rattle.name_resolution.specs.Filter.{filter_text}
 use Rattle.pool_faults.specs.Labels.{label_in}
-use Rattle.name_resolution.specs.Resolution.{Resolution, found, invalid_type, not_imported, shadowed, not_found}
+use Rattle.name_resolution.specs.Resolution.{Resolution, found, invalid_type, not_imported}
+use Rattle.name_resolution.specs.Resolution.{shadowed, not_found}
 
 -- the fault of a reference at a path of a file: `NameNotFound` with the name as written where
 -- nothing was found, and with the full name where it isn't seen; `NameShadowed` with both;

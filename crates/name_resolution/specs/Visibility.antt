@@ -1,6 +1,7 @@
 -- Which files a file sees: itself, its imports, and what these import publicly, through any chain
 -- (the protobuf language's rule on public imports).
-use Rattle.std.specs.Prelude.{◌≡◌, ◌↔◌, ◌<◌, ◌==◌, ◌||◌, ◌⊎◌, ℕ, zero, suc, Bool, IsTrue, List, [], ◌∷◌, length, filter}
+use Rattle.std.specs.Prelude.{◌≡◌, ◌↔◌, ◌<◌, ◌==◌, ◌||◌, ◌⊎◌, ℕ, zero, suc, Bool, IsTrue, List, []}
+use Rattle.std.specs.Prelude.{◌∷◌, length, filter}
 use Rattle.std.specs.List.{list_any, filter_map, range_with_len, Contains}
 use Rattle.std.specs.declared.option.Option.{Option}
 use Rattle.std.specs.declared.option.Option.TheVariants.{Some}

@@ -1,4 +1,5 @@
-ghost use Rattle.std.specs.Prelude.{◌≡◌, ◌∷◌, [], ℕ, List, Bool, false, IfOk, IfSome, IsOk, None, Some, if◌then◌else◌};
+ghost use Rattle.std.specs.Prelude.{◌≡◌, ◌∷◌, [], ℕ, List, Bool, false, IfOk, IfSome, IsOk, None};
+ghost use Rattle.std.specs.Prelude.{Some, if◌then◌else◌};
 ghost use Rattle.std.specs.BTreeSet.{contains_by};
 ghost use Rattle.std.specs.FinMap as finite;
 ghost use Rattle.std.specs.List.{find};
@@ -9,7 +10,9 @@ ghost use Rattle.pool_types.specs.Definition.{is_parent};
 ghost use Rattle.name_tree.specs.Parts.{parts};
 ghost use Rattle.name_resolution.specs.declared.filter.ResolveNameFilter.{ResolveNameFilter};
 ghost use Rattle.name_resolution.specs.Parents.{outer};
-ghost use Rattle.name_resolution.specs.Resolution.{definition_found, dotted, has_leading_dot, holds_first, look, not_found, resolution, resolution_in, simple};
+ghost use Rattle.name_resolution.specs.Resolution.{definition_found, dotted, has_leading_dot};
+ghost use Rattle.name_resolution.specs.Resolution.{holds_first, look, not_found, resolution};
+ghost use Rattle.name_resolution.specs.Resolution.{resolution_in, simple};
 
 use crate::filter::ResolveNameFilter;
 use crate::resolution::{ResolveNameResult, first_part};
@@ -21,8 +24,8 @@ use proto_types::join;
 use std::alloc::{AllocError, Global};
 use std::collections::BTreeSet;
 
-/// What `resolve_name` answers, over a tree of names: it goes down the scope once, and looks for the
-/// name from there outwards. Memory is taken for the texts of the answer alone.
+/// What `resolve_name` answers, over a tree of names: it goes down the scope once, and looks for
+/// the name from there outwards. Memory is taken for the texts of the answer alone.
 ///
 /// # Errors
 /// `AllocError` where memory was refused, which it is not where nothing has the name.

@@ -4,12 +4,15 @@ ghost use Rattle.std.specs.FinMap as finite;
 ghost use Rattle.std.specs.Option.{option_map_or};
 ghost use Rattle.std.specs.Ordering.{nat_cmp};
 ghost use Rattle.proto_types.specs.Names.{first_part};
-ghost use Rattle.pool_faults.specs.declared.fault.DescriptorErrorKind.TheVariants.{InvalidType, NameNotFound, NameShadowed};
+ghost use Rattle.pool_faults.specs.declared.fault.DescriptorErrorKind.TheVariants.{InvalidType};
+ghost use Rattle.pool_faults.specs.declared.fault.DescriptorErrorKind.TheVariants.{NameNotFound};
+ghost use Rattle.pool_faults.specs.declared.fault.DescriptorErrorKind.TheVariants.{NameShadowed};
 ghost use Rattle.pool_types.specs.Definition.{is_parent};
 ghost use Rattle.name_tree.specs.Parts.{parts};
 ghost use Rattle.name_resolution.specs.Filter.{filter_text};
 ghost use Rattle.name_resolution.specs.Parents.{outer};
-ghost use Rattle.name_resolution.specs.Resolution.{resolution, resolution_in, look, simple, dotted, or_shadowed, is_found, is_not_found};
+ghost use Rattle.name_resolution.specs.Resolution.{resolution, resolution_in, look, simple, dotted};
+ghost use Rattle.name_resolution.specs.Resolution.{or_shadowed, is_found, is_not_found};
 ghost use Rattle.name_resolution.specs.References.{reference_fault};
 
 use crate::filter::ResolveNameFilter;
@@ -203,8 +206,8 @@ impl<'a> ResolveNameResult<'a> {
         self.labelled_fault(alloc, orig_name, &mut labels, found_file, path)
     }
 
-    /// The fault of a reference, with labels that are made by an index of the locations of files. The
-    /// files of the index stay.
+    /// The fault of a reference, with labels that are made by an index of the locations of files.
+    /// The files of the index stay.
     ///
     /// # Errors
     /// `AllocError` where memory was refused.

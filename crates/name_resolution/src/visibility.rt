@@ -22,8 +22,8 @@ const FEW: usize = 8;
 /// import whose name no file has, and a public import at a place where no import stands, are
 /// passed over.
 ///
-/// Files are told by their indexes, from 0 in the order of `files`. The file is one of these, and so
-/// is each that a name means.
+/// Files are told by their indexes, from 0 in the order of `files`. The file is one of these, and
+/// so is each that a name means.
 ///
 /// # Errors
 /// `AllocError` where memory was refused.

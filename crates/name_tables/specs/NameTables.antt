@@ -7,7 +7,8 @@ use Rattle.pool_types.specs.Contents.{ByText}
 use Rattle.pool_types.specs.declared.contents.definition.Definition.{Definition}
 
 -- names with one more, and nothing; or where they have it, the same names and what it was to mean
-abbrev pub inserted : ByText Definition → List ℕ → Definition → ByText Definition × Option Definition
+abbrev pub inserted : ByText Definition → List ℕ → Definition → ByText Definition
+    × Option Definition
 inserted names name d =
     option_map_or (λ _. (names, Some d)) (map.get names name) (map.insert names name d, None)
 

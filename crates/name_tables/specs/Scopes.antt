@@ -27,7 +27,8 @@ scope_texts branches scopes = map (λ k. name_of (path branches k)) scopes
 
 -- branch k is that of the scope whose text is its name: the root, where that is empty
 abbrev pub IsScope : List Branch → ℕ → Type 0
-IsScope branches k = (k < length branches) × IsBranchOf branches (name_of (path branches k)) (Some k)
+IsScope branches k =
+    (k < length branches) × IsBranchOf branches (name_of (path branches k)) (Some k)
 
 -- so is each
 abbrev pub AreScopes : List Branch → List ℕ → Type 0

@@ -1,4 +1,5 @@
-ghost use Rattle.std.specs.Prelude.{◌≡◌, ◌≤◌, ◌<◌, ◌++◌, ◌∷◌, [], ℕ, length, IsTrue, IfOk, OnOk, OnErr, None, Some};
+ghost use Rattle.std.specs.Prelude.{◌≡◌, ◌≤◌, ◌<◌, ◌++◌, ◌∷◌, [], ℕ, length, IsTrue, IfOk, OnOk};
+ghost use Rattle.std.specs.Prelude.{OnErr, None, Some};
 ghost use Rattle.std.specs.List.{slice_get};
 ghost use Rattle.std.specs.Option.{option_copied};
 ghost use Rattle.name_tables.specs.Entered.{Enters, found_before, IsRising, Removes, value_at};
@@ -47,8 +48,8 @@ impl InFile for u32 {
     }
 }
 
-/// Values that were entered under numbers. Those that lie in later files can be taken away. Contracts
-/// see them as the list of the value of each number, or none.
+/// Values that were entered under numbers. Those that lie in later files can be taken away.
+/// Contracts see them as the list of the value of each number, or none.
 #[derive(Drop)]
 pub(crate) struct Entered<T: InFile> {
     values: Vec<Option<T>>,
@@ -60,8 +61,8 @@ pub(crate) struct Entered<T: InFile> {
 struct Order {
     /// None lies in a later file.
     newest: u32,
-    /// That none lies in an earlier file than one of a lower number, as where each is entered behind
-    /// all others and the files come in order.
+    /// That none lies in an earlier file than one of a lower number, as where each is entered
+    /// behind all others and the files come in order.
     is_rising: bool,
 }
 
@@ -162,8 +163,8 @@ impl<T: InFile> Entered<T> {
         set(&mut self.values, number, value)
     }
 
-    /// Takes away the values that lie in a file or in a later one. Where files rise with numbers, no
-    /// more is looked at than what goes.
+    /// Takes away the values that lie in a file or in a later one. Where files rise with numbers,
+    /// no more is looked at than what goes.
     pub(crate) fn remove_from(&mut self, file: u32)
         ensures values { (k : ℕ)
             → value_at self.new k ≡ found_before T.file_of file (value_at self.old k) }

@@ -1,4 +1,5 @@
-ghost use Rattle.std.specs.Prelude.{◌≡◌, ◌<◌, ◌-◌, ◌++◌, ◌∷◌, [], suc, length, take, drop, get_or, IfOk, OnOk, OnErr, None};
+ghost use Rattle.std.specs.Prelude.{◌≡◌, ◌<◌, ◌-◌, ◌++◌, ◌∷◌, [], suc, length, take, drop, get_or};
+ghost use Rattle.std.specs.Prelude.{IfOk, OnOk, OnErr, None};
 ghost use Rattle.std.specs.FinMap as map;
 ghost use Rattle.std.specs.Option.{option_copied};
 ghost use Rattle.proto_types.specs.Names.{join};
@@ -13,8 +14,9 @@ use pool_types::Definition;
 use std::alloc::{AllocError, Global};
 use std::marker::Model;
 
-/// A table of names while those of declarations come into it, and the scopes that are open, from the
-/// outermost in. Contracts see it as what the names of the table mean, and the texts of the scopes.
+/// A table of names while those of declarations come into it, and the scopes that are open, from
+/// the outermost in. Contracts see it as what the names of the table mean, and the texts of the
+/// scopes.
 #[derive(Drop)]
 pub struct ScopedNames {
     alloc: Global,
@@ -94,8 +96,8 @@ impl ScopedNames {
         }
     }
 
-    /// Closes the scopes inside the open one with a level, from 0, and opens that of the full name of
-    /// a name there.
+    /// Closes the scopes inside the open one with a level, from 0, and opens that of the full name
+    /// of a name there.
     ///
     /// # Errors
     /// `AllocError` where memory was refused.
@@ -145,8 +147,8 @@ impl ScopedNames {
     }
 }
 
-/// The branch of the scope that a name opens inside a scope: that of its full name. An empty name in
-/// the empty scope opens that again, whose branch is the root.
+/// The branch of the scope that a name opens inside a scope: that of its full name. An empty name
+/// in the empty scope opens that again, whose branch is the root.
 fn opened(scope: u32, name: &str, branch: u32) -> u32
     ensures root { scope ≡ 0 → name.now ≡ [] → result ≡ 0 }
     ensures other { (scope ≡ 0 → name.now ≡ [] → ⊥) → result ≡ branch }
@@ -158,8 +160,8 @@ fn opened(scope: u32, name: &str, branch: u32) -> u32
     }
 }
 
-/// The branch of the name that is the text of a scope. Only that of the empty name is not the branch
-/// of the scope: it is inserted where there is none.
+/// The branch of the name that is the text of a scope. Only that of the empty name is not the
+/// branch of the scope: it is inserted where there is none.
 ///
 /// # Errors
 /// `AllocError` where memory was refused.

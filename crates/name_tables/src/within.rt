@@ -2,7 +2,8 @@ ghost use Rattle.std.specs.Prelude.{◌≡◌, ◌≤◌, ◌<◌, ◌↔◌, �
 ghost use Rattle.name_tree.specs.Tree.{HasParent, IsDescendant, IsTree, path};
 ghost use Rattle.name_tables.specs.Branches.{AreBranches};
 ghost use Rattle.name_tables.specs.Entered.{value_at};
-ghost use Rattle.name_tables.specs.Within.{AreCompared, ArePaired, IsAbove, IsPair, IsWithin, IsWithinAt};
+ghost use Rattle.name_tables.specs.Within.{AreCompared, ArePaired, IsAbove, IsPair, IsWithin};
+ghost use Rattle.name_tables.specs.Within.{IsWithinAt};
 
 use crate::branches::Branches;
 use name_tree::NameTree;

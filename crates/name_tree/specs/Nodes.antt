@@ -1,6 +1,7 @@
 -- How branches are found: as nodes of a trie with sixteen children each, by the digits of a key. A
 -- key has the digest of the branch's name, the number of its parent, and its part.
-use Rattle.std.specs.Prelude.{◌≡◌, ◌≢◌, ◌<◌, ◌++◌, ◌-◌, ◌*◌, ◌/◌, ◌%◌, ◌^◌, bit_xor, ℕ, zero, suc, List, [], ◌∷◌, map, length, if◌then◌else◌, nat_lt, slice_index}
+use Rattle.std.specs.Prelude.{◌≡◌, ◌≢◌, ◌<◌, ◌++◌, ◌-◌, ◌*◌, ◌/◌, ◌%◌, ◌^◌, bit_xor, ℕ, zero, suc}
+use Rattle.std.specs.Prelude.{List, [], ◌∷◌, map, length, if◌then◌else◌, nat_lt, slice_index}
 use Rattle.std.specs.List.{slice_get}
 use Rattle.std.specs.Option.{option_and_then, option_map_or}
 use Rattle.std.specs.declared.option.Option.{Option}
@@ -147,8 +148,8 @@ pub record WithChild (old new : List Row) (slot : Slot) (child : Option ℕ) : T
   pub here : child_at new slot ≡ child
   pub others : (other : Slot) → other ≢ slot → child_at new other ≡ child_at old other
 
--- a well-formed trie: each child stands behind its node, and is the child at one slot; each branch but
--- the root stands behind its parent, has the digest of its name, and is found by its key
+-- a well-formed trie: each child stands behind its node, and is the child at one slot; each branch
+-- but the root stands behind its parent, has the digest of its name, and is found by its key
 pub record IsTrie (nodes : List Row) : Type 0 where
   pub rising : (slot : Slot) (k : ℕ) → child_at nodes slot ≡ Some k
       → (slot.node < k) × (k < length nodes)
@@ -160,7 +161,8 @@ pub record IsTrie (nodes : List Row) : Type 0 where
       ≡ child_digest nodes (key_at nodes k).parent (key_at nodes k).part
   pub found : (k : ℕ) → 0 < k → k < length nodes → IsFound nodes (key_at nodes k) k
 
--- the slot of the child of a branch with a part, or the one at which it is found once it is inserted
+-- the slot of the child of a branch with a part, or the one at which it is found once it is
+-- inserted
 pub record IsSlotOf (nodes : List Row) (parent : ℕ) (part : List ℕ) (slot : Slot) : Type 0 where
   pub inside : slot.node < length nodes
   pub digit : slot.digit < 16

@@ -1,7 +1,10 @@
-ghost use Rattle.std.specs.Prelude.{◌≡◌, ◌↔◌, ◌<◌, ◌++◌, ◌∷◌, [], ℕ, List, length, IsTrue, OnOk, OnErr, IfOk, None, Some};
+ghost use Rattle.std.specs.Prelude.{◌≡◌, ◌↔◌, ◌<◌, ◌++◌, ◌∷◌, [], ℕ, List, length, IsTrue, OnOk};
+ghost use Rattle.std.specs.Prelude.{OnErr, IfOk, None, Some};
 ghost use Rattle.name_tree.specs.Tree.{Branch, branch, IsTree, path};
 ghost use Rattle.name_tree.specs.Parts.{name_of};
-ghost use Rattle.name_tree.specs.Nodes.{rows, branches_of, child_at, child_of, as_key, digit_at, digit_of, child_digest, digest_from, taken_in, AreTrie, IsFree, IsPushed, IsSlotOf, WithChild};
+ghost use Rattle.name_tree.specs.Nodes.{rows, branches_of, child_at, child_of, as_key, digit_at};
+ghost use Rattle.name_tree.specs.Nodes.{digit_of, child_digest, digest_from, taken_in, AreTrie};
+ghost use Rattle.name_tree.specs.Nodes.{IsFree, IsPushed, IsSlotOf, WithChild};
 
 use crate::part_texts::PartTexts;
 use std::alloc::{AllocError, Global};

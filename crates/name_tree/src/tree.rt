@@ -1,5 +1,7 @@
-ghost use Rattle.std.specs.Prelude.{◌≡◌, ◌<◌, ◌++◌, ◌∷◌, [], ℕ, length, take, OnOk, OnErr, IfOk, IfSome, None};
-ghost use Rattle.name_tree.specs.Tree.{Branch, HasParent, HasPart, InsertsChild, IsChild, IsDescendant, IsTree, with_root};
+ghost use Rattle.std.specs.Prelude.{◌≡◌, ◌<◌, ◌++◌, ◌∷◌, [], ℕ, length, take, OnOk, OnErr, IfOk};
+ghost use Rattle.std.specs.Prelude.{IfSome, None};
+ghost use Rattle.name_tree.specs.Tree.{Branch, HasParent, HasPart, InsertsChild, IsChild};
+ghost use Rattle.name_tree.specs.Tree.{IsDescendant, IsTree, with_root};
 ghost use Rattle.name_tree.specs.Parts.{parts};
 
 use crate::nodes::{

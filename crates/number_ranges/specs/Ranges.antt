@@ -1,5 +1,6 @@
 -- Which numbers a range holds, and the first range of a list that holds a number.
-use Rattle.std.specs.Prelude.{ℕ, zero, suc, ℤ, Bool, ◌&&◌, int_le, int_lt, List, [], ◌∷◌, Option, Some, None, if◌then◌else◌}
+use Rattle.std.specs.Prelude.{ℕ, zero, suc, ℤ, Bool, ◌&&◌, int_le, int_lt, List, [], ◌∷◌, Option}
+use Rattle.std.specs.Prelude.{Some, None, if◌then◌else◌}
 use Rattle.std.specs.Option.{option_map}
 
 -- a range, given as its start and its end, holds the numbers from its start on and below its end

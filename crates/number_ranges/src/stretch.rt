@@ -1,4 +1,5 @@
-ghost use Rattle.std.specs.Prelude.{◌≡◌, ◌+◌, ◌*◌, ◌<◌, ◌≤◌, ◌/◌, suc, length, take, drop, position, IfSome};
+ghost use Rattle.std.specs.Prelude.{◌≡◌, ◌+◌, ◌*◌, ◌<◌, ◌≤◌, ◌/◌, suc, length, take, drop};
+ghost use Rattle.std.specs.Prelude.{position, IfSome};
 ghost use Rattle.number_ranges.specs.Ranges.{holds, first_from};
 ghost use Rattle.number_ranges.specs.Tables.{AreTables};
 

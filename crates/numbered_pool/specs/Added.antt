@@ -12,11 +12,13 @@ use Rattle.joined_files.specs.declared.unequal.UnequalFile.{UnequalFile}
 use Rattle.numbered_pool.specs.Batches.{batch_of}
 use Rattle.numbered_pool.specs.Known.{added_by, none_added}
 use Rattle.numbered_pool.specs.Reading.{Read}
-use Rattle.numbered_pool.specs.Reports.{no_report, refused_report, unequal_report, too_many_report, fault_report}
+use Rattle.numbered_pool.specs.Reports.{no_report, refused_report, unequal_report, too_many_report}
+use Rattle.numbered_pool.specs.Reports.{fault_report}
 use Rattle.numbered_pool.specs.declared.answers.Answers.{Answers}
 use Rattle.numbered_pool.specs.declared.report.Report.{Report}
 use Rattle.numbered_pool.specs.declared.status.Status.{Status}
-use Rattle.numbered_pool.specs.declared.status.Status.TheVariants.{Done, Refused, Fault, OutOfMemory, TooMany}
+use Rattle.numbered_pool.specs.declared.status.Status.TheVariants.{Done, Refused, Fault}
+use Rattle.numbered_pool.specs.declared.status.Status.TheVariants.{OutOfMemory, TooMany}
 
 -- a pool without files and what is told of it: nothing, and a hundred faults at most from now on
 abbrev pub no_answers : Answers

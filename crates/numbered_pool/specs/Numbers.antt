@@ -1,5 +1,6 @@
 -- What a pool has, as plain numbers.
-use Rattle.std.specs.Prelude.{ℕ, ℤ, ◌-◌, Bool, not, List, [], ◌∷◌, length, slice_get, unwrap_or, is_some, if◌then◌else◌}
+use Rattle.std.specs.Prelude.{ℕ, ℤ, ◌-◌, Bool, not, List, [], ◌∷◌, length, slice_get, unwrap_or}
+use Rattle.std.specs.Prelude.{is_some, if◌then◌else◌}
 use Rattle.std.specs.FinMap as finite
 use Rattle.std.specs.Option.{option_and_then}
 use Rattle.std.specs.declared.option.Option.{Option}
@@ -25,8 +26,10 @@ use Rattle.pool_types.specs.declared.kinds.KindIndex.{KindIndex}
 use Rattle.pool_types.specs.declared.kinds.KindIndex.TheVariants as kind
 use Rattle.pool_types.specs.declared.kinds.Syntax.{Syntax}
 use Rattle.pool_types.specs.declared.kinds.Syntax.TheVariants.{Proto2, Proto3}
-use Rattle.item_records.specs.Flags.{is_closed, is_group, is_list, is_map, is_repeated, is_required, is_synthetic}
-use Rattle.item_records.specs.Records.{enum_parts, field_parts, is_service_deprecated, is_value_deprecated, message_parts, method_parts, says}
+use Rattle.item_records.specs.Flags.{is_closed, is_group, is_list, is_map, is_repeated, is_required}
+use Rattle.item_records.specs.Flags.{is_synthetic}
+use Rattle.item_records.specs.Records.{enum_parts, field_parts, is_service_deprecated}
+use Rattle.item_records.specs.Records.{is_value_deprecated, message_parts, method_parts, says}
 use Rattle.item_records.specs.declared.records.MessageParts.{MessageParts}
 use Rattle.numbered_pool.specs.declared.numbers.EnumItem.{EnumItem}
 use Rattle.numbered_pool.specs.declared.numbers.ExtensionItem.{ExtensionItem}

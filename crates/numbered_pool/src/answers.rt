@@ -27,14 +27,16 @@ pub struct Answers {
 }
 
 impl Answers {
-    ghost use Rattle.numbered_pool.specs.Added.{AddedAs, JoinedAs, LinkedAs, ToldAs, no_answers, unreported};
+    ghost use Rattle.numbered_pool.specs.Added.{AddedAs, JoinedAs, LinkedAs, ToldAs, no_answers};
+    ghost use Rattle.numbered_pool.specs.Added.{unreported};
     ghost use Rattle.numbered_pool.specs.Batches as spec;
     ghost use Rattle.numbered_pool.specs.Known.{none_added};
-    ghost use Rattle.numbered_pool.specs.Reading.{Read, Reads, each_read, file_read, files_read, script_read, set_read};
+    ghost use Rattle.numbered_pool.specs.Reading.{Read, Reads, each_read, file_read, files_read};
+    ghost use Rattle.numbered_pool.specs.Reading.{script_read, set_read};
     ghost use Rattle.numbered_pool.specs.Reports.{no_report};
 
-    /// A pool without files and an empty report, which takes no memory. It tells a hundred faults at
-    /// most.
+    /// A pool without files and an empty report, which takes no memory. It tells a hundred faults
+    /// at most.
     pub fn new(alloc: Global) -> Answers
         ensures { result ≡ no_answers }
     {
@@ -64,9 +66,10 @@ impl Answers {
     }
 
     /// Links the files of an encoded `FileDescriptorSet`, in one batch. Files of one name that are
-    /// equal apart from the places of their parts in a source count once; where they are not, nothing
-    /// is linked. Files whose names the pool has are passed over, and no report looks at them. After
-    /// any status but `Done` the pool is as it was. What there is to tell is in the report, which is empty after `Done` and
+    /// equal apart from the places of their parts in a source count once; where they are not,
+    /// nothing is linked. Files whose names the pool has are passed over, and no report looks at
+    /// them. After any status but `Done` the pool is as it was. What there is to tell is in the
+    /// report, which is empty after `Done` and
     /// `OutOfMemory`; after `Done` what became of the files is in `added`.
     pub fn add_set(&mut self, alloc: Global, bytes: &[u8]) -> Status
         ensures { AddedAs (set_read bytes.now) self.old self.new result }

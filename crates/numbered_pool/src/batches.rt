@@ -18,8 +18,8 @@ fn file_words(alloc: Global, position: usize) -> Result<String, AllocError>
 }
 
 /// The batch of some files: those of one name that are equal apart from the places of their parts
-/// in a source count once, with places if one has some; of others the first is in the batch, and the
-/// further ones are told.
+/// in a source count once, with places if one has some; of others the first is in the batch, and
+/// the further ones are told.
 #[tactic(auto, unfolding(crate::specs::Batches::batch_of))]
 pub(crate) fn batch_of(
     alloc: Global,

@@ -127,8 +127,8 @@ impl Answers {
         enumeration.value_names.get(name)
     }
 
-    /// The index of the file that has a name; none where the pool has no such file, or the bytes are
-    /// no text.
+    /// The index of the file that has a name; none where the pool has no such file, or the bytes
+    /// are no text.
     pub fn file_named(&self, name: &[u8]) -> Option<u32>
         ensures text { IsUtf8 name.now → result ≡ finite.get self.now.pool.file_names name.now }
         ensures no_text { ¬ (IsUtf8 name.now) → IsNone result }

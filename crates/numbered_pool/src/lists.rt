@@ -72,9 +72,9 @@ fn numbered_in(
 
 impl Answers {
     /// The indexes of the messages, the enums, the services or the extensions of a file that stand
-    /// in no message, by the number of their kind, in rising order. There is no list where the index
-    /// of the file is past the end, or things of the kind have no indexes. All items of the kind in
-    /// the pool are gone through.
+    /// in no message, by the number of their kind, in rising order. There is no list where the
+    /// index of the file is past the end, or things of the kind have no indexes. All items of the
+    /// kind in the pool are gone through.
     ///
     /// # Errors
     /// `AllocError` where memory was refused.

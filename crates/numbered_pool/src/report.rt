@@ -40,7 +40,8 @@ pub(crate) fn refused_report(
     most: usize,
 ) -> Result<Report, AllocError>
     ensures { IfOk result (λ report. report ≡ spec.refused_report
-        (map (λ f. f.raw) batch.now.linked.now) batch.now.files.now batch.now.faults.now batch.now.rest most) }
+        (map (λ f. f.raw) batch.now.linked.now) batch.now.files.now batch.now.faults.now
+        batch.now.rest most) }
 {
     let refusal = tell_refusal(alloc, batch, most)?;
     told_report(alloc, &refusal)

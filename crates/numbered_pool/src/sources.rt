@@ -20,8 +20,8 @@ impl Answers {
         Some(encoded(&self.pool.file(FileDescriptor::new(index))?.raw.options))
     }
 
-    /// The bytes of the options of an item, or none where the pool has no such item. An item without
-    /// options has no bytes.
+    /// The bytes of the options of an item, or none where the pool has no such item. An item
+    /// without options has no bytes.
     pub fn options(&self, item: Item) -> Option<&[u8]>
         ensures { option_copied result ≡ spec.item_options self.now.pool item }
     {

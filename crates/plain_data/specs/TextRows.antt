@@ -1,5 +1,7 @@
 -- Rows that say where a text stands in a list of bytes, each with a number.
-use Rattle.std.specs.Prelude.{◌≡◌, ◌≢◌, ℕ, zero, suc, ◌+◌, ◌-◌, ◌*◌, ◌/◌, ◌%◌, ◌^◌, bit_xor, ◌<◌, ◌≤◌, List, [], ◌∷◌, map as each, length, take, drop, nat_lt, if◌then◌else◌, slice_range, slice_index_or}
+use Rattle.std.specs.Prelude.{◌≡◌, ◌≢◌, ℕ, zero, suc, ◌+◌, ◌-◌, ◌*◌, ◌/◌, ◌%◌, ◌^◌, bit_xor, ◌<◌}
+use Rattle.std.specs.Prelude.{◌≤◌, List, [], ◌∷◌, map as each, length, take, drop, nat_lt}
+use Rattle.std.specs.Prelude.{if◌then◌else◌, slice_range, slice_index_or}
 use Rattle.std.specs.Cmp.Lexicographic.{slice_cmp}
 use Rattle.std.specs.FinMap as map
 use Rattle.std.specs.Int.{w64, from_le_bytes}
@@ -119,7 +121,8 @@ pub record IsSound (bytes : List ℕ) (rows : List Row) (runs : List ℕ) : Type
 abbrev pub Covers : List ℕ → List Row → ℕ → List (List ℕ × ℕ) → Type 0
 Covers bytes rows to entries =
     (at : ℕ) → at < to
-    → lookup (bytes_eq (text_at bytes rows at)) entries ≡ Some (slice_index_or rows at no_row).number
+    → lookup (bytes_eq (text_at bytes rows at)) entries
+    ≡ Some (slice_index_or rows at no_row).number
 
 -- no row up to a position has the text of a later one
 abbrev pub AreApart : List ℕ → List Row → ℕ → Type 0

@@ -1,5 +1,6 @@
 -- Whole numbers as texts.
-use Rattle.std.specs.Prelude.{ℕ, ℤ, pos, neg_ℤ, ◌-◌, ◌^◌, Bool, ◌&&◌, ◌==◌, not, List, [], ◌∷◌, int_le, if◌then◌else◌}
+use Rattle.std.specs.Prelude.{ℕ, ℤ, pos, neg_ℤ, ◌-◌, ◌^◌, Bool, ◌&&◌, ◌==◌, not, List, [], ◌∷◌}
+use Rattle.std.specs.Prelude.{int_le, if◌then◌else◌}
 use Rattle.std.specs.List.{list_all}
 use Rattle.std.specs.Option.{option_and_then, option_map}
 use Rattle.std.specs.Char.{is_digit}

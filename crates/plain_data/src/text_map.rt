@@ -1,10 +1,14 @@
 ghost use Rattle.plain_data.specs.Maps.{inserted};
-ghost use Rattle.std.specs.Prelude.{◌≡◌, ◌∷◌, [], ◌++◌, ◌+◌, ◌<◌, ◌≤◌, length, take, IsTrue, ◌↔◌, MatchOption, IfOk, OnOk, OnErr, ◌⊎◌};
+ghost use Rattle.std.specs.Prelude.{◌≡◌, ◌∷◌, [], ◌++◌, ◌+◌, ◌<◌, ◌≤◌, length, take, IsTrue, ◌↔◌};
+ghost use Rattle.std.specs.Prelude.{MatchOption, IfOk, OnOk, OnErr, ◌⊎◌};
 ghost use Rattle.std.specs.FinMap as map;
 ghost use Rattle.std.specs.List.Sorted.{IsPermutation};
 ghost use Rattle.std.specs.Map.{lookup};
 ghost use Rattle.std.specs.Str.{bytes_eq};
-ghost use Rattle.plain_data.specs.TextRows.{digest_of, IsDigested, AreDigested, AreApart, taken_in, with_ending, text_order, made_of, text_of, entries_of, IsRow, IsSound, AreWithin, bound, IsRun, AreRuns, Holds, Lacks, LacksFrom, Covers};
+ghost use Rattle.plain_data.specs.TextRows.{digest_of, IsDigested, AreDigested, AreApart, taken_in};
+ghost use Rattle.plain_data.specs.TextRows.{with_ending, text_order, made_of, text_of, entries_of};
+ghost use Rattle.plain_data.specs.TextRows.{IsRow, IsSound, AreWithin, bound, IsRun, AreRuns};
+ghost use Rattle.plain_data.specs.TextRows.{Holds, Lacks, LacksFrom, Covers};
 
 use crate::Duplicate;
 use std::alloc::{AllocError, Global};

@@ -12,8 +12,10 @@ use Rattle.schema_changes.specs.declared.change.WireChange.{WireChange}
 use Rattle.verdict_texts.specs.declared.telling.ToldFault.{ToldFault}
 use Rattle.pool_changes.specs.FieldChanges.{part_json, part_source}
 use Rattle.pool_changes.specs.FieldParts.{Part, field_part, extension_part_at, part_numbered}
-use Rattle.pool_changes.specs.Removed.{enum_named, field_removed, value_changes, file_changes, file_named, message_removed, oneof_changes}
-use Rattle.pool_changes.specs.Sides.{Versions, Side, both_of, writer, reader, there, removed, differing}
+use Rattle.pool_changes.specs.Removed.{enum_named, field_removed, value_changes, file_changes}
+use Rattle.pool_changes.specs.Removed.{file_named, message_removed, oneof_changes}
+use Rattle.pool_changes.specs.Sides.{Versions, Side, both_of, writer, reader, there, removed}
+use Rattle.pool_changes.specs.Sides.{differing}
 use Rattle.pool_changes.specs.declared.kinds.ElementChange.TheVariants as element
 
 -- what changes at json of a field or an extension, by the reader's message, what changes of it at

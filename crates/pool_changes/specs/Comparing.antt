@@ -1,5 +1,6 @@
 -- What a new version changes of an older one in a direction, as it is told.
-use Rattle.std.specs.Prelude.{ℕ, Bool, true, false, codes, List, [], ◌++◌, length, take, Option, Some, None}
+use Rattle.std.specs.Prelude.{ℕ, Bool, true, false, codes, List, [], ◌++◌, length, take, Option}
+use Rattle.std.specs.Prelude.{Some, None}
 use Rattle.std.specs.List.{flat_map}
 use Rattle.plain_data.specs.Lists.{only_if}
 use Rattle.pool_types.specs.Contents.{Contents}

@@ -8,7 +8,8 @@ use Rattle.schema_changes.specs.Kinds.{is_repeated}
 use Rattle.schema_changes.specs.declared.change.WireChange.{WireChange}
 use Rattle.schema_changes.specs.declared.change.WireChangeKind.TheVariants as change
 use Rattle.verdict_texts.specs.declared.telling.ToldFault.{ToldFault}
-use Rattle.pool_changes.specs.FieldParts.{Part, form_side, json_side, repeated_side, name_side, type_side, presence_side, default_side, oneof_side}
+use Rattle.pool_changes.specs.FieldParts.{Part, form_side, json_side, repeated_side, name_side}
+use Rattle.pool_changes.specs.FieldParts.{type_side, presence_side, default_side, oneof_side}
 use Rattle.pool_changes.specs.Removed.{tells}
 use Rattle.pool_changes.specs.Sides.{Versions, writer, reader, are_alike, differing}
 use Rattle.pool_changes.specs.declared.kinds.ElementChange.TheVariants as element

@@ -1,5 +1,6 @@
 -- A field or an extension of a message, as JSON and code that is made of the schema have it.
-use Rattle.std.specs.Prelude.{ℕ, Bool, true, false, List, [], codes, is_some, unwrap_or, slice_get, option_map, option_and_then, Option, Some, None, if◌then◌else◌}
+use Rattle.std.specs.Prelude.{ℕ, Bool, true, false, List, [], codes, is_some, unwrap_or, slice_get}
+use Rattle.std.specs.Prelude.{option_map, option_and_then, Option, Some, None, if◌then◌else◌}
 use Rattle.std.specs.FinMap as finite
 use Rattle.std.specs.Option.{option_or}
 use Rattle.pool_types.specs.Contents.{Contents}

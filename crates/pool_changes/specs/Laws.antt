@@ -1,5 +1,6 @@
 -- What a new pool reads of what was written by an old one.
-use Rattle.std.specs.Prelude.{◌≡◌, ℕ, Bool, true, false, List, [], ◌∷◌, ◌++◌, length, Some, None, slice_get}
+use Rattle.std.specs.Prelude.{◌≡◌, ℕ, Bool, true, false, List, [], ◌∷◌, ◌++◌, length, Some, None}
+use Rattle.std.specs.Prelude.{slice_get}
 use Rattle.std.specs.FinMap as finite
 use Rattle.std.specs.List.{AllByRecursion}
 use Rattle.message_values.specs.Values.{Numbered}
@@ -65,6 +66,8 @@ with_field m f = record m {
 -- number, and it is not required
 abbrev pub FreshNumberIsKept : Contents → Type 0
 FreshNumberIsKept p =
-    (n : ℕ) (m : MessageDescriptorInner) (f : FieldDescriptorInner) → slice_get p.messages n ≡ Some m
+    (n : ℕ) (m : MessageDescriptorInner) (f : FieldDescriptorInner) → slice_get p.messages n
+    ≡ Some m
     → entry_numbered (parts_of p) m f.number ≡ None → is_required f.cardinality ≡ false
-    → message_changes (record { old = parts_of p; before = m; new = parts_of p; after = with_field m f }) ≡ []
+    → message_changes
+    (record { old = parts_of p; before = m; new = parts_of p; after = with_field m f }) ≡ []

@@ -1,5 +1,6 @@
 -- The fields and extensions of two versions of a message that have one number.
-use Rattle.std.specs.Prelude.{ℕ, List, [], slice_get, option_map, option_and_then, unwrap_or, Option}
+use Rattle.std.specs.Prelude.{ℕ, List, [], slice_get, option_map, option_and_then, unwrap_or}
+use Rattle.std.specs.Prelude.{Option}
 use Rattle.std.specs.FinMap as finite
 use Rattle.std.specs.Option.{option_or, option_map_or}
 use Rattle.pool_types.specs.LookUps.{field_numbered}

@@ -1,5 +1,7 @@
 -- Options of files that name code, read of their bytes.
-use Rattle.std.specs.Prelude.{ℕ, Bool, true, false, List, [], ◌∷◌, length, Result, Ok, Err, Option, Some, None, option_map, option_and_then, unwrap_or, codes, ◌==◌, if◌then◌else◌}
+use Rattle.std.specs.Prelude.{ℕ, Bool, true, false, List, [], ◌∷◌, length, Result, Ok, Err, Option}
+use Rattle.std.specs.Prelude.{Some, None, option_map, option_and_then, unwrap_or, codes, ◌==◌}
+use Rattle.std.specs.Prelude.{if◌then◌else◌}
 use Rattle.std.specs.List.{flat_map}
 use Rattle.std.specs.Str.{bytes_eq, is_utf8}
 use Rattle.wire_format.specs.declared.fault.WireFault.{WireFault}

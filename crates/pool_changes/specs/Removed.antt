@@ -1,5 +1,6 @@
 -- What a reader lacks of what a writer has: files, messages, enums and their parts.
-use Rattle.std.specs.Prelude.{ℕ, ℤ, Bool, true, false, ◌&&◌, ◌||◌, ◌==◌, List, [], ◌∷◌, ◌++◌, codes, slice_get, option_and_then, Option, Some, None, if◌then◌else◌}
+use Rattle.std.specs.Prelude.{ℕ, ℤ, Bool, true, false, ◌&&◌, ◌||◌, ◌==◌, List, [], ◌∷◌, ◌++◌, codes}
+use Rattle.std.specs.Prelude.{slice_get, option_and_then, Option, Some, None, if◌then◌else◌}
 use Rattle.std.specs.FinMap as finite
 use Rattle.std.specs.List.{list_any}
 use Rattle.std.specs.Option.{option_or, option_map_or}
@@ -29,7 +30,8 @@ use Rattle.schema_changes.specs.Parts.{parts_of}
 use Rattle.schema_changes.specs.MapEntries.{is_map_entry}
 use Rattle.verdict_texts.specs.declared.telling.ToldFault.{ToldFault}
 use Rattle.pool_changes.specs.Options.{options_changes}
-use Rattle.pool_changes.specs.Sides.{Versions, Side, writer, reader, there, around, in_file, file_told, removed, told_between, differing}
+use Rattle.pool_changes.specs.Sides.{Versions, Side, writer, reader, there, around, in_file}
+use Rattle.pool_changes.specs.Sides.{file_told, removed, told_between, differing}
 use Rattle.pool_changes.specs.declared.direction.Direction.{Direction}
 use Rattle.pool_changes.specs.declared.direction.Direction.TheVariants.{Forward}
 use Rattle.pool_changes.specs.declared.kinds.ElementChange.TheVariants as element
@@ -88,7 +90,8 @@ value_lost v f x (Some w) =
     told_between v element.ValueName (value_side x) (value_side w) ∷ []
 
 -- what a reader's enum changes of a value: its name has its number, or it is told
-abbrev pub value_changes : Versions → EnumDescriptorInner → EnumValueDescriptorInner → List ToldFault
+abbrev pub value_changes : Versions → EnumDescriptorInner → EnumValueDescriptorInner
+    → List ToldFault
 value_changes v f x =
     if list_any (is_value_like x) f.values then [] else value_lost v f x (value_numbered f x.number)
 

@@ -1,5 +1,6 @@
 -- What a reader's services change of a writer's: calls go by the full names of methods.
-use Rattle.std.specs.Prelude.{ℕ, Bool, true, false, List, [], ◌∷◌, ◌++◌, codes, find, slice_get, option_and_then, Option, Some, None}
+use Rattle.std.specs.Prelude.{ℕ, Bool, true, false, List, [], ◌∷◌, ◌++◌, codes, find, slice_get}
+use Rattle.std.specs.Prelude.{option_and_then, Option, Some, None}
 use Rattle.std.specs.FinMap as finite
 use Rattle.std.specs.List.{flat_map}
 use Rattle.std.specs.Option.{option_map_or}
@@ -15,7 +16,8 @@ use Rattle.record_walk.specs.Leads.{leads}
 use Rattle.record_walk.specs.Protos.{as_method}
 use Rattle.schema_changes.specs.Parts.{parts_of}
 use Rattle.verdict_texts.specs.declared.telling.ToldFault.{ToldFault}
-use Rattle.pool_changes.specs.Sides.{Versions, Side, writer, reader, there, around, removed, told_between, differing}
+use Rattle.pool_changes.specs.Sides.{Versions, Side, writer, reader, there, around, removed}
+use Rattle.pool_changes.specs.Sides.{told_between, differing}
 use Rattle.pool_changes.specs.Words.{message_name}
 use Rattle.pool_changes.specs.declared.kinds.ElementChange.TheVariants as element
 

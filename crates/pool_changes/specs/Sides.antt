@@ -1,5 +1,6 @@
 -- An older and a new version that are compared in a direction, and both sides of a change.
-use Rattle.std.specs.Prelude.{ℕ, ℤ, Bool, true, false, ◌&&◌, List, [], ◌∷◌, ◌++◌, codes, slice_get, option_map, option_and_then, Option, Some, None, if◌then◌else◌}
+use Rattle.std.specs.Prelude.{ℕ, ℤ, Bool, true, false, ◌&&◌, List, [], ◌∷◌, ◌++◌, codes, slice_get}
+use Rattle.std.specs.Prelude.{option_map, option_and_then, Option, Some, None, if◌then◌else◌}
 use Rattle.std.specs.FinMap as finite
 use Rattle.std.specs.Str.{bytes_eq}
 use Rattle.pool_types.specs.Contents.{Contents}

@@ -1,5 +1,6 @@
 -- A change as it is told: its code, its text, where it stands in both versions, and what to do.
-use Rattle.std.specs.Prelude.{ℕ, List, codes, slice_get, option_map, is_some, Bool, true, false, Option, Some}
+use Rattle.std.specs.Prelude.{ℕ, List, codes, slice_get, option_map, is_some, Bool, true, false}
+use Rattle.std.specs.Prelude.{Option, Some}
 use Rattle.pool_faults.specs.Labels.{span_at}
 use Rattle.pool_types.specs.declared.contents.definition.Identity.{Identity}
 use Rattle.proto_types.specs.Readers.{text_of}

@@ -1,5 +1,6 @@
 -- What is told of each kind of change: its name, what both versions have, and what to do.
-use Rattle.std.specs.Prelude.{ℕ, ℤ, Bool, true, false, List, [], ◌++◌, codes, slice_get, Option, Some, None, if◌then◌else◌}
+use Rattle.std.specs.Prelude.{ℕ, ℤ, Bool, true, false, List, [], ◌++◌, codes, slice_get, Option}
+use Rattle.std.specs.Prelude.{Some, None, if◌then◌else◌}
 use Rattle.std.specs.Fmt.{decimal, signed_decimal}
 use Rattle.std.specs.Option.{option_map_or}
 use Rattle.pool_types.specs.Kinds.{kind_name}
@@ -103,8 +104,8 @@ abbrev pub both_words : Compared → WireChangeKind → ℕ → List ℕ
 both_words c k n = side_words k c.old (old_entry c n)
     ++ (codes " became " ++ side_words k c.new (new_entry c n))
 
--- both sides of a field that is in one oneof with another in the reader's version alone, by the names
--- of that field and of the oneof
+-- both sides of a field that is in one oneof with another in the reader's version alone, by the
+-- names of that field and of the oneof
 abbrev pub joined_words : Direction → List ℕ → List ℕ → List ℕ
 joined_words Backward partner oneof = codes "independent of '" ++ (partner
     ++ (codes "' became exclusive with it in the oneof '" ++ (oneof ++ codes "'")))

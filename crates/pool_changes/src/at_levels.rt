@@ -104,7 +104,8 @@ impl<'a> Telling<'a> {
         found: &[WireChange],
     ) -> Result<(), AllocError>
         ensures { OnOk result (told.new ≡ told.old
-            ++ flat_map (comparing.told_if (versions self.entry) (compared sides.entry)) found.now) }
+            ++ flat_map (comparing.told_if (versions self.entry) (compared sides.entry))
+            found.now) }
     {
         for change in found {
             self.tell_if(told, sides, *change)?;

@@ -4,7 +4,8 @@ ghost use Rattle.pool_types.specs.Contents.{Contents};
 ghost use Rattle.schema_changes.specs.Pools.{wire_changes};
 ghost use Rattle.pool_changes.specs.Comparing.{changes};
 ghost use Rattle.pool_changes.specs.declared.kinds.Level.TheVariants.{Wire};
-ghost use Rattle.pool_changes.specs.Laws.{Chains, FreshNumberIsKept, NoChangeIsRead, UnchangedIsRead};
+ghost use Rattle.pool_changes.specs.Laws.{Chains, FreshNumberIsKept, NoChangeIsRead};
+ghost use Rattle.pool_changes.specs.Laws.{UnchangedIsRead};
 
 use descriptor_pool::DescriptorPool;
 
@@ -19,8 +20,8 @@ pub fn no_change_is_read(old: &DescriptorPool, new: &DescriptorPool)
 }
 
 /// Where nothing changes of a message and of those that it reaches, what is written of it by the
-/// old pool's schema is read by that of the new one, if it has a message of that name, with the same
-/// value of each field that both have.
+/// old pool's schema is read by that of the new one, if it has a message of that name, with the
+/// same value of each field that both have.
 pub fn unchanged_is_read(old: &DescriptorPool, new: &DescriptorPool)
     ensures { UnchangedIsRead old.now new.now }
 {

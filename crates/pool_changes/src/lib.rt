@@ -1,6 +1,6 @@
-//! What a new pool changes of an old one: so that bytes are read otherwise, calls of services, texts
-//! of JSON, or code that is made of the schema. Each change is told with its text, its place in both
-//! versions and what to do, as lines for people and as objects of JSON.
+//! What a new pool changes of an old one: so that bytes are read otherwise, calls of services,
+//! texts of JSON, or code that is made of the schema. Each change is told with its text, its place
+//! in both versions and what to do, as lines for people and as objects of JSON.
 #![tactic(auto)]
 
 mod at_levels;

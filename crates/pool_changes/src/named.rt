@@ -28,8 +28,8 @@ fn dotted_definition<'a>(
     Ok(pool.get_by_name(dotted.as_str()))
 }
 
-/// What a pool has under a full name. Where that begins with a dot, one more is put before it, since
-/// the pool takes one away.
+/// What a pool has under a full name. Where that begins with a dot, one more is put before it,
+/// since the pool takes one away.
 fn definition_of<'a>(
     alloc: Global,
     pool: &'a DescriptorPool,

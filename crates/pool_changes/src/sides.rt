@@ -1,6 +1,7 @@
 //! Both sides of a change, and what is told of them.
 
-ghost use Rattle.std.specs.Prelude.{◌≡◌, ◌++◌, [], ◌∷◌, IfOk, OnOk, string_bytes, slice_get, option_map, option_and_then};
+ghost use Rattle.std.specs.Prelude.{◌≡◌, ◌++◌, [], ◌∷◌, IfOk, OnOk, string_bytes, slice_get};
+ghost use Rattle.std.specs.Prelude.{option_map, option_and_then};
 ghost use Rattle.std.specs.Option.{option_copied};
 ghost use Rattle.pool_changes.specs.Sides as spec;
 
@@ -295,7 +296,8 @@ impl<'a> Telling<'a> {
         read: Side<'_>,
     ) -> Result<(), AllocError>
         ensures { OnOk result (told.new ≡ told.old ++ spec.told_between
-            (spec.versions self.entry) change (spec.side written.entry) (spec.side read.entry) ∷ []) }
+            (spec.versions self.entry) change (spec.side written.entry) (spec.side read.entry)
+            ∷ []) }
     {
         let (old, new) = match self.direction {
             Direction::Backward => (written, read),

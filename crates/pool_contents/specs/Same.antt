@@ -6,7 +6,8 @@ use Rattle.std.specs.Str.{bytes_eq}
 use Rattle.plain_data.specs.Exact.{Exact, ◌and◌, by-parts, items-exact, text-exact, maps-exact}
 use Rattle.plain_data.specs.Maps.{map_eq}
 use Rattle.pool_types.specs.Contents.{Contents, ByText}
-use Rattle.pool_types.specs.Exact.{definition-exact, file_inner-exact, message_inner-exact, enum_inner-exact, service_inner-exact, extension_inner-exact}
+use Rattle.pool_types.specs.Exact.{definition-exact, file_inner-exact, message_inner-exact}
+use Rattle.pool_types.specs.Exact.{enum_inner-exact, service_inner-exact, extension_inner-exact}
 use Rattle.pool_types.specs.declared.contents.definition.Definition.{Definition}
 use Rattle.pool_types.specs.declared.contents.enumeration.EnumDescriptorInner.{EnumDescriptorInner}
 use Rattle.pool_types.specs.declared.contents.extension.ExtensionDescriptorInner.{ExtensionDescriptorInner}

@@ -1,4 +1,5 @@
-ghost use Rattle.std.specs.Prelude.{◌≡◌, ◌≤◌, ◌<◌, ◌+◌, ◌^◌, ◌++◌, [], ◌∷◌, ℕ, List, OnOk, OnErr, length, map};
+ghost use Rattle.std.specs.Prelude.{◌≡◌, ◌≤◌, ◌<◌, ◌+◌, ◌^◌, ◌++◌, [], ◌∷◌, ℕ, List, OnOk, OnErr};
+ghost use Rattle.std.specs.Prelude.{length, map};
 ghost use Rattle.plain_data.specs.Maps.{ByNumber};
 ghost use Rattle.pool_contents.specs.Extended.{LieBefore, with_extensions, with_number};
 ghost use Rattle.pool_contents.specs.Unlinked.{unlinked};
@@ -39,8 +40,10 @@ impl GrowingPool {
     ghost use Rattle.name_resolution.specs.Sight.{AskedBefore};
     ghost use Rattle.pool_contents.specs.Inner.{contents_in, NamesLieIn};
     ghost use Rattle.name_tables.specs.NameTables.{FileNamesBefore};
-    ghost use Rattle.pool_contents.specs.Growing.{file_seeing, files_seeing, first_extension, first_new, new_records, rolled_back};
-    ghost use Rattle.pool_contents.specs.Extended.{extended_between, with_extended, NumbersLieBefore};
+    ghost use Rattle.pool_contents.specs.Growing.{file_seeing, files_seeing, first_extension};
+    ghost use Rattle.pool_contents.specs.Growing.{first_new, new_records, rolled_back};
+    ghost use Rattle.pool_contents.specs.Extended.{extended_between, with_extended};
+    ghost use Rattle.pool_contents.specs.Extended.{NumbersLieBefore};
 
     /// A pool before anything of a batch came, and how much it has. Its names mean something in its
     /// files.
@@ -78,7 +81,8 @@ impl GrowingPool {
         Ok(())
     }
 
-    /// Gives the records of all files that came back, in place of as many others. It takes no memory.
+    /// Gives the records of all files that came back, in place of as many others. It takes no
+    /// memory.
     pub fn give_back(&mut self, records: &mut [FileDescriptorProto])
         requires { length records.old ≡ length (new_records self.old) }
         ensures given { records.new ≡ new_records self.old }
@@ -177,8 +181,8 @@ impl GrowingPool {
         Ok(())
     }
 
-    /// Takes the extensions that came, up to an index, out of the messages that they extend, the last
-    /// one first.
+    /// Takes the extensions that came, up to an index, out of the messages that they extend, the
+    /// last one first.
     fn retract_extensions(&mut self, end: u32)
         requires { end ≤ length self.old.inner.extensions.items }
         ensures back { (ms : List MessageDescriptorInner)

@@ -1,5 +1,6 @@
 -- The texts of faults.
-use Rattle.std.specs.Prelude.{ℕ, ℤ, pos, ◌+ℤ◌, ◌-ℤ◌, slice_get, slice_index_or, List, [], ◌∷◌, ◌++◌, codes, if◌then◌else◌}
+use Rattle.std.specs.Prelude.{ℕ, ℤ, pos, ◌+ℤ◌, ◌-ℤ◌, slice_get, slice_index_or, List, [], ◌∷◌, ◌++◌}
+use Rattle.std.specs.Prelude.{codes, if◌then◌else◌}
 use Rattle.std.specs.Fmt.{signed_decimal}
 use Rattle.std.specs.List.{flat_map}
 use Rattle.std.specs.Option.{option_map_or, option_and_then}
@@ -97,7 +98,8 @@ number_fault_text (fault.FieldNumberInExtensionRange number start behind _ _) =
     range_text (codes "field") number (codes "extension") start (behind -ℤ pos 1)
 number_fault_text (fault.ExtensionNumberOutOfRange number message _) =
     out_of_range_text message number
-number_fault_text (fault.DuplicateExtensionNumber number message _ _) = duplicate_extension_text message number
+number_fault_text (fault.DuplicateExtensionNumber number message _ _) =
+    duplicate_extension_text message number
 number_fault_text other = value_fault_text other
 
 -- the text of a fault of a reference or a default that means nothing, or else of a number

@@ -138,7 +138,8 @@ fn fmt_further<W: fmt::Write>(
     f: &mut fmt::Formatter<W>,
     faults: &[DescriptorErrorKind],
 ) -> fmt::Result
-    ensures { DisplaysOnOk W.write_str_gives f.old result (Some (flat_map further_line faults.now)) f.new }
+    ensures { DisplaysOnOk W.write_str_gives f.old result (Some (flat_map further_line faults.now))
+        f.new }
 {
     for fault in faults {
         let fault = Labelled(fault);

@@ -1,7 +1,10 @@
 ghost use Rattle.std.specs.Prelude.{◌≡◌, pos, ◌-ℤ◌, Some, codes};
 ghost use Rattle.std.specs.Fmt.{DisplaysOnOk};
 ghost use Rattle.std.specs.Option.{option_copied};
-ghost use Rattle.pool_faults.specs.Fault.{shown_label, name_fault_text, reference_fault_text, number_fault_text, value_fault_text, range_text, out_of_range_text, duplicate_extension_text, between, line_text};
+ghost use Rattle.pool_faults.specs.Fault.{shown_label, name_fault_text, reference_fault_text};
+ghost use Rattle.pool_faults.specs.Fault.{number_fault_text, value_fault_text, range_text};
+ghost use Rattle.pool_faults.specs.Fault.{out_of_range_text, duplicate_extension_text, between};
+ghost use Rattle.pool_faults.specs.Fault.{line_text};
 
 use crate::Label;
 use plain_data::Text;

@@ -2,7 +2,8 @@ ghost use Rattle.std.specs.Prelude.{◌≡◌, ◌<◌, IfOk, length, map, find}
 ghost use Rattle.std.specs.Cmp.Lexicographic.{pointwise};
 ghost use Rattle.std.specs.Option.{option_copied};
 ghost use Rattle.std.specs.Ordering.{int_eq};
-ghost use Rattle.pool_faults.specs.Labels.{label, label_in, label_line, label_column, non_negative, span_at, span_of};
+ghost use Rattle.pool_faults.specs.Labels.{label, label_in, label_line, label_column, non_negative};
+ghost use Rattle.pool_faults.specs.Labels.{span_at, span_of};
 
 use plain_data::{Items, Text};
 use pool_types::FileDescriptorInner;

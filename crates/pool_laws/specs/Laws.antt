@@ -1,5 +1,6 @@
 -- Laws of pools.
-use Rattle.std.specs.Prelude.{◌≡◌, ◌⊎◌, ◌≢◌, ◌<◌, ◌+◌, ℕ, Bool, true, false, IsSome, IsTrue, Some, List, [], ◌∷◌, ◌++◌, length, map, slice_get}
+use Rattle.std.specs.Prelude.{◌≡◌, ◌⊎◌, ◌≢◌, ◌<◌, ◌+◌, ℕ, Bool, true, false, IsSome, IsTrue, Some}
+use Rattle.std.specs.Prelude.{List, [], ◌∷◌, ◌++◌, length, map, slice_get}
 use Rattle.std.specs.FinMap as finite
 use Rattle.std.specs.List.{All, Contains}
 use Rattle.proto_types.specs.Names.{fronts}

@@ -1,5 +1,6 @@
 //! A call does nothing: its contract is the law, and is proved of all pools and files.
-ghost use Rattle.pool_laws.specs.Laws.{DotSaysNothing, EarlierStays, PrefixesEntered, Relinks, SeenNamesStand, Splits};
+ghost use Rattle.pool_laws.specs.Laws.{DotSaysNothing, EarlierStays, PrefixesEntered, Relinks};
+ghost use Rattle.pool_laws.specs.Laws.{SeenNamesStand, Splits};
 ghost use Rattle.pool_laws.specs.Order.{Reorders};
 
 use descriptor_pool::DescriptorPool;
@@ -52,10 +53,10 @@ pub fn split(pool: &DescriptorPool, front: &[FileDescriptorProto], back: &[FileD
 }
 
 /// A batch whose files are handed over in another order fits exactly if it did, and is accepted
-/// exactly if it was. Where it is accepted, each file has the same linked record, the pools know the
-/// same names, and each name means the same but for numbers: a definition of the same kind, at the
-/// same path of the file of the same name; of a package only that it is one. Not promised is that a
-/// refused batch is told the same faults, or which file a package is first defined in.
+/// exactly if it was. Where it is accepted, each file has the same linked record, the pools know
+/// the same names, and each name means the same but for numbers: a definition of the same kind, at
+/// the same path of the file of the same name; of a package only that it is one. Not promised is
+/// that a refused batch is told the same faults, or which file a package is first defined in.
 pub fn reorder(pool: &DescriptorPool, batch: &[FileDescriptorProto], other: &[FileDescriptorProto])
     ensures { Reorders pool.now batch.now other.now }
 {

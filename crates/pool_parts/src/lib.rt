@@ -1,5 +1,5 @@
-//! The parts of a pool: what it holds, what a name means, default values, and the faults of a batch.
-//! Every record, list and map that these name is handed on.
+//! The parts of a pool: what it holds, what a name means, default values, and the faults of a
+//! batch. Every record, list and map that these name is handed on.
 //!
 //! # Example
 //!

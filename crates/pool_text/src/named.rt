@@ -18,9 +18,9 @@ use std::alloc::{AllocError, Global};
 /// What a name means in a pool, as a text; nothing where it means nothing. The name is a full name,
 /// with one leading dot or without, or else that of a file. A message is told by the lines that
 /// `describe` has of it and by its ranges, each with its first and its last number; an enum, a
-/// service, an extension and a file by those of `describe`, and a field, a oneof, a value and a method
-/// by those of the item in which it stands. Of a package the first file that has it is told. Names
-/// are escaped as `describe` escapes them.
+/// service, an extension and a file by those of `describe`, and a field, a oneof, a value and a
+/// method by those of the item in which it stands. Of a package the first file that has it is told.
+/// Names are escaped as `describe` escapes them.
 ///
 /// # Errors
 /// `AllocError` where memory was refused.

@@ -1,7 +1,8 @@
 -- `==` of indexes, kinds, default values and what a pool holds tells whether two values are one.
 use Rattle.std.proofs.Common.{rules}
 use Rattle.std.specs.Cmp.{unsigned_Decides, signed_Decides, booleans_Decides}
-use Rattle.plain_data.specs.Exact.{Exact, ◌and◌, by-parts, text-exact, given, items-exact, given-text, numbers-exact, number_map-exact, text_map-exact}
+use Rattle.plain_data.specs.Exact.{Exact, ◌and◌, by-parts, text-exact, given, items-exact}
+use Rattle.plain_data.specs.Exact.{given-text, numbers-exact, number_map-exact, text_map-exact}
 use Rattle.pool_types.specs.contracts.indexes.FileDescriptorPartialEq.TheImpl as file
 use Rattle.pool_types.specs.contracts.indexes.MessageDescriptorPartialEq.TheImpl as message
 use Rattle.pool_types.specs.contracts.indexes.EnumDescriptorPartialEq.TheImpl as enum
@@ -158,7 +159,8 @@ message_inner-exact =
     ))
     (λ a b e. search rules)
     (identity-exact and given unsigned_Decides and items-exact unsigned_Decides and
-    number_map-exact and items-exact field_inner-exact and number_map-exact and text_map-exact and text_map-exact and items-exact
+    number_map-exact and items-exact field_inner-exact and number_map-exact and text_map-exact and
+    text_map-exact and items-exact
     oneof_inner-exact)
 
 -- `==` of the items of an enum's values is exact
@@ -182,7 +184,10 @@ extension_inner-exact =
       x.id,
       (
         x.parent,
-        (x.number, (x.json_name, (x.extendee, (x.kind, (x.is_packed, (x.cardinality, x.default)))))),
+        (
+          x.number,
+          (x.json_name, (x.extendee, (x.kind, (x.is_packed, (x.cardinality, x.default))))),
+        ),
       ),
     ))
     (λ a b e. search rules)

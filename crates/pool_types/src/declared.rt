@@ -1,6 +1,7 @@
 ghost use Rattle.std.specs.Prelude.{◌≡◌, Bool, ℕ};
 ghost use Rattle.pool_types.specs.declared.declared.Parent.{Parent};
-ghost use Rattle.pool_types.specs.Members.{stands_in, message_in, enum_in, service_in, extension_in};
+ghost use Rattle.pool_types.specs.Members.{stands_in, message_in, enum_in, service_in};
+ghost use Rattle.pool_types.specs.Members.{extension_in};
 
 use crate::contents::{
     EnumDescriptorInner, ExtensionDescriptorInner, MessageDescriptorInner, ServiceDescriptorInner,

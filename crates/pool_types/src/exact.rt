@@ -1,4 +1,12 @@
-ghost use Rattle.pool_types.specs.Exact.{file-exact, message-exact, enum-exact, service-exact, extension-exact, field-exact, oneof-exact, value-exact, method-exact, syntax-exact, cardinality-exact, kind_index-exact, kind-exact, default-exact, definition_kind-exact, identity-exact, definition-exact, field_inner-exact, file_inner-exact, message_inner-exact, oneof_inner-exact, enum_inner-exact, value_inner-exact, extension_inner-exact, service_inner-exact, method_inner-exact};
+ghost use Rattle.pool_types.specs.Exact.{file-exact, message-exact, enum-exact, service-exact};
+ghost use Rattle.pool_types.specs.Exact.{extension-exact, field-exact, oneof-exact, value-exact};
+ghost use Rattle.pool_types.specs.Exact.{method-exact, syntax-exact, cardinality-exact};
+ghost use Rattle.pool_types.specs.Exact.{kind_index-exact, kind-exact, default-exact};
+ghost use Rattle.pool_types.specs.Exact.{definition_kind-exact, identity-exact, definition-exact};
+ghost use Rattle.pool_types.specs.Exact.{field_inner-exact, file_inner-exact, message_inner-exact};
+ghost use Rattle.pool_types.specs.Exact.{oneof_inner-exact, enum_inner-exact, value_inner-exact};
+ghost use Rattle.pool_types.specs.Exact.{extension_inner-exact, service_inner-exact};
+ghost use Rattle.pool_types.specs.Exact.{method_inner-exact};
 
 use crate::{
     Cardinality, DefaultValue, Definition, DefinitionKind, EnumDescriptor, EnumDescriptorInner,

@@ -1,5 +1,6 @@
 ghost use Rattle.std.specs.Prelude.{◌≡◌, ⊤};
-ghost use Rattle.pool_types.specs.Kinds.{is_packable, is_message, type_number, kind_of, kind_name, simple_kind, named_kind, cardinality_of};
+ghost use Rattle.pool_types.specs.Kinds.{is_packable, is_message, type_number, kind_of, kind_name};
+ghost use Rattle.pool_types.specs.Kinds.{simple_kind, named_kind, cardinality_of};
 
 use crate::contents::DefinitionKind;
 use crate::indexes::{EnumDescriptor, MessageDescriptor};

@@ -3,7 +3,9 @@
 ghost use Rattle.std.specs.Prelude.{◌≡◌, slice_get};
 ghost use Rattle.std.specs.Option.{option_copied, option_and_then};
 ghost use Rattle.std.specs.Str.{bytes_eq};
-ghost use Rattle.pool_types.specs.LookUps.{declared_name, field_numbered, field_named, field_json_named, value_numbered, value_named, method_named};
+ghost use Rattle.pool_types.specs.LookUps.{declared_name, field_numbered, field_named};
+ghost use Rattle.pool_types.specs.LookUps.{field_json_named, value_numbered, value_named};
+ghost use Rattle.pool_types.specs.LookUps.{method_named};
 
 use crate::contents::{
     EnumDescriptorInner, EnumValueDescriptorInner, FieldDescriptorInner, Identity,

@@ -1,7 +1,8 @@
 -- Messages, ranges and oneofs without parts.
 use Rattle.std.specs.Prelude.{[]}
 use Rattle.std.specs.declared.option.Option.TheVariants.{None}
-use Rattle.proto_types.specs.declared.message.DescriptorProto.{DescriptorProto, roll-DescriptorProto}
+use Rattle.proto_types.specs.declared.message.DescriptorProto.{DescriptorProto}
+use Rattle.proto_types.specs.declared.message.DescriptorProto.{roll-DescriptorProto}
 use Rattle.proto_types.specs.declared.message.OneofDescriptorProto.{OneofDescriptorProto}
 use Rattle.proto_types.specs.declared.message.ExtensionRange.{ExtensionRange}
 use Rattle.proto_types.specs.declared.message.ReservedRange.{ReservedRange}

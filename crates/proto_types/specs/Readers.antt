@@ -1,11 +1,19 @@
 -- What a record's parts read as where they are missing or unknown (descriptor.proto's defaults).
-use Rattle.std.specs.Prelude.{ℕ, zero, suc, ℤ, pos, negsuc, Bool, false, List, [], ◌∷◌, slice_get, unwrap_or}
+use Rattle.std.specs.Prelude.{ℕ, zero, suc, ℤ, pos, negsuc, Bool, false, List, [], ◌∷◌, slice_get}
+use Rattle.std.specs.Prelude.{unwrap_or}
 use Rattle.std.specs.declared.option.Option.{Option}
 use Rattle.std.specs.declared.option.Option.TheVariants.{None, Some}
 use Rattle.proto_types.specs.declared.records.field.FieldLabel.{FieldLabel}
-use Rattle.proto_types.specs.declared.records.field.FieldLabel.TheVariants.{Optional, Required, Repeated}
+use Rattle.proto_types.specs.declared.records.field.FieldLabel.TheVariants.{Optional, Required}
+use Rattle.proto_types.specs.declared.records.field.FieldLabel.TheVariants.{Repeated}
 use Rattle.proto_types.specs.declared.records.field.FieldType.{FieldType}
-use Rattle.proto_types.specs.declared.records.field.FieldType.TheVariants.{Double, Float, Int64, Uint64, Int32, Fixed64, Fixed32, Bool as Boolean, String, Group, Message, Bytes, Uint32, Enum, Sfixed32, Sfixed64, Sint32, Sint64}
+use Rattle.proto_types.specs.declared.records.field.FieldType.TheVariants.{Double, Float, Int64}
+use Rattle.proto_types.specs.declared.records.field.FieldType.TheVariants.{Uint64, Int32, Fixed64}
+use Rattle.proto_types.specs.declared.records.field.FieldType.TheVariants.{Fixed32, Bool as Boolean}
+use Rattle.proto_types.specs.declared.records.field.FieldType.TheVariants.{String, Group, Message}
+use Rattle.proto_types.specs.declared.records.field.FieldType.TheVariants.{Bytes, Uint32, Enum}
+use Rattle.proto_types.specs.declared.records.field.FieldType.TheVariants.{Sfixed32, Sfixed64}
+use Rattle.proto_types.specs.declared.records.field.FieldType.TheVariants.{Sint32, Sint64}
 
 -- a missing text reads as the empty text
 abbrev pub text_of : Option (List ℕ) → List ℕ

@@ -1,4 +1,9 @@
-ghost use Rattle.proto_types.specs.Exact.{options-exact, field_options-exact, enum_options-exact, unread-exact, field-exact, enum_range-exact, value-exact, enum-exact, method-exact, service-exact, location-exact, source-exact, extension_range-exact, reserved_range-exact, oneof-exact, message-exact, file-exact, file_set-exact};
+ghost use Rattle.proto_types.specs.Exact.{options-exact, field_options-exact, enum_options-exact};
+ghost use Rattle.proto_types.specs.Exact.{unread-exact, field-exact, enum_range-exact, value-exact};
+ghost use Rattle.proto_types.specs.Exact.{enum-exact, method-exact, service-exact, location-exact};
+ghost use Rattle.proto_types.specs.Exact.{source-exact, extension_range-exact};
+ghost use Rattle.proto_types.specs.Exact.{reserved_range-exact, oneof-exact, message-exact};
+ghost use Rattle.proto_types.specs.Exact.{file-exact, file_set-exact};
 
 use crate::{
     DescriptorProto, EnumDescriptorProto, EnumOptions, EnumReservedRange, EnumValueDescriptorProto,

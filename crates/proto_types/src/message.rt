@@ -1,5 +1,6 @@
 ghost use Rattle.std.specs.Prelude.{◌≡◌, IfOk};
-ghost use Rattle.proto_types.specs.Message.{no_message, no_extension_range, no_reserved_range, no_oneof};
+ghost use Rattle.proto_types.specs.Message.{no_message, no_extension_range, no_reserved_range};
+ghost use Rattle.proto_types.specs.Message.{no_oneof};
 ghost use Rattle.proto_types.specs.Readers.{text_of, number_of};
 
 use crate::{EnumDescriptorProto, FieldDescriptorProto, Options, Unread, or_empty};
@@ -44,7 +45,8 @@ pub struct OneofDescriptorProto {
 }
 
 impl DescriptorProto {
-    ghost use Rattle.proto_types.specs.declared.message.DescriptorProto.{out-DescriptorProto, roll-DescriptorProto};
+    ghost use Rattle.proto_types.specs.declared.message.DescriptorProto.{out-DescriptorProto};
+    ghost use Rattle.proto_types.specs.declared.message.DescriptorProto.{roll-DescriptorProto};
 
     /// A message with all parts absent or empty, which takes no memory.
     pub fn empty(alloc: Global) -> DescriptorProto

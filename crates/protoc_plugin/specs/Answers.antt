@@ -1,5 +1,6 @@
 -- What is answered to a request: the error of a response, or none.
-use Rattle.std.specs.Prelude.{◌≡◌, ◌⊎◌, ℕ, Bool, true, false, not, ◌||◌, ◌==◌, is_some, List, [], ◌∷◌, ◌++◌, codes, length}
+use Rattle.std.specs.Prelude.{◌≡◌, ◌⊎◌, ℕ, Bool, true, false, not, ◌||◌, ◌==◌, is_some, List, []}
+use Rattle.std.specs.Prelude.{◌∷◌, ◌++◌, codes, length}
 use Rattle.std.specs.declared.option.Option.{Option}
 use Rattle.std.specs.declared.option.Option.TheVariants.{None, Some}
 use Rattle.descriptor_check.specs.Against.{answer_against}
@@ -9,15 +10,16 @@ use Rattle.descriptor_check.specs.declared.answer.Status.{Status}
 use Rattle.descriptor_check.specs.declared.answer.Status.TheVariants as status
 use Rattle.descriptor_check.specs.declared.arguments.Job.{Job}
 use Rattle.descriptor_check.specs.declared.arguments.Request.{Request}
-use Rattle.descriptor_check.specs.declared.arguments.Request.TheVariants.{Check, Help, Version, Wrong}
+use Rattle.descriptor_check.specs.declared.arguments.Request.TheVariants.{Check, Help, Version}
+use Rattle.descriptor_check.specs.declared.arguments.Request.TheVariants.{Wrong}
 use Rattle.descriptor_check.specs.declared.arguments.TheConstants.{HELP, VERSION}
 use Rattle.descriptor_check.specs.declared.devices.DeviceError.TheVariants.{Failed}
 use Rattle.descriptor_check.specs.declared.inputs.Input.{Input}
 use Rattle.protoc_plugin.specs.Parameters.{asked_by}
 use Rattle.protoc_plugin.specs.declared.requests.CodeRequest.{CodeRequest}
 
--- what a check told, as an error: none where the files are accepted. It begins on a line of its own,
--- since protoc puts the name of the plugin in front
+-- what a check told, as an error: none where the files are accepted. It begins on a line of its
+-- own, since protoc puts the name of the plugin in front
 abbrev pub error_by : Status → List ℕ → Option (List ℕ)
 error_by status.Accepted text = None
 error_by _ text = Some (codes "\n" ++ text)
@@ -38,7 +40,8 @@ asks_too_much job = job.wanted.lists || (not (length job.wanted.names == 0)
 
 -- what is wrong with such a job
 abbrev pub too_much_words : List ℕ
-too_much_words = codes "a plugin tells the verdict alone: leave out list, describe, linked and names of files"
+too_much_words =
+    codes "a plugin tells the verdict alone: leave out list, describe, linked and names of files"
 
 -- the error is that of the files of a request against older versions, which have the names that a
 -- job has for them, in their order, all of them

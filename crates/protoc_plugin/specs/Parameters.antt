@@ -1,5 +1,7 @@
--- The parameter of a plugin: options of the check, without their dashes and with commas between them.
-use Rattle.std.specs.Prelude.{ℕ, Bool, List, [], ◌∷◌, ◌++◌, ◌==◌, codes, length, nat_lt, unwrap_or, if◌then◌else◌}
+-- The parameter of a plugin: options of the check, without their dashes and with commas between
+-- them.
+use Rattle.std.specs.Prelude.{ℕ, Bool, List, [], ◌∷◌, ◌++◌, ◌==◌, codes, length, nat_lt, unwrap_or}
+use Rattle.std.specs.Prelude.{if◌then◌else◌}
 use Rattle.std.specs.List.{after_first, before_first, flat_map, position_or_len, slice_split}
 use Rattle.std.specs.declared.option.Option.{Option}
 use Rattle.descriptor_check.specs.Arguments.{request_of}

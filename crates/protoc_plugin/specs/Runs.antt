@@ -11,7 +11,8 @@ use Rattle.protoc_plugin.specs.Devices.{Devices, with_answer}
 use Rattle.protoc_plugin.specs.Requests.{request_in}
 use Rattle.protoc_plugin.specs.Responses.{response}
 use Rattle.protoc_plugin.specs.declared.ending.Ending.{Ending}
-use Rattle.protoc_plugin.specs.declared.ending.Ending.TheVariants.{Answered, NoRequest, OutOfMemory, Device}
+use Rattle.protoc_plugin.specs.declared.ending.Ending.TheVariants.{Answered, NoRequest, OutOfMemory}
+use Rattle.protoc_plugin.specs.declared.ending.Ending.TheVariants.{Device}
 use Rattle.protoc_plugin.specs.declared.requests.CodeRequest.{CodeRequest}
 
 -- bytes are the response to the request that devices tell

@@ -1,6 +1,7 @@
 -- What extensions may not be (protobuf's `BuildFieldOrExtension`, `CrossLinkField` and
 -- `ValidateFieldOptions`).
-use Rattle.std.specs.Prelude.{ℕ, Bool, true, false, not, ◌&&◌, is_some, List, [], ◌∷◌, ◌++◌, codes, slice_get}
+use Rattle.std.specs.Prelude.{ℕ, Bool, true, false, not, ◌&&◌, is_some, List, [], ◌∷◌, ◌++◌, codes}
+use Rattle.std.specs.Prelude.{slice_get}
 use Rattle.std.specs.List.{list_any}
 use Rattle.std.specs.Option.{option_map_or}
 use Rattle.std.specs.Str.{bytes_eq}
@@ -34,10 +35,11 @@ is_wrong_in_set s = s.in_message_set
 -- whether an extension has another JSON name than the one that is made of its name
 abbrev pub has_json_name : FieldDescriptorProto → Bool
 has_json_name f =
-    option_map_or (λ json. not (bytes_eq json (camel_case false (text_of f.name)))) f.json_name false
+    option_map_or (λ json. not (bytes_eq json (camel_case false (text_of f.name)))) f.json_name
+    false
 
--- what an extension may not be: what no field may be, required, with an index of a oneof, with a JSON
--- name of its own, nor in a message set anything but an optional message
+-- what an extension may not be: what no field may be, required, with an index of a oneof, with a
+-- JSON name of its own, nor in a message set anything but an optional message
 abbrev pub extension_site_faults : Site → List StrictFault
 extension_site_faults s = site_faults s
     ++ (only_if (is_required (label_of s.field.label))
@@ -82,8 +84,8 @@ option_messages = codes "google.protobuf.FileOptions"
 unfoldable pub is_of_options : List ℕ → Bool
 is_of_options name = list_any (λ other. bytes_eq other name) option_messages
 
--- what an extension of a message may not be: in proto3 of anything but options, nor a map field that
--- is not made as one
+-- what an extension of a message may not be: in proto3 of anything but options, nor a map field
+-- that is not made as one
 abbrev pub extended_faults : Linked → Site → Identity → List StrictFault
 extended_faults l s extended = only_if (s.in_proto3 && not (is_of_options extended.full_name))
     (at_part kind.ExtensionInProto3 s.id field.EXTENDEE) ++ map_faults l s extended

@@ -1,5 +1,6 @@
 -- What files may not be, and what they may not import (protobuf's `BuildFile`).
-use Rattle.std.specs.Prelude.{ℕ, zero, suc, Bool, false, not, ◌==◌, List, [], ◌++◌, length, map, position, slice_get, take, unwrap_or}
+use Rattle.std.specs.Prelude.{ℕ, zero, suc, Bool, false, not, ◌==◌, List, [], ◌++◌, length, map}
+use Rattle.std.specs.Prelude.{position, slice_get, take, unwrap_or}
 use Rattle.std.specs.List.{list_all}
 use Rattle.plain_data.specs.Lists.{only_if}
 use Rattle.proto_types.specs.Readers.{text_of}

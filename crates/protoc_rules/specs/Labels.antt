@@ -1,7 +1,8 @@
 -- What a label is.
 use Rattle.std.specs.Prelude.{Bool, true, false}
 use Rattle.proto_types.specs.declared.records.field.FieldLabel.{FieldLabel}
-use Rattle.proto_types.specs.declared.records.field.FieldLabel.TheVariants.{Optional, Required, Repeated}
+use Rattle.proto_types.specs.declared.records.field.FieldLabel.TheVariants.{Optional, Required}
+use Rattle.proto_types.specs.declared.records.field.FieldLabel.TheVariants.{Repeated}
 
 -- whether a label is required
 abbrev pub is_required : FieldLabel → Bool

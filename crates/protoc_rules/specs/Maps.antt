@@ -1,5 +1,6 @@
 -- What the entries of maps may not be (protobuf's `ValidateMapEntry`).
-use Rattle.std.specs.Prelude.{ℕ, ℤ, pos, ◌-◌, nat_le, Bool, true, false, not, ◌&&◌, ◌==◌, List, [], ◌∷◌, ◌++◌, codes, length, slice_get, if◌then◌else◌}
+use Rattle.std.specs.Prelude.{ℕ, ℤ, pos, ◌-◌, nat_le, Bool, true, false, not, ◌&&◌, ◌==◌, List, []}
+use Rattle.std.specs.Prelude.{◌∷◌, ◌++◌, codes, length, slice_get, if◌then◌else◌}
 use Rattle.std.specs.Option.{option_map_or}
 use Rattle.std.specs.Ordering.{int_eq}
 use Rattle.std.specs.Result.{result_unwrap_or}
@@ -47,7 +48,8 @@ says_map_entry m = result_unwrap_or (flag_in 7 (out-DescriptorProto m).options) 
 -- whether a field is optional and has a number and a name
 abbrev pub is_part : FieldDescriptorProto → ℤ → List ℕ → Bool
 is_part f n name =
-    is_optional (label_of f.label) && int_eq (number_of f.number) n && bytes_eq (text_of f.name) name
+    is_optional (label_of f.label) && int_eq (number_of f.number) n
+    && bytes_eq (text_of f.name) name
 
 -- whether two fields are the key and the value of an entry, and there is no other
 abbrev pub are_parts : List FieldDescriptorProto → Bool
@@ -87,7 +89,8 @@ is_around l parent id = option_map_or (is_message_at l id) parent false
 
 -- whether the first value of an enum is another number than 0
 abbrev pub first_is_not_zero : EnumDescriptorInner → Bool
-first_is_not_zero e = option_map_or (λ v. not (int_eq v.number (pos 0))) (slice_get e.values 0) false
+first_is_not_zero e =
+    option_map_or (λ v. not (int_eq v.number (pos 0))) (slice_get e.values 0) false
 
 -- whether a kind is an enum of which the first value is another number than 0
 abbrev pub begins_behind_zero : Linked → KindIndex → Bool
@@ -109,8 +112,8 @@ is_entry_for l s around m r =
     && is_repeated (label_of s.field.label) && is_plain r && has_parts r
     && is_around l m.parent around
 
--- what the entry of a map field of the message with an identity may not be: made otherwise than that
--- of a map, or with kinds that no map has
+-- what the entry of a map field of the message with an identity may not be: made otherwise than
+-- that of a map, or with kinds that no map has
 abbrev pub made_faults : Linked → Site → Identity → MessageDescriptorInner → DescriptorProto
     → List StrictFault
 made_faults l s around m r = if is_entry_for l s around m r then kind_faults l s.id m.fields

@@ -17,7 +17,8 @@ use Rattle.protoc_rules.specs.declared.faults.StrictKind.TheVariants as kind
 use Rattle.protoc_rules.specs.Faults.{at_part}
 use Rattle.protoc_rules.specs.Fields.{site_faults}
 use Rattle.protoc_rules.specs.Labels.{is_optional}
-use Rattle.protoc_rules.specs.Linked.{Linked, field_record, in_proto3, is_closed, message_record, says_message_set}
+use Rattle.protoc_rules.specs.Linked.{Linked, field_record, in_proto3, is_closed, message_record}
+use Rattle.protoc_rules.specs.Linked.{says_message_set}
 use Rattle.protoc_rules.specs.Maps.{map_faults}
 use Rattle.protoc_rules.specs.Names.{name_faults}
 use Rattle.protoc_rules.specs.Oneofs.{is_alone, oneofs_faults}
@@ -29,8 +30,8 @@ use Rattle.protoc_rules.specs.Sites.{Site}
 abbrev pub is_wrong_in_oneof : FieldDescriptorProto → Bool
 is_wrong_in_oneof f = is_some f.oneof_index && not (is_optional (label_of f.label))
 
--- what a field of a message may not be: what no field may be, in a oneof anything but optional, with
--- an extendee, optional by the word of proto3 without a oneof for itself, nor in a message set
+-- what a field of a message may not be: what no field may be, in a oneof anything but optional,
+-- with an extendee, optional by the word of proto3 without a oneof for itself, nor in a message set
 abbrev pub field_site_faults : Bool → Site → List StrictFault
 field_site_faults alone s = site_faults s
     ++ (only_if (is_wrong_in_oneof s.field) (at_part kind.OneofFieldLabel s.id field.LABEL)

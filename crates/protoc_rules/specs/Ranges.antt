@@ -9,7 +9,8 @@ use Rattle.pool_types.specs.declared.contents.definition.Identity.{Identity}
 use Rattle.protoc_rules.specs.declared.faults.StrictFault.{StrictFault}
 use Rattle.protoc_rules.specs.declared.faults.StrictKind.TheVariants as kind
 use Rattle.protoc_rules.specs.Faults.{at_entry, each_told, entry}
-use Rattle.protoc_rules.specs.Spans.{earlier_overlap, extension_span, reserved_overlap, reserved_span}
+use Rattle.protoc_rules.specs.Spans.{earlier_overlap, extension_span, reserved_overlap}
+use Rattle.protoc_rules.specs.Spans.{reserved_span}
 
 -- what an extension range may not be: begin at 0 or below, end before it begins, nor go past the
 -- greatest number of a field unless its message is a message set

@@ -14,8 +14,8 @@ use Rattle.protoc_rules.specs.declared.faults.StrictKind.TheVariants as kind
 use Rattle.protoc_rules.specs.declared.reserved.ReservedNames as code
 use Rattle.protoc_rules.specs.Faults.{at_entry, each_told, entry, entry_at, pair_faults}
 
--- the reserved names of a message or an enum with the field number of their list, and the names that
--- its fields or values have with that of theirs
+-- the reserved names of a message or an enum with the field number of their list, and the names
+-- that its fields or values have with that of theirs
 pub record ReservedNames : Type 0 where
   pub names : List (List ℕ)
   pub tag : ℤ

@@ -1,6 +1,7 @@
 -- Values of an enum of proto3 whose names are one without the enum's name (protobuf's
 -- `CheckEnumValueUniqueness`).
-use Rattle.std.specs.Prelude.{ℕ, nat_lt, Bool, true, false, not, ◌&&◌, List, length, map, position, slice_get, take, drop, if◌then◌else◌}
+use Rattle.std.specs.Prelude.{ℕ, nat_lt, Bool, true, false, not, ◌&&◌, List, length, map, position}
+use Rattle.std.specs.Prelude.{slice_get, take, drop, if◌then◌else◌}
 use Rattle.std.specs.Option.{option_map_or}
 use Rattle.std.specs.Ordering.{int_eq}
 use Rattle.std.specs.Str.{bytes_eq, str_to_ascii_lowercase}

@@ -5,7 +5,10 @@ use Rattle.std.specs.declared.option.Option.{Option}
 use Rattle.std.specs.declared.option.Option.TheVariants.{None, Some}
 use Rattle.proto_types.specs.Readers.{type_of}
 use Rattle.proto_types.specs.declared.file.FileDescriptorProto.{FileDescriptorProto}
-use Rattle.proto_types.specs.declared.message.DescriptorProto.{DescriptorProto, DescriptorProto', Row_of-DescriptorProto, end_of-DescriptorProto, more_of-DescriptorProto}
+use Rattle.proto_types.specs.declared.message.DescriptorProto.{DescriptorProto, DescriptorProto'}
+use Rattle.proto_types.specs.declared.message.DescriptorProto.{Row_of-DescriptorProto}
+use Rattle.proto_types.specs.declared.message.DescriptorProto.{end_of-DescriptorProto}
+use Rattle.proto_types.specs.declared.message.DescriptorProto.{more_of-DescriptorProto}
 use Rattle.proto_types.specs.declared.records.field.FieldDescriptorProto.{FieldDescriptorProto}
 use Rattle.proto_types.specs.declared.records.field.FieldType.{FieldType}
 use Rattle.protoc_rules.specs.declared.written.WrittenTypes.{WrittenTypes}

@@ -1,6 +1,7 @@
 //! What files may not be, and what they may not import.
 
-ghost use Rattle.std.specs.Prelude.{◌≡◌, ◌<◌, ◌++◌, OnOk, IfOk, length, map, position as position_of};
+ghost use Rattle.std.specs.Prelude.{◌≡◌, ◌<◌, ◌++◌, OnOk, IfOk, length, map};
+ghost use Rattle.std.specs.Prelude.{position as position_of};
 ghost use Rattle.protoc_rules.specs.Faults.{each_told, told_at};
 ghost use Rattle.protoc_rules.specs.Imports as spec;
 

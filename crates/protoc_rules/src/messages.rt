@@ -21,8 +21,8 @@ use proto_types::tag::{field, message as tag};
 use proto_types::{DescriptorProto, FieldDescriptorProto};
 use std::alloc::AllocError;
 
-/// How long the path of a message is that stands in 31 others: it has two numbers of each, and two of
-/// its own.
+/// How long the path of a message is that stands in 31 others: it has two numbers of each, and two
+/// of its own.
 const DEEP_PATH: usize = 64;
 
 /// Whether a field stands in a oneof, and is not optional.
@@ -32,7 +32,8 @@ fn is_wrong_in_oneof(field: &FieldDescriptorProto) -> bool
     field.oneof_index.is_some() && !is_optional(field.label())
 }
 
-/// Appends what a field of a message may not be, where it is known whether it has a oneof for itself.
+/// Appends what a field of a message may not be, where it is known whether it has a oneof for
+/// itself.
 fn tell_field_site(found: &mut Found, site: Site<'_>, alone: bool) -> Result<(), AllocError>
     ensures { OnOk result (found.new
         ≡ found.old ++ spec.field_site_faults alone (site_of site.entry)) }

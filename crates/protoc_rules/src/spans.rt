@@ -1,6 +1,7 @@
 //! Ranges of numbers, each as its start and the number behind its last one.
 
-ghost use Rattle.std.specs.Prelude.{◌≡◌, ◌<◌, ◌++◌, OnOk, IfOk, IsTrue, length, map, slice_get, position as position_of};
+ghost use Rattle.std.specs.Prelude.{◌≡◌, ◌<◌, ◌++◌, OnOk, IfOk, IsTrue, length, map, slice_get};
+ghost use Rattle.std.specs.Prelude.{position as position_of};
 ghost use Rattle.std.specs.List.{IsDistinct};
 ghost use Rattle.protoc_rules.specs.Faults.{each_told, told_at};
 ghost use Rattle.protoc_rules.specs.Spans as spec;
@@ -191,8 +192,8 @@ fn tell_pairs(
     Ok(())
 }
 
-/// Appends that the extension range with a position overlaps with a reserved one, of which the first
-/// is told.
+/// Appends that the extension range with a position overlaps with a reserved one, of which the
+/// first is told.
 fn tell_reserved(
     found: &mut Found,
     id: &Identity,
@@ -214,8 +215,8 @@ fn tell_reserved(
     found.tell_pair(StrictKind::RangesOverlap, id, at, second)
 }
 
-/// Appends which extension ranges of a message overlap with a reserved one, each with the first such.
-/// Where none does, they are not compared pair by pair.
+/// Appends which extension ranges of a message overlap with a reserved one, each with the first
+/// such. Where none does, they are not compared pair by pair.
 pub(crate) fn tell_across(
     found: &mut Found,
     id: &Identity,

@@ -51,8 +51,8 @@ impl Linked<'_> {
 }
 
 /// What `protoc` refuses besides the rules of the linker, in the files of a pool: what the written
-/// types of fields and extensions break, which are those of the records before they were linked, and
-/// then what files, messages, enums, services and extensions break, each in their order.
+/// types of fields and extensions break, which are those of the records before they were linked,
+/// and then what files, messages, enums, services and extensions break, each in their order.
 ///
 /// # Errors
 /// `AllocError` where memory was refused.

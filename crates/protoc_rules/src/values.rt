@@ -37,8 +37,8 @@ fn without_prefix(alloc: Global, prefix: &[u8], name: Vec<u8>) -> Result<Vec<u8>
     Ok(name)
 }
 
-/// The name of a value in camel case, where each letter that no underscore stands before is in lower
-/// case, and without the letters of the enum's name.
+/// The name of a value in camel case, where each letter that no underscore stands before is in
+/// lower case, and without the letters of the enum's name.
 fn plain_name(
     alloc: Global,
     prefix: &[u8],

@@ -8,8 +8,8 @@ use plain_data::Items;
 use proto_types::{DescriptorProto, FieldDescriptorProto, FieldType, FileDescriptorProto};
 use std::alloc::{AllocError, Global};
 
-/// The types of fields and extensions as they are written, where a known one is. Linking writes over
-/// them what the type names mean.
+/// The types of fields and extensions as they are written, where a known one is. Linking writes
+/// over them what the type names mean.
 #[derive(Drop)]
 pub struct WrittenTypes {
     /// Those of the fields of each message, in the order of the walk.

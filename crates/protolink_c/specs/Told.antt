@@ -18,7 +18,8 @@ located (Some found) item file = (found.item, (found.file, 0))
 -- a text at the front of a buffer, and its length; a buffer that is too short stays
 abbrev pub handed_out : {A : Type 0} → List A → List A → List A × (ℕ × ℕ)
 handed_out text buffer =
-    if nat_le (length text) (length buffer) then (text ++ drop (length text) buffer, (length text, 0))
+    if nat_le (length text) (length buffer) then
+    (text ++ drop (length text) buffer, (length text, 0))
     else (buffer, (length text, 4))
 
 -- a text that was found; without it the places stay

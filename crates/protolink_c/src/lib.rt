@@ -1,5 +1,5 @@
-//! The linker for C: a pool behind a handle of one pointer. No call requires anything. A caller that
-//! passes what `protolink.h` asks for gets what the contract of the call says.
+//! The linker for C: a pool behind a handle of one pointer. No call requires anything. A caller
+//! that passes what `protolink.h` asks for gets what the contract of the call says.
 //!
 //! A call answers a status (`status`). One that tells something writes it to a place of the caller.
 //! One that hands out a text copies it to the front of a buffer and tells its length; a buffer that

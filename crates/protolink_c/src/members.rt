@@ -1,5 +1,5 @@
-//! What stands in files, messages and enums: lists of items, ranges of numbers and reserved names. A
-//! call answers `NOT_FOUND` where the pool has no such thing, and then writes nothing.
+//! What stands in files, messages and enums: lists of items, ranges of numbers and reserved names.
+//! A call answers `NOT_FOUND` where the pool has no such thing, and then writes nothing.
 ghost use Rattle.std.specs.Prelude.{◌≡◌, ◌≢◌};
 ghost use Rattle.numbered_pool.specs.Lists as lists;
 ghost use Rattle.numbered_pool.specs.Ranges as ranges;
@@ -39,7 +39,8 @@ pub extern "C" fn protolink_file_items(
     status
 }
 
-/// Hands out the indexes of the items of a kind that stand in a message, and in none of its messages.
+/// Hands out the indexes of the items of a kind that stand in a message, and in none of its
+/// messages.
 #[unsafe(no_mangle)]
 pub extern "C" fn protolink_message_items(
     alloc: Global,
@@ -51,7 +52,8 @@ pub extern "C" fn protolink_message_items(
 ) -> u8
     ensures same { pool.new.shown ≡ pool.old.shown }
     ensures told { result ≢ 3 →
-        handed_out_if (lists.message_items (pool_in pool.old.shown) message kind) indexes.old length.old
+        handed_out_if (lists.message_items (pool_in pool.old.shown) message kind) indexes.old
+        length.old
         ≡ (indexes.new, (length.new, result)) }
     ensures no_memory { result ≡ 3 → (indexes.new ≡ indexes.old) × (length.new ≡ length.old) }
 {

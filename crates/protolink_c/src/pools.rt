@@ -49,8 +49,8 @@ pub extern "C" fn protolink_pool_add_set(alloc: Global, pool: &mut Handle, bytes
     closed(alloc, pool, answers, status)
 }
 
-/// Links the file of an encoded `FileDescriptorProto`. After any status but `DONE` the pool has what
-/// it had.
+/// Links the file of an encoded `FileDescriptorProto`. After any status but `DONE` the pool has
+/// what it had.
 #[unsafe(no_mangle)]
 pub extern "C" fn protolink_pool_add_file(alloc: Global, pool: &mut Handle, bytes: &[u8]) -> u8
     ensures { IsAdded (file_read bytes.now)
@@ -63,8 +63,8 @@ pub extern "C" fn protolink_pool_add_file(alloc: Global, pool: &mut Handle, byte
     closed(alloc, pool, answers, status)
 }
 
-/// Links the files of several encoded `FileDescriptorProto`s, in any order, in one batch. They stand
-/// behind one another in the bytes, by their lengths.
+/// Links the files of several encoded `FileDescriptorProto`s, in any order, in one batch. They
+/// stand behind one another in the bytes, by their lengths.
 #[unsafe(no_mangle)]
 pub extern "C" fn protolink_pool_add_files(
     alloc: Global,

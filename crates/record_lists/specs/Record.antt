@@ -1,7 +1,8 @@
 -- A record that is borrowed, as one that declares something.
 use Rattle.record_lists.specs.declared.find.record.Record.{Record}
 use Rattle.record_lists.specs.declared.find.record.Record.TheVariants as borrowed
-use Rattle.record_walk.specs.Protos.{Proto, of_file, of_message, of_field, of_oneof, of_service, of_method, of_enum, of_value, of_extension}
+use Rattle.record_walk.specs.Protos.{Proto, of_file, of_message, of_field, of_oneof, of_service}
+use Rattle.record_walk.specs.Protos.{of_method, of_enum, of_value, of_extension}
 
 -- a record that the code borrows, as one that declares something
 abbrev pub proto_in : Record → Proto

@@ -4,7 +4,8 @@
 ghost use Rattle.std.specs.Prelude.{◌≡◌};
 ghost use Rattle.std.specs.Option.{option_copied, option_and_then, option_or};
 ghost use Rattle.record_walk.specs.Leads.{leads};
-ghost use Rattle.record_walk.specs.Protos.{as_message, as_enum, as_field, as_extension, as_oneof, as_value, as_service, as_method};
+ghost use Rattle.record_walk.specs.Protos.{as_message, as_enum, as_field, as_extension, as_oneof};
+ghost use Rattle.record_walk.specs.Protos.{as_value, as_service, as_method};
 
 mod record;
 

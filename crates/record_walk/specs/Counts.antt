@@ -1,11 +1,13 @@
 -- How many of each numbered kind there are, and which counts a pool can hold.
-use Rattle.std.specs.Prelude.{ℕ, suc, ◌+◌, ◌-◌, ◌^◌, Bool, true, not, ◌&&◌, nat_le, List, [], ◌∷◌, length, if◌then◌else◌}
+use Rattle.std.specs.Prelude.{ℕ, suc, ◌+◌, ◌-◌, ◌^◌, Bool, true, not, ◌&&◌, nat_le, List, [], ◌∷◌}
+use Rattle.std.specs.Prelude.{length, if◌then◌else◌}
 use Rattle.std.specs.List.{list_all}
 use Rattle.std.specs.declared.result.Result.{Result}
 use Rattle.std.specs.declared.result.Result.TheVariants.{Ok, Err}
 use Rattle.record_walk.specs.declared.counts.Counts.{Counts}
 use Rattle.record_walk.specs.declared.counts.CountKind.{CountKind}
-use Rattle.record_walk.specs.declared.counts.CountKind.TheVariants.{ListTooLong, Files, Messages, Enums, Services, Extensions}
+use Rattle.record_walk.specs.declared.counts.CountKind.TheVariants.{ListTooLong, Files, Messages}
+use Rattle.record_walk.specs.declared.counts.CountKind.TheVariants.{Enums, Services, Extensions}
 use Rattle.proto_types.specs.declared.message.DescriptorProto.{out-DescriptorProto}
 use Rattle.record_walk.specs.Protos.{Proto, of_file, of_message, of_service, of_enum, of_extension}
 use Rattle.record_walk.specs.Shown.{Shown}

@@ -1,5 +1,6 @@
 -- What is left of the declarations in a file, by the lists that are still to be gone through.
-use Rattle.std.specs.Prelude.{◌≡◌, ℕ, suc, ◌+◌, ◌≤◌, ℤ, List, [], ◌∷◌, ◌++◌, length, map, reverse, take, string_bytes}
+use Rattle.std.specs.Prelude.{◌≡◌, ℕ, suc, ◌+◌, ◌≤◌, ℤ, List, [], ◌∷◌, ◌++◌, length, map, reverse}
+use Rattle.std.specs.Prelude.{take, string_bytes}
 use Rattle.std.specs.String.Boundary.{IsSplitPoint}
 use Rattle.std.specs.declared.option.Option.{Option}
 use Rattle.std.specs.declared.option.Option.TheVariants.{None, Some}
@@ -18,10 +19,12 @@ use Rattle.record_walk.specs.declared.walking.row.EntryPosition.{EntryPosition}
 use Rattle.record_walk.specs.declared.walking.row.Row.{Row}
 use Rattle.record_walk.specs.declared.walking.rows.Rows.{Rows}
 use Rattle.record_walk.specs.Counts.{counted, counting, list_limit}
-use Rattle.record_walk.specs.Protos.{Proto, of_message, of_field, of_oneof, of_service, of_method, of_enum, of_value, of_extension}
+use Rattle.record_walk.specs.Protos.{Proto, of_message, of_field, of_oneof, of_service, of_method}
+use Rattle.record_walk.specs.Protos.{of_enum, of_value, of_extension}
 use Rattle.record_walk.specs.Shown.{Shown, Surrounding, shown, inside, parts}
 use Rattle.record_walk.specs.Declarations.{enum_walk, message_walk}
-use Rattle.record_walk.specs.Walking.{Room, index_at, located, parent_in, parent_of, proto_of, protos_in}
+use Rattle.record_walk.specs.Walking.{Room, index_at, located, parent_in, parent_of, proto_of}
+use Rattle.record_walk.specs.Walking.{protos_in}
 
 -- what is left of a list, and how long the path and the scope are in which it stands
 pub record Line : Type 0 where

@@ -2,7 +2,8 @@
 use Rattle.record_walk.specs.declared.declaration.Declaration.{Declaration}
 use Rattle.record_walk.specs.declared.declaration.DeclarationKind.{DeclarationKind}
 use Rattle.record_walk.specs.declared.declaration.DeclarationKind.TheVariants as kind
-use Rattle.record_walk.specs.Protos.{Proto, of_file, of_message, of_field, of_oneof, of_service, of_method, of_enum, of_value, of_extension}
+use Rattle.record_walk.specs.Protos.{Proto, of_file, of_message, of_field, of_oneof, of_service}
+use Rattle.record_walk.specs.Protos.{of_method, of_enum, of_value, of_extension}
 use Rattle.record_walk.specs.Shown.{Shown}
 
 -- the kind of what a record declares

@@ -9,14 +9,20 @@ use Rattle.proto_types.specs.declared.tag.enum_.TheConstants as enumeration
 use Rattle.proto_types.specs.declared.tag.service.TheConstants as service
 use Rattle.record_walk.specs.declared.counts.Counts.{Counts}
 use Rattle.proto_types.specs.declared.file.FileDescriptorProto.{FileDescriptorProto}
-use Rattle.proto_types.specs.declared.message.DescriptorProto.{DescriptorProto, out-DescriptorProto, DescriptorProto', Row_of-DescriptorProto, end_of-DescriptorProto, more_of-DescriptorProto}
+use Rattle.proto_types.specs.declared.message.DescriptorProto.{DescriptorProto, out-DescriptorProto}
+use Rattle.proto_types.specs.declared.message.DescriptorProto.{DescriptorProto'}
+use Rattle.proto_types.specs.declared.message.DescriptorProto.{Row_of-DescriptorProto}
+use Rattle.proto_types.specs.declared.message.DescriptorProto.{end_of-DescriptorProto}
+use Rattle.proto_types.specs.declared.message.DescriptorProto.{more_of-DescriptorProto}
 use Rattle.proto_types.specs.declared.records.enumeration.EnumDescriptorProto.{EnumDescriptorProto}
 use Rattle.proto_types.specs.declared.records.field.FieldDescriptorProto.{FieldDescriptorProto}
 use Rattle.proto_types.specs.declared.message.OneofDescriptorProto.{OneofDescriptorProto}
 use Rattle.proto_types.specs.declared.records.service.ServiceDescriptorProto.{ServiceDescriptorProto}
 use Rattle.proto_types.specs.Readers.{text_of}
-use Rattle.record_walk.specs.Protos.{of_message, of_field, of_oneof, of_service, of_method, of_enum, of_value, of_extension}
-use Rattle.record_walk.specs.Shown.{Shown, Surrounding, shown, file_shown, inside, beside, row, parts}
+use Rattle.record_walk.specs.Protos.{of_message, of_field, of_oneof, of_service, of_method, of_enum}
+use Rattle.record_walk.specs.Protos.{of_value, of_extension}
+use Rattle.record_walk.specs.Shown.{Shown, Surrounding, shown, file_shown, inside, beside, row}
+use Rattle.record_walk.specs.Shown.{parts}
 use Rattle.record_walk.specs.Counts.{counted, counting}
 
 -- an enum, and then its values, which are named beside it

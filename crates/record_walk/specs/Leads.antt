@@ -15,7 +15,8 @@ use Rattle.proto_types.specs.declared.message.DescriptorProto.{DescriptorProto, 
 use Rattle.proto_types.specs.declared.records.enumeration.EnumDescriptorProto.{EnumDescriptorProto}
 use Rattle.proto_types.specs.declared.records.service.ServiceDescriptorProto.{ServiceDescriptorProto}
 use Rattle.plain_data.specs.Lists.{at}
-use Rattle.record_walk.specs.Protos.{Proto, of_file, of_message, of_field, of_oneof, of_service, of_method, of_enum, of_value, of_extension}
+use Rattle.record_walk.specs.Protos.{Proto, of_file, of_message, of_field, of_oneof, of_service}
+use Rattle.record_walk.specs.Protos.{of_method, of_enum, of_value, of_extension}
 use Rattle.record_walk.specs.Declarations.{file_walk, declarations}
 
 -- the entry of a list at a position, where the path ends there

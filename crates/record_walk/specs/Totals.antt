@@ -12,7 +12,8 @@ use Rattle.proto_types.specs.declared.records.enumeration.EnumDescriptorProto.{E
 use Rattle.proto_types.specs.declared.records.service.ServiceDescriptorProto.{ServiceDescriptorProto}
 use Rattle.proto_types.specs.declared.file.FileDescriptorProto.{FileDescriptorProto}
 use Rattle.proto_types.specs.declared.tag.file.TheConstants.{MESSAGE_TYPE, ENUM_TYPE}
-use Rattle.record_walk.specs.Declarations.{enums_walk, services_walk, message_walk, messages_walk, file_walk, declarations}
+use Rattle.record_walk.specs.Declarations.{enums_walk, services_walk, message_walk, messages_walk}
+use Rattle.record_walk.specs.Declarations.{file_walk, declarations}
 use Rattle.record_walk.specs.Shown.{Shown, Surrounding}
 
 abbrev greatest : ℕ

@@ -11,7 +11,8 @@ use Rattle.record_walk.specs.declared.walking.records.Records.TheVariants as rec
 use Rattle.record_walk.specs.declared.walking.site.Site.{Site}
 use Rattle.record_walk.specs.declared.walking.located.Located.{Located}
 use Rattle.record_walk.specs.Counts.{counted, count_limit, lists_fit}
-use Rattle.record_walk.specs.Protos.{Proto, of_file, of_message, of_field, of_oneof, of_service, of_method, of_enum, of_value, of_extension}
+use Rattle.record_walk.specs.Protos.{Proto, of_file, of_message, of_field, of_oneof, of_service}
+use Rattle.record_walk.specs.Protos.{of_method, of_enum, of_value, of_extension}
 use Rattle.record_walk.specs.Shown.{Shown, shown_as, row}
 use Rattle.record_walk.specs.Declarations.{messages_walk, enums_walk, services_walk, in_file}
 use Rattle.proto_types.specs.declared.tag.file.TheConstants as file

@@ -2,7 +2,8 @@ ghost use Rattle.std.specs.Prelude.{◌≡◌, ℕ, List, [], ◌∷◌, ◌++�
 ghost use Rattle.pool_types.specs.Contents.{Contents};
 ghost use Rattle.record_walk.specs.Visitor.{Progress, HasSeen};
 ghost use Rattle.record_walk.specs.Parts.{PartsChangeNothing};
-ghost use Rattle.record_walk.specs.Protos.{of_message, of_field, of_oneof, of_service, of_method, of_enum, of_value, of_extension};
+ghost use Rattle.record_walk.specs.Protos.{of_message, of_field, of_oneof, of_service, of_method};
+ghost use Rattle.record_walk.specs.Protos.{of_enum, of_value, of_extension};
 ghost use Rattle.record_walk.specs.Shown.{Shown, file_shown, shown_as};
 
 use proto_types::{

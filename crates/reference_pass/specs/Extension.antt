@@ -65,7 +65,8 @@ duplicate_extension_fault s d number name first =
 
 -- the fault of an extension whose number an earlier extension of the message of a definition has:
 -- the first of these is told, and one whose extendee wasn't found is none of these
-abbrev pub duplicate_extension_faults_by : Setting → List ExtensionDescriptorInner → Shown → FieldDescriptorProto
+abbrev pub duplicate_extension_faults_by : Setting → List ExtensionDescriptorInner → Shown
+    → FieldDescriptorProto
     → List ℕ × Definition → List DescriptorErrorKind
 duplicate_extension_faults_by s earlier d x e =
     let number = number_of x.number in
@@ -74,6 +75,8 @@ duplicate_extension_faults_by s earlier d x e =
 
 -- the fault of an extension whose number an earlier extension of its message has, where the
 -- extendee is found
-abbrev pub duplicate_extension_faults : Setting → List ExtensionDescriptorInner → Shown → FieldDescriptorProto
+abbrev pub duplicate_extension_faults : Setting → List ExtensionDescriptorInner → Shown
+    → FieldDescriptorProto
     → Resolution → List DescriptorErrorKind
-duplicate_extension_faults s earlier d x r = option_map_or (duplicate_extension_faults_by s earlier d x) (found_as r) []
+duplicate_extension_faults s earlier d x r =
+    option_map_or (duplicate_extension_faults_by s earlier d x) (found_as r) []

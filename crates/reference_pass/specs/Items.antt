@@ -24,7 +24,8 @@ use Rattle.proto_types.specs.declared.message.DescriptorProto.{DescriptorProto, 
 use Rattle.proto_types.specs.declared.message.OneofDescriptorProto.{OneofDescriptorProto}
 use Rattle.proto_types.specs.Readers.{number_of, label_of}
 use Rattle.reference_pass.specs.Defaults.{field_default}
-use Rattle.record_walk.specs.Protos.{Proto, of_oneof, as_file, as_message, as_enum, as_service, as_extension}
+use Rattle.record_walk.specs.Protos.{Proto, of_oneof, as_file, as_message, as_enum, as_service}
+use Rattle.record_walk.specs.Protos.{as_extension}
 use Rattle.record_walk.specs.Shown.{Shown, Surrounding, inside, of_kind}
 use Rattle.pool_types.specs.Kinds.{cardinality_of}
 use Rattle.pool_types.specs.Syntaxes.{syntax_of, syntax_at, is_proto3}

@@ -12,7 +12,8 @@ use Rattle.pool_types.specs.declared.contents.definition.DefinitionKind.{Definit
 use Rattle.pool_types.specs.declared.contents.definition.DefinitionKind.TheVariants as definition
 use Rattle.proto_types.specs.Readers.{text_of, type_of}
 use Rattle.record_walk.specs.Changed.{Changes, changed_file}
-use Rattle.name_resolution.specs.declared.filter.ResolveNameFilter.TheVariants.{Message, FieldType as AnyType}
+use Rattle.name_resolution.specs.declared.filter.ResolveNameFilter.TheVariants.{Message}
+use Rattle.name_resolution.specs.declared.filter.ResolveNameFilter.TheVariants.{FieldType as AnyType}
 use Rattle.name_resolution.specs.Resolution.{Resolution, name_found, kind_found}
 use Rattle.reference_pass.specs.Setting.{Setting, resolve}
 

@@ -16,7 +16,8 @@ use Rattle.pool_faults.specs.declared.fault.DescriptorErrorKind.{DescriptorError
 use Rattle.proto_types.specs.Enumeration.{no_enum}
 use Rattle.plain_data.specs.Lists.{flat_map_after, listed}
 use Rattle.proto_types.specs.Readers.{text_of}
-use Rattle.record_walk.specs.Protos.{of_file, of_message, of_field, of_service, of_method, of_enum, of_value, of_extension, as_message, as_enum}
+use Rattle.record_walk.specs.Protos.{of_file, of_message, of_field, of_service, of_method, of_enum}
+use Rattle.record_walk.specs.Protos.{of_value, of_extension, as_message, as_enum}
 use Rattle.record_walk.specs.Shown.{Shown, Surrounding, inside, of_kind}
 use Rattle.name_resolution.specs.References.{reference_fault}
 use Rattle.field_rules.specs.Numbers.{field_number_faults}
@@ -25,7 +26,8 @@ use Rattle.field_rules.specs.Oneofs.{oneof_faults}
 use Rattle.field_rules.specs.EnumValues.{value_faults, values_faults}
 use Rattle.plain_data.specs.Each.{map_enumerated}
 use Rattle.reference_pass.specs.Defaults.{field_default_faults}
-use Rattle.reference_pass.specs.Extension.{extendee_faults, number_faults, duplicate_extension_faults}
+use Rattle.reference_pass.specs.Extension.{extendee_faults, number_faults}
+use Rattle.reference_pass.specs.Extension.{duplicate_extension_faults}
 use Rattle.reference_pass.specs.Types.{type_faults}
 use Rattle.reference_pass.specs.Imports.{import_faults}
 use Rattle.reference_pass.specs.Items.{extension_items}
@@ -62,7 +64,8 @@ abbrev pub extension_faults : Setting → List ExtensionDescriptorInner → Show
     → FieldDescriptorProto → Faults
 extension_faults s earlier d x =
     let extendee = resolve_message s d x.extendee in
-    extendee_faults s d x ++ number_faults s d x extendee ++ duplicate_extension_faults s earlier d x extendee
+    extendee_faults s d x ++ number_faults s d x extendee
+    ++ duplicate_extension_faults s earlier d x extendee
     ++ type_faults s d x ++ field_default_faults s d x
 
 -- the fault of a method's input that isn't found, at its path followed by 2, and then that of its

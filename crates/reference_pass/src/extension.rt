@@ -6,9 +6,12 @@ ghost use Rattle.record_walk.specs.FullNames.{EndsWithName};
 ghost use Rattle.record_walk.specs.Protos.{of_extension};
 ghost use Rattle.reference_pass.specs.SecondPass.{extension_faults};
 ghost use Rattle.reference_pass.specs.Earlier.{earlier_in};
-ghost use Rattle.reference_pass.specs.Extension.{extendee_faults, number_faults, number_faults_by, duplicate_extension_faults, duplicate_extension_faults_by};
+ghost use Rattle.reference_pass.specs.Extension.{extendee_faults, number_faults, number_faults_by};
+ghost use Rattle.reference_pass.specs.Extension.{duplicate_extension_faults};
+ghost use Rattle.reference_pass.specs.Extension.{duplicate_extension_faults_by};
 ghost use Rattle.reference_pass.specs.Items.{bracketed, extension_item};
-ghost use Rattle.reference_pass.specs.References.{message_found, message_index, resolve_message, index_or_max};
+ghost use Rattle.reference_pass.specs.References.{message_found, message_index, resolve_message};
+ghost use Rattle.reference_pass.specs.References.{index_or_max};
 ghost use Rattle.reference_pass.specs.Setting.{resolve};
 ghost use Rattle.reference_pass.specs.NamesBegin.{ExtensionNameBegins};
 ghost use Rattle.reference_pass.specs.Reading.{ReadingTells, setting_of};
@@ -112,8 +115,8 @@ struct Extendee<'a> {
     def: &'a Definition,
 }
 
-/// The message that an extendee means, where it has a leading dot and is found: its full name is the
-/// rest of it. Nothing is said where there is none here.
+/// The message that an extendee means, where it has a leading dot and is found: its full name is
+/// the rest of it. Nothing is said where there is none here.
 fn find_extendee<'a>(reading: &Reading<'a>, place: Place, written: &'a str) -> Option<Extendee<'a>>
     ensures { IfSome result (λ e. resolve (setting_of reading.now) place.entry.file
         place.entry.full_name.now ResolveNameFilter.Message written.now
@@ -153,8 +156,8 @@ fn check_meaning(
     check_extendee(reading, extendee, place, extension, earlier)
 }
 
-/// The index of a message that is extended. What the number of the extension breaks by the record of
-/// that message, and by its earlier extensions, is appended to `reading`.
+/// The index of a message that is extended. What the number of the extension breaks by the record
+/// of that message, and by its earlier extensions, is appended to `reading`.
 fn check_extendee(
     reading: &mut Reading,
     extendee: Extendee,

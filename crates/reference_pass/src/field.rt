@@ -28,7 +28,8 @@ use proto_types::{FieldDescriptorProto, tag};
 use record_walk::Place;
 use std::alloc::AllocError;
 
-/// A message whose fields are read: its ranges of numbers, and whether its file is written in proto3.
+/// A message whose fields are read: its ranges of numbers, and whether its file is written in
+/// proto3.
 #[derive(Clone, Copy)]
 pub(crate) struct FieldOwner<'a> {
     pub(crate) owner: Owner<'a>,
@@ -118,7 +119,8 @@ fn item_at(
 ) -> Result<FieldDescriptorInner, AllocError>
     requires { of.is_proto3 ≡ is_proto3 (syntax_at (setting_of reading.now).files id.file) }
     ensures { IfOk result (λ item. item
-        ≡ item_at (setting_of reading.now) (out-DescriptorProto of.entry.owner.message.now).oneof_decl
+        ≡ item_at (setting_of reading.now)
+        (out-DescriptorProto of.entry.owner.message.now).oneof_decl
         id field.now kind default) }
 {
     let alloc = reading.faults.alloc;

@@ -3,7 +3,8 @@ ghost use Rattle.std.specs.List.{flat_map};
 ghost use Rattle.plain_data.specs.Lists.{at};
 ghost use Rattle.record_walk.specs.Counts.{fits_list, lists_fit};
 ghost use Rattle.record_walk.specs.Protos.{of_file};
-ghost use Rattle.reference_pass.specs.Imports.{missing_file, missing_files, index_fault, import_faults};
+ghost use Rattle.reference_pass.specs.Imports.{missing_file, missing_files, index_fault};
+ghost use Rattle.reference_pass.specs.Imports.{import_faults};
 ghost use Rattle.reference_pass.specs.Reading.{ReadingTells, setting_of};
 ghost use Rattle.record_walk.specs.Faults.{Tells};
 

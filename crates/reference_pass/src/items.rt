@@ -6,9 +6,11 @@ ghost use Rattle.std.specs.List.{find};
 ghost use Rattle.std.specs.Option.{option_copied};
 ghost use Rattle.pool_types.specs.Extension.{has_number};
 ghost use Rattle.field_rules.specs.NamesBegin.{EnumNamesBegin};
-ghost use Rattle.reference_pass.specs.NamesBegin.{ExtensionNameBegins, MessageNamesBegin, NamesBegin, ServiceNamesBegin};
+ghost use Rattle.reference_pass.specs.NamesBegin.{ExtensionNameBegins, MessageNamesBegin};
+ghost use Rattle.reference_pass.specs.NamesBegin.{NamesBegin, ServiceNamesBegin};
 ghost use Rattle.std.specs.BTreeMap.{get};
-ghost use Rattle.reference_pass.specs.Numbered.{AreNumbered, ComesBehind, EntersFirst, LastIsGreatest, LeadsToFirst, pair_cmp};
+ghost use Rattle.reference_pass.specs.Numbered.{AreNumbered, ComesBehind, EntersFirst};
+ghost use Rattle.reference_pass.specs.Numbered.{LastIsGreatest, LeadsToFirst, pair_cmp};
 
 use crate::room::room_of_files;
 use pool_types::{
@@ -80,7 +82,8 @@ impl NewItems {
 
     /// Appends the item of a message.
     pub(crate) fn push_message(&mut self, message: MessageDescriptorInner) -> Result<(), AllocError>
-        ensures ok { OnOk result (self.new.messages.items ≡ self.old.messages.items ++ message ∷ []) }
+        ensures ok { OnOk result
+            (self.new.messages.items ≡ self.old.messages.items ++ message ∷ []) }
         ensures enums { self.new.enums ≡ self.old.enums }
         ensures services { self.new.services ≡ self.old.services }
         ensures extensions { self.new.extensions ≡ self.old.extensions }
@@ -110,7 +113,8 @@ impl NewItems {
 
     /// Appends the item of a service.
     pub(crate) fn push_service(&mut self, service: ServiceDescriptorInner) -> Result<(), AllocError>
-        ensures ok { OnOk result (self.new.services.items ≡ self.old.services.items ++ service ∷ []) }
+        ensures ok { OnOk result
+            (self.new.services.items ≡ self.old.services.items ++ service ∷ []) }
         ensures messages { self.new.messages ≡ self.old.messages }
         ensures enums { self.new.enums ≡ self.old.enums }
         ensures extensions { self.new.extensions ≡ self.old.extensions }

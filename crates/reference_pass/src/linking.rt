@@ -6,14 +6,18 @@ ghost use Rattle.std.specs.Option.{option_map, option_map_or};
 ghost use Rattle.proto_types.specs.Names.{join};
 ghost use Rattle.proto_types.specs.Readers.{text_of};
 ghost use Rattle.proto_types.specs.declared.message.DescriptorProto.{out-DescriptorProto};
-ghost use Rattle.record_walk.specs.Changed.{changed_message, changed_messages, changed_fields, changed_service, changed_services};
+ghost use Rattle.record_walk.specs.Changed.{changed_message, changed_messages, changed_fields};
+ghost use Rattle.record_walk.specs.Changed.{changed_service, changed_services};
 ghost use Rattle.record_walk.specs.Counts.{counted};
-ghost use Rattle.record_walk.specs.Declarations.{message_walk, messages_walk, service_walk, services_walk};
+ghost use Rattle.record_walk.specs.Declarations.{message_walk, messages_walk, service_walk};
+ghost use Rattle.record_walk.specs.Declarations.{services_walk};
 ghost use Rattle.record_walk.specs.Protos.{of_extension};
 ghost use Rattle.record_walk.specs.Shown.{row, shown};
 ghost use Rattle.reference_pass.specs.Linked.{linking, linked_extension};
-ghost use Rattle.reference_pass.specs.Linking.{Links, LinksFields, LinksFile, LinksFiles, LinksMethods, lists_of};
-ghost use Rattle.reference_pass.specs.Linking.{enum_name, kind_name, kind_number, message_name, method_by, next_of, reference_by, typed_by};
+ghost use Rattle.reference_pass.specs.Linking.{Links, LinksFields, LinksFile, LinksFiles};
+ghost use Rattle.reference_pass.specs.Linking.{LinksMethods, lists_of};
+ghost use Rattle.reference_pass.specs.Linking.{enum_name, kind_name, kind_number, message_name};
+ghost use Rattle.reference_pass.specs.Linking.{method_by, next_of, reference_by, typed_by};
 
 use plain_data::Text;
 use pool_types::{
@@ -74,7 +78,8 @@ impl<'a> Linker<'a> {
         next: &mut NextItems,
         file: &mut FileDescriptorProto,
     ) -> Result<(), AllocError>
-        ensures { OnOk result (LinksFile (lists_of self.entry) next.old next.new file.old file.new) }
+        ensures { OnOk result
+            (LinksFile (lists_of self.entry) next.old next.new file.old file.new) }
     {
         self.link_messages(next, file.message_type.as_mut_slice())?;
         self.link_services(next, file.service.as_mut_slice())?;
@@ -89,7 +94,8 @@ impl<'a> Linker<'a> {
     ) -> Result<(), AllocError>
         ensures { OnOk result (Links (lists_of self.entry) next.old next.new
             (λ here tag _ base. messages_walk here tag 0 base messages.old)
-            (λ s here. changed_messages (linking s) here.file here.scope messages.old) messages.new) }
+            (λ s here. changed_messages (linking s) here.file here.scope messages.old)
+            messages.new) }
     {
         for index in 0..messages.len() {
             self.link_message(next, &mut messages[index])?;
@@ -208,7 +214,8 @@ impl<'a> Linker<'a> {
     ) -> Result<(), AllocError>
         ensures { OnOk result (Links (lists_of self.entry) next.old next.new
             (λ here _ _ base. services_walk here 0 base.services services.old)
-            (λ s here. changed_services (linking s) here.file here.scope services.old) services.new) }
+            (λ s here. changed_services (linking s) here.file here.scope services.old)
+            services.new) }
     {
         for index in 0..services.len() {
             self.link_service(next, &mut services[index])?;
@@ -240,7 +247,8 @@ impl<'a> Linker<'a> {
         items: &[MethodDescriptorInner],
         methods: &mut [MethodDescriptorProto],
     ) -> Result<(), AllocError>
-        ensures { OnOk result (LinksMethods (lists_of self.entry) items.now methods.old methods.new) }
+        ensures { OnOk result
+            (LinksMethods (lists_of self.entry) items.now methods.old methods.new) }
     {
         for index in 0..methods.len() {
             self.link_method(items, index, &mut methods[index])?;

@@ -2,7 +2,8 @@ ghost use Rattle.std.specs.Prelude.{◌≡◌, ◌++◌, ◌∷◌, [], None, If
 ghost use Rattle.std.specs.Option.{option_copied};
 ghost use Rattle.plain_data.specs.Lists.{listed};
 ghost use Rattle.name_resolution.specs.References.{reference_fault};
-ghost use Rattle.name_resolution.specs.Resolution.{definition_found, has_leading_dot, resolution_in};
+ghost use Rattle.name_resolution.specs.Resolution.{definition_found, has_leading_dot};
+ghost use Rattle.name_resolution.specs.Resolution.{resolution_in};
 ghost use Rattle.reference_pass.specs.Setting.{resolve};
 ghost use Rattle.record_walk.specs.Faults.{Tells, named_files};
 
@@ -69,8 +70,8 @@ impl<'f> Reading<'f> {
         Some(&file.transitive_dependencies)
     }
 
-    /// What the reference means that the part of a declaration with a tag has. Where it isn't found,
-    /// that is appended to the faults of the declaration.
+    /// What the reference means that the part of a declaration with a tag has. Where it isn't
+    /// found, that is appended to the faults of the declaration.
     ///
     /// # Errors
     /// `AllocError` where memory was refused.

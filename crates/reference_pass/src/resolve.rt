@@ -16,9 +16,9 @@ use std::alloc::AllocError;
 /// The second pass: it reads a batch against a pool whose files and names are those of the batch as
 /// well, makes the items of messages, enums, services and extensions, and gathers the faults of
 /// imports, of fields, of extensions, of values and of references. Extensions are read behind those
-/// of the pool. A message is read with its oneofs and fields, an enum with its values, and a service
-/// with its methods; it need not be shown these parts. The full name of each declaration that it is
-/// shown ends with the declared name, and its lists are short enough for a pool.
+/// of the pool. A message is read with its oneofs and fields, an enum with its values, and a
+/// service with its methods; it need not be shown these parts. The full name of each declaration
+/// that it is shown ends with the declared name, and its lists are short enough for a pool.
 ///
 /// What it shows once a list has been shown to it is the fold of one step over the list. It changes
 /// nothing of the pool.

@@ -1,5 +1,6 @@
 -- What changes of a message, so that bytes are read otherwise.
-use Rattle.std.specs.Prelude.{ℕ, Bool, true, false, not, ◌||◌, List, [], ◌∷◌, ◌++◌, Option, Some, None, option_and_then, slice_get, ◌==◌}
+use Rattle.std.specs.Prelude.{ℕ, Bool, true, false, not, ◌||◌, List, [], ◌∷◌, ◌++◌, Option, Some}
+use Rattle.std.specs.Prelude.{None, option_and_then, slice_get, ◌==◌}
 use Rattle.std.specs.List.{flat_map}
 use Rattle.std.specs.Option.{option_or}
 use Rattle.pool_types.specs.declared.contents.message.MessageDescriptorInner.{MessageDescriptorInner}
@@ -112,4 +113,5 @@ message_changes c =
     ++ (flat_map (λ i. extension_changes c (extension_in c.old c.before i)) c.before.extensions
     ++ (flat_map (oneof_changes c) c.after.oneofs
     ++ (flat_map (λ g. required_changes c (field_entry g)) c.after.fields
-    ++ flat_map (λ i. required_extension_changes c (extension_in c.new c.after i)) c.after.extensions)))
+    ++ flat_map (λ i. required_extension_changes c (extension_in c.new c.after i))
+    c.after.extensions)))

@@ -1,5 +1,6 @@
 -- A pool as a schema. A message has an entry for each of its fields, and for each extension of it.
-use Rattle.std.specs.Prelude.{ℕ, Bool, slice_get, option_map, option_and_then, is_some, if◌then◌else◌, ◌||◌, Option, Some, None}
+use Rattle.std.specs.Prelude.{ℕ, Bool, slice_get, option_map, option_and_then, is_some}
+use Rattle.std.specs.Prelude.{if◌then◌else◌, ◌||◌, Option, Some, None}
 use Rattle.std.specs.FinMap as finite
 use Rattle.std.specs.Option.{option_or}
 use Rattle.pool_types.specs.LookUps.{field_numbered}

@@ -1,6 +1,8 @@
--- Entries of maps. Their names are made of those of the map fields, so an entry with another name is
--- kept too, where it keeps the key and the value (descriptor.proto on `map_entry`).
-use Rattle.std.specs.Prelude.{ℕ, Bool, true, false, not, ◌||◌, ◌&&◌, is_none, ◌==◌, length, Option, None, Some, Result, Ok, Err, option_and_then, slice_get, if◌then◌else◌}
+-- Entries of maps. Their names are made of those of the map fields, so an entry with another name
+-- is kept too, where it keeps the key and the value (descriptor.proto on `map_entry`).
+use Rattle.std.specs.Prelude.{ℕ, Bool, true, false, not, ◌||◌, ◌&&◌, is_none, ◌==◌, length, Option}
+use Rattle.std.specs.Prelude.{None, Some, Result, Ok, Err, option_and_then, slice_get}
+use Rattle.std.specs.Prelude.{if◌then◌else◌}
 use Rattle.std.specs.List.{list_all}
 use Rattle.std.specs.Option.{option_map_or}
 use Rattle.wire_format.specs.declared.fault.WireFault.{WireFault}
@@ -45,8 +47,8 @@ keeps_entry old (Some f) new g =
 abbrev pub keeps_part : Parts → MessageDescriptorInner → Parts → Entry → Bool
 keeps_part old x new g = is_none g.oneof && keeps_entry old (entry_numbered old x g.number) new g
 
--- whether a new entry of a map keeps an old one: nothing extends it, and each field of it keeps what
--- the old one has of its number
+-- whether a new entry of a map keeps an old one: nothing extends it, and each field of it keeps
+-- what the old one has of its number
 unfoldable pub keeps_map_entry : Parts → MessageDescriptorInner → Parts → MessageDescriptorInner
     → Bool
 keeps_map_entry old x new y =
@@ -58,8 +60,8 @@ abbrev pub keep_maps : Parts → Option MessageDescriptorInner → Parts
 keep_maps old (Some x) new (Some y) = keeps_map_entry old x new y
 keep_maps old _ new _ = false
 
--- whether two messages, by their indexes, are a pair: they have one full name, or are entries of maps
--- of which the new one keeps the old one
+-- whether two messages, by their indexes, are a pair: they have one full name, or are entries of
+-- maps of which the new one keeps the old one
 unfoldable pub are_paired : Parts → ℕ → Parts → ℕ → Bool
 are_paired old m new n =
     one_name old m new n || keep_maps old (map_entry_at old m) new (map_entry_at new n)

@@ -1,4 +1,5 @@
--- Message sets, whose extensions are encoded otherwise (descriptor.proto on `message_set_wire_format`).
+-- Message sets, whose extensions are encoded otherwise (descriptor.proto on
+-- `message_set_wire_format`).
 use Rattle.std.specs.Prelude.{Bool, false}
 use Rattle.std.specs.Option.{option_map_or}
 use Rattle.proto_types.specs.declared.message.DescriptorProto.{DescriptorProto, out-DescriptorProto}

@@ -1,5 +1,6 @@
 -- What changes of all messages of a pool, so that bytes are read otherwise.
-use Rattle.std.specs.Prelude.{◌≡◌, ℕ, suc, List, [], ◌∷◌, ◌++◌, Option, Some, None, map, slice_get, option_and_then}
+use Rattle.std.specs.Prelude.{◌≡◌, ℕ, suc, List, [], ◌∷◌, ◌++◌, Option, Some, None, map, slice_get}
+use Rattle.std.specs.Prelude.{option_and_then}
 use Rattle.std.specs.FinMap as finite
 use Rattle.pool_types.specs.Contents.{Contents}
 use Rattle.pool_types.specs.declared.contents.definition.DefinitionKind.{DefinitionKind}

@@ -50,4 +50,5 @@ IsClosed p reached = (m k : ℕ) (f : Entry) → reached m ≡ true → entry_at
 -- no new message of a pair has an entry of a number that its old one may have besides
 abbrev pub LeavesOut : Parts → Parts → (ℕ → Bool) → Besides → Type 0
 LeavesOut old new reached besides =
-    (m n k : ℕ) → reached m ≡ true → are_paired old m new n ≡ true → besides m k ≡ true → entry_at new n k ≡ None
+    (m n k : ℕ) → reached m ≡ true → are_paired old m new n ≡ true → besides m k ≡ true
+    → entry_at new n k ≡ None

@@ -6,7 +6,11 @@ ghost use Rattle.schema_changes.specs.declared.change.WireChangeKind.TheVariants
 ghost use Rattle.schema_changes.specs.Parts.{parts};
 ghost use Rattle.schema_changes.specs.Records.{is_kept_free};
 ghost use Rattle.schema_changes.specs.Entries.{field_entry, extension_in};
-ghost use Rattle.schema_changes.specs.Changes.{compared, unless, old_entry, new_entry, kept_changes, entry_changes, extension_changes, was_required, required_changes, required_extension_changes, oneof_changes, message_changes};
+ghost use Rattle.schema_changes.specs.Changes.{compared, unless, old_entry, new_entry};
+ghost use Rattle.schema_changes.specs.Changes.{kept_changes, entry_changes, extension_changes};
+ghost use Rattle.schema_changes.specs.Changes.{was_required, required_changes};
+ghost use Rattle.schema_changes.specs.Changes.{required_extension_changes, oneof_changes};
+ghost use Rattle.schema_changes.specs.Changes.{message_changes};
 
 use crate::entries::field_entry;
 use crate::kinds::keeps_cardinality;
@@ -148,7 +152,8 @@ impl Compared<'_> {
     fn tell_extensions(self, changes: &mut Vec<WireChange>) -> Result<(), AllocError>
         ensures { OnOk result (changes.new.items ≡ changes.old.items
             ++ flat_map (λ i. extension_changes (compared self.entry)
-            (extension_in (parts self.entry.old) self.entry.before.now i)) self.entry.before.now.extensions) }
+            (extension_in (parts self.entry.old) self.entry.before.now i))
+            self.entry.before.now.extensions) }
     {
         let extensions = self.before.extensions.as_slice();
         for index in extensions {
@@ -201,7 +206,8 @@ impl Compared<'_> {
     fn tell_required_extensions(self, changes: &mut Vec<WireChange>) -> Result<(), AllocError>
         ensures { OnOk result (changes.new.items ≡ changes.old.items
             ++ flat_map (λ i. required_extension_changes (compared self.entry)
-            (extension_in (parts self.entry.new) self.entry.after.now i)) self.entry.after.now.extensions) }
+            (extension_in (parts self.entry.new) self.entry.after.now i))
+            self.entry.after.now.extensions) }
     {
         let extensions = self.after.extensions.as_slice();
         for index in extensions {

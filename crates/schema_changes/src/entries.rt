@@ -2,7 +2,8 @@
 
 ghost use Rattle.std.specs.Prelude.{◌≡◌};
 ghost use Rattle.schema_changes.specs.Parts.{parts};
-ghost use Rattle.schema_changes.specs.Entries.{field_entry, extension_entry, extension_at, extension_in, entry_numbered};
+ghost use Rattle.schema_changes.specs.Entries.{field_entry, extension_entry, extension_at};
+ghost use Rattle.schema_changes.specs.Entries.{extension_in, entry_numbered};
 
 use crate::Parts;
 use pool_types::{

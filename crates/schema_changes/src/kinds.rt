@@ -3,7 +3,9 @@
 ghost use Rattle.std.specs.Prelude.{◌≡◌, ◌||◌};
 ghost use Rattle.std.specs.List.{list_all};
 ghost use Rattle.schema_changes.specs.Parts.{parts};
-ghost use Rattle.schema_changes.specs.Kinds.{holds, holds_all, is_plain, holds_unsigned, keeps_numbers, text_check, keeps_check, entry_check, messages_of, keeps_cardinality};
+ghost use Rattle.schema_changes.specs.Kinds.{holds, holds_all, is_plain, holds_unsigned};
+ghost use Rattle.schema_changes.specs.Kinds.{keeps_numbers, text_check, keeps_check, entry_check};
+ghost use Rattle.schema_changes.specs.Kinds.{messages_of, keeps_cardinality};
 
 use crate::parts::has_value;
 use crate::{Entry, Parts};
@@ -131,7 +133,8 @@ pub(crate) fn messages_of(old: KindIndex, new: KindIndex) -> Option<(u32, u32)>
 
 /// Whether the kind of a new entry keeps that of an old one, where both have numbers or texts.
 pub(crate) fn keeps_scalar(old: Parts<'_>, field: &Entry, new: Parts<'_>, kept: &Entry) -> bool
-    ensures { result ≡ (keeps_numbers (parts old.entry) field.now.kind (parts new.entry) kept.now.kind
+    ensures { result
+        ≡ (keeps_numbers (parts old.entry) field.now.kind (parts new.entry) kept.now.kind
         || keeps_check (entry_check (parts old.entry) field.now)
         (entry_check (parts new.entry) kept.now)) }
 {

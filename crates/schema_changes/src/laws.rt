@@ -10,7 +10,8 @@ ghost use Rattle.schema_changes.specs.Parts.{Parts, parts_of, one_name};
 ghost use Rattle.schema_changes.specs.Entries.{schema_of};
 ghost use Rattle.schema_changes.specs.Unchanged.{LookUp, IsClosed, NothingChanges, LeavesOut};
 ghost use Rattle.schema_changes.specs.Pools.{NamesMean, wire_changes};
-ghost use Rattle.schema_changes.specs.Chains.{last_of, goes_on, AllLookUp, NoneChanges, AllStayFree};
+ghost use Rattle.schema_changes.specs.Chains.{last_of, goes_on, AllLookUp, NoneChanges};
+ghost use Rattle.schema_changes.specs.Chains.{AllStayFree};
 
 /// Where nothing changes of a message and of those that it reaches, what is written of it by the
 /// old schema is read by the new one, with the same value of each field that both have.

@@ -6,7 +6,9 @@ ghost use Rattle.std.specs.Option.{option_copied};
 ghost use Rattle.schema_changes.specs.Parts.{parts, one_name};
 ghost use Rattle.schema_changes.specs.Entries.{field_entry};
 ghost use Rattle.schema_changes.specs.Kinds.{keeps_kind_by};
-ghost use Rattle.schema_changes.specs.MapEntries.{says_map_entry, is_map_entry, map_entry_at, keeps_entry, keeps_part, keeps_map_entry, keep_maps, are_paired, keeps_kind};
+ghost use Rattle.schema_changes.specs.MapEntries.{says_map_entry, is_map_entry, map_entry_at};
+ghost use Rattle.schema_changes.specs.MapEntries.{keeps_entry, keeps_part, keeps_map_entry};
+ghost use Rattle.schema_changes.specs.MapEntries.{keep_maps, are_paired, keeps_kind};
 
 use crate::entries::field_entry;
 use crate::kinds::{keeps_cardinality, keeps_scalar, messages_of};
@@ -148,8 +150,8 @@ impl<'a> Parts<'a> {
         }
     }
 
-    /// Whether two messages are a pair: they have one full name, or are entries of maps of which the
-    /// new one keeps the old one.
+    /// Whether two messages are a pair: they have one full name, or are entries of maps of which
+    /// the new one keeps the old one.
     #[tactic(auto, unfolding(crate::specs::MapEntries::are_paired))]
     fn is_paired_with(self, index: u32, new: Parts<'_>, new_index: u32) -> bool
         ensures { result ≡ are_paired (parts self.entry) index (parts new.entry) new_index }

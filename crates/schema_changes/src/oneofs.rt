@@ -2,7 +2,8 @@
 
 ghost use Rattle.std.specs.Prelude.{◌≡◌, ◌++◌, OnOk};
 ghost use Rattle.message_values.specs.Fields.{in_one};
-ghost use Rattle.schema_changes.specs.Changes.{compared, old_member, first_some, joined_changes, oneof_changes};
+ghost use Rattle.schema_changes.specs.Changes.{compared, old_member, first_some, joined_changes};
+ghost use Rattle.schema_changes.specs.Changes.{oneof_changes};
 
 use crate::compared::push_unless;
 use crate::{Compared, Entry, WireChange, WireChangeKind};

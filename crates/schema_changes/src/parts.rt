@@ -1,7 +1,8 @@
 //! The items of a pool by which bytes are read.
 
 ghost use Rattle.std.specs.Prelude.{◌≡◌};
-ghost use Rattle.schema_changes.specs.Parts.{parts, in_proto3, is_open, has_value, values_of, one_name};
+ghost use Rattle.schema_changes.specs.Parts.{parts, in_proto3, is_open, has_value, values_of};
+ghost use Rattle.schema_changes.specs.Parts.{one_name};
 
 use pool_types::{
     EnumDescriptorInner, EnumValueDescriptorInner, ExtensionDescriptorInner, FileDescriptorInner,

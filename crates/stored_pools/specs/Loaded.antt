@@ -6,7 +6,8 @@ use Rattle.descriptor_decoding.specs.Merging.{Fails}
 use Rattle.descriptor_decoding.specs.declared.error.DecodeError.TheVariants as decoding
 use Rattle.pool_types.specs.Contents.{Contents, files_of, no_contents}
 use Rattle.descriptor_pool.specs.declared.error.BuildError.{BuildError}
-use Rattle.descriptor_pool.specs.declared.error.BuildError.TheVariants.{TooMany, Descriptor, OutOfMemory}
+use Rattle.descriptor_pool.specs.declared.error.BuildError.TheVariants.{TooMany, Descriptor}
+use Rattle.descriptor_pool.specs.declared.error.BuildError.TheVariants.{OutOfMemory}
 use Rattle.descriptor_pool.specs.Invariant.{IsPool}
 use Rattle.descriptor_pool.specs.Outcome.{IsLinked}
 use Rattle.descriptor_pool.specs.Pool.{Batch, Fits, counts_after, faults}
@@ -41,8 +42,8 @@ abbrev pub LacksMemory : LoadError → Type 0
 LacksMemory (Decode error) = error ≡ decoding.OutOfMemory
 LacksMemory (Build error) = error ≡ OutOfMemory
 
--- what loading ends in where the bytes are those that a pool was stored as, and its linked files are
--- whole: that pool, unless memory was refused
+-- what loading ends in where the bytes are those that a pool was stored as, and its linked files
+-- are whole: that pool, unless memory was refused
 abbrev pub LoadsAgain : List ℕ → Result Contents LoadError → Type 0
 LoadsAgain bytes result = (p : Contents) → IsPool p → AreWhole (files_of p) → bytes ≡ stored p
     → MatchResult result (λ q. q ≡ p) LacksMemory

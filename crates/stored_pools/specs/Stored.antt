@@ -33,8 +33,8 @@ pub record MakesPool (bytes : List ℕ) (p : Contents) : Type 0 where
 abbrev pub StoredIsLoaded : Contents → Type 0
 StoredIsLoaded p = AreWhole (files_of p) → length (stored p) < 2 ^ 64 → MakesPool (stored p) p
 
--- law: where the files of a pool and those of a batch are whole, so are the linked files of the pool
--- with the batch
+-- law: where the files of a pool and those of a batch are whole, so are the linked files of the
+-- pool with the batch
 abbrev pub LinkedAreWhole : Contents → Type 0
 LinkedAreWhole p =
     AreWhole (files_of p) → (batch : Batch) → AreWhole batch → AreWhole (files_of (link p batch))

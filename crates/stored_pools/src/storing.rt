@@ -33,13 +33,13 @@ pub fn store(alloc: Global, pool: &DescriptorPool) -> Result<Vec<u8>, AllocError
     encode_linked(alloc, pool.files())
 }
 
-/// The pool of the files of a set, linked at once. Of the bytes that `store` wrote it is the pool that
-/// was stored, where its linked files are whole, unless memory was refused.
+/// The pool of the files of a set, linked at once. Of the bytes that `store` wrote it is the pool
+/// that was stored, where its linked files are whole, unless memory was refused.
 ///
 /// # Errors
-/// `Decode` with the first fault of the bytes, or where memory was refused; `Build` where their files
-/// are too many, or break rules, with all faults of the first failing pass, or where memory was
-/// refused.
+/// `Decode` with the first fault of the bytes, or where memory was refused; `Build` where their
+/// files are too many, or break rules, with all faults of the first failing pass, or where memory
+/// was refused.
 pub fn load(alloc: Global, bytes: &[u8]) -> Result<DescriptorPool, LoadError>
     ensures loads { Loads bytes.now result }
     ensures again { LoadsAgain bytes.now result }

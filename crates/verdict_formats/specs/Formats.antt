@@ -13,7 +13,8 @@ use Rattle.verdict_formats.specs.Annotations.{annotations}
 use Rattle.verdict_formats.specs.Quality.{quality}
 use Rattle.verdict_formats.specs.Sarif.{sarif}
 use Rattle.verdict_formats.specs.declared.formats.Format.{Format}
-use Rattle.verdict_formats.specs.declared.formats.Format.TheVariants.{Text, Json, GitHub, GitLab, Sarif}
+use Rattle.verdict_formats.specs.declared.formats.Format.TheVariants.{Text, Json, GitHub, GitLab}
+use Rattle.verdict_formats.specs.declared.formats.Format.TheVariants.{Sarif}
 
 -- whether a format is of lines for people
 abbrev pub is_for_people : Format → Bool

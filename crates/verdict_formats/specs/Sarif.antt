@@ -8,7 +8,8 @@ use Rattle.verdict_texts.specs.declared.telling.Position.{Position}
 use Rattle.verdict_texts.specs.declared.telling.ToldFault.{ToldFault}
 use Rattle.verdict_texts.specs.declared.telling.ToldPlace.{ToldPlace}
 use Rattle.verdict_texts.specs.declared.telling.ToldSecond.{ToldSecond}
-use Rattle.verdict_formats.specs.Members.{key, next_key, text_member, next_text_member, number_member, next_number_member, text_object}
+use Rattle.verdict_formats.specs.Members.{key, next_key, text_member, next_text_member}
+use Rattle.verdict_formats.specs.Members.{number_member, next_number_member, text_object}
 use Rattle.verdict_formats.specs.Percent.{uri}
 use Rattle.verdict_formats.specs.Texts.{position_of, second_words, told_text}
 use Rattle.verdict_formats.specs.declared.rules.TheConstants.{RULES}
@@ -72,8 +73,8 @@ unfoldable pub related : Option ToldSecond → List ℕ
 related second = next_key (codes "relatedLocations")
     ++ (codes "[" ++ (option_map_or second_location second [] ++ codes "]"))
 
--- the first members of a result, with its opening brace: its kind, its text, its place and its second
--- place
+-- the first members of a result, with its opening brace: its kind, its text, its place and its
+-- second place
 unfoldable pub result_members : ToldFault → List ℕ
 result_members told = result_head told ++ (locations told.place ++ related told.second)
 

@@ -1,7 +1,7 @@
 //! The kinds of changes, as a log of SARIF lists them.
 
-/// The beginning of a log of SARIF: the program with its version and the kinds of changes, each with
-/// what it says, what to do, and its level as a tag. They stand in the order of the levels.
+/// The beginning of a log of SARIF: the program with its version and the kinds of changes, each
+/// with what it says, what to do, and its level as a tag. They stand in the order of the levels.
 pub const CHANGE_RULES: &str = "\
 {\"$schema\":\"https://json.schemastore.org/sarif-2.1.0.json\",\"version\":\"2.1.0\",\
 \"runs\":[{\"tool\":{\"driver\":{\"name\":\"check_descriptors\",\"version\":\"0.2.0\",\"rules\":[\

@@ -7,7 +7,8 @@ use std::alloc::AllocError;
 
 /// Writes a text as the message of a workflow command.
 pub(crate) fn write_message(text: &mut String, value: &str) -> Result<(), AllocError>
-    ensures { OnOk result (string_bytes text.new ≡ string_bytes text.old ++ spec.message value.now) }
+    ensures { OnOk result
+        (string_bytes text.new ≡ string_bytes text.old ++ spec.message value.now) }
 {
     for c in value.chars() {
         write_message_char(text, c)?;

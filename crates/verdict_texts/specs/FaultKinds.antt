@@ -1,5 +1,6 @@
 -- What is told of each kind of fault, a row for each.
-use Rattle.std.specs.Prelude.{ℕ, ℤ, ◌-◌, Bool, false, true, ◌==◌, ◌&&◌, ◌||◌, List, [], ◌++◌, codes, length, slice_get, if◌then◌else◌}
+use Rattle.std.specs.Prelude.{ℕ, ℤ, ◌-◌, Bool, false, true, ◌==◌, ◌&&◌, ◌||◌, List, [], ◌++◌, codes}
+use Rattle.std.specs.Prelude.{length, slice_get, if◌then◌else◌}
 use Rattle.std.specs.Option.{option_map, option_map_or}
 use Rattle.std.specs.Ordering.{int_eq}
 use Rattle.std.specs.Str.{bytes_eq}

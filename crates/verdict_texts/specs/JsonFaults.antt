@@ -23,7 +23,8 @@ json_text text = option_map_or json_string text (codes "null")
 -- a line and a column, as two members of an object
 abbrev pub json_line : Position → List ℕ
 json_line at =
-    codes "\"line\":" ++ (signed_decimal at.line ++ (codes ",\"column\":" ++ signed_decimal at.column))
+    codes "\"line\":"
+    ++ (signed_decimal at.line ++ (codes ",\"column\":" ++ signed_decimal at.column))
 
 -- the same, or two nulls
 abbrev pub json_position : Option Position → List ℕ
@@ -58,7 +59,8 @@ json_head told =
 -- the second place of a fault, and what is told beside it, as two members of an object
 abbrev pub json_tail : ToldFault → List ℕ
 json_tail told =
-    codes "\"related\":" ++ (json_second told.second ++ (codes ",\"note\":" ++ json_string told.note))
+    codes "\"related\":"
+    ++ (json_second told.second ++ (codes ",\"note\":" ++ json_string told.note))
 
 -- a fault: its code, its text, where it stands, its second place, and what is told beside it
 unfoldable pub json_fault : ToldFault → List ℕ

@@ -1,5 +1,6 @@
 -- Tables of names, by what they mean of files.
-use Rattle.std.specs.Prelude.{◌≡◌, ℕ, Bool, false, true, is_some, List, [], ◌∷◌, ◌++◌, map as map_each, if◌then◌else◌}
+use Rattle.std.specs.Prelude.{◌≡◌, ℕ, Bool, false, true, is_some, List, [], ◌∷◌, ◌++◌}
+use Rattle.std.specs.Prelude.{map as map_each, if◌then◌else◌}
 use Rattle.std.specs.FinMap as map
 use Rattle.std.specs.List.{filter, position_from}
 use Rattle.std.specs.Option.{option_or}

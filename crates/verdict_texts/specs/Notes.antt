@@ -1,6 +1,7 @@
 -- What is told beside a fault: where a name that is not seen is declared, how to write one that
 -- nothing has, which index is no position, or else what to do.
-use Rattle.std.specs.Prelude.{ℕ, Bool, false, ◌||◌, List, ◌++◌, codes, is_some, map, unwrap_or, if◌then◌else◌}
+use Rattle.std.specs.Prelude.{ℕ, Bool, false, ◌||◌, List, ◌++◌, codes, is_some, map, unwrap_or}
+use Rattle.std.specs.Prelude.{if◌then◌else◌}
 use Rattle.std.specs.List.{after_first, before_last, find, list_any}
 use Rattle.std.specs.Option.{option_map, option_map_or, option_and_then, option_or}
 use Rattle.std.specs.Str.{bytes_eq}
@@ -62,7 +63,8 @@ far_words files from file = if is_near files from file then codes ""
 -- how to write a name so that it means what a file declares
 abbrev pub dotted_words : List ℕ → List ℕ → List ℕ → List ℕ
 dotted_words name file far =
-    codes "write '." ++ (name ++ (codes "' to mean what '" ++ (file ++ (codes "' declares" ++ far))))
+    codes "write '."
+    ++ (name ++ (codes "' to mean what '" ++ (file ++ (codes "' declares" ++ far))))
 
 -- the same, by the first file that declares it
 abbrev pub dotted_note : List FileDescriptorProto → List ℕ → List ℕ → Option (List ℕ)

@@ -15,7 +15,8 @@ use Rattle.verdict_texts.specs.declared.refused.ToldRefusal.{ToldRefusal}
 -- an object: its first members, its faults, and its last members
 abbrev pub object : List ℕ → List ℕ → List ℕ → List ℕ
 object head faults tail =
-    codes "{" ++ (head ++ (codes ",\"faults\":[" ++ (faults ++ (codes "]," ++ (tail ++ codes "}\n")))))
+    codes "{" ++ (head
+    ++ (codes ",\"faults\":[" ++ (faults ++ (codes "]," ++ (tail ++ codes "}\n")))))
 
 -- the first members: the verdict, how much is declared, and of what there is too much
 abbrev pub head : List ℕ → List ℕ → List ℕ → List ℕ

@@ -1,6 +1,7 @@
 -- Where the faults stand whose kinds have no label: a name of a file that another has, an index of
 -- an import, and an index of a oneof. Each is a place in the records, in the order of the walk.
-use Rattle.std.specs.Prelude.{ℕ, ℤ, Bool, true, false, not, is_some, List, [], ◌∷◌, ◌++◌, length, map, drop, slice_get, if◌then◌else◌}
+use Rattle.std.specs.Prelude.{ℕ, ℤ, Bool, true, false, not, is_some, List, [], ◌∷◌, ◌++◌, length}
+use Rattle.std.specs.Prelude.{map, drop, slice_get, if◌then◌else◌}
 use Rattle.std.specs.List.{enumerate_from, filter, find, flat_map, list_any}
 use Rattle.std.specs.Option.{option_map_or}
 use Rattle.std.specs.Str.{bytes_eq}

@@ -21,8 +21,10 @@ pub record StandsAt (ds : List Shown) (path : List ℤ) (name : List ℕ) : Type
   pub rest : List ℤ
   pub front : declaration.path ++ rest ≡ path
 
--- a name is that of a declaration which stands in the only file of a label, at its path or around it
-pub record IsElement (files : List FileDescriptorProto) (label : Label) (name : List ℕ) : Type 0 where
+-- a name is that of a declaration which stands in the only file of a label, at its path or around
+-- it
+pub record IsElement (files : List FileDescriptorProto) (label : Label) (name : List ℕ)
+    : Type 0 where
   pub file : FileDescriptorProto
   pub found : only files label.file ≡ Some file
   pub stands : StandsAt (declarations no_counts (file ∷ [])) label.path name

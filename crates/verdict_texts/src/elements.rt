@@ -160,8 +160,8 @@ fn element_in(
     }
 }
 
-/// The full name of what a label stands in, by the only file with its name; none where several files
-/// have it, or where it stands in no declaration of that file.
+/// The full name of what a label stands in, by the only file with its name; none where several
+/// files have it, or where it stands in no declaration of that file.
 pub(crate) fn element_of(
     alloc: Global,
     known: &Known,

@@ -1,7 +1,8 @@
 //! What is known of files by names: the file of a name, and the file that declares one. No fault is
 //! told by a walk over files.
 
-ghost use Rattle.std.specs.Prelude.{◌≡◌, [], ◌∷◌, ◌++◌, ◌+◌, ◌<◌, is_some, length, map, slice_get, take, IfOk, IfSome, IsTrue, OnOk};
+ghost use Rattle.std.specs.Prelude.{◌≡◌, [], ◌∷◌, ◌++◌, ◌+◌, ◌<◌, is_some, length, map, slice_get};
+ghost use Rattle.std.specs.Prelude.{take, IfOk, IfSome, IsTrue, OnOk};
 ghost use Rattle.std.specs.List.{list_any};
 ghost use Rattle.std.specs.Option.{option_and_then, option_copied};
 ghost use Rattle.verdict_texts.specs.FaultKinds.{is_of_reference};

@@ -1,5 +1,5 @@
-//! The texts of a verdict: how much a batch declares, the faults of a refused one, and what is wrong
-//! with bytes, as lines for people and as objects of JSON.
+//! The texts of a verdict: how much a batch declares, the faults of a refused one, and what is
+//! wrong with bytes, as lines for people and as objects of JSON.
 #![tactic(auto)]
 
 mod accepted;

@@ -1,6 +1,7 @@
 //! A refused batch as it is told, and its lines for people.
 
-ghost use Rattle.std.specs.Prelude.{◌≡◌, ◌++◌, ◌<◌, ◌^◌, false, IfOk, OnOk, string_bytes, slice_get, take, map};
+ghost use Rattle.std.specs.Prelude.{◌≡◌, ◌++◌, ◌<◌, ◌^◌, false, IfOk, OnOk, string_bytes};
+ghost use Rattle.std.specs.Prelude.{slice_get, take, map};
 ghost use Rattle.std.specs.Option.{option_copied, option_map_or};
 ghost use Rattle.std.specs.Str.{bytes_eq};
 ghost use Rattle.verdict_texts.specs.PlainFaults as plain;
@@ -60,7 +61,8 @@ pub fn tell_refusal(
     most: usize,
 ) -> Result<ToldRefusal, AllocError>
     ensures { IfOk result (λ told. told ≡ spec.told_refusal
-        (map (λ f. f.raw) batch.now.linked.now) batch.now.files.now batch.now.faults.now batch.now.rest
+        (map (λ f. f.raw) batch.now.linked.now) batch.now.files.now batch.now.faults.now
+        batch.now.rest
         most) }
 {
     let first = first_faults(batch.faults, most);

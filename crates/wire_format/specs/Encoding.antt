@@ -1,5 +1,6 @@
 -- The canonical encoding of fields: the shortest varints, and no groups.
-use Rattle.std.specs.Prelude.{ℕ, zero, suc, ◌+◌, ◌*◌, ◌/◌, ◌%◌, ◌<◌, ◌^◌, List, [], ◌∷◌, ◌++◌, length, nat_lt, if◌then◌else◌}
+use Rattle.std.specs.Prelude.{ℕ, zero, suc, ◌+◌, ◌*◌, ◌/◌, ◌%◌, ◌<◌, ◌^◌, List, [], ◌∷◌, ◌++◌}
+use Rattle.std.specs.Prelude.{length, nat_lt, if◌then◌else◌}
 use Rattle.wire_format.specs.Faults.{offset}
 use Rattle.wire_format.specs.Tokens.{Value, Varint, Len}
 use Rattle.wire_format.specs.Fields.{Fields, End, Then}

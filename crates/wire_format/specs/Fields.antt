@@ -1,5 +1,6 @@
 -- The fields of a message: tokens, without what is in groups.
-use Rattle.std.specs.Prelude.{◌≡◌, Option, None, Some, ℕ, zero, suc, List, [], ◌∷◌, length, Result, Ok, Err, ◌==◌, if◌then◌else◌}
+use Rattle.std.specs.Prelude.{◌≡◌, Option, None, Some, ℕ, zero, suc, List, [], ◌∷◌, length, Result}
+use Rattle.std.specs.Prelude.{Ok, Err, ◌==◌, if◌then◌else◌}
 use Rattle.wire_format.specs.declared.fault.WireFault.{WireFault}
 use Rattle.wire_format.specs.declared.fault.WireFaultKind.TheVariants as kind
 use Rattle.wire_format.specs.Tokens.{Value, Group, EndGroup, Field, token}

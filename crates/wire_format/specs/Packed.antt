@@ -1,5 +1,6 @@
 -- Packed numbers: varints, one behind the other.
-use Rattle.std.specs.Prelude.{◌≡◌, ℕ, zero, suc, List, [], ◌∷◌, length, Option, None, Some, Result, Ok, Err}
+use Rattle.std.specs.Prelude.{◌≡◌, ℕ, zero, suc, List, [], ◌∷◌, length, Option, None, Some, Result}
+use Rattle.std.specs.Prelude.{Ok, Err}
 use Rattle.wire_format.specs.declared.fault.WireFault.{WireFault}
 use Rattle.wire_format.specs.Reading.{◌>>=◌}
 use Rattle.wire_format.specs.Varints.{varint}

@@ -1,5 +1,6 @@
 -- Tokens: numbered values, and the beginnings and ends of groups.
-use Rattle.std.specs.Prelude.{ℕ, ◌/◌, ◌%◌, List, length, take, drop, Result, Ok, Err, nat_lt, ◌==◌, if◌then◌else◌}
+use Rattle.std.specs.Prelude.{ℕ, ◌/◌, ◌%◌, List, length, take, drop, Result, Ok, Err, nat_lt, ◌==◌}
+use Rattle.std.specs.Prelude.{if◌then◌else◌}
 use Rattle.std.specs.Int.{Width, w32, w64, byte_len, from_le_bytes}
 use Rattle.wire_format.specs.declared.fault.WireFault.{WireFault}
 use Rattle.wire_format.specs.declared.fault.WireFaultKind.TheVariants.{Truncated, UnknownWireType}

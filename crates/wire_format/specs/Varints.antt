@@ -1,7 +1,9 @@
 -- Varints: numbers in base 128, least digit first, in which each byte but the last is 128 or more.
-use Rattle.std.specs.Prelude.{ℕ, suc, ◌+◌, ◌*◌, ◌-◌, ◌%◌, ◌^◌, List, [], ◌∷◌, length, take, drop, Result, Ok, Err, nat_lt, if◌then◌else◌}
+use Rattle.std.specs.Prelude.{ℕ, suc, ◌+◌, ◌*◌, ◌-◌, ◌%◌, ◌^◌, List, [], ◌∷◌, length, take, drop}
+use Rattle.std.specs.Prelude.{Result, Ok, Err, nat_lt, if◌then◌else◌}
 use Rattle.wire_format.specs.declared.fault.WireFault.{WireFault}
-use Rattle.wire_format.specs.declared.fault.WireFaultKind.TheVariants.{Truncated, LongVarint, LargeTag, FieldNumberZero}
+use Rattle.wire_format.specs.declared.fault.WireFaultKind.TheVariants.{Truncated, LongVarint}
+use Rattle.wire_format.specs.declared.fault.WireFaultKind.TheVariants.{LargeTag, FieldNumberZero}
 use Rattle.wire_format.specs.Faults.{fault}
 use Rattle.wire_format.specs.Reading.{◌>>=◌}
 

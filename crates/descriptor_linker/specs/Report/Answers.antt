@@ -1,5 +1,6 @@
 -- What the commands of a script answer of a pool.
-use Rattle.std.specs.Prelude.{ℕ, ℤ, pos, negsuc, slice_get, Bool, true, false, ◌&&◌, is_ok, if◌then◌else◌, List, [], ◌∷◌, codes}
+use Rattle.std.specs.Prelude.{ℕ, ℤ, pos, negsuc, slice_get, Bool, true, false, ◌&&◌, is_ok}
+use Rattle.std.specs.Prelude.{if◌then◌else◌, List, [], ◌∷◌, codes}
 use Rattle.std.specs.Option.{option_and_then, option_map_or}
 use Rattle.std.specs.declared.option.Option.{Option}
 use Rattle.std.specs.declared.option.Option.TheVariants.{None}

@@ -16,7 +16,8 @@ use Rattle.link_script.specs.declared.script.statement.Statement.TheVariants as 
 use Rattle.reference_pass.specs.SecondPass.{Faults}
 use Rattle.descriptor_pool.specs.Pool.{Batch, Fits, faults, counts_after, link}
 use Rattle.link_script.specs.Records.{Building, built, nothing_built}
-use Rattle.descriptor_linker.specs.Report.Lines.{counts_line, refused_lines, too_many_line, walk_answer, refs_answer, fault_line}
+use Rattle.descriptor_linker.specs.Report.Lines.{counts_line, refused_lines, too_many_line}
+use Rattle.descriptor_linker.specs.Report.Lines.{walk_answer, refs_answer, fault_line}
 use Rattle.descriptor_linker.specs.Report.Answers.{ext_answer, find_answer, relink_answer}
 
 -- a session: what is built, the pool, and the report so far

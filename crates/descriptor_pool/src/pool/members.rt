@@ -4,7 +4,8 @@ ghost use Rattle.std.specs.Prelude.{◌≡◌};
 ghost use Rattle.std.specs.List.{All};
 ghost use Rattle.field_rules.specs.NamesBegin.{EnumNamesBegin};
 ghost use Rattle.descriptor_pool.specs.Maps.{MapsLead, ValuesLead};
-ghost use Rattle.reference_pass.specs.NamesBegin.{ExtensionNameBegins, MessageNamesBegin, ServiceNamesBegin};
+ghost use Rattle.reference_pass.specs.NamesBegin.{ExtensionNameBegins, MessageNamesBegin};
+ghost use Rattle.reference_pass.specs.NamesBegin.{ServiceNamesBegin};
 ghost use Rattle.pool_types.specs.Members.{members, message_in, enum_in, service_in, extension_in};
 ghost use Rattle.pool_types.specs.declared.declared.Parent.TheVariants as parent;
 
@@ -16,8 +17,8 @@ use pool_types::{
 
 impl DescriptorPool {
     /// All messages of the pool, by their indexes. The name of each, and of each of its fields and
-    /// oneofs, begins in the full name where a character begins. The maps of each lead to its fields,
-    /// and its oneofs list the fields in them.
+    /// oneofs, begins in the full name where a character begins. The maps of each lead to its
+    /// fields, and its oneofs list the fields in them.
     pub fn messages(&self) -> &[MessageDescriptorInner]
         ensures items { result.now ≡ self.now.messages }
         ensures names { All MessageNamesBegin self.now.messages }

@@ -20,7 +20,8 @@ use Rattle.link_script.specs.declared.script.statement.Keyword.TheVariants as wo
 use Rattle.link_script.specs.declared.script.statement.Statement.{Statement}
 use Rattle.link_script.specs.declared.script.statement.Statement.TheVariants as say
 use Rattle.link_script.specs.declared.script.statement.ScriptFault.{ScriptFault}
-use Rattle.link_script.specs.declared.script.statement.ScriptFault.TheVariants.{WrongCount, BadNumber, BadWord}
+use Rattle.link_script.specs.declared.script.statement.ScriptFault.TheVariants.{WrongCount}
+use Rattle.link_script.specs.declared.script.statement.ScriptFault.TheVariants.{BadNumber, BadWord}
 
 -- whether a word says that there is nothing: `~` does
 abbrev pub is_absent : List ℕ → Bool

@@ -36,7 +36,8 @@ IsObeyed obeys script old (Err OutOfMemory) new = Unit {0}
 
 -- the next statement of a script is obeyed, or the end or the fault is told, unless memory was
 -- refused; but for a statement, as much is left as before, and none is obeyed
-abbrev pub IsNextObeyed : {S : Type 0} → Obeying S → Script → S → Result Bool ScriptError → Script → S
+abbrev pub IsNextObeyed : {S : Type 0} → Obeying S → Script → S → Result Bool ScriptError → Script
+    → S
     → Type 0
 IsNextObeyed obeys script old (Ok true) rest new =
     (s : Statement) × ((script ≡ after_statement s rest) × obeys old s new)

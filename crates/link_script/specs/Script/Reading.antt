@@ -10,9 +10,13 @@ use Rattle.link_script.specs.declared.script.statement.Block.{Block}
 use Rattle.link_script.specs.declared.script.statement.Statement.{Statement}
 use Rattle.link_script.specs.declared.script.statement.Script.{Script}
 use Rattle.link_script.specs.declared.script.statement.ScriptFault.{ScriptFault}
-use Rattle.link_script.specs.declared.script.statement.ScriptFault.TheVariants.{BadText, UnknownWord, Misplaced, MissingEnd}
+use Rattle.link_script.specs.declared.script.statement.ScriptFault.TheVariants.{BadText}
+use Rattle.link_script.specs.declared.script.statement.ScriptFault.TheVariants.{UnknownWord}
+use Rattle.link_script.specs.declared.script.statement.ScriptFault.TheVariants.{Misplaced}
+use Rattle.link_script.specs.declared.script.statement.ScriptFault.TheVariants.{MissingEnd}
 use Rattle.link_script.specs.Script.Words.{lines, words, says_nothing}
-use Rattle.link_script.specs.Script.Keyword.{Standing, at_start, keyword_of, may_stand, standing_after}
+use Rattle.link_script.specs.Script.Keyword.{Standing, at_start, keyword_of, may_stand}
+use Rattle.link_script.specs.Script.Keyword.{standing_after}
 use Rattle.link_script.specs.Script.Arguments.{said_in, and_then}
 
 -- what a line says: a keyword and its statement, or nothing, or its fault

@@ -1,7 +1,8 @@
 //! Texts that are cut at a byte, or compared. Words and numbers are short: a search by single bytes
 //! takes fewer steps there than one that is made for long texts. Lines are searched for in blocks.
 
-ghost use Rattle.std.specs.Prelude.{◌≡◌, ◌+◌, ◌<◌, ◌≤◌, ◌==◌, length, take, drop, slice_index, MatchOption};
+ghost use Rattle.std.specs.Prelude.{◌≡◌, ◌+◌, ◌<◌, ◌≤◌, ◌==◌, length, take, drop, slice_index};
+ghost use Rattle.std.specs.Prelude.{MatchOption};
 ghost use Rattle.std.specs.List.{position, position_or_len, before_first, after_first};
 ghost use Rattle.std.specs.Str.{bytes_eq};
 

@@ -3,10 +3,12 @@
 ghost use Rattle.std.specs.Prelude.{◌≡◌, ℕ, List, ◌∷◌, IfOk};
 ghost use Rattle.link_script.specs.Script.Words as spec;
 ghost use Rattle.link_script.specs.Script.Reading.{script, line_said};
-ghost use Rattle.link_script.specs.Script.Answers.{IsBegun, IsTextOf, standing_in, text_said, words_left};
+ghost use Rattle.link_script.specs.Script.Answers.{IsBegun, IsTextOf, standing_in, text_said};
+ghost use Rattle.link_script.specs.Script.Answers.{words_left};
 ghost use Rattle.link_script.specs.Script.Arguments.{said_in};
 ghost use Rattle.link_script.specs.Script.Left.{IsNext};
-ghost use Rattle.link_script.specs.Script.Obeying.{IsLineObeyed, IsNextObeyed, IsObeyed, IsSaidObeyed};
+ghost use Rattle.link_script.specs.Script.Obeying.{IsLineObeyed, IsNextObeyed, IsObeyed};
+ghost use Rattle.link_script.specs.Script.Obeying.{IsSaidObeyed};
 
 use super::arguments::{location_of, statement};
 use super::keyword::keyword_of;

@@ -146,8 +146,8 @@ fn any_first_number(text: &str) -> Result<(i32, Option<&str>), ScriptFault>
     }
 }
 
-/// The first number between commas, and the text behind its comma, if it has one. Most numbers are a
-/// few digits, which are read where they stand.
+/// The first number between commas, and the text behind its comma, if it has one. Most numbers are
+/// a few digits, which are read where they stand.
 fn first_number(text: &str) -> Result<(i32, Option<&str>), ScriptFault>
     ensures { IsFirstNumber text.now result }
 {

@@ -26,7 +26,8 @@ pub(crate) enum Record<'a> {
 
 impl<'a> Record<'a> {
     ghost use Rattle.std.specs.Option.{option_map};
-    ghost use Rattle.record_walk.specs.Leads.{leads, leads_in_message, leads_in_enum, leads_in_service};
+    ghost use Rattle.record_walk.specs.Leads.{leads, leads_in_message, leads_in_enum};
+    ghost use Rattle.record_walk.specs.Leads.{leads_in_service};
     ghost use Rattle.record_lists.specs.Record.{proto_in};
 
     /// The record at a path of a file, or none where nothing stands there.

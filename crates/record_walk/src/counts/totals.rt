@@ -38,7 +38,9 @@ pub(crate) struct Totals {
 
 impl Totals {
     ghost use Rattle.record_walk.specs.Counts.{within_limit};
-    ghost use Rattle.record_walk.specs.Totals.{saturated, unsaturated, sums, totals_of_enums, totals_of_services, totals_of_message, totals_of_messages, totals_of_file, totals_of_files};
+    ghost use Rattle.record_walk.specs.Totals.{saturated, unsaturated, sums, totals_of_enums};
+    ghost use Rattle.record_walk.specs.Totals.{totals_of_services, totals_of_message};
+    ghost use Rattle.record_walk.specs.Totals.{totals_of_messages, totals_of_file, totals_of_files};
 
     /// Counts as they are summed.
     pub(super) fn new(counts: Counts) -> Totals

@@ -1,7 +1,8 @@
 ghost use Rattle.std.specs.Prelude.{◌≡◌, ◌<◌, ◌^◌, List, [], ◌∷◌, None, IsTrue, OnOk, MatchOption};
 ghost use Rattle.record_walk.specs.Parts.{AreParts, PassesLists};
 ghost use Rattle.record_walk.specs.Walking.{parent_in, proto_of, protos_in};
-ghost use Rattle.record_walk.specs.Cursor.{Line, Steps, file_lines, inner_lines, line, line_in, lines, message_lines, stacked, stacked_all};
+ghost use Rattle.record_walk.specs.Cursor.{Line, Steps, file_lines, inner_lines, line, line_in};
+ghost use Rattle.record_walk.specs.Cursor.{lines, message_lines, stacked, stacked_all};
 
 use super::part::Part;
 use super::records::Records;

@@ -10,8 +10,9 @@ use std::fmt::Write;
 use std::test::Fail;
 
 /// A batch, the extendee that the last field of the last file's last message is given, and a line
-/// for each of its faults: its text, and the path where it is found. No name is looked for: the field
-/// is one of its message. The last extension of that file is given a oneof, which counts for nothing.
+/// for each of its faults: its text, and the path where it is found. No name is looked for: the
+/// field is one of its message. The last extension of that file is given a oneof, which counts for
+/// nothing.
 const EXTENDING: &[(&str, &str, &str)] = &[
     (
         "file a.proto\nmessage M\nfield f 1 optional int32 ~ ~\nend\nend\n",

@@ -86,7 +86,8 @@ fn check_services(rt: &impl Abort, file: &FileDescriptorProto) -> usize {
 
 #[test]
 fn enums_and_services_are_deprecated(rt: HostRuntime) -> Result<(), Fail> {
-    // `file { enum_type { value { .. } options { deprecated: true } } service { method { .. } .. }}`
+    // `file { enum_type { value { .. } options { deprecated: true } } service { method { .. } ..
+    // }}`
     let bytes = [
         10, 26, 42, 10, 18, 4, 26, 2, 8, 1, 26, 2, 24, 1, 50, 12, 18, 5, 34, 3, 136, 2, 1, 26, 3,
         136, 2, 1,
