@@ -249,56 +249,67 @@ def instructions(program: Path, counted: str, set_: Path) -> float:
     return int(found[1]) / 1e6
 
 
+def built(source: Path, text: str, *words: str) -> Path:
+    """The program of a source with a text, which is written first: the words are a compiler and its
+    flags."""
+    source.write_text(text)
+    program = source.with_suffix("")
+    must([words[0], str(source), *words[1:], "-o", str(program)])
+    return program
+
+
 def made(archive: Path, room: Path) -> Path:
     """The program that makes the calls of the library, built in a folder."""
-    source, program = room / "speed.cc", room / "speed"
-    source.write_text(PROGRAM)
-    must([
-        *("g++", "-std=c++17", "-O2", f"-I{TOP}/include", str(source), str(archive)),
-        *("-o", str(program)),
-    ])
-    return program
+    flags = ("-std=c++17", "-O2", f"-I{TOP}/include", str(archive))
+    return built(room / "speed.cc", PROGRAM, "g++", *flags)
 
 
 def made_of_protobuf(room: Path) -> Path:
     """The program that makes a pool of protobuf's in C++."""
-    source, program = room / "protobuf.cc", room / "protobuf"
-    source.write_text(PROTOBUF)
     flags = must(["pkg-config", "--cflags", "--libs", "protobuf"]).split()
-    must(["g++", "-std=c++17", "-O2", str(source), *flags, "-o", str(program)])
-    return program
+    return built(room / "protobuf.cc", PROTOBUF, "g++", "-std=c++17", "-O2", *flags)
 
 
 def made_of_upb(sources: Path, room: Path) -> Path:
     """The program that makes a pool of upb's, of protobuf's sources."""
-    source, program = room / "upb.c", room / "upb"
-    source.write_text(UPB)
     own, utf8 = sources / "ruby/ext/google/protobuf_c", sources / "third_party/utf8_range"
     parts = (own / "ruby-upb.c", utf8 / "naive.c", utf8 / "range2-sse.c")
-    must([
-        *("gcc", "-O3", "-DNDEBUG", "-w", f"-I{sources}", f"-I{own}", f"-I{utf8}", str(source)),
-        *(*map(str, parts), "-lm", "-o", str(program)),
-    ])
-    return program
+    folders = (f"-I{sources}", f"-I{own}", f"-I{utf8}")
+    flags = ("-O3", "-DNDEBUG", "-w", *folders, *map(str, parts), "-lm")
+    return built(room / "upb.c", UPB, "gcc", *flags)
 
 
-def own_row(program: Path, name: str, set_: Path, calls: tuple[str, ...] = CALLS) -> str:
-    """What each call takes over a set."""
-    counts = (instructions(program, f"protolink_pool_{call}", set_) for call in calls)
-    cells = " | ".join(f"{count:,.2f}" for count in counts)
-    return f"| {name} | {set_.stat().st_size / 1000:,.0f} | {cells} |"
+def head(*columns: str) -> str:
+    """The first lines of a table."""
+    return f"| {' | '.join(columns)} |\n|{'---|' * len(columns)}"
+
+
+def own_head(calls: tuple[str, ...] = CALLS) -> str:
+    """Those of the table of some calls of the library."""
+    return head("set", "kB", *(f"`{call}`" for call in calls))
+
+
+def own_rows(
+    archive: Path, calls: tuple[str, ...] = CALLS, sets: Optional[tuple[str, ...]] = None
+) -> Iterator[str]:
+    """What each of some calls takes over some sets, or over all."""
+    with tempfile.TemporaryDirectory() as name:
+        room = Path(name)
+        program, set_ = made(archive, room), room / "set.pb"
+        for row, data in rows(room):
+            if sets is not None and row not in sets:
+                continue
+            set_.write_bytes(data)
+            counts = (instructions(program, f"protolink_pool_{call}", set_) for call in calls)
+            cells = " | ".join(f"{count:,.2f}" for count in counts)
+            yield f"| {row} | {len(data) / 1000:,.0f} | {cells} |"
 
 
 def tell(archive: Path) -> None:
     """Prints the table of the library."""
-    with tempfile.TemporaryDirectory() as name:
-        room = Path(name)
-        program, set_ = made(archive, room), room / "set.pb"
-        print(f"| set | kB | {' | '.join(f'`{call}`' for call in CALLS)} |")
-        print(f"|---|---|{'---|' * len(CALLS)}")
-        for row, data in rows(room):
-            set_.write_bytes(data)
-            print(own_row(program, row, set_), flush=True)
+    print(own_head())
+    for row in own_rows(archive):
+        print(row, flush=True)
 
 
 def tell_peers(upb: Optional[Path]) -> None:
@@ -309,8 +320,7 @@ def tell_peers(upb: Optional[Path]) -> None:
         peers = {"add_to_protobuf": made_of_protobuf(room)}
         if upb is not None:
             peers["add_to_upb"] = made_of_upb(upb, room)
-        print(f"| set | protobuf's pool in C++ |{' upb |' if upb else ''}")
-        print(f"|---|---|{'---|' if upb else ''}")
+        print(head("set", "protobuf's pool in C++", *(["upb"] if upb else [])))
         for row, data in rows(room):
             set_.write_bytes(data)
             counts = (instructions(program, call, set_) for call, program in peers.items())

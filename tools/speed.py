@@ -412,30 +412,29 @@ def tell(
 ) -> None:
     """Prints the tables: of scripts and of sets, and of the library, of what is given."""
     if options.program or options.sets:
-        print("| batch | counted | million | of the whole | requests for memory | peak in kB |")
-        print("|---|---|---|---|---|---|")
+        columns = ("million", "of the whole", "requests for memory", "peak in kB")
+        print(library_speed.head("batch", "counted", *columns))
     if options.program:
-        program = str(Path(options.program).resolve())
-        tell_scripts(program, rows, table, folder, options.short)
+        tell_scripts(options, rows, table, folder)
     if options.sets:
         tell_sets(str(Path(options.sets).resolve()), table, folder)
     if options.library:
-        tell_library(Path(options.library).resolve(), table, folder, options.short)
+        tell_library(Path(options.library).resolve(), table, options.short)
 
 
 def tell_scripts(
-    program: str,
+    options: argparse.Namespace,
     rows: dict[str, Callable[[], str]],
     table: Table,
     folder: Path,
-    is_short: bool,
 ) -> None:
-    script = folder / "script"
+    """Each script: its instructions, or where it is not short, all figures."""
+    program, script = str(Path(options.program).resolve()), folder / "script"
     for row, make in rows.items():
         script.write_text(make())
         linked = instructions([program], LINKED, script, folder)
         told = f"| {row} | `build_files` | {linked:.2f} |"
-        if not is_short:
+        if not options.short:
             whole = instructions([program], "", script, folder)
             requests, peak = heap(program, script, folder)
             told += f" {whole:.2f} | {requests:,} | {peak / 1000:,.0f} |"
@@ -454,17 +453,12 @@ def tell_sets(program: str, table: Table, folder: Path) -> None:
         )
 
 
-def tell_library(archive: Path, table: Table, folder: Path, is_short: bool) -> None:
+def tell_library(archive: Path, table: Table, is_short: bool) -> None:
     """Each call over each set, or where it is short, what links two of them."""
-    program, set_ = library_speed.made(archive, folder), folder / "set.pb"
-    calls = library_speed.CALLS[:1] if is_short else library_speed.CALLS
-    print(f"| set | kB | {' | '.join(f'`{call}`' for call in calls)} |")
-    print(f"|---|---|{'---|' * len(calls)}")
-    for row, data in library_speed.rows(folder):
-        if is_short and row not in SHORT_SETS:
-            continue
-        set_.write_bytes(data)
-        table.tell(library_speed.own_row(program, row, set_, calls), CALLS)
+    calls, sets = (library_speed.CALLS[:1], SHORT_SETS) if is_short else (library_speed.CALLS, None)
+    print(library_speed.own_head(calls))
+    for row in library_speed.own_rows(archive, calls, sets):
+        table.tell(row, CALLS)
 
 
 if __name__ == "__main__":
