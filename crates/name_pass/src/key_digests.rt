@@ -9,7 +9,7 @@ use std::alloc::{AllocError, Global};
 /// The digest of the empty key.
 const FIRST_DIGEST: u64 = 14695981039346656037;
 
-/// So many fields are few: their digests stand in an array.
+/// The most fields whose digests stand in an array.
 const FEW: usize = 32;
 
 /// Whether the keys of fields have digests that differ, so that no two of the fields have one key.
