@@ -8,7 +8,7 @@
 A row is a kind: its code, its texts, the words before its second place, and what to do. All are
 read off the code: the texts off crates/pool_faults/src/fault.rt, in which `{..}` stands for a part
 of the fault, and the others off crates/verdict_texts/src/fault_kinds.rt; those of a rule of protoc
-off crates/strict_texts/src/rules.rt.
+off crates/protoc_rules/src/rules.rt.
 """
 
 from __future__ import annotations
@@ -21,7 +21,7 @@ TOP = Path(__file__).resolve().parent.parent
 PAGE = TOP / "docs/RULES.md"
 TEXTS = (TOP / "crates/pool_faults/src/fault.rt").read_text()
 KINDS = (TOP / "crates/verdict_texts/src/fault_kinds.rt").read_text()
-RULES = (TOP / "crates/strict_texts/src/rules.rt").read_text()
+RULES = (TOP / "crates/protoc_rules/src/rules.rt").read_text()
 HEAD = "| code | text | second place | what to do |\n|---|---|---|---|\n"
 STRICT_HEAD = "| rule | text | second place | what to do |\n|---|---|---|---|\n"
 LITERAL = r'"(?:[^"\\]|\\(?:.|\n))*"'

@@ -13,15 +13,15 @@ use Rattle.protoc_rules.specs.declared.faults.StrictFault.{StrictFault}
 use Rattle.record_walk.specs.Counts.{counts_in}
 use Rattle.record_walk.specs.declared.counts.CountKind.{CountKind}
 use Rattle.descriptor_encoding.specs.Encoding.{set_encoding}
-use Rattle.strict_texts.specs.Telling as strict
+use Rattle.protoc_rules.specs.Telling as strict
 use Rattle.verdict_texts.specs.Accepted.{accepted_text}
 use Rattle.descriptor_check.specs.Batches.{batch_of}
 use Rattle.descriptor_check.specs.Complaints.{complaint, no_answer}
 use Rattle.descriptor_check.specs.Described.{described, unknown_names}
 use Rattle.descriptor_check.specs.Listed.{listed}
-use Rattle.verdict_formats.specs.Formats as formats
-use Rattle.verdict_formats.specs.Formats.{is_for_people, refused_report, too_many_report}
-use Rattle.verdict_formats.specs.Formats.{unread_report}
+use Rattle.verdict_texts.specs.Formats as formats
+use Rattle.verdict_texts.specs.Formats.{is_for_people, refused_report, too_many_report}
+use Rattle.verdict_texts.specs.Formats.{unread_report}
 use Rattle.verdict_texts.specs.Refused.{told_refusal}
 use Rattle.descriptor_check.specs.Unread.{unread_words}
 use Rattle.descriptor_check.specs.Strict.{judgement_of}

@@ -24,10 +24,10 @@ use Rattle.descriptor_check.specs.declared.arguments.Valued.TheVariants.{MaxFaul
 use Rattle.descriptor_check.specs.declared.arguments.Valued.TheVariants.{Linked}
 use Rattle.pool_changes.specs.declared.kinds.Level.{Level}
 use Rattle.pool_changes.specs.declared.kinds.Level.TheVariants as level
-use Rattle.verdict_formats.specs.Formats.{is_for_people}
-use Rattle.verdict_formats.specs.declared.formats.Format.{Format}
-use Rattle.verdict_formats.specs.declared.formats.Format.TheVariants.{Text, Json, GitHub, GitLab}
-use Rattle.verdict_formats.specs.declared.formats.Format.TheVariants.{Sarif}
+use Rattle.verdict_texts.specs.Formats.{is_for_people}
+use Rattle.verdict_texts.specs.declared.formats.Format.{Format}
+use Rattle.verdict_texts.specs.declared.formats.Format.TheVariants.{Text, Json, GitHub, GitLab}
+use Rattle.verdict_texts.specs.declared.formats.Format.TheVariants.{Sarif}
 
 -- arguments that ask nothing, and why
 abbrev pub wrong : List ℕ → Request

@@ -7,12 +7,12 @@ use Rattle.pool_changes.specs.Texts.{untold_changes, with_changes}
 use Rattle.pool_changes.specs.Words.{direction_word}
 use Rattle.pool_changes.specs.declared.kinds.Level.{Level}
 use Rattle.pool_changes.specs.declared.told.ToldChanges.{ToldChanges}
-use Rattle.verdict_formats.specs.Annotations.{annotations}
-use Rattle.verdict_formats.specs.Changes.{Marks, quality_changes, quality_of, sarif_changes}
-use Rattle.verdict_formats.specs.Changes.{sarif_of}
-use Rattle.verdict_formats.specs.declared.formats.Format.{Format}
-use Rattle.verdict_formats.specs.declared.formats.Format.TheVariants.{Text, Json, GitHub, GitLab}
-use Rattle.verdict_formats.specs.declared.formats.Format.TheVariants.{Sarif}
+use Rattle.verdict_texts.specs.Annotations.{annotations}
+use Rattle.verdict_texts.specs.Changes.{Marks, quality_changes, quality_of, sarif_changes}
+use Rattle.verdict_texts.specs.Changes.{sarif_of}
+use Rattle.verdict_texts.specs.declared.formats.Format.{Format}
+use Rattle.verdict_texts.specs.declared.formats.Format.TheVariants.{Text, Json, GitHub, GitLab}
+use Rattle.verdict_texts.specs.declared.formats.Format.TheVariants.{Sarif}
 
 -- the annotations of what a new version changes of an older one
 abbrev pub changes_annotations : ToldChanges → List ℕ

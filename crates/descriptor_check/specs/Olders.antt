@@ -3,7 +3,7 @@ use Rattle.std.specs.Prelude.{◌≡◌, ℕ, false, List, [], ◌∷◌, ◌++�
 use Rattle.joined_files.specs.Telling.{told_unequal}
 use Rattle.joined_files.specs.declared.joining.JoinedFiles.{JoinedFiles}
 use Rattle.joined_files.specs.declared.unequal.UnequalFile.{UnequalFile}
-use Rattle.verdict_formats.specs.Formats.{unread_report}
+use Rattle.verdict_texts.specs.Formats.{unread_report}
 use Rattle.verdict_texts.specs.Refused.{refused_text, told_refusal, too_many_text}
 use Rattle.descriptor_check.specs.Answers.{unread_answer}
 use Rattle.descriptor_check.specs.Batches.{and_then, batch_of}

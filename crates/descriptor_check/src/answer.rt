@@ -5,7 +5,7 @@ ghost use Rattle.descriptor_check.specs.Statuses as spec;
 
 use plain_data::{Items, Text};
 use pool_changes::Level;
-use verdict_formats::Format;
+use verdict_texts::Format;
 
 /// How the verdict is told, and what is told of an accepted batch besides.
 #[derive(Drop)]

@@ -8,7 +8,7 @@ use crate::answer::{Compatibility, Wanted};
 use plain_data::{Items, Text, parse_int32};
 use pool_changes::Level;
 use std::alloc::{AllocError, Global};
-use verdict_formats::Format;
+use verdict_texts::Format;
 
 /// The version of the program.
 pub const VERSION: &str = "check_descriptors 0.2.0\n";

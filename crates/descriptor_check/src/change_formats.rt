@@ -3,14 +3,14 @@
 ghost use Rattle.std.specs.Prelude.{◌≡◌, ◌++◌, IfOk, OnOk, string_bytes};
 ghost use Rattle.std.specs.List.{flat_map};
 ghost use Rattle.pool_changes.specs.Texts.{changes_lines};
-ghost use Rattle.verdict_formats.specs.Changes.{marks};
+ghost use Rattle.verdict_texts.specs.Changes.{marks};
 ghost use Rattle.descriptor_check.specs.ChangeFormats as spec;
 
 use pool_changes::{
     Level, ToldChanges, behind_comma, compared_entries, levels, with_changes, write_changes,
 };
 use std::alloc::{AllocError, Global};
-use verdict_formats::{ChangeMarks, Format, annotations_text, quality_of, sarif_of};
+use verdict_texts::{ChangeMarks, Format, annotations_text, quality_of, sarif_of};
 
 /// Writes the lines of changes.
 fn write_each(alloc: Global, text: &mut String, told: &[ToldChanges]) -> Result<(), AllocError>

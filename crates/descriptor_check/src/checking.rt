@@ -4,7 +4,7 @@ ghost use Rattle.std.specs.Prelude.{◌≡◌, ◌++◌, IfOk, OnOk, string_byte
 ghost use Rattle.std.specs.List.{flat_map};
 ghost use Rattle.joined_files.specs.Telling.{passed_words};
 ghost use Rattle.record_walk.specs.Counts.{counts_in};
-ghost use Rattle.verdict_formats.specs.Formats as formats;
+ghost use Rattle.verdict_texts.specs.Formats as formats;
 ghost use Rattle.descriptor_check.specs.Answers as spec;
 ghost use Rattle.descriptor_check.specs.Complaints.{complaint};
 ghost use Rattle.descriptor_check.specs.declared.answer.Status.TheVariants.{Accepted};
@@ -22,12 +22,13 @@ use descriptor_encoding::encode_linked;
 use descriptor_pool::DescriptorPool;
 use joined_files::{JoinedFiles, UnequalFile, tell_unequal};
 use plain_data::{Items, Text};
-use protoc_rules::StrictFault;
+use protoc_rules::{StrictFault, tell_strict_faults};
 use record_walk::CountKind;
 use std::alloc::{AllocError, Global};
-use strict_texts::tell_strict_faults;
-use verdict_formats::{Format, refused_report, too_many_report, unread_report};
-use verdict_texts::{RefusedBatch, accepted_text, tell_refusal};
+use verdict_texts::{
+    Format, RefusedBatch, accepted_text, refused_report, tell_refusal, too_many_report,
+    unread_report,
+};
 
 /// The verdict on the files of some inputs, linked as one batch, as text and as a status, and what
 /// is wanted of an accepted batch besides. Where that is wanted, what `protoc` refuses besides is
@@ -206,7 +207,7 @@ fn counts_report(alloc: Global, format: Format, pool: &DescriptorPool) -> Result
     ensures { IfOk result (λ s. string_bytes s
         ≡ formats.accepted_report format (counts_in pool.now)) }
 {
-    verdict_formats::accepted_report(alloc, format, pool.counts())
+    verdict_texts::accepted_report(alloc, format, pool.counts())
 }
 
 /// What is told of an accepted batch for people.

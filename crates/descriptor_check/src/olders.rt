@@ -16,8 +16,7 @@ use joined_files::{UnequalFile, tell_unequal};
 use plain_data::{Items, Text};
 use std::alloc::{AllocError, Global};
 use std::slice::from_ref;
-use verdict_formats::unread_report;
-use verdict_texts::{RefusedBatch, refused_text, tell_refusal, too_many_text};
+use verdict_texts::{RefusedBatch, refused_text, tell_refusal, too_many_text, unread_report};
 
 /// An older version.
 #[derive(Drop)]

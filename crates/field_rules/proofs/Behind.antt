@@ -4,8 +4,8 @@ use Rattle.std.specs.Prelude.{int_le, int_lt}
 use Rattle.std.proofs.lemmas.Int.{ints}
 use Rattle.proto_types.specs.Readers.{number_of}
 use Rattle.proto_types.specs.declared.records.enumeration.EnumReservedRange.{EnumReservedRange}
-use Rattle.number_ranges.specs.Ranges.{holds, first_from}
-use Rattle.number_ranges.proofs.Firsts.{first-map}
+use Rattle.field_rules.specs.NumberRanges.{holds, first_from}
+use Rattle.field_rules.proofs.Firsts.{first-map}
 use Rattle.field_rules.specs.EnumRanges.{enum_bounds, number_behind, reserves}
 
 -- whether a range holds a number, seen by the number behind its end

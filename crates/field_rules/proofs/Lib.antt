@@ -14,3 +14,11 @@ pub mod Rising
 pub mod Sorting
 pub mod Earlier
 pub mod ValueFaults
+pub mod Counts
+pub mod Firsts
+pub mod Halves
+pub mod Checks
+pub mod Fronts
+pub mod Reading
+pub mod Unescaped
+pub mod Values

@@ -3,7 +3,7 @@ use Rattle.std.proofs.Common.{◌≡◌, ◌≤◌, ℕ, zero, suc, Bool, true, 
 use Rattle.std.specs.List.{flat_map}
 use Rattle.std.specs.Option.{option_map}
 use Rattle.plain_data.specs.Each.{map_enumerated}
-use Rattle.number_ranges.specs.Ranges.{first_from}
+use Rattle.field_rules.specs.NumberRanges.{first_from}
 
 module _ {X Y : Type 0} (test : X → Bool) (make : ℕ → X → List Y) (quiet : (n : ℕ) (x : X) → test x ≡ false → make n x ≡ []) where
   abbrev told : ℕ → List X → List Y

@@ -18,7 +18,7 @@ use Rattle.pool_types.specs.declared.default_value.DefaultValue.TheVariants as v
 use Rattle.pool_types.specs.Kinds.{kind_name}
 use Rattle.pool_faults.specs.declared.fault.DescriptorErrorKind.{DescriptorErrorKind}
 use Rattle.pool_faults.specs.declared.fault.DescriptorErrorKind.TheVariants as fault
-use Rattle.default_values.specs.Simple.{simple_value}
+use Rattle.field_rules.specs.Simple.{simple_value}
 use Rattle.pool_faults.specs.Labels.{part_label}
 
 -- an enum that the type of a field names: its full name and its values

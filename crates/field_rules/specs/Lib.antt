@@ -14,3 +14,9 @@ pub mod EnumItems
 pub mod EnumValues
 pub mod Defaults
 pub mod DefaultEnum
+pub mod NumberRanges
+pub mod RangeTables
+pub mod Escapes
+pub mod EscapeCode
+pub mod Simple
+pub mod Exact

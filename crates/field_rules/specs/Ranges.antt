@@ -4,7 +4,7 @@ use Rattle.std.specs.Prelude.{ℤ, Bool}
 use Rattle.proto_types.specs.declared.message.ExtensionRange.{ExtensionRange}
 use Rattle.proto_types.specs.declared.message.ReservedRange.{ReservedRange}
 use Rattle.proto_types.specs.Readers.{number_of}
-use Rattle.number_ranges.specs.Ranges.{holds}
+use Rattle.field_rules.specs.NumberRanges.{holds}
 
 -- a reserved range of a message holds the numbers from its start on and below its end
 abbrev pub reserves : ℤ → ReservedRange → Bool

@@ -2,10 +2,11 @@
 
 ghost use Rattle.std.specs.Prelude.{◌≡◌, IfOk, IsTrue};
 ghost use Rattle.std.specs.Result.{result_ok};
-ghost use Rattle.default_values.specs.Simple.{is_simple, simple_value};
+ghost use Rattle.field_rules.specs.Simple.{is_simple, simple_value};
 ghost use Rattle.field_rules.specs.Defaults.{value_named, value_of};
 
-use default_values::{ValueFault, parse_simple_value};
+use crate::escape_faults::ValueFault;
+use crate::simple::parse_simple_value;
 use pool_types::{DefaultValue, KindIndex};
 use proto_types::EnumValueDescriptorProto;
 use std::alloc::{AllocError, Global};

@@ -11,7 +11,7 @@ ghost use Rattle.record_walk.specs.Faults.{Tells, named_files};
 ghost use Rattle.field_rules.specs.EnumRanges.{enum_bounds, number_behind, reserves};
 ghost use Rattle.field_rules.specs.EnumValues.{reserved_faults};
 
-use number_ranges::NumberRanges;
+use crate::number_ranges::NumberRanges;
 use pool_faults::DescriptorErrorKind;
 use proto_types::{EnumDescriptorProto, EnumReservedRange, tag};
 use record_walk::{Faults, Place};

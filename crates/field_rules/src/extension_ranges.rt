@@ -12,7 +12,7 @@ ghost use Rattle.field_rules.specs.Numbers.{out_of_range_faults};
 ghost use Rattle.field_rules.specs.Ranges.{extends};
 
 use crate::Owner;
-use number_ranges::{NumberRanges, holds};
+use crate::number_ranges::{NumberRanges, holds};
 use plain_data::Text;
 use pool_faults::DescriptorErrorKind;
 use proto_types::{ExtensionRange, FieldDescriptorProto, tag};

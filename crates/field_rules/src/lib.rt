@@ -1,5 +1,5 @@
 //! What a record breaks and makes without a look at names: numbers, oneofs, names of fields in
-//! JSON, enums, and default values.
+//! JSON, enums, and default values, as descriptor.proto's `default_value` writes them.
 #![tactic(auto)]
 
 mod bounds;
@@ -12,16 +12,24 @@ mod enum_items;
 mod enum_ranges;
 mod enum_tables;
 mod enum_values;
+mod escape_faults;
+mod escapes;
+mod exact;
 mod extension_ranges;
 mod field_names;
 mod field_number;
 mod identities;
+mod laws;
 mod maps;
 mod message_ranges;
+mod number_ranges;
 mod numbers;
 mod oneofs;
 mod owner;
+mod range_tables;
 mod reserved;
+mod simple;
+mod stretch;
 
 pub use default_enum::DefaultEnum;
 pub use defaults::read_default;
@@ -29,10 +37,14 @@ pub use encoding::{is_packed, supports_presence};
 pub use enum_items::read_enum;
 pub use enum_tables::{value_names, value_numbers};
 pub use enum_values::{allows_alias, check_values};
+pub use escape_faults::{EscapeFault, ValueFault};
+pub use escapes::unescape_c_escape_string;
 pub use field_number::is_valid_number;
 pub use identities::{identity, identity_beside, identity_inside};
+pub use laws::{escaped_is_one, refused_is_one, unescaped_is_escaped};
 pub use maps::{FieldMaps, item_number};
 pub use message_ranges::MessageRanges;
 pub use numbers::{check_extension_number, check_field_number};
 pub use oneofs::{check_oneof_index, members, oneof_of};
 pub use owner::Owner;
+pub use simple::parse_simple_value;

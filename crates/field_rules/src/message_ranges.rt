@@ -1,7 +1,7 @@
 ghost use Rattle.std.specs.Prelude.{IfOk};
 
 use crate::bounds::{extension_bounds, reserved_bounds};
-use number_ranges::NumberRanges;
+use crate::number_ranges::NumberRanges;
 use proto_types::DescriptorProto;
 use std::alloc::{AllocError, Global};
 

@@ -14,7 +14,7 @@ ghost use Rattle.field_rules.specs.Numbers.{invalid_faults, reserved_fault, rese
 
 use crate::Owner;
 use crate::field_number::is_valid_number;
-use number_ranges::{NumberRanges, holds};
+use crate::number_ranges::{NumberRanges, holds};
 use pool_faults::DescriptorErrorKind;
 use proto_types::{ReservedRange, tag};
 use record_walk::{Faults, Place};

@@ -10,9 +10,9 @@ use Rattle.pool_types.specs.Contents.{ByText}
 use Rattle.pool_types.specs.declared.contents.definition.Definition.{Definition}
 use Rattle.pool_types.specs.Definition.{is_parent}
 use Rattle.proto_types.specs.Names.{first_part, is_dot, join}
-use Rattle.name_tree.specs.Parts.{parts}
+use Rattle.name_tables.specs.Parts.{parts}
 use Rattle.name_tables.specs.Scopes.{IsAround}
-use Rattle.name_tree.proofs.NameParts.{parts-dot}
+use Rattle.name_tables.proofs.NameParts.{parts-dot}
 use Rattle.name_resolution.specs.declared.filter.ResolveNameFilter.{ResolveNameFilter}
 use Rattle.name_resolution.specs.Parents.{outer}
 use Rattle.name_resolution.specs.Resolution.{holds_first}

@@ -7,7 +7,7 @@ ghost use Rattle.std.specs.Option.{option_copied, option_map_or};
 ghost use Rattle.std.specs.Ordering.{nat_cmp};
 ghost use Rattle.proto_types.specs.Names.{join};
 ghost use Rattle.pool_types.specs.Definition.{is_parent};
-ghost use Rattle.name_tree.specs.Parts.{parts};
+ghost use Rattle.name_tables.specs.Parts.{parts};
 ghost use Rattle.name_resolution.specs.declared.filter.ResolveNameFilter.{ResolveNameFilter};
 ghost use Rattle.name_resolution.specs.Parents.{outer};
 ghost use Rattle.name_resolution.specs.Resolution.{definition_found, dotted, has_leading_dot};

@@ -8,7 +8,7 @@ ghost use Rattle.pool_faults.specs.declared.fault.DescriptorErrorKind.TheVariant
 ghost use Rattle.pool_faults.specs.declared.fault.DescriptorErrorKind.TheVariants.{NameNotFound};
 ghost use Rattle.pool_faults.specs.declared.fault.DescriptorErrorKind.TheVariants.{NameShadowed};
 ghost use Rattle.pool_types.specs.Definition.{is_parent};
-ghost use Rattle.name_tree.specs.Parts.{parts};
+ghost use Rattle.name_tables.specs.Parts.{parts};
 ghost use Rattle.name_resolution.specs.Filter.{filter_text};
 ghost use Rattle.name_resolution.specs.Parents.{outer};
 ghost use Rattle.name_resolution.specs.Resolution.{resolution, resolution_in, look, simple, dotted};

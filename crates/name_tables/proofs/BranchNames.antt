@@ -3,11 +3,11 @@ use Rattle.std.proofs.Common.{◌≡◌, ◌≢◌, ◌<◌, ◌≤◌, ◌↔�
 use Rattle.std.specs.FinMap as map
 use Rattle.std.proofs.lemmas.List.{length-take-le}
 use Rattle.std.proofs.lemmas.Option.{none-some}
-use Rattle.name_tree.specs.Parts.{name_of, parts}
-use Rattle.name_tree.specs.Tree.{Branch, IsDescendant, IsTree, KeepsBranches, path}
-use Rattle.name_tree.proofs.NameParts.{parts-name_of}
-use Rattle.name_tree.proofs.Paths.{descendant-one, descendant-path, name-descendant, path-descendant, path-whole}
-use Rattle.name_tree.proofs.TreeChanges.{keeps-first, length-kept, path-kept, tree-kept, tree-none}
+use Rattle.name_tables.specs.Parts.{name_of, parts}
+use Rattle.name_tables.specs.Tree.{Branch, IsDescendant, IsTree, KeepsBranches, path}
+use Rattle.name_tables.proofs.NameParts.{parts-name_of}
+use Rattle.name_tables.proofs.Paths.{descendant-one, descendant-path, name-descendant, path-descendant, path-whole}
+use Rattle.name_tables.proofs.TreeChanges.{keeps-first, length-kept, path-kept, tree-kept, tree-none}
 use Rattle.pool_types.specs.declared.contents.definition.Definition.{Definition}
 use Rattle.name_tables.specs.Branches.{AreBranches, names_of}
 use Rattle.name_tables.specs.Entered.{Enters, found_before, value_at}

@@ -2,9 +2,9 @@
 use Rattle.std.proofs.Common.{◌≡◌, ◌≢◌, ◌<◌, ℕ, zero, suc, List, [], ◌∷◌, ◌++◌, length, Option, Some, refl, sym, ap, ◌∙◌, subst, IfSome, append_assoc, arith}
 use Rattle.std.specs.List.{slice_get}
 use Rattle.std.proofs.lemmas.Option.{IfSome_then, same_Some}
-use Rattle.name_tree.specs.Tree.{Branch, HasParent, HasPart, IsChild, IsTree, IsDescendant, path}
+use Rattle.name_tables.specs.Tree.{Branch, HasParent, HasPart, IsChild, IsTree, IsDescendant, path}
 use Rattle.name_tables.specs.Within.{IsAbove}
-use Rattle.name_tree.proofs.Paths.{child-inside, descendant-append, descendant-one, descendant-split, path-step}
+use Rattle.name_tables.proofs.Paths.{child-inside, descendant-append, descendant-one, descendant-split, path-step}
 
 module _ (branches : List Branch) (tree : IsTree branches) where
   -- the name of any branch but the root is that of its parent, and its part

@@ -2,10 +2,10 @@
 use Rattle.std.proofs.Common.{◌≡◌, ◌≢◌, ◌<◌, ◌-◌, ℕ, List, [], length, get_or, Option, sym, ap, ◌∙◌, arith}
 use Rattle.std.proofs.lemmas.List.{length-map}
 use Rattle.std.specs.FinMap as map
-use Rattle.name_tree.specs.Parts.{name_of, parts}
-use Rattle.name_tree.specs.Tree.{Branch, IsDescendant, IsTree, KeepsBranches, path}
-use Rattle.name_tree.proofs.NameParts.{parts-some}
-use Rattle.name_tree.proofs.Paths.{descendant-some, name-descendant}
+use Rattle.name_tables.specs.Parts.{name_of, parts}
+use Rattle.name_tables.specs.Tree.{Branch, IsDescendant, IsTree, KeepsBranches, path}
+use Rattle.name_tables.proofs.NameParts.{parts-some}
+use Rattle.name_tables.proofs.Paths.{descendant-some, name-descendant}
 use Rattle.pool_types.specs.Contents.{ByText}
 use Rattle.pool_types.specs.declared.contents.definition.Definition.{Definition}
 use Rattle.name_tables.specs.Branches.{AreBranches, names_of}

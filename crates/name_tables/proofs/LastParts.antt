@@ -4,12 +4,12 @@ use Rattle.std.proofs.Math.Seq.{get_or-append_seam, take-append_seam}
 use Rattle.std.proofs.lemmas.List.{length-append}
 use Rattle.std.specs.Str.{IsCharBoundary, IsUtf8}
 use Rattle.std.proofs.lemmas.Str.{IsCharBoundary-before_ascii, IsCharBoundary-start}
-use Rattle.name_tree.specs.Tree.{Branch, HasParent, HasPart, IsTree, IsDescendant, path}
+use Rattle.name_tables.specs.Tree.{Branch, HasParent, HasPart, IsTree, IsDescendant, path}
 use Rattle.name_tables.specs.Scopes.{IsAround, IsBranchOf}
-use Rattle.name_tree.specs.Parts.{parts, name_of}
+use Rattle.name_tables.specs.Parts.{parts, name_of}
 use Rattle.name_tables.proofs.Counterparts.{parent-before, read-path}
-use Rattle.name_tree.proofs.NameParts.{IsPart, name_of-last, name_of-parts, part-between, parts-name_of, parts-some}
-use Rattle.name_tree.proofs.Paths.{descendant-path, descendant-some, path-descendant, path-whole}
+use Rattle.name_tables.proofs.NameParts.{IsPart, name_of-last, name_of-parts, part-between, parts-name_of, parts-some}
+use Rattle.name_tables.proofs.Paths.{descendant-path, descendant-some, path-descendant, path-whole}
 
 module _ (bs : List Branch) (tree : IsTree bs) (at parent : ℕ) (part : List ℕ) (above : HasParent bs at parent)
     (named : HasPart bs at part) (below : parent ≢ 0) where

@@ -11,3 +11,15 @@ pub mod LastParts
 pub mod NumberedNames
 pub mod OpenScopes
 pub mod Scoped
+pub mod TreeBranches
+pub mod Children
+pub mod Keys
+pub mod Lists
+pub mod LookUp
+pub mod NameParts
+pub mod PartTexts
+pub mod Rows
+pub mod Slots
+pub mod Paths
+pub mod TreeChanges
+pub mod Trie

@@ -5,9 +5,9 @@ use Rattle.std.specs.List.{slice_get}
 use Rattle.std.specs.Option.{option_map_or}
 use Rattle.std.proofs.lemmas.List.{length-take-le}
 use Rattle.std.proofs.lemmas.Option.{none-some}
-use Rattle.name_tree.specs.Tree.{Branch, branch, InsertsChild, IsChild, KeepsBranches, with_root}
-use Rattle.name_tree.proofs.Lists.{got-pushed, some_at}
-use Rattle.name_tree.proofs.TreeChanges.{child-kept, child-pushed, get-kept, keeps-first, keeps-inserted, keeps-with_root, length-kept}
+use Rattle.name_tables.specs.Tree.{Branch, branch, InsertsChild, IsChild, KeepsBranches, with_root}
+use Rattle.name_tables.proofs.Lists.{got-pushed, some_at}
+use Rattle.name_tables.proofs.TreeChanges.{child-kept, child-pushed, get-kept, keeps-first, keeps-inserted, keeps-with_root, length-kept}
 use Rattle.name_tables.specs.Entered.{Enters, found_before, value_at}
 use Rattle.name_tables.specs.FileNames.{AreFileNames, files_of, IsAmong, part_at}
 use Rattle.name_tables.specs.NameTables.{file_names_before}

@@ -3,11 +3,11 @@ use Rattle.std.proofs.Common.{◌≡◌, ◌≢◌, ◌<◌, ℕ, List, [], ◌�
 use Rattle.std.proofs.lemmas.List.{get_or-map}
 use Rattle.std.proofs.lemmas.List.Elements.{All-cons, All-get_or, All-head, All-nil, All-tail}
 use Rattle.proto_types.specs.Names.{join}
-use Rattle.name_tree.specs.Parts.{name_of, parts}
-use Rattle.name_tree.specs.Tree.{Branch, IsDescendant, IsTree, KeepsBranches, path}
-use Rattle.name_tree.proofs.NameParts.{parts-some}
-use Rattle.name_tree.proofs.Paths.{descendant-append, descendant-some, name-descendant}
-use Rattle.name_tree.proofs.TreeChanges.{descendant-kept, length-kept, path-kept}
+use Rattle.name_tables.specs.Parts.{name_of, parts}
+use Rattle.name_tables.specs.Tree.{Branch, IsDescendant, IsTree, KeepsBranches, path}
+use Rattle.name_tables.proofs.NameParts.{parts-some}
+use Rattle.name_tables.proofs.Paths.{descendant-append, descendant-some, name-descendant}
+use Rattle.name_tables.proofs.TreeChanges.{descendant-kept, length-kept, path-kept}
 use Rattle.name_tables.specs.Scopes.{AreScopes, IsScope, scope_parts, scope_texts}
 use Rattle.name_tables.proofs.Scoped.{joined-parts}
 

@@ -4,14 +4,14 @@ use Rattle.std.specs.FinMap as map
 use Rattle.std.specs.List.{slice_get}
 use Rattle.std.proofs.lemmas.Option.{slice_get_within}
 use Rattle.proto_types.specs.Names.{join}
-use Rattle.name_tree.specs.Tree.{Branch, IsDescendant}
+use Rattle.name_tables.specs.Tree.{Branch, IsDescendant}
 use Rattle.pool_types.specs.declared.contents.definition.Definition.{Definition}
 use Rattle.name_tables.specs.Branches.{AreBranches, names_of}
 use Rattle.name_tables.specs.Entered.{value_at}
-use Rattle.name_tree.specs.Parts.{parts}
+use Rattle.name_tables.specs.Parts.{parts}
 use Rattle.name_tables.specs.Scopes.{IsAround, scope_parts}
-use Rattle.name_tree.proofs.NameParts.{parts-dot}
-use Rattle.name_tree.proofs.Paths.{descendant-append, descendant-one, descendant-split}
+use Rattle.name_tables.proofs.NameParts.{parts-dot}
+use Rattle.name_tables.proofs.Paths.{descendant-append, descendant-one, descendant-split}
 use Rattle.name_tables.proofs.BranchNames.{get-descendant, get-absent}
 
 -- the parts of a name inside a scope

@@ -2,8 +2,8 @@
 use Rattle.std.specs.Prelude.{◌≡◌, ◌≤◌, List, length}
 use Rattle.std.specs.declared.option.Option.{Option}
 use Rattle.std.specs.declared.option.Option.TheVariants.{None}
-use Rattle.name_tree.specs.Parts.{name_of}
-use Rattle.name_tree.specs.Tree.{Branch, IsTree, path}
+use Rattle.name_tables.specs.Parts.{name_of}
+use Rattle.name_tables.specs.Tree.{Branch, IsTree, path}
 use Rattle.pool_types.specs.Contents.{ByText}
 use Rattle.pool_types.specs.declared.contents.definition.Definition.{Definition}
 use Rattle.name_tables.specs.Entered.{value_at}

@@ -5,7 +5,7 @@ use Rattle.std.specs.List.{slice_get}
 use Rattle.std.specs.Option.{option_map_or}
 use Rattle.std.specs.declared.option.Option.{Option}
 use Rattle.std.specs.declared.option.Option.TheVariants.{None, Some}
-use Rattle.name_tree.specs.Tree.{Branch, IsChild}
+use Rattle.name_tables.specs.Tree.{Branch, IsChild}
 use Rattle.pool_types.specs.Contents.{ByText}
 use Rattle.name_tables.specs.Entered.{value_at}
 use Rattle.name_tables.specs.NumberedNames.{names_by}

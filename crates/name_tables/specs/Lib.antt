@@ -6,3 +6,7 @@ pub mod NameTables
 pub mod NumberedNames
 pub mod Scopes
 pub mod Within
+pub mod Nodes
+pub mod PartTexts
+pub mod Parts
+pub mod Tree

@@ -2,8 +2,8 @@
 use Rattle.std.specs.Prelude.{◌≡◌, ◌⊎◌, ◌<◌, ℕ, List, [], ◌∷◌, ◌++◌, All, length, map}
 use Rattle.std.specs.declared.option.Option.{Option}
 use Rattle.std.specs.declared.option.Option.TheVariants.{None, Some}
-use Rattle.name_tree.specs.Tree.{Branch, IsDescendant, path}
-use Rattle.name_tree.specs.Parts.{name_of, parts}
+use Rattle.name_tables.specs.Tree.{Branch, IsDescendant, path}
+use Rattle.name_tables.specs.Parts.{name_of, parts}
 
 -- the parts that stand before a name in a scope: none in the empty one
 abbrev pub scope_parts : List ℕ → List (List ℕ)

@@ -1,7 +1,7 @@
 -- Whether names mean the same in two trees.
 use Rattle.std.specs.Prelude.{◌≡◌, ◌<◌, ◌≤◌, ℕ, List, ◌++◌}
 use Rattle.std.specs.declared.option.Option.TheVariants.{Some}
-use Rattle.name_tree.specs.Tree.{Branch, IsDescendant, IsTree, path}
+use Rattle.name_tables.specs.Tree.{Branch, IsDescendant, IsTree, path}
 use Rattle.pool_types.specs.declared.contents.definition.Definition.{Definition}
 use Rattle.name_tables.specs.Branches.{AreBranches}
 use Rattle.name_tables.specs.Entered.{value_at}

@@ -1,13 +1,14 @@
 ghost use Rattle.std.specs.Prelude.{◌≡◌, ◌<◌, ◌∷◌, [], length, IsTrue, IfOk, OnOk, OnErr, None};
 ghost use Rattle.std.specs.FinMap as map;
 ghost use Rattle.std.specs.Option.{option_copied};
-ghost use Rattle.name_tree.specs.Parts.{name_of, parts};
-ghost use Rattle.name_tree.specs.Tree.{IsDescendant, IsTree, KeepsBranches, path};
+ghost use Rattle.name_tables.specs.Parts.{name_of, parts};
+ghost use Rattle.name_tables.specs.Tree.{IsDescendant, IsTree, KeepsBranches, path};
 ghost use Rattle.name_tables.specs.Branches.{AreBranches, names_of};
 ghost use Rattle.name_tables.specs.NameTables.{inserted};
 
 use crate::entered::Entered;
-use name_tree::{NameTree, Parts};
+use crate::parts::Parts;
+use crate::tree::NameTree;
 use pool_types::Definition;
 use std::alloc::AllocError;
 

@@ -4,7 +4,7 @@ ghost use Rattle.name_tables.specs.FileNames.{IsAmong, IsAmongAt};
 ghost use Rattle.name_tables.specs.NameTables.{file_names_before};
 
 use crate::entered::Entered;
-use name_tree::NameTree;
+use crate::tree::NameTree;
 use std::alloc::{AllocError, Global};
 use std::marker::Model;
 

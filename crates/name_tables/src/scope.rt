@@ -2,13 +2,13 @@ ghost use Rattle.std.specs.Prelude.{◌≡◌, ◌≢◌, ◌↔◌, ℕ, [], �
 ghost use Rattle.std.specs.FinMap as map;
 ghost use Rattle.std.specs.Option.{option_copied};
 ghost use Rattle.proto_types.specs.Names.{join};
-ghost use Rattle.name_tree.specs.Tree.{IsDescendant, IsTree};
-ghost use Rattle.name_tree.specs.Parts.{parts};
+ghost use Rattle.name_tables.specs.Tree.{IsDescendant, IsTree};
+ghost use Rattle.name_tables.specs.Parts.{parts};
 ghost use Rattle.name_tables.specs.Branches.{AreBranches, names_of};
 ghost use Rattle.name_tables.specs.Scopes.{IsAround, IsBranchOf};
 
 use crate::branches::Branches;
-use name_tree::NameTree;
+use crate::tree::NameTree;
 use pool_types::Definition;
 use std::marker::Model;
 

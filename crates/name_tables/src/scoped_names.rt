@@ -3,13 +3,13 @@ ghost use Rattle.std.specs.Prelude.{IfOk, OnOk, OnErr, None};
 ghost use Rattle.std.specs.FinMap as map;
 ghost use Rattle.std.specs.Option.{option_copied};
 ghost use Rattle.proto_types.specs.Names.{join};
-ghost use Rattle.name_tree.specs.Parts.{name_of, parts};
-ghost use Rattle.name_tree.specs.Tree.{IsDescendant, IsTree, KeepsBranches, path};
+ghost use Rattle.name_tables.specs.Parts.{name_of, parts};
+ghost use Rattle.name_tables.specs.Tree.{IsDescendant, IsTree, KeepsBranches, path};
 ghost use Rattle.name_tables.specs.Scopes.{IsScope};
 
 use crate::branches::{Branches, insert_below, insert_part};
 use crate::part_names::PartNames;
-use name_tree::NameTree;
+use crate::tree::NameTree;
 use pool_types::Definition;
 use std::alloc::{AllocError, Global};
 use std::marker::Model;

@@ -1,12 +1,12 @@
 ghost use Rattle.std.specs.Prelude.{◌≡◌, ◌≤◌, ◌<◌, ◌↔◌, ℕ, length, IfSome, IsTrue, None, Some};
-ghost use Rattle.name_tree.specs.Tree.{HasParent, IsDescendant, IsTree, path};
+ghost use Rattle.name_tables.specs.Tree.{HasParent, IsDescendant, IsTree, path};
 ghost use Rattle.name_tables.specs.Branches.{AreBranches};
 ghost use Rattle.name_tables.specs.Entered.{value_at};
 ghost use Rattle.name_tables.specs.Within.{AreCompared, ArePaired, IsAbove, IsPair, IsWithin};
 ghost use Rattle.name_tables.specs.Within.{IsWithinAt};
 
 use crate::branches::Branches;
-use name_tree::NameTree;
+use crate::tree::NameTree;
 use pool_types::Definition;
 
 /// Whether each name that means something among branches means the same among others. A pair goes

@@ -9,7 +9,7 @@ use Rattle.proto_types.specs.declared.message.ReservedRange.{ReservedRange}
 use Rattle.proto_types.specs.declared.records.enumeration.EnumDescriptorProto.{EnumDescriptorProto}
 use Rattle.proto_types.specs.declared.records.enumeration.EnumReservedRange.{EnumReservedRange}
 use Rattle.pool_types.specs.Contents.{Contents}
-use Rattle.item_records.specs.Records.{enum_record, message_record}
+use Rattle.record_lists.specs.Records.{enum_record, message_record}
 use Rattle.numbered_pool.specs.declared.numbers.NumberRange.{NumberRange}
 
 -- a range of numbers that a message leaves to extensions

@@ -4,8 +4,8 @@ use Rattle.std.specs.Option.{option_and_then, option_map}
 use Rattle.std.specs.declared.option.Option.{Option}
 use Rattle.proto_types.specs.declared.records.source.Location.{Location}
 use Rattle.pool_types.specs.Contents.{Contents}
-use Rattle.item_records.specs.Options.{encoded, options_of}
-use Rattle.item_records.specs.Places.{location_of}
+use Rattle.record_lists.specs.Options.{encoded, options_of}
+use Rattle.record_lists.specs.Places.{location_of}
 use Rattle.numbered_pool.specs.Items.{identity_of}
 use Rattle.numbered_pool.specs.Numbers.{definition_kind}
 use Rattle.numbered_pool.specs.declared.numbers.Item.{Item}

@@ -5,16 +5,16 @@ ghost use Rattle.std.specs.Prelude.{◌≡◌};
 ghost use Rattle.numbered_pool.specs.Numbers as spec;
 
 use descriptor_pool::DescriptorPool;
-use item_records::{
-    enum_parts, field_parts, is_closed, is_deprecated, is_group, is_list, is_map, is_repeated,
-    is_required, is_service_deprecated, is_synthetic, is_value_deprecated, message_parts,
-    method_parts,
-};
 use pool_types::{
     Cardinality, Definition, DefinitionKind, EnumDescriptorInner, EnumValueDescriptorInner,
     ExtensionDescriptorInner, FieldDescriptorInner, FileDescriptorInner, KindIndex,
     MessageDescriptorInner, MethodDescriptorInner, OneofDescriptorInner, ServiceDescriptorInner,
     Syntax,
+};
+use record_lists::{
+    enum_parts, field_parts, is_closed, is_deprecated, is_group, is_list, is_map, is_repeated,
+    is_required, is_service_deprecated, is_synthetic, is_value_deprecated, message_parts,
+    method_parts,
 };
 use record_walk::Counts;
 

@@ -7,9 +7,9 @@ ghost use Rattle.numbered_pool.specs.Ranges as spec;
 use crate::answers::Answers;
 use crate::numbers::NumberRange;
 use descriptor_pool::DescriptorPool;
-use item_records::{enum_record, message_record};
 use pool_types::{EnumDescriptor, MessageDescriptor};
 use proto_types::{DescriptorProto, EnumDescriptorProto};
+use record_lists::{enum_record, message_record};
 
 /// The record of the message with an index.
 fn message_record_at(pool: &DescriptorPool, message: u32) -> Option<&DescriptorProto>

@@ -7,9 +7,9 @@ ghost use Rattle.numbered_pool.specs.Sources as spec;
 use crate::answers::Answers;
 use crate::names::identity;
 use crate::numbers::{Item, definition_kind};
-use item_records::{encoded, location_of, options_of};
 use pool_types::FileDescriptor;
 use proto_types::Location;
+use record_lists::{encoded, location_of, options_of};
 
 impl Answers {
     /// The bytes of the options of the file with an index, or none past the end. A file without

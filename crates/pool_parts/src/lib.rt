@@ -23,7 +23,7 @@
 //! ```
 #![tactic(auto)]
 
-pub use default_values::{EscapeFault, ValueFault, parse_simple_value, unescape_c_escape_string};
+pub use field_rules::{EscapeFault, ValueFault, parse_simple_value, unescape_c_escape_string};
 pub use name_resolution::{
     CandidateParents, ResolveNameFilter, ResolveNameResult, parents_count, resolve_in_parts,
     resolve_name, visible_from,

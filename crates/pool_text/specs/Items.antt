@@ -19,11 +19,11 @@ use Rattle.pool_types.specs.declared.contents.service.MethodDescriptorInner.{Met
 use Rattle.pool_types.specs.declared.contents.service.ServiceDescriptorInner.{ServiceDescriptorInner}
 use Rattle.pool_text.specs.Values.{default_words}
 use Rattle.verdict_texts.specs.Lines.{plain_text}
-use Rattle.item_records.specs.Flags.{is_map}
-use Rattle.item_records.specs.Records.{enum_parts, enum_record, is_service_deprecated}
-use Rattle.item_records.specs.Records.{is_value_deprecated, message_parts, message_record}
-use Rattle.item_records.specs.Records.{method_parts, says}
-use Rattle.item_records.specs.declared.records.MethodParts.{MethodParts}
+use Rattle.record_lists.specs.Flags.{is_map}
+use Rattle.record_lists.specs.Records.{enum_parts, enum_record, is_service_deprecated}
+use Rattle.record_lists.specs.Records.{is_value_deprecated, message_parts, message_record}
+use Rattle.record_lists.specs.Records.{method_parts, says}
+use Rattle.record_lists.specs.declared.records.MethodParts.{MethodParts}
 use Rattle.pool_text.specs.Words.{name_word, file_name, message_name, place_words, syntax_word}
 use Rattle.pool_text.specs.Words.{type_words, flag_words, record_words, map_word, stream_word}
 use Rattle.pool_text.specs.Words.{deprecated_word, deprecated_line}

@@ -20,7 +20,7 @@ use Rattle.pool_types.specs.declared.contents.file.FileDescriptorInner.{FileDesc
 use Rattle.pool_types.specs.declared.contents.message.MessageDescriptorInner.{MessageDescriptorInner}
 use Rattle.pool_contents.specs.LookUps.{definition_named}
 use Rattle.pool_faults.specs.Fault.{path_text}
-use Rattle.item_records.specs.Records.{message_record}
+use Rattle.record_lists.specs.Records.{message_record}
 use Rattle.pool_text.specs.Items.{enum_text, extension_text, file_text, message_text, service_text}
 use Rattle.pool_text.specs.Words.{file_name, name_word}
 

@@ -7,7 +7,7 @@ use Rattle.std.specs.Option.{option_map_or, option_and_then}
 use Rattle.std.specs.Ordering.{int_eq}
 use Rattle.std.specs.declared.option.Option.{Option}
 use Rattle.proto_types.specs.Readers.{text_of}
-use Rattle.item_records.specs.Records.{field_parts, field_record}
+use Rattle.record_lists.specs.Records.{field_parts, field_record}
 use Rattle.pool_types.specs.Contents.{Contents}
 use Rattle.pool_types.specs.Kinds.{kind_name, type_number}
 use Rattle.pool_types.specs.declared.contents.definition.Identity.{Identity}

@@ -9,8 +9,8 @@ use crate::head::{head_line, write_parent};
 use crate::reserved::write_enum_names;
 use crate::words::{deprecated_line, deprecated_word, name_word, place_words};
 use descriptor_pool::DescriptorPool;
-use item_records::{enum_parts, is_value_deprecated};
 use pool_types::{EnumDescriptor, EnumDescriptorInner, EnumValueDescriptorInner};
+use record_lists::{enum_parts, is_value_deprecated};
 use std::alloc::{AllocError, Global};
 use std::fmt::Write;
 

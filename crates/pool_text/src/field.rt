@@ -8,9 +8,9 @@ ghost use Rattle.pool_text.specs.Items as spec;
 use crate::values::default_words;
 use crate::words::{flag_words, map_word, name_word, place_words, record_words, type_words};
 use descriptor_pool::DescriptorPool;
-use item_records::is_map;
 use plain_data::Text;
 use pool_types::{FieldDescriptorInner, OneofDescriptorInner};
+use record_lists::is_map;
 use std::alloc::{AllocError, Global};
 use verdict_texts::Plain;
 

@@ -6,8 +6,8 @@ ghost use Rattle.pool_text.specs.Items as spec;
 
 use crate::words::{deprecated_line, file_name, name_word, syntax_word};
 use descriptor_pool::DescriptorPool;
-use item_records::is_deprecated;
 use pool_types::FileDescriptorInner;
+use record_lists::is_deprecated;
 use std::alloc::AllocError;
 use std::collections::BTreeSet;
 use std::fmt::Write;

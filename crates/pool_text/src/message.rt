@@ -9,11 +9,11 @@ use crate::head::{head_line, write_parent};
 use crate::reserved::write_message_names;
 use crate::words::{deprecated_line, name_word, place_words};
 use descriptor_pool::DescriptorPool;
-use item_records::message_parts;
 use pool_types::{
     ExtensionDescriptor, ExtensionDescriptorInner, FieldDescriptorInner, MessageDescriptorInner,
     OneofDescriptorInner,
 };
+use record_lists::message_parts;
 use std::alloc::{AllocError, Global};
 use std::fmt::Write;
 

@@ -5,9 +5,9 @@ ghost use Rattle.std.specs.List.{flat_map};
 ghost use Rattle.pool_text.specs.Named as spec;
 
 use descriptor_pool::DescriptorPool;
-use item_records::message_record;
 use pool_types::Identity;
 use proto_types::{ExtensionRange, ReservedRange};
+use record_lists::message_record;
 use std::alloc::AllocError;
 use std::fmt::Write;
 

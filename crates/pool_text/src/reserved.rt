@@ -6,9 +6,9 @@ ghost use Rattle.pool_text.specs.Items as spec;
 
 use crate::words::name_word;
 use descriptor_pool::DescriptorPool;
-use item_records::{enum_record, message_record};
 use plain_data::Text;
 use pool_types::Identity;
+use record_lists::{enum_record, message_record};
 use std::alloc::AllocError;
 use std::fmt::Write;
 

@@ -10,8 +10,8 @@ use crate::words::{
     deprecated_line, deprecated_word, message_name, name_word, place_words, stream_word,
 };
 use descriptor_pool::DescriptorPool;
-use item_records::{MethodParts, is_service_deprecated, method_parts};
 use pool_types::{MethodDescriptorInner, ServiceDescriptor, ServiceDescriptorInner};
+use record_lists::{MethodParts, is_service_deprecated, method_parts};
 use std::alloc::{AllocError, Global};
 
 /// Tells all services of a pool.

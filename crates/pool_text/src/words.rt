@@ -6,10 +6,10 @@ ghost use Rattle.verdict_texts.specs.Lines.{plain_text};
 ghost use Rattle.pool_text.specs.Words as spec;
 
 use descriptor_pool::DescriptorPool;
-use item_records::{field_parts, field_record};
 use pool_types::{
     Cardinality, EnumDescriptor, FileDescriptor, Identity, KindIndex, MessageDescriptor, Syntax,
 };
+use record_lists::{field_parts, field_record};
 use record_walk::alone;
 use std::alloc::{AllocError, Global};
 use verdict_texts::Plain;

@@ -1,8 +1,8 @@
 //! The machine that the plugin runs on. It tells nothing of itself to a contract.
 
+use crate::devices::PluginDevices;
 use descriptor_check::DeviceError;
 use plain_data::{Items, Text};
-use protoc_plugin::PluginDevices;
 use std::alloc::{AllocError, Global};
 use std::fs;
 use std::io::{self, Error, ErrorKind, Read, Write};
@@ -14,7 +14,7 @@ pub(crate) struct Host {
 }
 
 impl PluginDevices for Host {
-    ghost use Rattle.protoc_plugin.specs.Devices.{untold};
+    ghost use Rattle.protoc_gen_protolink.specs.Devices.{untold};
 
     ghost told = { λ _. untold };
 

@@ -1,14 +1,22 @@
-//! A plugin of protoc: links the files that protoc was given, and tells what they break.
+//! A plugin of protoc: it links the files of a request, and answers what they break.
 #![tactic(auto)]
 
 ghost use Rattle.std.specs.Prelude.{◌≡◌};
 ghost use Rattle.std.specs.Process.{exit_status};
-ghost use Rattle.protoc_plugin.specs.Runs.{exit_number};
+ghost use Rattle.protoc_gen_protolink.specs.Runs.{exit_number};
 
+mod answers;
+mod devices;
+mod ending;
 mod host;
+mod parameters;
+mod requests;
+mod responses;
+mod runs;
 
+use ending::Ending;
 use host::Host;
-use protoc_plugin::{Ending, run};
+use runs::run;
 use std::process::ExitCode;
 
 fn main(rt: HostRuntime) -> ExitCode {

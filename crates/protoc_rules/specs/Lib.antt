@@ -19,3 +19,5 @@ pub mod Values
 pub mod Enums
 pub mod Types
 pub mod Strict
+pub mod Rules
+pub mod Telling

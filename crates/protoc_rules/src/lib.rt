@@ -1,4 +1,5 @@
-//! What `protoc` refuses besides the rules of the linker, in the files of a pool.
+//! What `protoc` refuses besides the rules of the linker, in the files of a pool; and how each such
+//! fault is told: its text, its places and what to do.
 #![tactic(auto)]
 
 mod enums;
@@ -16,8 +17,10 @@ mod packages;
 mod proto3;
 mod ranges;
 mod reserved;
+mod rules;
 mod spans;
 mod strict;
+mod telling;
 mod types;
 mod values;
 mod written;
@@ -25,4 +28,5 @@ mod written;
 pub use faults::{StrictFault, StrictKind};
 pub use linked::Linked;
 pub use strict::strict_faults;
+pub use telling::tell_strict_faults;
 pub use written::{WrittenTypes, written_types};

@@ -9,3 +9,4 @@ pub mod Changes
 pub mod Unchanged
 pub mod Pools
 pub mod Chains
+pub mod MessageValues

@@ -1,12 +1,12 @@
 //! What changes where old fields are in one new oneof.
 
 ghost use Rattle.std.specs.Prelude.{◌≡◌, ◌++◌, OnOk};
-ghost use Rattle.message_values.specs.Fields.{in_one};
+ghost use Rattle.schema_changes.specs.MessageValues.Fields.{in_one};
 ghost use Rattle.schema_changes.specs.Changes.{compared, old_member, first_some, joined_changes};
 ghost use Rattle.schema_changes.specs.Changes.{oneof_changes};
 
-use crate::compared::push_unless;
 use crate::{Compared, Entry, WireChange, WireChangeKind};
+use crate::compared::push_unless;
 use pool_types::OneofDescriptorInner;
 use std::alloc::AllocError;
 

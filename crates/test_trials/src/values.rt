@@ -1,6 +1,6 @@
 //! Trials of the calls on default values.
 use crate::told::{Told, answer, mark};
-use default_values::{EscapeFault, ValueFault, parse_simple_value, unescape_c_escape_string};
+use field_rules::{EscapeFault, ValueFault, parse_simple_value, unescape_c_escape_string};
 use plain_data::Items;
 use pool_types::{DefaultValue, KindIndex};
 use std::alloc::{AllocError, Global};

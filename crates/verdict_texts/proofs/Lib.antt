@@ -13,3 +13,5 @@ pub mod Indexed
 pub mod Naming
 pub mod Standing
 pub mod Results
+pub mod OneLine
+pub mod ReadEscapes

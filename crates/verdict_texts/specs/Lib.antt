@@ -19,3 +19,11 @@ pub mod Refused
 pub mod Objects
 pub mod WireWords
 pub mod Standing
+pub mod Percent
+pub mod Members
+pub mod Texts
+pub mod Annotations
+pub mod Quality
+pub mod Sarif
+pub mod Changes
+pub mod Formats

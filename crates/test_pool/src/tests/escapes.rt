@@ -1,7 +1,7 @@
 //! The bytes that texts with escapes stand for.
 
 use super::values::escape_words;
-use default_values::unescape_c_escape_string;
+use field_rules::unescape_c_escape_string;
 use std::alloc::{AllocError, Global};
 use std::test::Fail;
 

@@ -1,6 +1,6 @@
 //! Default values as they are written.
 
-use default_values::{EscapeFault, ValueFault, parse_simple_value};
+use field_rules::{EscapeFault, ValueFault, parse_simple_value};
 use pool_types::{DefaultValue, KindIndex};
 use std::alloc::{AllocError, Global};
 use std::fmt::Write;

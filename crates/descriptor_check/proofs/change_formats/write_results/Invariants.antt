@@ -1,7 +1,7 @@
 use Rattle.std.proofs.Common.{◌≡◌, ◌++◌, string_bytes, take, flat_map}
 use Rattle.pool_changes.specs.ChangeKinds.{levels}
 use Rattle.pool_changes.specs.Texts.{changes_of}
-use Rattle.verdict_formats.specs.Changes.{sarif_changes}
+use Rattle.verdict_texts.specs.Changes.{sarif_changes}
 use Rattle.descriptor_check.specs.ChangeFormats.{marks_at}
 use Rattle.descriptor_check.proofs.change_formats.write_results.Given as goal
 

@@ -1,5 +1,5 @@
 use Rattle.std.proofs.Common.{◌≡◌, IfOk, string_bytes, subst}
-use Rattle.verdict_formats.specs.Formats.{accepted_report}
+use Rattle.verdict_texts.specs.Formats.{accepted_report}
 use Rattle.descriptor_check.proofs.checking.counts_report.Goals as goal
 
 -- the counts are those of the pool

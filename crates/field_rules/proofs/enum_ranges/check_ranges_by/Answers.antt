@@ -7,8 +7,8 @@ use Rattle.record_walk.specs.Faults.{named_files}
 use Rattle.record_walk.specs.Place.{enum_at}
 use Rattle.field_rules.proofs.Tells.{tells-next}
 use Rattle.record_walk.proofs.Tells.{tells-as}
-use Rattle.number_ranges.specs.Ranges.{holds, first_from}
-use Rattle.number_ranges.proofs.Firsts.{first-below}
+use Rattle.field_rules.specs.NumberRanges.{holds, first_from}
+use Rattle.field_rules.proofs.Firsts.{first-below}
 use Rattle.field_rules.specs.EnumRanges.{reserves}
 use Rattle.field_rules.specs.EnumValues.{reserved_fault}
 use Rattle.field_rules.proofs.Behind.{reserves_before, none-before, first-before}

@@ -9,8 +9,8 @@ use Rattle.record_walk.specs.Place.{inside_of}
 use Rattle.field_rules.specs.Numbers.{out_of_range_faults, extension_range_faults}
 use Rattle.std.specs.Prelude.{ℕ, ℤ, List, Option}
 use Rattle.proto_types.specs.declared.message.ExtensionRange.{ExtensionRange}
-use Rattle.number_ranges.specs.Ranges.{holds, first_from}
-use Rattle.number_ranges.proofs.Firsts.{first-any, first-map, position-first, option_map-id}
+use Rattle.field_rules.specs.NumberRanges.{holds, first_from}
+use Rattle.field_rules.proofs.Firsts.{first-any, first-map, position-first, option_map-id}
 use Rattle.field_rules.specs.Bounds.{extension_bounds}
 use Rattle.field_rules.specs.Ranges.{extends}
 use Rattle.field_rules.proofs.extension_ranges.check_extension_ranges.Goals as goal

@@ -8,8 +8,8 @@ use Rattle.proto_types.specs.declared.message.ReservedRange.{ReservedRange}
 use Rattle.record_walk.specs.Faults.{named_files}
 use Rattle.field_rules.proofs.Tells.{tells-next}
 use Rattle.record_walk.proofs.Tells.{tells-as}
-use Rattle.number_ranges.specs.Ranges.{holds, first_from}
-use Rattle.number_ranges.proofs.Firsts.{first-below, first-map}
+use Rattle.field_rules.specs.NumberRanges.{holds, first_from}
+use Rattle.field_rules.proofs.Firsts.{first-below, first-map}
 use Rattle.record_walk.specs.Place.{inside_of}
 use Rattle.field_rules.specs.Bounds.{reserved_bounds}
 use Rattle.field_rules.specs.Numbers.{reserved_fault, reserved_faults}

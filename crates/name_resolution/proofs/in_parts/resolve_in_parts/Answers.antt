@@ -5,7 +5,7 @@ use Rattle.std.specs.Ordering.{nat_cmp}
 use Rattle.std.specs.Result.{IfOk}
 use Rattle.std.proofs.lemmas.Str.Pattern.{strip_prefix_char}
 use Rattle.proto_types.specs.Names.{join}
-use Rattle.name_tree.proofs.NameParts.{part-undotted}
+use Rattle.name_tables.proofs.NameParts.{part-undotted}
 use Rattle.name_resolution.specs.Parents.{outer}
 use Rattle.name_resolution.specs.Resolution.{resolution_in, resolution, look, simple, dotted}
 use Rattle.name_resolution.proofs.Dots.{none-long, resolution-empty, resolution-dotted, resolution-simple}

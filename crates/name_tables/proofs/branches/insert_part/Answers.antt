@@ -1,6 +1,6 @@
 use Rattle.std.proofs.Common.{[], refl, sym, subst}
-use Rattle.name_tree.specs.Tree.{IsDescendant}
-use Rattle.name_tree.proofs.TreeChanges.{descendant-inserted, keeps-inserted, tree-inserted}
+use Rattle.name_tables.specs.Tree.{IsDescendant}
+use Rattle.name_tables.proofs.TreeChanges.{descendant-inserted, keeps-inserted, tree-inserted}
 use Rattle.name_tables.proofs.branches.insert_part.Goals as goal
 
 pub returns-clause-tree : goal.returns-clause-tree

@@ -1,8 +1,8 @@
 use Rattle.std.proofs.Common.{◌≡◌, ◌++◌, ◌∷◌, [], ap, refl, sym, ◌∙◌}
 use Rattle.std.proofs.lemmas.List.{append_assoc}
-use Rattle.name_tree.specs.Parts.{parts}
-use Rattle.name_tree.proofs.NameParts.{part-between}
-use Rattle.name_tree.proofs.TreeChanges.{descendant-inserted, inserted-inside, keeps-all, keeps-inserted, keeps-more, tree-inserted}
+use Rattle.name_tables.specs.Parts.{parts}
+use Rattle.name_tables.proofs.NameParts.{part-between}
+use Rattle.name_tables.proofs.TreeChanges.{descendant-inserted, inserted-inside, keeps-all, keeps-inserted, keeps-more, tree-inserted}
 use Rattle.name_tables.proofs.branches.insert_parts.Goals as goal
 
 pub loop-part-init : goal.loop-part-init

@@ -1,6 +1,6 @@
 use Rattle.std.proofs.Common.{◌≡◌, ◌<◌, ◌++◌, ℕ, List, length}
-use Rattle.name_tree.specs.Parts.{parts}
-use Rattle.name_tree.specs.Tree.{IsDescendant, IsTree, KeepsBranches}
+use Rattle.name_tables.specs.Parts.{parts}
+use Rattle.name_tables.specs.Tree.{IsDescendant, IsTree, KeepsBranches}
 use Rattle.name_tables.proofs.branches.insert_parts.Given as goal
 
 -- the branches are a tree that keeps those that there were, and the parts so far lead down to a branch

@@ -1,5 +1,5 @@
 use Rattle.std.proofs.Common.{inl, inr, refl}
-use Rattle.name_tree.proofs.NameParts.{around-split, part-undotted}
+use Rattle.name_tables.proofs.NameParts.{around-split, part-undotted}
 use Rattle.name_tables.proofs.scope.before_last_dot.Goals as goal
 
 pub returns-in-Some : goal.returns-in-Some

@@ -1,9 +1,9 @@
 use Rattle.std.proofs.Common.{◌≡◌, ◌-◌, ap, sym, subst, take, ◌∙◌, arith}
-use Rattle.name_tree.specs.Parts.{parts}
+use Rattle.name_tables.specs.Parts.{parts}
 use Rattle.name_tables.specs.Scopes.{IsAround, IsBranchOf}
-use Rattle.name_tree.proofs.NameParts.{parts-some}
+use Rattle.name_tables.proofs.NameParts.{parts-some}
 use Rattle.name_tables.proofs.LastParts.{before-around, before-boundary, last-one, last-part, scope-descendant}
-use Rattle.name_tree.proofs.Paths.{descendant-some}
+use Rattle.name_tables.proofs.Paths.{descendant-some}
 use Rattle.name_tables.proofs.scope.outer_text.Goals as goal
 
 pub part-part-requires : goal.part-part-requires

@@ -1,6 +1,6 @@
 use Rattle.std.proofs.Common.{[], refl, arith}
 use Rattle.std.proofs.lemmas.Bool.Decides.{nat_tests}
-use Rattle.name_tree.proofs.TreeChanges.{keeps-all}
+use Rattle.name_tables.proofs.TreeChanges.{keeps-all}
 use Rattle.name_tables.proofs.BranchNames.{own-descendant}
 use Rattle.name_tables.proofs.scoped_names.name_branch.Goals as goal
 

@@ -1,5 +1,5 @@
 use Rattle.std.proofs.Common.{◌≢◌, refl, arith}
-use Rattle.name_tree.specs.Tree.{path}
+use Rattle.name_tables.specs.Tree.{path}
 use Rattle.name_tables.proofs.Counterparts.{found-more, none-behind, none-more, read-path}
 use Rattle.name_tables.proofs.within.+counterpart.Goals as goal
 

@@ -1,5 +1,5 @@
 use Rattle.std.proofs.Common.{◌≤◌, ◌≢◌, ℕ, subst, sym, arith}
-use Rattle.name_tree.specs.Tree.{HasParent}
+use Rattle.name_tables.specs.Tree.{HasParent}
 use Rattle.name_tables.proofs.Counterparts.{over-more, over-next}
 use Rattle.name_tables.specs.Within.{IsAbove}
 use Rattle.name_tables.proofs.within.halfway.Goals.{then-is_power_of_two, else-is_power_of_two}

@@ -1,5 +1,5 @@
 use Rattle.std.proofs.Common.{◌≤◌, ◌<◌, ◌+◌}
-use Rattle.name_tree.specs.Tree.{HasParent}
+use Rattle.name_tables.specs.Tree.{HasParent}
 use Rattle.name_tables.specs.Within.{IsAbove}
 use Rattle.name_tables.proofs.within.halfway.Given as goal
 

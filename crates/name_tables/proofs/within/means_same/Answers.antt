@@ -1,8 +1,8 @@
 use Rattle.std.proofs.Common.{◌≡◌, Some, ap, sym, ◌∙◌}
 use Rattle.std.specs.Option.{option_copied}
-use Rattle.name_tree.specs.Tree.{path}
+use Rattle.name_tables.specs.Tree.{path}
 use Rattle.name_tables.specs.Entered.{value_at}
-use Rattle.name_tree.proofs.Paths.{descendant-one}
+use Rattle.name_tables.proofs.Paths.{descendant-one}
 use Rattle.name_tables.proofs.within.means_same.Goals as goal
 
 pub returns-in-Some-counterpart-clause-same : goal.returns-in-Some-counterpart-clause-same

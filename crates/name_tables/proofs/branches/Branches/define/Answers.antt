@@ -1,7 +1,7 @@
 use Rattle.std.proofs.Common.{None, ap, sym, ◌∙◌}
 use Rattle.std.specs.Option.{option_copied}
-use Rattle.name_tree.specs.Parts.{name_of}
-use Rattle.name_tree.specs.Tree.{path}
+use Rattle.name_tables.specs.Parts.{name_of}
+use Rattle.name_tables.specs.Tree.{path}
 use Rattle.name_tables.specs.Branches.{names_of}
 use Rattle.name_tables.proofs.BranchNames.{branch-means}
 use Rattle.name_tables.proofs.Inserted.{found-none, found-some, inserted-absent, inserted-present}

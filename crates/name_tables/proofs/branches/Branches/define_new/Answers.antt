@@ -2,8 +2,8 @@ use Rattle.std.proofs.Common.{◌≡◌, ◌<◌, ◌≤◌, ℕ, List, Option, 
 use Rattle.std.specs.FinMap as map
 use Rattle.std.proofs.lemmas.Result.{on_err_weaker, on_ok_weaker}
 use Rattle.pool_types.specs.declared.contents.definition.Definition.{Definition}
-use Rattle.name_tree.specs.Parts.{name_of}
-use Rattle.name_tree.specs.Tree.{Branch, path}
+use Rattle.name_tables.specs.Parts.{name_of}
+use Rattle.name_tables.specs.Tree.{Branch, path}
 use Rattle.name_tables.specs.Branches.{AreBranches, names_of}
 use Rattle.name_tables.specs.Entered.{Enters, value_at}
 use Rattle.name_tables.proofs.BranchNames.{branch-means, branches-entered, branches-same, definitions-alike, names-defined, own-descendant}

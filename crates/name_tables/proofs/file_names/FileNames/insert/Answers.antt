@@ -2,9 +2,9 @@ use Rattle.std.proofs.Common.{◌≡◌, ◌<◌, ◌≤◌, ℕ, List, Option, 
 use Rattle.std.specs.FinMap as map
 use Rattle.std.specs.Result.{OnOk, OnErr}
 use Rattle.std.proofs.lemmas.Result.{err_from_is_err_and}
-use Rattle.name_tree.specs.Tree.{Branch, InsertsChild, IsChild, with_root}
-use Rattle.name_tree.proofs.Paths.{child-inside}
-use Rattle.name_tree.proofs.TreeChanges.{keeps-inserted}
+use Rattle.name_tables.specs.Tree.{Branch, InsertsChild, IsChild, with_root}
+use Rattle.name_tables.proofs.Paths.{child-inside}
+use Rattle.name_tables.proofs.TreeChanges.{keeps-inserted}
 use Rattle.pool_types.specs.Contents.{ByText}
 use Rattle.name_tables.specs.Entered.{Enters, value_at}
 use Rattle.name_tables.specs.FileNames.{AreFileNames, files_of}

@@ -1,10 +1,10 @@
 use Rattle.std.proofs.Common.{◌≡◌, ◌<◌, ℕ, List, length, sym, subst, ◌∙◌}
 use Rattle.std.proofs.lemmas.Result.{err_from_is_err_and, on_err_weaker}
-use Rattle.name_tree.specs.Parts.{name_of, parts}
-use Rattle.name_tree.specs.Tree.{Branch, IsDescendant, IsTree, KeepsBranches, path, with_root}
-use Rattle.name_tree.proofs.NameParts.{parts-some}
-use Rattle.name_tree.proofs.Paths.{descendant-some, name-descendant}
-use Rattle.name_tree.proofs.TreeChanges.{keeps-more, keeps-with_root, tree-with_root}
+use Rattle.name_tables.specs.Parts.{name_of, parts}
+use Rattle.name_tables.specs.Tree.{Branch, IsDescendant, IsTree, KeepsBranches, path, with_root}
+use Rattle.name_tables.proofs.NameParts.{parts-some}
+use Rattle.name_tables.proofs.Paths.{descendant-some, name-descendant}
+use Rattle.name_tables.proofs.TreeChanges.{keeps-more, keeps-with_root, tree-with_root}
 use Rattle.name_tables.specs.Branches.{names_of}
 use Rattle.name_tables.proofs.BranchNames.{names-kept}
 use Rattle.name_tables.proofs.Inserted.{inserted-alike}

@@ -1,7 +1,7 @@
 use Rattle.std.proofs.Common.{◌≢◌, ◌==◌, [], length, ap, sym, subst, ◌∙◌}
 use Rattle.std.proofs.lemmas.Bool.{true≢false}
 use Rattle.std.proofs.lemmas.Option.{same_Some}
-use Rattle.name_tree.specs.Tree.{IsDescendant}
+use Rattle.name_tables.specs.Tree.{IsDescendant}
 use Rattle.name_tables.specs.Scopes.{IsBranchOf, scope_parts}
 use Rattle.name_tables.proofs.Scoped.{around-descendant, around-inside}
 use Rattle.name_tables.proofs.scope.Scope.around.Goals as goal

@@ -2,7 +2,7 @@ use Rattle.std.proofs.Common.{ap, sym, refl, subst, ◌∙◌}
 use Rattle.std.specs.FinMap as map
 use Rattle.std.specs.Option.{option_copied}
 use Rattle.proto_types.specs.Names.{join}
-use Rattle.name_tree.specs.Tree.{IsChild, IsDescendant}
+use Rattle.name_tables.specs.Tree.{IsChild, IsDescendant}
 use Rattle.name_tables.specs.Scopes.{IsBranchOf}
 use Rattle.name_tables.proofs.Scoped.{get-inside, get-nowhere, get-outside}
 use Rattle.name_tables.proofs.scope.Scope.find_part.Goals as goal

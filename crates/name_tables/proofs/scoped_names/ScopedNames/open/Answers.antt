@@ -2,8 +2,8 @@ use Rattle.std.proofs.Common.{◌≡◌, ◌<◌, ◌+◌, ◌++◌, ◌∷◌, 
 use Rattle.std.proofs.lemmas.List.{length-map, map-append, take-map}
 use Rattle.std.proofs.lemmas.List.Elements.{All-append, All-cons, All-nil, All-take}
 use Rattle.proto_types.specs.Names.{join}
-use Rattle.name_tree.specs.Parts.{name_of, parts}
-use Rattle.name_tree.specs.Tree.{Branch, IsDescendant, IsTree, KeepsBranches, path}
+use Rattle.name_tables.specs.Parts.{name_of, parts}
+use Rattle.name_tables.specs.Tree.{Branch, IsDescendant, IsTree, KeepsBranches, path}
 use Rattle.pool_types.specs.Contents.{ByText}
 use Rattle.pool_types.specs.declared.contents.definition.Definition.{Definition}
 use Rattle.name_tables.specs.Branches.{AreBranches, names_of}

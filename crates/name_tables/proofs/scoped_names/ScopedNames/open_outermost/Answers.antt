@@ -1,8 +1,8 @@
 use Rattle.std.proofs.Common.{◌≡◌, ◌<◌, ◌++◌, ◌∷◌, [], List, Option, ap, length, sym, subst, ◌∙◌}
 use Rattle.std.proofs.lemmas.List.Elements.{All-cons, All-nil}
 use Rattle.pool_types.specs.declared.contents.definition.Definition.{Definition}
-use Rattle.name_tree.specs.Tree.{Branch, with_root}
-use Rattle.name_tree.proofs.TreeChanges.{keeps-with_root, length-with_root, tree-with_root}
+use Rattle.name_tables.specs.Tree.{Branch, with_root}
+use Rattle.name_tables.proofs.TreeChanges.{keeps-with_root, length-with_root, tree-with_root}
 use Rattle.name_tables.specs.Branches.{AreBranches}
 use Rattle.name_tables.specs.Scopes.{AreScopes, IsScope}
 use Rattle.name_tables.proofs.BranchNames.{branches-kept}

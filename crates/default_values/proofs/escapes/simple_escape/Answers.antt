@@ -1,5 +1,0 @@
-use Rattle.std.proofs.Common.{rules}
-use Rattle.default_values.proofs.escapes.simple_escape.Goals as goal
-
-pub returns-in_default : goal.returns-in_default
-returns-in_default c = search rules

@@ -1,8 +1,0 @@
-use Rattle.std.proofs.Common.{ap, ◌∙◌}
-use Rattle.std.specs.Option.{ok_or}
-use Rattle.default_values.specs.declared.faults.ValueFault.TheVariants.{Number}
-use Rattle.plain_data.proofs.WholeNumbers.{parsed-int64}
-use Rattle.default_values.proofs.simple.int64.Goals as goal
-
-pub returns : goal.returns
-returns c = c.ok_or.ensures.value ∙ ap (λ o. ok_or o Number) (c.ok.ensures.value ∙ parsed-int64 c.args.text.now c.parse.result c.parse.ensures.value.0)

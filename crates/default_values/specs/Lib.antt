@@ -1,4 +1,0 @@
-pub mod Escapes
-pub mod EscapeCode
-pub mod Simple
-pub mod Exact

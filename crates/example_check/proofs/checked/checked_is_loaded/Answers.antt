@@ -1,6 +1,0 @@
-use Rattle.example_check.proofs.Accepted.{checked-loaded}
-use Rattle.example_check.proofs.checked.checked_is_loaded.Goals as goal
-
-pub returns : goal.returns
-returns c =
-    checked-loaded c.read_is_whole.ensures.set c.linked_is_loaded.ensures c.args.wanted.now c.args.inputs.now c.args.answer.now c.bytes_are_fewer.ensures

@@ -1,4 +1,0 @@
-pub mod Records
-pub mod Flags
-pub mod Options
-pub mod Places

@@ -1,0 +1,56 @@
+ghost use Rattle.std.specs.Prelude.{◌≡◌, ◌∷◌};
+ghost use Rattle.std.specs.Iterator.{YieldsFirstRef, item_count};
+ghost use Rattle.name_tables.specs.Parts.{parts, parts_left};
+
+use std::marker::Model;
+
+/// The parts of a name, between its dots, from the first to the last. A name without a dot is one
+/// part, and so is the empty name. Contracts see it as the list of those that are left.
+///
+/// It takes no memory.
+#[derive(Drop)]
+pub struct Parts<'a> {
+    left: Option<&'a str>,
+}
+
+impl<'a> Model for Parts<'a> {
+    ghost use Rattle.std.specs.Prelude.{List, ℕ};
+    ghost use Rattle.name_tables.specs.Parts.{parts_left};
+
+    ghost Value = { List (List ℕ) };
+
+    ghost view = { λ parts. parts_left parts.left };
+}
+
+impl<'a> Parts<'a> {
+    /// The parts of a name: one more than it has dots.
+    pub fn new(name: &'a str) -> Parts<'a>
+        ensures { result ≡ parts name.now }
+    {
+        Parts { left: Some(name) }
+    }
+}
+
+impl<'a> Iterator for Parts<'a> {
+    type Item = &'a str;
+
+    ghost next_gives = { YieldsFirstRef (λ parts. parts) };
+
+    ghost remaining = { item_count (λ parts. parts) };
+
+    fn next(&mut self) -> Option<&'a str> {
+        let (part, rest) = first_and_rest(self.left?);
+        self.left = rest;
+        Some(part)
+    }
+}
+
+/// The first part of a name, and what is left behind its dot.
+fn first_and_rest(name: &str) -> (&str, Option<&str>)
+    ensures { parts name.now ≡ result.0.now ∷ parts_left result.1 }
+{
+    match name.split_once('.') {
+        Some((part, rest)) => (part, Some(rest)),
+        None => (name, None),
+    }
+}

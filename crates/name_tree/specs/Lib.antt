@@ -1,4 +1,0 @@
-pub mod Nodes
-pub mod PartTexts
-pub mod Parts
-pub mod Tree

@@ -1,4 +1,0 @@
-use Rattle.number_ranges.proofs.stretch.+first_in.Given as goal
-
-abbrev pub decreases-first_in : goal.decreases-first_in
-decreases-first_in l = l.levels

@@ -1,8 +1,0 @@
-use Rattle.std.proofs.Common.{◌≡◌, string_bytes, take}
-use Rattle.std.specs.List.{flat_map}
-use Rattle.verdict_formats.specs.Annotations.{annotation}
-use Rattle.verdict_formats.proofs.annotations.annotations_text.Given as goal
-
--- the faults so far are told
-abbrev pub invariant-loop-fault : goal.invariant-loop-fault
-invariant-loop-fault l = string_bytes l.text ≡ flat_map annotation (take l.fault-index l.told)

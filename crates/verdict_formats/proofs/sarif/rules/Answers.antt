@@ -1,7 +1,0 @@
-use Rattle.verdict_formats.specs.Sarif.{rules}
-use Rattle.verdict_formats.proofs.sarif.rules.Goals as goal
-
--- the constant is written
-pub returns : goal.returns
-unfolding rules
-returns c = c.from_str.ensures.ok

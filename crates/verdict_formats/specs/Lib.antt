@@ -1,8 +1,0 @@
-pub mod Percent
-pub mod Members
-pub mod Texts
-pub mod Annotations
-pub mod Quality
-pub mod Sarif
-pub mod Changes
-pub mod Formats

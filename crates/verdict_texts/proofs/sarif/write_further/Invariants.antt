@@ -1,0 +1,10 @@
+use Rattle.std.proofs.Common.{◌≡◌, ◌∷◌, ◌++◌, string_bytes, take}
+use Rattle.std.specs.List.{flat_map}
+use Rattle.verdict_texts.specs.Sarif.{result_object}
+use Rattle.verdict_texts.proofs.sarif.write_further.Given as goal
+
+-- the faults so far are told
+abbrev pub invariant-loop-fault : goal.invariant-loop-fault
+invariant-loop-fault l =
+    string_bytes l.text ≡ string_bytes l.initial.text
+    ++ flat_map (λ g. 44 ∷ result_object g) (take l.fault-index l.told)
