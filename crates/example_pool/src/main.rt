@@ -1,6 +1,6 @@
-//! Three examples: a caller of the pool, which links a file that is built by hand; a descriptor set,
-//! from its bytes to a pool and back; and a set that is checked, with the pool that is loaded from
-//! the set of its linked files. `data/well_known.pb` is what `protoc` says of protobuf's
+//! Three examples: a caller of the pool, which links a file that is built by hand; a descriptor
+//! set, from its bytes to a pool and back; and a set that is checked, with the pool that is loaded
+//! from the set of its linked files. `data/well_known.pb` is what `protoc` says of protobuf's
 //! own well-known files, as `tools/well_known.py` stores it.
 #![tactic(auto)]
 

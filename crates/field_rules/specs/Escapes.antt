@@ -8,9 +8,12 @@ use Rattle.std.specs.declared.option.Option.TheVariants.{None, Some}
 use Rattle.std.specs.declared.result.Result.{Result}
 use Rattle.std.specs.declared.result.Result.TheVariants.{Ok, Err}
 use Rattle.field_rules.specs.declared.escape_faults.EscapeFault.{EscapeFault}
-use Rattle.field_rules.specs.declared.escape_faults.EscapeFault.TheVariants.{MissingEscape, HexTooShort}
-use Rattle.field_rules.specs.declared.escape_faults.EscapeFault.TheVariants.{InvalidHex, OctalTooLarge}
-use Rattle.field_rules.specs.declared.escape_faults.EscapeFault.TheVariants.{InvalidEscape, OutOfMemory}
+use Rattle.field_rules.specs.declared.escape_faults.EscapeFault.TheVariants.{MissingEscape}
+use Rattle.field_rules.specs.declared.escape_faults.EscapeFault.TheVariants.{HexTooShort}
+use Rattle.field_rules.specs.declared.escape_faults.EscapeFault.TheVariants.{InvalidHex}
+use Rattle.field_rules.specs.declared.escape_faults.EscapeFault.TheVariants.{OctalTooLarge}
+use Rattle.field_rules.specs.declared.escape_faults.EscapeFault.TheVariants.{InvalidEscape}
+use Rattle.field_rules.specs.declared.escape_faults.EscapeFault.TheVariants.{OutOfMemory}
 
 -- whether a byte is a backslash
 abbrev pub is_backslash : ℕ → Bool

@@ -1,5 +1,5 @@
-//! The line script: what its lines say, and the records that its statements build; and what a script
-//! is read from and a report is written to, over memory and over the library's streams.
+//! The line script: what its lines say, and the records that its statements build; and what a
+//! script is read from and a report is written to, over memory and over the library's streams.
 #![tactic(auto)]
 
 mod building;

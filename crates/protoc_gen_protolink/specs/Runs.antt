@@ -11,7 +11,8 @@ use Rattle.protoc_gen_protolink.specs.Devices.{Devices, with_answer}
 use Rattle.protoc_gen_protolink.specs.Requests.{request_in}
 use Rattle.protoc_gen_protolink.specs.Responses.{response}
 use Rattle.protoc_gen_protolink.specs.declared.ending.Ending.{Ending}
-use Rattle.protoc_gen_protolink.specs.declared.ending.Ending.TheVariants.{Answered, NoRequest, OutOfMemory}
+use Rattle.protoc_gen_protolink.specs.declared.ending.Ending.TheVariants.{Answered, NoRequest}
+use Rattle.protoc_gen_protolink.specs.declared.ending.Ending.TheVariants.{OutOfMemory}
 use Rattle.protoc_gen_protolink.specs.declared.ending.Ending.TheVariants.{Device}
 use Rattle.protoc_gen_protolink.specs.declared.requests.CodeRequest.{CodeRequest}
 

@@ -10,8 +10,10 @@ ghost use Rattle.schema_changes.specs.MessageValues.Kept.{Pairs, KeepsAll};
 ghost use Rattle.schema_changes.specs.MessageValues.Carried.{AreCarried};
 ghost use Rattle.schema_changes.specs.MessageValues.Fields.{Item};
 ghost use Rattle.schema_changes.specs.MessageValues.Items.{IsItem, WritesItem};
-ghost use Rattle.schema_changes.specs.MessageValues.Lost.{Loses, LosesTexts, LosesTogether, LosesWidths};
-ghost use Rattle.schema_changes.specs.MessageValues.Lost.{field_one, losing, losing_numbers, no_field, optional};
+ghost use Rattle.schema_changes.specs.MessageValues.Lost.{Loses, LosesTexts, LosesTogether};
+ghost use Rattle.schema_changes.specs.MessageValues.Lost.{LosesWidths};
+ghost use Rattle.schema_changes.specs.MessageValues.Lost.{field_one, losing, losing_numbers};
+ghost use Rattle.schema_changes.specs.MessageValues.Lost.{no_field, optional};
 ghost use Rattle.schema_changes.specs.MessageValues.Steps.{AreJoined, StaysRemoved, LeavesOut};
 
 /// What is written of a message by an old schema is read by a new one that keeps it, with the same

@@ -1,7 +1,7 @@
 //! The texts of a verdict: how much a batch declares, the faults of a refused one, and what is
 //! wrong with bytes, as lines for people and as objects of JSON; and the verdict in the formats of
-//! other tools: annotations of GitHub's workflows, GitLab's code quality, and SARIF, the last two of
-//! changes too.
+//! other tools: annotations of GitHub's workflows, GitLab's code quality, and SARIF, the last two
+//! of changes too.
 #![tactic(auto)]
 
 mod accepted;

@@ -33,8 +33,8 @@ pub fn next_field(
     long_field(levels, ends, bytes)
 }
 
-/// Answers what `field_of_tokens` does. The answer is taken apart here, so that a field that is read
-/// in one step needs no place for it and stays in registers.
+/// Answers what `field_of_tokens` does. The answer is taken apart here, so that a field that is
+/// read in one step needs no place for it and stays in registers.
 #[inline(always)]
 fn long_field(
     levels: u32,

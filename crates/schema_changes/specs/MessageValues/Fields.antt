@@ -3,10 +3,12 @@ use Rattle.std.specs.Prelude.{ℕ, ℤ, Bool, true, false, not, ◌&&◌, ◌||�
 use Rattle.std.specs.Prelude.{None, Some, filter_map, option_map, ◌==◌, if◌then◌else◌}
 use Rattle.std.specs.Str.{is_utf8}
 use Rattle.schema_changes.specs.MessageValues.Values.{Value, Bytes, Group, Numbered, listed, values}
-use Rattle.schema_changes.specs.MessageValues.Schema.{Schema, Kind, Field, Cardinality, Optional, Required}
+use Rattle.schema_changes.specs.MessageValues.Schema.{Schema, Kind, Field, Cardinality, Optional}
+use Rattle.schema_changes.specs.MessageValues.Schema.{Required}
 use Rattle.schema_changes.specs.MessageValues.Schema.{Repeated}
 use Rattle.schema_changes.specs.MessageValues.Schema as kind
-use Rattle.schema_changes.specs.MessageValues.Numbers.{Coding, FloatBits, DoubleBits, Form, form, raw, packed}
+use Rattle.schema_changes.specs.MessageValues.Numbers.{Coding, FloatBits, DoubleBits, Form, form}
+use Rattle.schema_changes.specs.MessageValues.Numbers.{raw, packed}
 use Rattle.schema_changes.specs.MessageValues.Numbers.{number_read}
 use Rattle.schema_changes.specs.MessageValues.Numbers as form
 

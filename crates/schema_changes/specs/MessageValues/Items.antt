@@ -4,7 +4,8 @@ use Rattle.schema_changes.specs.MessageValues.Values.{Value, Values, listed, val
 use Rattle.schema_changes.specs.MessageValues.Schema.{Schema, Kind, Field}
 use Rattle.schema_changes.specs.MessageValues.Numbers.{Form, form, has_number}
 use Rattle.schema_changes.specs.MessageValues.Numbers as form
-use Rattle.schema_changes.specs.MessageValues.Fields.{Item, Number, Bits, Text, Message, Items, has_text}
+use Rattle.schema_changes.specs.MessageValues.Fields.{Item, Number, Bits, Text, Message, Items}
+use Rattle.schema_changes.specs.MessageValues.Fields.{has_text}
 use Rattle.schema_changes.specs.MessageValues.Fields.{number_item, taken}
 use Rattle.schema_changes.specs.MessageValues.Writing.{IsValue}
 

@@ -5,7 +5,8 @@ use Rattle.std.specs.List.{AllByRecursion}
 use Rattle.std.specs.Ordering.{int_eq}
 use Rattle.std.specs.Str.{is_utf8}
 use Rattle.schema_changes.specs.MessageValues.Values.{Numbered}
-use Rattle.schema_changes.specs.MessageValues.Schema.{Schema, Kind, Field, Optional, Required, Repeated}
+use Rattle.schema_changes.specs.MessageValues.Schema.{Schema, Kind, Field, Optional, Required}
+use Rattle.schema_changes.specs.MessageValues.Schema.{Repeated}
 use Rattle.schema_changes.specs.MessageValues.Schema as kind
 use Rattle.schema_changes.specs.MessageValues.Reading.{IsRead}
 use Rattle.schema_changes.specs.MessageValues.Writing.{IsWritten}

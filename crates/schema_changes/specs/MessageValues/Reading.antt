@@ -5,7 +5,8 @@ use Rattle.schema_changes.specs.MessageValues.Values.{Numbered}
 use Rattle.schema_changes.specs.MessageValues.Schema.{Schema, Kind, Field, Required}
 use Rattle.schema_changes.specs.MessageValues.Numbers.{Form, form}
 use Rattle.schema_changes.specs.MessageValues.Numbers as form
-use Rattle.schema_changes.specs.MessageValues.Fields.{Item, Message, Taken, Refused, Unknown, Items, taken, value}
+use Rattle.schema_changes.specs.MessageValues.Fields.{Item, Message, Taken, Refused, Unknown, Items}
+use Rattle.schema_changes.specs.MessageValues.Fields.{taken, value}
 
 -- a fact of a message by its index and its numbered values
 abbrev pub Fact : Type 1

@@ -5,7 +5,8 @@ use Rattle.std.specs.Prelude.{⊤, ◌==◌}
 use Rattle.std.specs.List.{AllByRecursion, list_any}
 use Rattle.schema_changes.specs.MessageValues.Values.{Value, Bytes, Group, Numbered, values}
 use Rattle.schema_changes.specs.MessageValues.Schema.{Schema, Kind, Field, Required}
-use Rattle.schema_changes.specs.MessageValues.Numbers.{Coding, Form, form, has_number, encoded, raw, packed}
+use Rattle.schema_changes.specs.MessageValues.Numbers.{Coding, Form, form, has_number, encoded, raw}
+use Rattle.schema_changes.specs.MessageValues.Numbers.{packed}
 use Rattle.schema_changes.specs.MessageValues.Numbers as form
 use Rattle.schema_changes.specs.MessageValues.Fields.{has_text, is_repeated, in_one, value}
 use Rattle.schema_changes.specs.MessageValues.Reading.{Fact, TooDeep, OfMessages}
