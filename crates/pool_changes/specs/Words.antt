@@ -131,7 +131,8 @@ abbrev pub oneof_note : Direction → List ℕ
 oneof_note Backward =
     codes "a writer may set two of these fields, and a reader keeps the last: leave it outside"
 oneof_note Forward =
-    codes "a writer may set two of these fields, and an older reader keeps the last: leave it inside"
+    codes "a writer may set two of these fields, and an older reader keeps the last: "
+    ++ codes "leave it inside"
 
 -- what to do about a required field
 abbrev pub required_note : Direction → List ℕ

@@ -326,7 +326,8 @@ fn oneof_note(direction: Direction) -> &'static str
             "a writer may set two of these fields, and a reader keeps the last: leave it outside"
         }
         Direction::Forward => {
-            "a writer may set two of these fields, and an older reader keeps the last: leave it inside"
+            "a writer may set two of these fields, and an older reader keeps the last: \
+                leave it inside"
         }
     }
 }

@@ -66,7 +66,8 @@ impl PartialOrd for Cardinality {
 
     ghost partial_cmp = { as_partial_cmp (on rank nat_cmp) };
 
-    ghost laws = { partial_order_from_own_ties (Prim.search (comparing, rules)) (Prim.search (comparing, rules)) };
+    ghost laws = { partial_order_from_own_ties (Prim.search (comparing, rules))
+        (Prim.search (comparing, rules)) };
 
     fn partial_cmp(&self, other: &Cardinality) -> Option<Ordering> {
         Some(self.cmp(other))

@@ -33,5 +33,6 @@ pub fn from_pointer<T: Drop, A: Allocator>(pointer: BoxPointer<T, A>) -> Box<T, 
 }
 
 impl<T, A: Allocator> Model for BoxPointer<T, A> {
-    ghost also_owns = { λ pointer. box_owns (A.dealloc_token pointer.allocator) T.row pointer.address pointer.content };
+    ghost also_owns = { λ pointer. box_owns (A.dealloc_token pointer.allocator) T.row
+        pointer.address pointer.content };
 }

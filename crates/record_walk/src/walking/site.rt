@@ -39,7 +39,10 @@ impl Site {
 
     /// How long the path and the full name are.
     pub(crate) fn depth(&self) -> Depth
-        ensures { result ≡ record { path = length self.now.path.items; scope = length (string_bytes self.now.name) } }
+        ensures { result ≡ record {
+          path = length self.now.path.items;
+          scope = length (string_bytes self.now.name);
+        } }
     {
         Depth {
             path: self.path.len(),
