@@ -22,10 +22,15 @@ import architecture
 TOP = Path(__file__).resolve().parent.parent
 CRATES = TOP / "crates"
 COLUMNS = 100
-ONE_PATH = re.compile(r"\s*(?:ghost )?(?:pub )?use [^,]*;?$")
-"""A line that names one thing, by a path that cannot be parted."""
+WHOLE = re.compile(r"\s*(?:(?:ghost )?(?:pub )?use [^,]*;?|#\[.*\])$")
+"""A line that cannot be parted: one that names one thing by its path, and an attribute, which the
+layout has on one line."""
+FACES = ("proto_records", "pool_parts", "descriptor_linker")
+"""The crates that hand on what others have, for users."""
 ALONE = re.compile(r"(?:The same|As|So|Of)\b")
 """How a comment begins that leans on what stands before it."""
+USE = re.compile(r"^pub use ([^;]*);", re.MULTILINE)
+"""What a crate hands on."""
 
 
 class Measure(NamedTuple):
@@ -83,12 +88,20 @@ def behind_generics(text: str, at: int) -> int:
     return at
 
 
+def handed_on() -> set[str]:
+    """What the faces hand on."""
+    texts = [path.read_text() for face in FACES for path in CRATES.glob(f"{face}/src/lib.rt")]
+    return {it for text in texts for use in USE.findall(text) for it in re.findall(r"\w+", use)}
+
+
 def functions() -> Iterator[tuple[str, int]]:
     """Each function but calls of visitors and exports, where it stands and its parameters."""
+    exported = handed_on()
     for path in files("src/**/*.rt"):
         text = path.read_text()
         for found in re.finditer(r"^[ \t]*(?P<head>[^\n/]*)\bfn (?P<name>\w+)", text, re.MULTILINE):
-            if 'extern "C"' in found["head"] or found["name"].startswith("visit_"):
+            is_call = found["name"].startswith("visit_") or found["name"] in exported
+            if is_call or 'extern "C"' in found["head"]:
                 continue
             start = text.find("(", behind_generics(text, found.end()))
             depth, end = 1, start + 1
@@ -103,7 +116,7 @@ def wide_lines() -> Iterator[str]:
     for pattern in ("src/**/*.rt", "specs/**/*.antt"):
         for path in files(pattern):
             for number, line in enumerate(path.read_text().splitlines(), 1):
-                if len(line) > COLUMNS and not ONE_PATH.match(line):
+                if len(line) > COLUMNS and not WHOLE.match(line):
                     yield f"{path.relative_to(TOP)}:{number}"
 
 
