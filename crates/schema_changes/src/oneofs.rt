@@ -5,8 +5,8 @@ ghost use Rattle.schema_changes.specs.MessageValues.Fields.{in_one};
 ghost use Rattle.schema_changes.specs.Changes.{compared, old_member, first_some, joined_changes};
 ghost use Rattle.schema_changes.specs.Changes.{oneof_changes};
 
-use crate::{Compared, Entry, WireChange, WireChangeKind};
 use crate::compared::push_unless;
+use crate::{Compared, Entry, WireChange, WireChangeKind};
 use pool_types::OneofDescriptorInner;
 use std::alloc::AllocError;
 

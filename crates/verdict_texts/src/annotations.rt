@@ -5,9 +5,9 @@ ghost use Rattle.std.specs.List.{flat_map};
 ghost use Rattle.std.specs.Option.{option_map_or};
 ghost use Rattle.verdict_texts.specs.Annotations as spec;
 
-use crate::{Position, ToldFault, ToldPlace};
 use crate::percent::{write_message, write_property};
 use crate::texts::{position_of, told_text};
+use crate::{Position, ToldFault, ToldPlace};
 use std::alloc::{AllocError, Global};
 
 /// Writes a line and a column, if they are known, as two properties.

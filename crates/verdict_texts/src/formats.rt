@@ -3,13 +3,13 @@
 ghost use Rattle.std.specs.Prelude.{◌≡◌, ◌++◌, IfOk, string_bytes};
 ghost use Rattle.verdict_texts.specs.Formats as spec;
 
+use crate::annotations::annotations_text;
+use crate::quality::quality_text;
+use crate::sarif::sarif_text;
 use crate::{
     ToldFault, ToldRefusal, accepted_json, accepted_text, refused_json, refused_text,
     too_many_json, too_many_text, unread_json,
 };
-use crate::annotations::annotations_text;
-use crate::quality::quality_text;
-use crate::sarif::sarif_text;
 use plain_data::Text;
 use record_walk::{CountKind, Counts, count_word};
 use std::alloc::{AllocError, Global};

@@ -6,9 +6,9 @@ ghost use Rattle.std.specs.List.{flat_map};
 ghost use Rattle.std.specs.Option.{option_map_or};
 ghost use Rattle.verdict_texts.specs.Quality as spec;
 
-use crate::{ToldFault, ToldPlace};
 use crate::members::{write_key, write_next_key, write_next_text_member, write_text_member};
 use crate::texts::{position_of, told_text};
+use crate::{ToldFault, ToldPlace};
 use std::alloc::{AllocError, Global};
 
 /// Writes the numbers of a path, each behind a space.

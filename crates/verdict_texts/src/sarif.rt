@@ -5,7 +5,6 @@ ghost use Rattle.std.specs.List.{flat_map};
 ghost use Rattle.std.specs.Option.{option_map_or};
 ghost use Rattle.verdict_texts.specs.Sarif as spec;
 
-use crate::{Position, ToldFault, ToldPlace, ToldSecond};
 use crate::members::{
     write_key, write_next_key, write_next_number_member, write_next_text_member,
     write_number_member, write_text_member, write_text_object,
@@ -13,6 +12,7 @@ use crate::members::{
 use crate::percent::write_uri;
 use crate::rules::RULES;
 use crate::texts::{position_of, second_words, told_text};
+use crate::{Position, ToldFault, ToldPlace, ToldSecond};
 use plain_data::Text;
 use std::alloc::{AllocError, Global};
 
