@@ -7,7 +7,7 @@ ghost use Rattle.field_rules.specs.NamesBegin.{BeginsAtBoundary};
 
 use plain_data::{Path, Text};
 use pool_types::Identity;
-use proto_types::join;
+use proto_types::join_text;
 use record_walk::Place;
 use std::alloc::{AllocError, Global};
 
@@ -47,7 +47,7 @@ pub fn identity_inside(
     ensures begins { IfOk result (λ id. BeginsAtBoundary id) }
 {
     let path = Path::below(alloc, place.path, tag, position as i32)?;
-    let full_name = Text::from_string(join(alloc, place.full_name, name)?);
+    let full_name = join_text(alloc, place.full_name, name)?;
     Ok(named_at(place.file, path, full_name, name))
 }
 
@@ -75,10 +75,8 @@ pub fn identity_beside(
 {
     let path = Path::below(alloc, place.path, tag, position as i32)?;
     let around = front(place.full_name, own_name);
-    let mut full_name = String::with_capacity(alloc, around.len().saturating_add(name.len()))?;
-    full_name.push_str(around)?;
-    full_name.push_str(name)?;
-    Ok(named_at(place.file, path, Text::from_string(full_name), name))
+    let full_name = Text::concatenated(alloc, around, "", name)?;
+    Ok(named_at(place.file, path, full_name, name))
 }
 
 /// Where a declaration of this full name stands, which ends with its name.

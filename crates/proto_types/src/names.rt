@@ -1,6 +1,7 @@
 ghost use Rattle.std.specs.Prelude.{◌≡◌, IfOk, OnOk, string_bytes};
 ghost use Rattle.proto_types.specs.Names.{join};
 
+use plain_data::Text;
 use std::alloc::{AllocError, Global};
 
 /// The full name of a name inside a scope: behind the scope and a dot, or alone where the scope is
@@ -14,6 +15,19 @@ pub fn join(alloc: Global, scope: &str, name: &str) -> Result<String, AllocError
     let mut full = String::with_capacity(alloc, scope.len() + 1 + name.len())?;
     write_joined(&mut full, scope, name)?;
     Ok(full)
+}
+
+/// The full name of a name inside a scope, as a text, which takes no memory where it is short.
+///
+/// # Errors
+/// `AllocError` where memory was refused.
+pub fn join_text(alloc: Global, scope: &str, name: &str) -> Result<Text, AllocError>
+    ensures { IfOk result (λ full. full ≡ join scope.now name.now) }
+{
+    if scope.is_empty() {
+        return Text::from_str(alloc, name);
+    }
+    Text::concatenated(alloc, scope, ".", name)
 }
 
 /// Makes a text the full name of a name inside a scope, in the room that it has.

@@ -11,7 +11,7 @@ use plain_data::{Items, Text};
 use pool_faults::Label;
 use proto_types::tag::{enum_, file, message, service};
 use proto_types::{
-    DescriptorProto, EnumDescriptorProto, FileDescriptorProto, ServiceDescriptorProto, join,
+    DescriptorProto, EnumDescriptorProto, FileDescriptorProto, ServiceDescriptorProto, join_text,
 };
 use std::alloc::{AllocError, Global};
 
@@ -26,7 +26,7 @@ pub(crate) fn entry<T>(items: &Items<T>, position: i32) -> Option<&T>
 pub(crate) fn full_name(alloc: Global, scope: &str, name: &str) -> Result<Text, AllocError>
     ensures { IfOk result (λ full. full ≡ names.join scope.now name.now) }
 {
-    Ok(Text::from_string(join(alloc, scope, name)?))
+    join_text(alloc, scope, name)
 }
 
 /// The full name of something, or of what stands in it, if there is such.

@@ -1,4 +1,4 @@
-use Rattle.std.proofs.Common.{sym, subst, ◌∙◌}
+use Rattle.std.proofs.Common.{sym, subst}
 use Rattle.record_walk.specs.FullNames.{EndsWith}
 use Rattle.record_walk.proofs.FullNames.{join-ends}
 use Rattle.field_rules.proofs.identities.identity_inside.Goals as goal
@@ -7,5 +7,4 @@ use Rattle.field_rules.proofs.identities.identity_inside.Goals as goal
 pub returns-clause-begins : goal.returns-clause-begins
 returns-clause-begins c =
     let ends = join-ends c.args.place.full_name.now c.args.name.now in
-    let full = c.from_string-full_name.ensures ∙ c.in_ok-join.ensures in
-    c.named_at.ensures.begins (subst (λ text. EndsWith text c.args.name.now) (sym full) ends)
+    c.named_at.ensures.begins (subst (λ text. EndsWith text c.args.name.now) (sym c.in_ok-full_name.ensures) ends)
