@@ -1,3 +1,4 @@
 pub mod Linked
 pub mod NotRead
 mod Judged
+pub mod BytesText

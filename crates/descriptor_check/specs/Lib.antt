@@ -14,3 +14,8 @@ pub mod Arguments
 pub mod Statuses
 pub mod Devices
 pub mod Runs
+pub mod Words
+pub mod Values
+pub mod Items
+pub mod Named
+pub mod Faults

@@ -8,3 +8,5 @@ pub mod Services
 pub mod Sources
 pub mod Files
 pub mod Encoding
+pub mod Whole
+pub mod Written

@@ -4,7 +4,7 @@ use Rattle.std.proofs.lemmas.List.{take-append-drop}
 use Rattle.std.proofs.lemmas.Grind.{common_steps}
 use Rattle.std.specs.declared.option.Option.{Option}
 use Rattle.std.specs.declared.option.Option.TheVariants.{None, Some}
-use Rattle.link_script.specs.Device.{Took}
+use Rattle.script_devices.specs.Device.{Took}
 
 -- a piece went behind what had gone
 pub Took-more : (old mid new : Option (List ℕ)) (went more : List ℕ) → Took old went mid → Took mid more new → Took old (went ++ more) new

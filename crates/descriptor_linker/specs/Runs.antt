@@ -3,7 +3,7 @@ use Rattle.std.specs.Prelude.{◌≡◌, ◌≢◌, ℕ, ◌<◌, ◌⊎◌, Lis
 use Rattle.std.specs.declared.option.Option.TheVariants.{None, Some}
 use Rattle.descriptor_linker.specs.declared.ending.Ending.{Ending}
 use Rattle.descriptor_linker.specs.declared.ending.Ending.TheVariants as ending
-use Rattle.link_script.specs.Device.{Source, Sink, Took}
+use Rattle.script_devices.specs.Device.{Source, Sink, Took}
 use Rattle.link_script.specs.Script.Reading.{script}
 use Rattle.descriptor_linker.specs.Report.Session.{report}
 

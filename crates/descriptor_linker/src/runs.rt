@@ -1,11 +1,11 @@
 ghost use Rattle.std.specs.Prelude.{◌≡◌, ◌≢◌, ◌<◌, ◌⊎◌, ℕ, List, [], ◌++◌, Some, IfOk, OnOk, OnErr};
 ghost use Rattle.std.specs.Prelude.{IsErrOf};
-ghost use Rattle.link_script.specs.Device.{Took, failure_limit};
+ghost use Rattle.script_devices.specs.Device.{Took, failure_limit};
 ghost use Rattle.descriptor_linker.specs.Runs.{RunsTo, HasStopped, HasNotStopped};
 
 use crate::ending::Ending;
 use crate::report::report_of;
-use link_script::{ReportOutput, ScriptInput};
+use script_devices::{ReportOutput, ScriptInput};
 use std::alloc::Global;
 use std::io;
 

@@ -10,7 +10,7 @@ use Rattle.record_walk.specs.declared.counts.Counts.{Counts}
 use Rattle.record_walk.specs.declared.counts.CountKind.{CountKind}
 use Rattle.descriptor_decoding.specs.Decoding.{file_set_of}
 use Rattle.protoc_rules.specs.declared.faults.StrictFault.{StrictFault}
-use Rattle.descriptor_laws.specs.Whole.{IsFile, IsSet, Within}
+use Rattle.descriptor_encoding.specs.Whole.{IsFile, IsSet, Within}
 use Rattle.descriptor_pool.specs.Build.{first_of_both}
 use Rattle.descriptor_pool.specs.Outcome.{IsLinked}
 use Rattle.descriptor_pool.specs.Pool.{Batch, counts_after, faults, faults_of_names, faults_of_references, link}

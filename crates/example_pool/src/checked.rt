@@ -5,7 +5,7 @@ ghost use Rattle.stored_pools.specs.Stored.{MakesPool};
 ghost use Rattle.example_pool.specs.Checked.{AcceptedAs, CheckedIsLoaded};
 
 use descriptor_check::{Answer, Input, LinkedSet, Wanted, check};
-use descriptor_laws::read_is_whole;
+use descriptor_encoding::read_is_whole;
 use descriptor_pool::DescriptorPool;
 use plain_data::{Items, Text};
 use std::alloc::{AllocError, Global};

@@ -20,7 +20,7 @@ use Rattle.pool_types.specs.declared.kinds.Cardinality.{Cardinality}
 use Rattle.pool_types.specs.declared.kinds.Cardinality.TheVariants as cardinality
 use Rattle.pool_types.specs.declared.kinds.KindIndex.{KindIndex}
 use Rattle.pool_types.specs.declared.kinds.KindIndex.TheVariants as index
-use Rattle.schema_changes.specs.MessageValues.Fields.{in_one}
+use Rattle.message_values.specs.Fields.{in_one}
 use Rattle.descriptor_pool.specs.Invariant.{IsPool}
 use Rattle.descriptor_pool.specs.Maps.{fields_in}
 use Rattle.descriptor_pool.proofs.Extendees.{numbers_are_unique}

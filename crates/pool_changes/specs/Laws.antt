@@ -3,10 +3,10 @@ use Rattle.std.specs.Prelude.{◌≡◌, ℕ, Bool, true, false, List, [], ◌�
 use Rattle.std.specs.Prelude.{slice_get}
 use Rattle.std.specs.FinMap as finite
 use Rattle.std.specs.List.{AllByRecursion}
-use Rattle.schema_changes.specs.MessageValues.Values.{Numbered}
-use Rattle.schema_changes.specs.MessageValues.Reading.{IsRead}
-use Rattle.schema_changes.specs.MessageValues.Writing.{Besides, IsWritten}
-use Rattle.schema_changes.specs.MessageValues.Carried.{AreCarried}
+use Rattle.message_values.specs.Values.{Numbered}
+use Rattle.message_values.specs.Reading.{IsRead}
+use Rattle.message_values.specs.Writing.{Besides, IsWritten}
+use Rattle.message_values.specs.Carried.{AreCarried}
 use Rattle.pool_types.specs.Contents.{Contents}
 use Rattle.pool_types.specs.declared.contents.field.FieldDescriptorInner.{FieldDescriptorInner}
 use Rattle.pool_types.specs.declared.contents.message.MessageDescriptorInner.{MessageDescriptorInner}

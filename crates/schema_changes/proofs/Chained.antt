@@ -3,14 +3,14 @@ use Rattle.std.proofs.Common.{◌≡◌, ℕ, zero, suc, ◌+◌, Bool, true, fa
 use Rattle.std.proofs.lemmas.Bool.{and_parts, and_from, or_cases, or_left, or_right, false≢true}
 use Rattle.std.specs.List.{list_any, enumerate_from}
 use Rattle.pool_types.specs.Contents.{Contents}
-use Rattle.schema_changes.specs.MessageValues.Values.{Numbered}
-use Rattle.schema_changes.specs.MessageValues.Reading.{IsRead}
-use Rattle.schema_changes.specs.MessageValues.Writing.{IsWritten}
-use Rattle.schema_changes.specs.MessageValues.Kept.{KeepsAll}
-use Rattle.schema_changes.specs.MessageValues.Carried.{AreCarried}
-use Rattle.schema_changes.specs.MessageValues.Steps.{AreJoined, StaysRemoved}
-use Rattle.schema_changes.proofs.Joined.{all-joined}
-use Rattle.schema_changes.proofs.Step.{law, keeps-all-own}
+use Rattle.message_values.specs.Values.{Numbered}
+use Rattle.message_values.specs.Reading.{IsRead}
+use Rattle.message_values.specs.Writing.{IsWritten}
+use Rattle.message_values.specs.Kept.{KeepsAll}
+use Rattle.message_values.specs.Carried.{AreCarried}
+use Rattle.message_values.specs.Steps.{AreJoined, StaysRemoved}
+use Rattle.message_values.proofs.Joined.{all-joined}
+use Rattle.message_values.proofs.Step.{law, keeps-all-own}
 use Rattle.schema_changes.specs.declared.entries.Entry.{Entry}
 use Rattle.schema_changes.specs.Parts.{parts_of}
 use Rattle.schema_changes.specs.MapEntries.{are_paired}

@@ -8,11 +8,11 @@ use Rattle.std.specs.Ordering.{int_eq}
 use Rattle.pool_types.specs.declared.kinds.KindIndex.{KindIndex}
 use Rattle.pool_types.specs.declared.kinds.KindIndex.TheVariants as index
 use Rattle.pool_types.specs.declared.contents.enumeration.EnumValueDescriptorInner.{EnumValueDescriptorInner}
-use Rattle.schema_changes.specs.MessageValues.Schema.{Kind}
-use Rattle.schema_changes.specs.MessageValues.Numbers.{Form, form, is_signed, is_unsigned, has_number}
-use Rattle.schema_changes.specs.MessageValues.Numbers as form
-use Rattle.schema_changes.specs.MessageValues.Fields.{has_text}
-use Rattle.schema_changes.specs.MessageValues.Kept.{Pairs, KeepsForm}
+use Rattle.message_values.specs.Schema.{Kind}
+use Rattle.message_values.specs.Numbers.{Form, form, is_signed, is_unsigned, has_number}
+use Rattle.message_values.specs.Numbers as form
+use Rattle.message_values.specs.Fields.{has_text}
+use Rattle.message_values.specs.Kept.{Pairs, KeepsForm}
 use Rattle.schema_changes.specs.declared.entries.Entry.{Entry}
 use Rattle.schema_changes.specs.Parts.{Parts, in_proto3, is_open, has_value, values_of}
 use Rattle.schema_changes.specs.Entries.{kind_seen, schema_of}

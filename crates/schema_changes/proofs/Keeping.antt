@@ -16,18 +16,18 @@ use Rattle.pool_types.specs.declared.kinds.Cardinality.{Cardinality}
 use Rattle.pool_types.specs.declared.kinds.Cardinality.TheVariants as cardinality
 use Rattle.pool_types.specs.declared.kinds.KindIndex.{KindIndex}
 use Rattle.pool_types.specs.declared.kinds.KindIndex.TheVariants as index
-use Rattle.schema_changes.specs.MessageValues.Values.{Numbered}
-use Rattle.schema_changes.specs.MessageValues.Schema.{Schema, Kind, Field}
-use Rattle.schema_changes.specs.MessageValues.Schema as kind
-use Rattle.schema_changes.specs.MessageValues.Numbers.{Form, form}
-use Rattle.schema_changes.specs.MessageValues.Numbers as form
-use Rattle.schema_changes.specs.MessageValues.Fields.{in_one}
-use Rattle.schema_changes.specs.MessageValues.Fields as fields
-use Rattle.schema_changes.specs.MessageValues.Reading.{IsRead}
-use Rattle.schema_changes.specs.MessageValues.Writing.{Besides, IsWritten}
-use Rattle.schema_changes.specs.MessageValues.Kept.{KeepsCardinality, KeepsField, KeepsMessage, KeepsAll}
-use Rattle.schema_changes.specs.MessageValues.Carried.{AreCarried}
-use Rattle.schema_changes.proofs.Step.{law}
+use Rattle.message_values.specs.Values.{Numbered}
+use Rattle.message_values.specs.Schema.{Schema, Kind, Field}
+use Rattle.message_values.specs.Schema as kind
+use Rattle.message_values.specs.Numbers.{Form, form}
+use Rattle.message_values.specs.Numbers as form
+use Rattle.message_values.specs.Fields.{in_one}
+use Rattle.message_values.specs.Fields as fields
+use Rattle.message_values.specs.Reading.{IsRead}
+use Rattle.message_values.specs.Writing.{Besides, IsWritten}
+use Rattle.message_values.specs.Kept.{KeepsCardinality, KeepsField, KeepsMessage, KeepsAll}
+use Rattle.message_values.specs.Carried.{AreCarried}
+use Rattle.message_values.proofs.Step.{law}
 use Rattle.schema_changes.specs.declared.change.WireChangeKind.{WireChangeKind}
 use Rattle.schema_changes.specs.declared.change.WireChangeKind.TheVariants as change
 use Rattle.schema_changes.specs.declared.entries.Entry.{Entry}

@@ -5,11 +5,11 @@ use Rattle.pool_types.specs.Contents.{Contents}
 use Rattle.pool_types.specs.declared.contents.message.MessageDescriptorInner.{MessageDescriptorInner}
 use Rattle.pool_types.specs.declared.kinds.KindIndex.{KindIndex}
 use Rattle.pool_types.specs.declared.kinds.KindIndex.TheVariants as index
-use Rattle.schema_changes.specs.MessageValues.Values.{Numbered}
-use Rattle.schema_changes.specs.MessageValues.Reading.{IsRead}
-use Rattle.schema_changes.specs.MessageValues.Writing.{Besides, IsWritten}
-use Rattle.schema_changes.specs.MessageValues.Kept.{KeepsAll}
-use Rattle.schema_changes.specs.MessageValues.Carried.{AreCarried}
+use Rattle.message_values.specs.Values.{Numbered}
+use Rattle.message_values.specs.Reading.{IsRead}
+use Rattle.message_values.specs.Writing.{Besides, IsWritten}
+use Rattle.message_values.specs.Kept.{KeepsAll}
+use Rattle.message_values.specs.Carried.{AreCarried}
 use Rattle.schema_changes.specs.declared.change.MessageChange.{MessageChange}
 use Rattle.schema_changes.specs.Parts.{Parts, parts_of, one_name, are_named_alike}
 use Rattle.schema_changes.specs.Entries.{schema_of}

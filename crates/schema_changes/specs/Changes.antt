@@ -5,7 +5,7 @@ use Rattle.std.specs.List.{flat_map}
 use Rattle.std.specs.Option.{option_or}
 use Rattle.pool_types.specs.declared.contents.message.MessageDescriptorInner.{MessageDescriptorInner}
 use Rattle.pool_types.specs.declared.contents.oneof.OneofDescriptorInner.{OneofDescriptorInner}
-use Rattle.schema_changes.specs.MessageValues.Fields.{in_one}
+use Rattle.message_values.specs.Fields.{in_one}
 use Rattle.schema_changes.specs.declared.change.WireChange.{WireChange}
 use Rattle.schema_changes.specs.declared.change.WireChangeKind.{WireChangeKind}
 use Rattle.schema_changes.specs.declared.change.WireChangeKind.TheVariants as change

@@ -11,8 +11,8 @@ use Rattle.pool_types.specs.declared.kinds.KindIndex.TheVariants as index
 use Rattle.pool_types.specs.declared.contents.extension.ExtensionDescriptorInner.{ExtensionDescriptorInner}
 use Rattle.pool_types.specs.declared.contents.field.FieldDescriptorInner.{FieldDescriptorInner}
 use Rattle.pool_types.specs.declared.contents.message.MessageDescriptorInner.{MessageDescriptorInner}
-use Rattle.schema_changes.specs.MessageValues.Schema.{Schema, Kind, Field}
-use Rattle.schema_changes.specs.MessageValues.Schema as kind
+use Rattle.message_values.specs.Schema.{Schema, Kind, Field}
+use Rattle.message_values.specs.Schema as kind
 use Rattle.schema_changes.specs.declared.entries.Entry.{Entry}
 use Rattle.schema_changes.specs.Parts.{Parts, in_proto3, is_open, has_value, values_of}
 

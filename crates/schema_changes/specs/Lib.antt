@@ -9,4 +9,3 @@ pub mod Changes
 pub mod Unchanged
 pub mod Pools
 pub mod Chains
-pub mod MessageValues

@@ -7,7 +7,7 @@ use Rattle.pool_types.specs.declared.kinds.KindIndex.TheVariants as index
 use Rattle.pool_types.specs.declared.contents.field.FieldDescriptorInner.{FieldDescriptorInner}
 use Rattle.pool_types.specs.declared.contents.message.MessageDescriptorInner.{MessageDescriptorInner}
 use Rattle.pool_types.specs.declared.contents.oneof.OneofDescriptorInner.{OneofDescriptorInner}
-use Rattle.schema_changes.specs.MessageValues.Writing.{Besides}
+use Rattle.message_values.specs.Writing.{Besides}
 use Rattle.schema_changes.specs.declared.entries.Entry.{Entry}
 use Rattle.schema_changes.specs.Parts.{Parts, one_name}
 use Rattle.schema_changes.specs.MapEntries.{are_paired}

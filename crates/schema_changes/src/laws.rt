@@ -1,10 +1,10 @@
 //! The laws of messages of which nothing changes.
 
 ghost use Rattle.std.specs.Prelude.{◌≡◌, ℕ, Bool, true, false, List, []};
-ghost use Rattle.schema_changes.specs.MessageValues.Values.{Numbered};
-ghost use Rattle.schema_changes.specs.MessageValues.Reading.{IsRead};
-ghost use Rattle.schema_changes.specs.MessageValues.Writing.{Besides, IsWritten};
-ghost use Rattle.schema_changes.specs.MessageValues.Carried.{AreCarried};
+ghost use Rattle.message_values.specs.Values.{Numbered};
+ghost use Rattle.message_values.specs.Reading.{IsRead};
+ghost use Rattle.message_values.specs.Writing.{Besides, IsWritten};
+ghost use Rattle.message_values.specs.Carried.{AreCarried};
 ghost use Rattle.pool_types.specs.Contents.{Contents};
 ghost use Rattle.schema_changes.specs.Parts.{Parts, parts_of, one_name};
 ghost use Rattle.schema_changes.specs.Entries.{schema_of};

@@ -1,5 +1,4 @@
-//! What bytes say of a message by its schema, and what a new schema changes of an old one, so that
-//! bytes are read otherwise.
+//! What a new schema changes of an old one, so that bytes are read otherwise.
 #![tactic(auto)]
 
 mod change;
@@ -13,7 +12,6 @@ mod message_sets;
 mod oneofs;
 mod parts;
 mod records;
-mod value_laws;
 
 pub use change::{MessageChange, WireChange, WireChangeKind};
 pub use compared::Compared;
@@ -21,6 +19,3 @@ pub use entries::{Entry, extension_entry, field_entry};
 pub use lacking::lacking_number;
 pub use laws::{chains, no_change_is_read, unchanged_is_read};
 pub use parts::Parts;
-pub use value_laws::{
-    changed_is_lost, item_is_written, steps_join, written_is_read, written_is_read_again,
-};

@@ -1,7 +1,7 @@
 //! What changes where old fields are in one new oneof.
 
 ghost use Rattle.std.specs.Prelude.{◌≡◌, ◌++◌, OnOk};
-ghost use Rattle.schema_changes.specs.MessageValues.Fields.{in_one};
+ghost use Rattle.message_values.specs.Fields.{in_one};
 ghost use Rattle.schema_changes.specs.Changes.{compared, old_member, first_some, joined_changes};
 ghost use Rattle.schema_changes.specs.Changes.{oneof_changes};
 

@@ -11,7 +11,7 @@ use Rattle.proto_types.specs.declared.records.service.MethodDescriptorProto.{Met
 use Rattle.proto_types.specs.declared.records.service.ServiceDescriptorProto.{ServiceDescriptorProto}
 use Rattle.record_walk.specs.Changed.{Changes, changed_fields, changed_file, changed_files, changed_message, changed_messages, changed_service, changed_services}
 use Rattle.record_walk.proofs.Changed.{changed-message-is}
-use Rattle.descriptor_laws.specs.Whole.{IsText, Within, IsField, IsMethod, IsService, IsMessage, IsMessageOf, IsLayer, IsFile}
+use Rattle.descriptor_encoding.specs.Whole.{IsText, Within, IsField, IsMethod, IsService, IsMessage, IsMessageOf, IsLayer, IsFile}
 use Rattle.stored_pools.proofs.Texts.{joined, name-text}
 
 -- whole records are left whole, where their full names are UTF-8

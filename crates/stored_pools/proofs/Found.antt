@@ -12,7 +12,7 @@ use Rattle.name_resolution.specs.Filter.{is_match}
 use Rattle.name_resolution.specs.Parents.{outer}
 use Rattle.name_resolution.specs.Resolution.{Resolution, found, invalid_type, not_imported, shadowed, not_found, is_found, is_not_found, or_shadowed, has_dot, look, simple, holds_first, dotted, relative, resolution}
 use Rattle.name_resolution.proofs.Outward.{answers}
-use Rattle.descriptor_laws.specs.Whole.{IsText}
+use Rattle.descriptor_encoding.specs.Whole.{IsText}
 use Rattle.descriptor_pool.proofs.Resolved.{all-append}
 use Rattle.stored_pools.proofs.Texts.{empty-text, fronts-texts, joined, undotted}
 

@@ -18,7 +18,7 @@ use Rattle.name_resolution.specs.declared.filter.ResolveNameFilter.TheVariants.{
 use Rattle.name_resolution.specs.Resolution.{Resolution, found, invalid_type, not_imported, shadowed, not_found, kind_found}
 use Rattle.reference_pass.specs.Linked.{resolved, definition_number, type_number, typed, linked_field, linked_extension, linked_method, linking}
 use Rattle.reference_pass.specs.Setting.{Setting, resolve}
-use Rattle.descriptor_laws.specs.Whole.{IsText, IsInt32, Within, IsField, IsMethod, IsFile}
+use Rattle.descriptor_encoding.specs.Whole.{IsText, IsInt32, Within, IsField, IsMethod, IsFile}
 use Rattle.descriptor_pool.specs.Build.{declared_with, setting_with, with_names}
 use Rattle.descriptor_pool.specs.Pool.{new_files}
 use Rattle.descriptor_pool.proofs.Declared.{files-linked}

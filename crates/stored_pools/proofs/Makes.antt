@@ -3,7 +3,7 @@ use Rattle.std.proofs.Common.{◌≡◌, ◌<◌, ◌^◌, length, Ok, refl, sub
 use Rattle.proto_types.specs.declared.file.FileDescriptorSet.{FileDescriptorSet}
 use Rattle.descriptor_decoding.specs.Decoding.{file_set_of}
 use Rattle.descriptor_encoding.specs.Encoding.{set_encoding}
-use Rattle.descriptor_laws.specs.Whole.{IsSet}
+use Rattle.descriptor_encoding.specs.Whole.{IsSet}
 use Rattle.pool_types.specs.Contents.{Contents, files_of, no_contents}
 use Rattle.descriptor_pool.specs.Pool.{Batch, Made, empty, linked_to}
 use Rattle.pool_laws.specs.Laws.{Relinks}

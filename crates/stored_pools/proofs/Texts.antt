@@ -8,7 +8,7 @@ use Rattle.std.specs.List.{AllByRecursion}
 use Rattle.std.specs.Str.{IsAscii, IsUtf8}
 use Rattle.proto_types.specs.Names.{fronts, is_dot, join}
 use Rattle.proto_types.specs.Readers.{text_of}
-use Rattle.descriptor_laws.specs.Whole.{IsText}
+use Rattle.descriptor_encoding.specs.Whole.{IsText}
 
 pub empty-text : IsText []
 empty-text = is_utf8-from_IsUtf8 [] IsUtf8-nil

@@ -4,7 +4,7 @@ use Rattle.proto_types.specs.declared.file.FileDescriptorProto.{FileDescriptorPr
 use Rattle.proto_types.specs.declared.file.FileDescriptorSet.{FileDescriptorSet}
 use Rattle.descriptor_decoding.specs.Decoding.{file_set_of}
 use Rattle.descriptor_encoding.specs.Encoding.{set_encoding}
-use Rattle.descriptor_laws.specs.Whole.{IsSet}
+use Rattle.descriptor_encoding.specs.Whole.{IsSet}
 use Rattle.pool_types.specs.Contents.{Contents, files_of, no_contents}
 use Rattle.descriptor_pool.specs.Outcome.{IsLinked}
 use Rattle.descriptor_pool.specs.Pool.{Batch, link}

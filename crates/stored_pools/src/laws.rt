@@ -1,7 +1,7 @@
 //! A call does nothing: its contract is the law, and is proved of all pools.
 ghost use Rattle.stored_pools.specs.Stored.{LinkedAreWhole, LinkedIsLoaded, StoredIsLoaded};
 
-use descriptor_laws::written_is_read;
+use descriptor_encoding::written_is_read;
 use descriptor_pool::DescriptorPool;
 use pool_laws::relink;
 

@@ -2,7 +2,7 @@
 
 use super::scripts::{FIRST_REPORT, FIRST_SCRIPT, count_of_beginning};
 use descriptor_linker::{Ending, run};
-use link_script::{MemoryInput, MemoryOutput, ScriptInput};
+use script_devices::{MemoryInput, MemoryOutput, ScriptInput};
 use std::alloc::{AllocError, Global};
 use std::process::Abort;
 use std::test::Fail;

@@ -2,7 +2,7 @@
 
 use super::scripts::{FIRST_SCRIPT, THREE_FILES, THREE_REPORT, count_of_beginning};
 use descriptor_linker::{Ending, run};
-use link_script::{MemoryOutput, ReaderInput, ReportOutput, ScriptInput, WriterOutput};
+use script_devices::{MemoryOutput, ReaderInput, ReportOutput, ScriptInput, WriterOutput};
 use std::alloc::{AllocError, Global};
 use std::io::{self, Read, Write};
 use std::process::Abort;

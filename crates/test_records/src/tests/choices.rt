@@ -1,6 +1,6 @@
 //! Bytes that are read though they are not canonical, each with what they are written as.
 
-use descriptor_laws::canonical;
+use descriptor_encoding::canonical;
 use std::alloc::Global;
 use std::test::*;
 

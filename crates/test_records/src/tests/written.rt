@@ -3,7 +3,7 @@
 use super::protoc::SET;
 use descriptor_decoding::{decode, decode_file};
 use descriptor_encoding::encode_file;
-use descriptor_laws::canonical;
+use descriptor_encoding::canonical;
 use proto_types::{FileDescriptorProto, FileDescriptorSet};
 use std::alloc::{AllocError, Global};
 use std::process::Abort;

@@ -1,5 +1,5 @@
 use Rattle.std.proofs.Common.{◌≡◌}
-use Rattle.link_script.specs.Device.{Gave}
+use Rattle.script_devices.specs.Device.{Gave}
 use Rattle.descriptor_linker.proofs.runs.read_all.Given as goal
 
 abbrev pub invariant-loop-bytes : goal.invariant-loop-bytes

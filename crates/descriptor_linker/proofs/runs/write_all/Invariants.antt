@@ -1,5 +1,5 @@
 use Rattle.std.proofs.Common.{◌≡◌, ℕ, List, ◌++◌, length}
-use Rattle.link_script.specs.Device.{Took}
+use Rattle.script_devices.specs.Device.{Took}
 use Rattle.descriptor_linker.proofs.runs.write_all.Given as goal
 
 abbrev pub invariant-loop-rest : goal.invariant-loop-rest

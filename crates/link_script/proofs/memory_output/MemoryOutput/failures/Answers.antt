@@ -1,5 +1,0 @@
-use Rattle.std.proofs.Common.{rules}
-use Rattle.link_script.proofs.memory_output.MemoryOutput.failures.Goals as goal
-
-pub returns : goal.returns
-returns c = search rules

@@ -1,5 +1,0 @@
-use Rattle.std.proofs.Common.{rules}
-use Rattle.link_script.proofs.memory_output.MemoryOutput.with_fuse.Goals as goal
-
-pub returns-clause-room : goal.returns-clause-room
-returns-clause-room c = search rules

@@ -1,5 +1,0 @@
-pub mod Words
-pub mod Values
-pub mod Items
-pub mod Named
-pub mod Faults

@@ -1,0 +1,5 @@
+use Rattle.std.proofs.Common.{rules}
+use Rattle.script_devices.proofs.memory_output.MemoryOutput.failures.Goals as goal
+
+pub returns : goal.returns
+returns c = search rules
