@@ -56,6 +56,8 @@ pub(crate) struct Located<'a> {
 
 impl Located<'_> {
     /// Shows it to a visitor, as it stands at a site.
+    // Inlined, so that the record is not written to memory.
+    #[inline(always)]
     pub(crate) fn show<V: Visitor>(self, site: &Site, visitor: &mut V) -> Result<(), AllocError>
         requires { V.ready visitor.old (located site.now self ∷ []) }
         ensures ok { OnOk result (HasSeen (V.after visitor.old) (V.ready visitor.old)

@@ -26,6 +26,8 @@ pub(crate) enum Part<'a> {
 
 impl<'a> Part<'a> {
     /// Its name; where that is missing, the empty text.
+    // Inlined, as `Site::enter` is, which needs it.
+    #[inline(always)]
     pub(crate) fn name(self) -> &'a str
         ensures { result.now ≡ name_of (proto_of self.entry) }
     {
@@ -33,6 +35,7 @@ impl<'a> Part<'a> {
     }
 
     /// The name that is written in it, if any.
+    #[inline(always)]
     fn written_name(self) -> &'a Option<Text>
         ensures { text_of result.now ≡ name_of (proto_of self.entry) }
     {

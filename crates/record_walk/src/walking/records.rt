@@ -36,6 +36,8 @@ impl<'a> Records<'a> {
     }
 
     /// The first record, and those behind it.
+    // Inlined, so that the record is not written to memory.
+    #[inline(always)]
     pub(crate) fn split_first(self) -> Option<(Part<'a>, Records<'a>)>
         ensures records { MatchOption result (protos_in self.entry ≡ [])
             (λ p. protos_in self.entry ≡ proto_of p.0 ∷ protos_in p.1) }

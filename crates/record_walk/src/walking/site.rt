@@ -51,6 +51,8 @@ impl Site {
     }
 
     /// Goes back to what a list stands in.
+    // Inlined, as `enter` is.
+    #[inline(always)]
     pub(crate) fn cut(&mut self, depth: Depth)
         requires { IsSplitPoint (string_bytes self.old.name) depth.scope }
         ensures file { self.new.file ≡ self.old.file }
@@ -62,6 +64,8 @@ impl Site {
     }
 
     /// Goes on to the record at a position.
+    // Inlined, since it is done for each record.
+    #[inline(always)]
     pub(crate) fn enter(&mut self, at: EntryPosition, name: &str) -> Result<(), AllocError>
         requires { at.position < 2 ^ 31 }
         ensures file { self.new.file ≡ self.old.file }
