@@ -217,12 +217,12 @@ inner-rests index path name scope b d (of_method m) file paths names scopes = re
 inner-rests index path name scope b d (of_value v) file paths names scopes = refl
 inner-rests index path name scope b d (of_extension x) file paths names scopes = refl
 
-take-front : {X : Type 0} (k : ℕ) (xs ys : List X) → k ≤ length xs → take k (take k xs ++ ys) ≡ take k xs
+pub take-front : {X : Type 0} (k : ℕ) (xs ys : List X) → k ≤ length xs → take k (take k xs ++ ys) ≡ take k xs
 take-front zero xs ys within = refl
 take-front (suc k) [] ys within = absurd (omega arith)
 take-front (suc k) (x ∷ xs) ys within = ap (λ zs. x ∷ zs) (take-front k xs ys (omega arith))
 
-take-scope : (k : ℕ) (name last : List ℕ) → k ≤ length name → take k (join (take k name) last) ≡ take k name
+pub take-scope : (k : ℕ) (name last : List ℕ) → k ≤ length name → take k (join (take k name) last) ≡ take k name
 take-scope k name last within = (λ j. take (sym (length-front k name within) j) (join (take k name) last)) ∙ take-join (take k name) last
 
 -- the lists that are left behind a record: those in it, and then the others of its own

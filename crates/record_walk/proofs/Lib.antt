@@ -18,5 +18,6 @@ pub mod Reached
 pub mod Rests
 pub mod Cursors
 pub mod Passing
+pub mod InPlace
 pub mod Telling
 pub mod Tells

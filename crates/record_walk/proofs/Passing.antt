@@ -39,7 +39,7 @@ both-parts k wanted ds es first second = record {
   uncounted = counted-append k ds es ∙ ap (λ n. counted n es) first.uncounted ∙ second.uncounted;
 }
 
-walk-parts : (here : Surrounding) (tag : ℤ) (i : ℕ) (k : Counts) (wanted : Bool) (ps : List Proto) → AreParts ps → wanted ≡ true → Parts k wanted (protos_walk here tag i k ps)
+pub walk-parts : (here : Surrounding) (tag : ℤ) (i : ℕ) (k : Counts) (wanted : Bool) (ps : List Proto) → AreParts ps → wanted ≡ true → Parts k wanted (protos_walk here tag i k ps)
 walk-parts here tag i k wanted [] are want = no-parts k wanted
 walk-parts here tag i k wanted (of_field f ∷ ps) are want =
     let rest = walk-parts here tag (suc i) k wanted ps are.1 want in record { are = ((refl, want), rest.are); uncounted = rest.uncounted }

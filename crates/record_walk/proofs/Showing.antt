@@ -3,12 +3,7 @@ use Rattle.std.proofs.Common.{◌≡◌, ◌↔◌, Bool, true, List, [], ◌∷
 use Rattle.std.specs.List.{AllByRecursion}
 use Rattle.record_walk.specs.Parts.{is_part}
 use Rattle.record_walk.specs.Shown.{Shown}
-use Rattle.record_walk.specs.Visitor.{Progress, HasSeen}
-
--- it has been shown all of a list but the rest
-pub record Remains (after : List Shown → Progress) (ready : List Shown → Type 0) (after-now : List Shown → Progress) (ready-now : List Shown → Type 0) (all rest : List Shown) : Type 0 where
-  pub after_is : (more : List Shown) → after-now (rest ++ more) ≡ after (all ++ more)
-  pub ready_is : (more : List Shown) → ready-now (rest ++ more) ↔ ready (all ++ more)
+use Rattle.record_walk.specs.Visitor.{Progress, HasSeen, Remains}
 
 pub remains-all : (A : List Shown → Progress) (R : List Shown → Type 0) (all : List Shown) → Remains A R A R all all
 remains-all A R all = record { after_is = λ more. refl; ready_is = λ more. (λ r. r, λ r. r) }
@@ -59,4 +54,11 @@ module _ {A : List Shown → Progress} {R : List Shown → Type 0} {B : List Sho
   remains-last last left seen = record {
     after_is = λ more. seen.after_is more ∙ left.after_is more;
     ready_is = λ more. (λ t. (left.ready_is more).0 ((seen.ready_is more).0 t), λ r. (seen.ready_is more).1 ((left.ready_is more).1 r));
+  }
+
+  -- it is shown more of the rest
+  pub remains-after : (rest fewer : List Shown) → Remains A R B S all rest → Remains B S C T rest fewer → Remains A R C T all fewer
+  remains-after rest fewer left later = record {
+    after_is = λ more. later.after_is more ∙ left.after_is more;
+    ready_is = λ more. (λ t. (left.ready_is more).0 ((later.ready_is more).0 t), λ r. (later.ready_is more).1 ((left.ready_is more).1 r));
   }

@@ -1,16 +1,23 @@
 -- The parts of declarations: fields, oneofs, methods and values, which a walk may pass over.
-use Rattle.std.specs.Prelude.{◌≡◌, ◌↔◌, Bool, true, false, List, [], ◌∷◌, ◌++◌}
+use Rattle.std.specs.Prelude.{◌≡◌, ◌↔◌, ℕ, ◌≤◌, Bool, true, false, List, [], ◌∷◌, ◌++◌, length}
+use Rattle.std.specs.Prelude.{take, string_bytes}
+use Rattle.std.specs.String.Boundary.{IsSplitPoint}
 use Rattle.std.specs.List.{AllByRecursion}
 use Rattle.std.specs.declared.option.Option.{Option}
 use Rattle.record_walk.specs.declared.walking.cursor.Cursor.{Cursor}
 use Rattle.record_walk.specs.declared.walking.located.Located.{Located}
 use Rattle.record_walk.specs.declared.walking.records.Records.{Records}
 use Rattle.record_walk.specs.declared.walking.records.Records.TheVariants as records
+use Rattle.record_walk.specs.declared.walking.row.Depth.{Depth}
+use Rattle.record_walk.specs.declared.walking.row.Row.{Row}
+use Rattle.record_walk.specs.declared.walking.site.Site.{Site}
 use Rattle.record_walk.specs.Counts.{counted}
-use Rattle.record_walk.specs.Cursor.{Advances, IsSound, Line, left}
+use Rattle.record_walk.specs.Cursor.{Advances, IsSound, Line, Stands, depth_of, left, line_in}
+use Rattle.record_walk.specs.Cursor.{rest_at}
 use Rattle.record_walk.specs.Protos.{Proto, of_field, of_oneof, of_method, of_value}
-use Rattle.record_walk.specs.Shown.{Shown}
+use Rattle.record_walk.specs.Shown.{Shown, Surrounding, row}
 use Rattle.record_walk.specs.Visitor.{Progress}
+use Rattle.record_walk.specs.Walking.{protos_in}
 
 -- whether a record is a part of the one that it stands in
 abbrev pub is_part : Proto → Bool
@@ -58,3 +65,32 @@ pub record Passes (wanted : Bool) (old new : Cursor) : Type 0 where
 abbrev pub AdvancesPast : Bool → Cursor → Cursor → Option Located → Type 0
 AdvancesPast wanted old new next =
     (between : Cursor) × Passes wanted old between × Advances between new next
+
+-- a cursor has gone on, and counted all that it went over
+pub record GoesOn (old new : Cursor) : Type 0 where
+  pub sound : IsSound new
+  pub counts_are : counted new.counts (left new) ≡ counted old.counts (left old)
+  pub fewer : length (left new) ≤ length (left old)
+
+-- a row stands in the path and the full name of a site
+abbrev pub StandsAt : Site → Row → Type 0
+StandsAt s r = Stands (depth_of s.path.items (string_bytes s.name)) (string_bytes s.name) (line_in r)
+
+-- what surrounds the records of a row that stands at a site
+abbrev pub surrounding : Site → Row → Surrounding
+surrounding s r = (rest_at s.file s.path.items (string_bytes s.name) (line_in r)).here
+
+-- the parts of a row that stands at a site, each as the declaration that it is
+abbrev pub row_parts : Site → Row → List Shown
+row_parts s r =
+    row (λ p. p) (surrounding s r) r.at.tag r.at.position r.at.position (protos_in r.records)
+
+-- a site is in the same file as before, and begins as before up to a depth
+pub record KeepsFront (depth : Depth) (old new : Site) : Type 0 where
+  pub file : new.file ≡ old.file
+  pub path : take depth.path new.path.items ≡ take depth.path old.path.items
+  pub name : take depth.scope (string_bytes new.name) ≡ take depth.scope (string_bytes old.name)
+  pub long_path : depth.path ≤ length new.path.items
+  pub long_name : depth.scope ≤ length (string_bytes new.name)
+  pub cut : (k : ℕ) → k ≤ depth.scope → IsSplitPoint (string_bytes old.name) k
+      → IsSplitPoint (string_bytes new.name) k

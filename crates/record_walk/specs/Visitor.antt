@@ -20,6 +20,13 @@ pub record HasSeen (after : List Shown → Progress) (ready : List Shown → Typ
   pub after_is : (rest : List Shown) → after-now rest ≡ after (ds ++ rest)
   pub ready_is : (rest : List Shown) → ready-now rest ↔ ready (ds ++ rest)
 
+-- a visitor has been shown all of a list but the rest
+pub record Remains (after : List Shown → Progress) (ready : List Shown → Type 0)
+    (after-now : List Shown → Progress) (ready-now : List Shown → Type 0)
+    (all rest : List Shown) : Type 0 where
+  pub after_is : (more : List Shown) → after-now (rest ++ more) ≡ after (all ++ more)
+  pub ready_is : (more : List Shown) → ready-now (rest ++ more) ↔ ready (all ++ more)
+
 -- of a list, each entry before a position has become something else, one is free, and each behind
 -- it is as it was
 abbrev pub StopsAt : {X : Type 0} → (X → X → Type 0) → ℕ → List X → List X → Type 0

@@ -10,6 +10,7 @@ ghost use Rattle.record_walk.specs.Walking.{Room};
 mod cursor;
 mod located;
 mod part;
+mod parts;
 mod records;
 mod row;
 mod rows;
@@ -19,6 +20,7 @@ use crate::counts::Counts;
 use crate::visitor::Visitor;
 use cursor::Cursor;
 use located::show_file;
+use parts::walk_parts;
 use pool_types::FileDescriptorInner;
 use proto_types::FileDescriptorProto;
 use std::alloc::{AllocError, Global};
@@ -186,6 +188,7 @@ fn walk_left<V: Visitor>(cursor: &mut Cursor, visitor: &mut V) -> Result<(), All
     let skips_parts = visitor.skips_parts();
     while let Some(declaration) = cursor.advance_past(skips_parts)? {
         declaration.show(&cursor.site, visitor)?;
+        walk_parts(cursor, skips_parts, visitor)?;
     }
     Ok(())
 }

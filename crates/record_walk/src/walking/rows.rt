@@ -68,6 +68,18 @@ impl<'a> Rows<'a> {
         }
     }
 
+    /// Takes the next list off, if it is one of parts.
+    pub(crate) fn pop_parts(&mut self) -> Option<Row<'a>>
+        ensures { MatchOption result (lines self.new ≡ lines self.old)
+            (λ row. (lines self.old ≡ line_in row ∷ lines self.new)
+            × AreParts (protos_in row.records)) }
+    {
+        if !self.begins_with_parts() {
+            return None;
+        }
+        self.pop()
+    }
+
     /// Whether a list of parts comes next.
     fn begins_with_parts(&self) -> bool
         ensures { IsTrue result → (l : Line) × (ls : List Line) × (lines self.now ≡ l ∷ ls)

@@ -1,7 +1,7 @@
 use Rattle.std.proofs.Common.{◌≡◌, drop}
 use Rattle.record_walk.specs.Declarations.{declarations}
 use Rattle.record_walk.specs.Walking.{Room}
-use Rattle.record_walk.proofs.Showing.{Remains}
+use Rattle.record_walk.specs.Visitor.{Remains}
 use Rattle.record_walk.proofs.walking.visit.Given as goal
 
 -- the files from this position on are left to be shown, and there is room for them

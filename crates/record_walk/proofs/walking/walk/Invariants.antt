@@ -2,7 +2,7 @@ use Rattle.std.proofs.Common.{◌≡◌, drop, map}
 use Rattle.pool_types.specs.declared.contents.file.FileDescriptorInner.{FileDescriptorInner}
 use Rattle.record_walk.specs.Declarations.{declarations}
 use Rattle.record_walk.specs.Walking.{Room}
-use Rattle.record_walk.proofs.Showing.{Remains}
+use Rattle.record_walk.specs.Visitor.{Remains}
 use Rattle.record_walk.proofs.walking.walk.Given as goal
 
 -- the files from this position on are left to be shown, and there is room for them

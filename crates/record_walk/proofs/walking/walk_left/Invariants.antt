@@ -1,7 +1,7 @@
 use Rattle.std.proofs.Common.{◌≡◌, length}
 use Rattle.record_walk.specs.Counts.{counted}
 use Rattle.record_walk.specs.Cursor.{IsSound, left}
-use Rattle.record_walk.proofs.Showing.{Remains}
+use Rattle.record_walk.specs.Visitor.{Remains}
 use Rattle.record_walk.proofs.walking.walk_left.Given as goal
 
 -- what the cursor has before it is left to be shown
