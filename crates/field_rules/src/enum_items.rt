@@ -11,7 +11,7 @@ ghost use Rattle.field_rules.specs.EnumValues.{values_faults};
 
 use crate::enum_tables::{value_names, value_numbers};
 use crate::enum_values::{allows_alias, check_values};
-use crate::{identity, identity_beside};
+use crate::{ListPlace, identity, identity_beside};
 use plain_data::Items;
 use pool_types::{EnumDescriptorInner, EnumValueDescriptorInner};
 use proto_types::{EnumDescriptorProto, tag};
@@ -79,14 +79,11 @@ fn read_values(
     let mut items = Vec::with_capacity(alloc, values.len())?;
     let own_name = enumeration.name();
     for (position, value) in values.iter().enumerate() {
-        let id = identity_beside(
-            alloc,
-            place,
-            own_name,
-            tag::enum_::VALUE,
+        let at = ListPlace {
+            tag: tag::enum_::VALUE,
             position,
-            value.name(),
-        )?;
+        };
+        let id = identity_beside(alloc, place, own_name, at, value.name())?;
         items.push(EnumValueDescriptorInner {
             id,
             number: value.number(),

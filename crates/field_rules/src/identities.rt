@@ -27,34 +27,40 @@ pub fn identity(alloc: Global, place: Place, name: &str) -> Result<Identity, All
     Ok(named_at(place.file, path, full_name, name))
 }
 
-/// Where an entry of a list of a declaration stands that is named inside it. The tag is the list's
-/// field number in descriptor.proto, and positions count from 0 and are below 2 to the 31st. The
-/// name begins in the full name where a character begins.
+/// The place of an entry in a list of a declaration.
+#[derive(Clone, Copy)]
+pub struct ListPlace {
+    /// The list's field number in descriptor.proto.
+    pub tag: i32,
+    /// From 0.
+    pub position: usize,
+}
+
+/// Where an entry of a list of a declaration stands that is named inside it. Its position is below
+/// 2 to the 31st. The name begins in the full name where a character begins.
 ///
 /// # Errors
 /// `AllocError` where memory was refused.
 pub fn identity_inside(
     alloc: Global,
     place: Place,
-    tag: i32,
-    position: usize,
+    at: ListPlace,
     name: &str,
 ) -> Result<Identity, AllocError>
-    requires { position < 2 ^ 31 }
+    requires { at.position < 2 ^ 31 }
     ensures id { IfOk result (λ id. id ≡ named_at place.entry.file
-        (entry_path place.entry.path.now tag position)
+        (entry_path place.entry.path.now at.tag at.position)
         (join place.entry.full_name.now name.now) name.now) }
     ensures begins { IfOk result (λ id. BeginsAtBoundary id) }
 {
-    let path = Path::below(alloc, place.path, tag, position as i32)?;
+    let path = Path::below(alloc, place.path, at.tag, at.position as i32)?;
     let full_name = join_text(alloc, place.full_name, name)?;
     Ok(named_at(place.file, path, full_name, name))
 }
 
 /// Where an entry of a list of a declaration stands that is named beside it. The declaration's own
-/// name ends its full name. The tag is the list's field number in descriptor.proto, and positions
-/// count from 0 and are below 2 to the 31st. The name begins in the full name where a character
-/// begins.
+/// name ends its full name. The entry's position is below 2 to the 31st. The name begins in the
+/// full name where a character begins.
 ///
 /// # Errors
 /// `AllocError` where memory was refused.
@@ -62,18 +68,17 @@ pub fn identity_beside(
     alloc: Global,
     place: Place,
     own_name: &str,
-    tag: i32,
-    position: usize,
+    at: ListPlace,
     name: &str,
 ) -> Result<Identity, AllocError>
-    requires position { position < 2 ^ 31 }
+    requires position { at.position < 2 ^ 31 }
     requires ends { EndsWith place.full_name.now own_name.now }
     ensures id { IfOk result (λ id. id ≡ named_at place.entry.file
-        (entry_path place.entry.path.now tag position)
+        (entry_path place.entry.path.now at.tag at.position)
         (before_ending place.entry.full_name.now own_name.now ++ name.now) name.now) }
     ensures begins { IfOk result (λ id. BeginsAtBoundary id) }
 {
-    let path = Path::below(alloc, place.path, tag, position as i32)?;
+    let path = Path::below(alloc, place.path, at.tag, at.position as i32)?;
     let around = front(place.full_name, own_name);
     let full_name = Text::concatenated(alloc, around, "", name)?;
     Ok(named_at(place.file, path, full_name, name))

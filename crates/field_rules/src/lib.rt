@@ -40,7 +40,7 @@ pub use enum_values::{allows_alias, check_values};
 pub use escape_faults::{EscapeFault, ValueFault};
 pub use escapes::unescape_c_escape_string;
 pub use field_number::is_valid_number;
-pub use identities::{identity, identity_beside, identity_inside};
+pub use identities::{ListPlace, identity, identity_beside, identity_inside};
 pub use laws::{escaped_is_one, refused_is_one, unescaped_is_escaped};
 pub use maps::{FieldMaps, item_number};
 pub use message_ranges::MessageRanges;

@@ -308,18 +308,26 @@ impl DescriptorErrorKind {
     }
 }
 
-/// Writes that a number lies in a range, of which it shows the first number and the last.
+/// A range by the word for what it is made of, with its first number and its last.
+#[derive(Clone, Copy)]
+struct NamedRange<'a> {
+    range: &'a str,
+    first: i32,
+    last: i64,
+}
+
+/// Writes that a number lies in a range.
 fn fmt_in_range<W: fmt::Write>(
     f: &mut fmt::Formatter<W>,
     what: &str,
     number: i32,
-    range: &str,
-    first: i32,
-    last: i64,
+    around: NamedRange,
 ) -> fmt::Result
     ensures { DisplaysOnOk W.write_str_gives f.old result
-        (Some (range_text what.now number range.now first last)) f.new }
+        (Some (range_text what.now number around.entry.range.now around.entry.first
+        around.entry.last)) f.new }
 {
+    let NamedRange { range, first, last } = around;
     write!(
         f,
         "{what} number '{number}' conflicts with {range} range '{first} to {last}'"
@@ -338,7 +346,12 @@ fn fmt_field_in_range<W: fmt::Write>(
         (Some (range_text (codes "field") number.now range.now start.now (end.now -ℤ pos 1)))
         f.new }
 {
-    fmt_in_range(f, "field", *number, range, *start, i64::from(*end) - 1)
+    let around = NamedRange {
+        range,
+        first: *start,
+        last: i64::from(*end) - 1,
+    };
+    fmt_in_range(f, "field", *number, around)
 }
 
 /// Writes that the number of an enum's value lies in a range, up to an end that is in it.
@@ -352,7 +365,12 @@ fn fmt_value_in_range<W: fmt::Write>(
     ensures { DisplaysOnOk W.write_str_gives f.old result
         (Some (range_text (codes "enum") number.now range.now start.now end.now)) f.new }
 {
-    fmt_in_range(f, "enum", *number, range, *start, i64::from(*end))
+    let around = NamedRange {
+        range,
+        first: *start,
+        last: i64::from(*end),
+    };
+    fmt_in_range(f, "enum", *number, around)
 }
 
 /// Writes that a message does not leave a number to extensions.

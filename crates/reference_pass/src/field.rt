@@ -17,8 +17,8 @@ ghost use Rattle.pool_types.specs.Syntaxes.{is_proto3, syntax_at};
 use crate::reading::Reading;
 use crate::types::type_and_default;
 use field_rules::{
-    MessageRanges, Owner, check_field_number, check_oneof_index, identity_inside, is_packed,
-    item_number, oneof_of, supports_presence,
+    ListPlace, MessageRanges, Owner, check_field_number, check_oneof_index, identity_inside,
+    is_packed, item_number, oneof_of, supports_presence,
 };
 use plain_data::duplicate_option;
 use pool_types::{
@@ -66,7 +66,11 @@ pub(crate) fn read_field(
     let alloc = reading.faults.alloc;
     let around = of.owner.place;
     let field = &of.owner.message.field.as_slice()[position];
-    let id = identity_inside(alloc, around, tag::message::FIELD, position, field.name())?;
+    let at = ListPlace {
+        tag: tag::message::FIELD,
+        position,
+    };
+    let id = identity_inside(alloc, around, at, field.name())?;
     let place = Place {
         file: around.file,
         parent: Some(around.index),

@@ -16,7 +16,7 @@ ghost use Rattle.reference_pass.specs.Reading.{ReadingTells, setting_of};
 
 use crate::field::{FieldOwner, is_proto3, read_field};
 use crate::reading::Reading;
-use field_rules::{FieldMaps, MessageRanges, Owner, identity, identity_inside, members};
+use field_rules::{FieldMaps, ListPlace, MessageRanges, Owner, identity, identity_inside, members};
 use plain_data::{Items, NumberMap};
 use pool_types::{FieldDescriptorInner, MessageDescriptorInner, OneofDescriptorInner};
 use proto_types::{DescriptorProto, tag};
@@ -122,8 +122,11 @@ fn read_oneofs(
     let lists = members(alloc, oneofs, message.field.as_slice())?;
     let mut items = Vec::with_capacity(alloc, oneofs.len())?;
     for (position, oneof) in oneofs.iter().enumerate() {
-        let tag = tag::message::ONEOF_DECL;
-        let id = identity_inside(alloc, place, tag, position, oneof.name())?;
+        let at = ListPlace {
+            tag: tag::message::ONEOF_DECL,
+            position,
+        };
+        let id = identity_inside(alloc, place, at, oneof.name())?;
         let fields = Items::from_slice(alloc, lists[position].as_slice())?;
         items.push(OneofDescriptorInner { id, fields })?;
     }

@@ -17,7 +17,7 @@ ghost use Rattle.reference_pass.specs.Reading.{ReadingTells, setting_of};
 
 use crate::reading::Reading;
 use crate::references::{index_or_max, message_index_or_max};
-use field_rules::{identity, identity_inside};
+use field_rules::{ListPlace, identity, identity_inside};
 use name_resolution::ResolveNameFilter;
 use plain_data::Items;
 use pool_types::{MethodDescriptorInner, ServiceDescriptorInner};
@@ -90,13 +90,11 @@ fn read_method(
         (method_at (inside_of service.entry) position method.now) method.now)) }
 {
     let alloc = reading.faults.alloc;
-    let id = identity_inside(
-        alloc,
-        service,
-        tag::service::METHOD,
+    let at = ListPlace {
+        tag: tag::service::METHOD,
         position,
-        method.name(),
-    )?;
+    };
+    let id = identity_inside(alloc, service, at, method.name())?;
     let place = Place {
         file: service.file,
         parent: Some(service.index),

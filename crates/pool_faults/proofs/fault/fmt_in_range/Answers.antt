@@ -5,9 +5,9 @@ use Rattle.pool_faults.proofs.fault.fmt_in_range.Goals as goal
 pub returns : goal.returns
 returns g c =
     let number_fits : FitsSigned w32 c.args.number = search rules in
-    let first_fits : FitsSigned w32 c.args.first = search rules in
-    let last_fits : FitsSigned w64 c.args.last = search rules in
+    let first_fits : FitsSigned w32 c.args.around.first = search rules in
+    let last_fits : FitsSigned w64 c.args.around.last = search rules in
     let number : c.args.number ≡ to_z w32 (of_z w32 c.args.number) = sym (to_z-of_z number_fits) in
-    let first : c.args.first ≡ to_z w32 (of_z w32 c.args.first) = sym (to_z-of_z first_fits) in
-    let last : c.args.last ≡ to_z w64 (of_z w64 c.args.last) = sym (to_z-of_z last_fits) in
+    let first : c.args.around.first ≡ to_z w32 (of_z w32 c.args.around.first) = sym (to_z-of_z first_fits) in
+    let last : c.args.around.last ≡ to_z w64 (of_z w64 c.args.around.last) = sym (to_z-of_z last_fits) in
     rw number (rw first (rw last c.write.ensures.writes))
