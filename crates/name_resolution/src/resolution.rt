@@ -79,32 +79,40 @@ pub fn resolve_name<'a, N: NameTable>(
         ≡ resolution (N.names names.now) (λ n. contains_by (nat_cmp n) visible.now) filter
         scope.now name.now) }
 {
+    let wanted = Wanted { visible, filter };
+    let reference = ScopedName { scope, name };
     match name.strip_prefix('.') {
-        Some(full_name) => look_up(alloc, visible, names, full_name, filter),
-        None if scope.is_empty() => look_up(alloc, visible, names, name, filter),
-        None if name.contains('.') => resolve_dotted(alloc, visible, names, scope, name, filter),
-        None => resolve_simple(alloc, visible, names, scope, name, filter),
+        Some(full_name) => look_up(alloc, wanted, names, full_name),
+        None if scope.is_empty() => look_up(alloc, wanted, names, name),
+        None if name.contains('.') => resolve_dotted(alloc, wanted, names, reference),
+        None => resolve_simple(alloc, wanted, names, reference),
     }
+}
+
+/// A name, and the scope in which it is written.
+#[derive(Clone, Copy)]
+struct ScopedName<'s> {
+    scope: &'s str,
+    name: &'s str,
 }
 
 /// What a name without a dot means.
 fn resolve_simple<'a, N: NameTable>(
     alloc: Global,
-    visible: &BTreeSet<u32>,
+    wanted: Wanted,
     names: &'a N,
-    scope: &str,
-    name: &str,
-    filter: ResolveNameFilter,
+    reference: ScopedName,
 ) -> Result<ResolveNameResult<'a>, AllocError>
     ensures { IfOk result (λ r. resolution_in r
-        ≡ simple (N.names names.now) (λ n. contains_by (nat_cmp n) visible.now) filter
-        (outer scope.now) name.now) }
+        ≡ simple (N.names names.now) (λ n. contains_by (nat_cmp n) wanted.entry.visible.now)
+        wanted.entry.filter (outer reference.entry.scope.now) reference.entry.name.now) }
 {
     let mut best = ResolveNameResult::NotFound;
-    let mut full_name = String::with_capacity(alloc, scope.len() + 1 + name.len())?;
-    for parent in CandidateParents::new(scope) {
-        write_joined(&mut full_name, parent, name)?;
-        let answer = look_up(alloc, visible, names, full_name.as_str(), filter)?;
+    let longest = reference.scope.len() + 1 + reference.name.len();
+    let mut full_name = String::with_capacity(alloc, longest)?;
+    for parent in CandidateParents::new(reference.scope) {
+        write_joined(&mut full_name, parent, reference.name)?;
+        let answer = look_up(alloc, wanted, names, full_name.as_str())?;
         if answer.is_found() {
             return Ok(answer);
         }
@@ -116,24 +124,23 @@ fn resolve_simple<'a, N: NameTable>(
 /// What a name with a dot means.
 fn resolve_dotted<'a, N: NameTable>(
     alloc: Global,
-    visible: &BTreeSet<u32>,
+    wanted: Wanted,
     names: &'a N,
-    scope: &str,
-    name: &str,
-    filter: ResolveNameFilter,
+    reference: ScopedName,
 ) -> Result<ResolveNameResult<'a>, AllocError>
     ensures { IfOk result (λ r. resolution_in r
-        ≡ dotted (N.names names.now) (λ n. contains_by (nat_cmp n) visible.now) filter
-        (outer scope.now) name.now) }
+        ≡ dotted (N.names names.now) (λ n. contains_by (nat_cmp n) wanted.entry.visible.now)
+        wanted.entry.filter (outer reference.entry.scope.now) reference.entry.name.now) }
 {
-    let first = first_part(name);
-    let mut full_name = String::with_capacity(alloc, scope.len() + 1 + name.len())?;
-    for parent in CandidateParents::new(scope) {
+    let first = first_part(reference.name);
+    let longest = reference.scope.len() + 1 + reference.name.len();
+    let mut full_name = String::with_capacity(alloc, longest)?;
+    for parent in CandidateParents::new(reference.scope) {
         write_joined(&mut full_name, parent, first)?;
         if is_parent(names, full_name.as_str()) {
-            write_joined(&mut full_name, parent, name)?;
-            let answer = look_up(alloc, visible, names, full_name.as_str(), filter)?;
-            return answer.or_shadowed(alloc, name, full_name);
+            write_joined(&mut full_name, parent, reference.name)?;
+            let answer = look_up(alloc, wanted, names, full_name.as_str())?;
+            return answer.or_shadowed(alloc, reference.name, full_name);
         }
     }
     Ok(ResolveNameResult::NotFound)
@@ -161,20 +168,19 @@ fn is_parent<N: NameTable>(names: &N, full_name: &str) -> bool
 /// What a full name means.
 fn look_up<'a, N: NameTable>(
     alloc: Global,
-    visible: &BTreeSet<u32>,
+    wanted: Wanted,
     names: &'a N,
     full_name: &str,
-    filter: ResolveNameFilter,
 ) -> Result<ResolveNameResult<'a>, AllocError>
     ensures { IfOk result (λ r. resolution_in r
-        ≡ look (N.names names.now) (λ n. contains_by (nat_cmp n) visible.now) filter
-        full_name.now) }
+        ≡ look (N.names names.now) (λ n. contains_by (nat_cmp n) wanted.entry.visible.now)
+        wanted.entry.filter full_name.now) }
 {
     let Some(def) = names.get(full_name) else {
         return Ok(ResolveNameResult::NotFound);
     };
     let name = Text::from_str(alloc, full_name)?;
-    Ok(Wanted { visible, filter }.judge(name, def))
+    Ok(wanted.judge(name, def))
 }
 
 impl<'a> ResolveNameResult<'a> {

@@ -10,5 +10,5 @@ abbrev pub invariant-loop-parent : goal.invariant-loop-parent
 invariant-loop-parent g l =
     (goal.iterator-loop-parent g).can_next l.parent-iterator
     × (goal.iterator-loop-parent g).is_finite l.parent-iterator
-    × (dotted (g.N.NameTable.names l.names) (λ n. contains_by (nat_cmp n) l.visible) l.filter l.parent-iterator l.name
-    ≡ dotted (g.N.NameTable.names l.names) (λ n. contains_by (nat_cmp n) l.visible) l.filter (outer l.scope) l.name)
+    × (dotted (g.N.NameTable.names l.names) (λ n. contains_by (nat_cmp n) l.wanted.visible.now) l.wanted.filter l.parent-iterator l.reference.name.now
+    ≡ dotted (g.N.NameTable.names l.names) (λ n. contains_by (nat_cmp n) l.wanted.visible.now) l.wanted.filter (outer l.reference.scope.now) l.reference.name.now)

@@ -11,5 +11,5 @@ abbrev pub invariant-loop-parent : goal.invariant-loop-parent
 invariant-loop-parent g l =
     (goal.iterator-loop-parent g).can_next l.parent-iterator
     × (goal.iterator-loop-parent g).is_finite l.parent-iterator
-    × (best_from (resolution_in l.best) (answers (g.N.NameTable.names l.names) (λ n. contains_by (nat_cmp n) l.visible) l.filter l.name l.parent-iterator)
-    ≡ simple (g.N.NameTable.names l.names) (λ n. contains_by (nat_cmp n) l.visible) l.filter (outer l.scope) l.name)
+    × (best_from (resolution_in l.best) (answers (g.N.NameTable.names l.names) (λ n. contains_by (nat_cmp n) l.wanted.visible.now) l.wanted.filter l.reference.name.now l.parent-iterator)
+    ≡ simple (g.N.NameTable.names l.names) (λ n. contains_by (nat_cmp n) l.wanted.visible.now) l.wanted.filter (outer l.reference.scope.now) l.reference.name.now)
