@@ -82,7 +82,10 @@ impl Joining {
     }
 
     /// These files, and a further one.
-    fn with_file(self, file: SetFile) -> Result<Joining, AllocError>
+    ///
+    /// # Errors
+    /// `AllocError` where memory was refused.
+    pub fn with_file(self, file: SetFile) -> Result<Joining, AllocError>
         ensures { IfOk result (λ joining. joining ≡ joined self file) }
     {
         let Joining {
@@ -126,11 +129,11 @@ impl Joining {
 fn records(alloc: Global, files: Vec<SetFile>) -> Result<Items<FileDescriptorProto>, AllocError>
     ensures { IfOk result (λ records. records ≡ map (λ f. f.file) files.items) }
 {
-    let mut records = Items::new(alloc);
+    let mut records = Vec::with_capacity(alloc, files.len())?;
     for file in files {
         records.push(file.file)?;
     }
-    Ok(records)
+    Ok(Items::from_vec(records))
 }
 
 /// Joins a file to others, which have some names; tells of it if it differs from the first with its

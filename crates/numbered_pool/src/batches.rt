@@ -3,14 +3,23 @@
 ghost use Rattle.std.specs.Prelude.{◌≡◌, IfOk, string_bytes};
 ghost use Rattle.numbered_pool.specs.Batches as spec;
 
-use crate::reading::only;
-use joined_files::{JoinedFiles, Joining};
-use plain_data::Items;
+use joined_files::{JoinedFiles, Joining, SetFile};
+use plain_data::{Items, Text};
 use proto_types::FileDescriptorProto;
 use std::alloc::{AllocError, Global};
 
 /// What a file is called among others, by its position from 0: its number from 1.
 fn file_words(alloc: Global, position: usize) -> Result<String, AllocError>
+    ensures { IfOk result (λ s. string_bytes s ≡ spec.file_words position) }
+{
+    match position.checked_add(1) {
+        Some(number) => format!(in alloc; "file {number}"),
+        None => far_words(alloc, position),
+    }
+}
+
+/// What a file would be called whose number has more than 64 bits.
+fn far_words(alloc: Global, position: usize) -> Result<String, AllocError>
     ensures { IfOk result (λ s. string_bytes s ≡ spec.file_words position) }
 {
     let number = position as u128 + 1;
@@ -29,8 +38,8 @@ pub(crate) fn batch_of(
 {
     let mut joining = Joining::new(alloc);
     for (position, file) in files.into_vec().into_iter().enumerate() {
-        let words = file_words(alloc, position)?;
-        joining = joining.with_set(words.as_str(), only(alloc, file)?)?;
+        let set = Text::from_string(file_words(alloc, position)?);
+        joining = joining.with_file(SetFile { set, file })?;
     }
     joining.into_files()
 }
