@@ -31,6 +31,10 @@ ALONE = re.compile(r"(?:The same|As|So|Of)\b")
 """How a comment begins that leans on what stands before it."""
 USE = re.compile(r"^pub use ([^;]*);", re.MULTILINE)
 """What a crate hands on."""
+FUNCTION = re.compile(r"^(?P<indent>[ \t]*)(?P<head>[^\n/]*)\bfn (?P<name>\w+)", re.MULTILINE)
+"""The head of a function."""
+IMPL = re.compile(r"^impl(?:<[^>]*>)? (?:[\w<>', ]+ for )?(\w+)", re.MULTILINE)
+"""An implementation of a type, and its name."""
 
 
 class Measure(NamedTuple):
@@ -94,14 +98,24 @@ def handed_on() -> set[str]:
     return {it for text in texts for use in USE.findall(text) for it in re.findall(r"\w+", use)}
 
 
+def is_export(found: re.Match[str], before: str, exported: set[str]) -> bool:
+    """Whether a function is a call of C, or one that a face hands on, by itself or with its type."""
+    if 'extern "C"' in found["head"] or found["name"] in exported:
+        return True
+    types = IMPL.findall(before)
+    is_method = found["indent"] != "" and "pub " in found["head"]
+    return is_method and types != [] and types[-1] in exported
+
+
 def functions() -> Iterator[tuple[str, int]]:
     """Each function but calls of visitors and exports, where it stands and its parameters."""
     exported = handed_on()
     for path in files("src/**/*.rt"):
         text = path.read_text()
-        for found in re.finditer(r"^[ \t]*(?P<head>[^\n/]*)\bfn (?P<name>\w+)", text, re.MULTILINE):
-            is_call = found["name"].startswith("visit_") or found["name"] in exported
-            if is_call or 'extern "C"' in found["head"]:
+        for found in FUNCTION.finditer(text):
+            if found["name"].startswith("visit_"):
+                continue
+            if is_export(found, text[: found.start()], exported):
                 continue
             start = text.find("(", behind_generics(text, found.end()))
             depth, end = 1, start + 1
