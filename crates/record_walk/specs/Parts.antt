@@ -74,7 +74,8 @@ pub record GoesOn (old new : Cursor) : Type 0 where
 
 -- a row stands in the path and the full name of a site
 abbrev pub StandsAt : Site → Row → Type 0
-StandsAt s r = Stands (depth_of s.path.items (string_bytes s.name)) (string_bytes s.name) (line_in r)
+StandsAt s r = Stands (depth_of s.path.items (string_bytes s.name)) (string_bytes s.name)
+    (line_in r)
 
 -- what surrounds the records of a row that stands at a site
 abbrev pub surrounding : Site → Row → Surrounding
