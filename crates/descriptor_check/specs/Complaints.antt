@@ -18,11 +18,16 @@ no_answer report complaint =
 abbrev pub no_verdict : List ℕ → Answer
 no_verdict words = no_answer [] (complaint words)
 
+-- the arguments of a check against older versions
+abbrev pub usage_against : List ℕ
+usage_against = codes
+    "       check_descriptors --against OLD... [--compatibility WHICH] [--level LEVEL] .. FILE...\n"
+
 -- the arguments that there are
 abbrev pub usage : List ℕ
 usage = codes "usage: check_descriptors [--json] [--max-faults N] [--linked OUT] FILE...\n"
     ++ (codes "       check_descriptors [--list] [--describe NAME]... [--linked OUT] FILE...\n"
-    ++ codes "       check_descriptors --against OLD... [--compatibility WHICH] [--level LEVEL] .. FILE...\n")
+    ++ usage_against)
 
 -- no verdict since arguments are wrong, and why, with those that there are
 abbrev pub wrong_arguments : List ℕ → Answer

@@ -20,6 +20,13 @@ use plain_data::Text;
 use pool_changes::{Comparison, Direction, Level, ToldChanges, tell_changes};
 use std::alloc::{AllocError, Global};
 
+/// What is wanted of a check, and the older versions that it is against.
+#[derive(Clone, Copy)]
+struct WantedAgainst<'a> {
+    wanted: &'a Wanted,
+    olders: &'a [Older],
+}
+
 /// The verdict on the files of some inputs as `check` tells it, and behind it what an accepted
 /// batch changes of older versions, the files of each of which are linked alone, and first. Where
 /// something changes, the status is `Refused`, and no set is written. Where an older version is
@@ -40,7 +47,10 @@ pub fn check_against(
         return check(alloc, wanted, inputs);
     }
     match read_olders(alloc, wanted, older) {
-        Ok(olders) => check_batch(alloc, wanted, olders.as_slice(), inputs),
+        Ok(olders) => {
+            let olders = olders.as_slice();
+            check_batch(alloc, WantedAgainst { wanted, olders }, inputs)
+        }
         Err(OlderError::Answered(answer)) => with_told(alloc, wanted, &[], answer),
         Err(OlderError::OutOfMemory) => Err(AllocError),
     }
@@ -49,18 +59,17 @@ pub fn check_against(
 /// The verdict on the files of some inputs, and what they change of older versions.
 fn check_batch(
     alloc: Global,
-    wanted: &Wanted,
-    olders: &[Older],
+    against: WantedAgainst<'_>,
     inputs: &[Input],
 ) -> Result<Answer, AllocError>
-    ensures { IfOk result (λ answer. answer ≡ spec.batch_against wanted.now olders.now
-        (batch_of inputs.now)) }
+    ensures { IfOk result (λ answer. answer ≡ spec.batch_against against.entry.wanted.now
+        against.entry.olders.now (batch_of inputs.now)) }
 {
     match read_batch(alloc, inputs) {
-        Ok(joined) => check_joined(alloc, wanted, olders, joined),
+        Ok(joined) => check_joined(alloc, against, joined),
         Err(BatchError::NotASet(input)) => {
-            let answer = tell_unread(alloc, wanted, &input)?;
-            with_told(alloc, wanted, &[], answer)
+            let answer = tell_unread(alloc, against.wanted, &input)?;
+            with_told(alloc, against.wanted, &[], answer)
         }
         Err(BatchError::OutOfMemory) => Err(AllocError),
     }
@@ -69,32 +78,30 @@ fn check_batch(
 /// The verdict on the files of sets, and what they change of older versions.
 fn check_joined(
     alloc: Global,
-    wanted: &Wanted,
-    olders: &[Older],
+    against: WantedAgainst<'_>,
     joined: JoinedFiles,
 ) -> Result<Answer, AllocError>
-    ensures { IfOk result (λ answer. answer
-        ≡ spec.joined_against wanted.now olders.now joined) }
+    ensures { IfOk result (λ answer. answer ≡ spec.joined_against against.entry.wanted.now
+        against.entry.olders.now joined) }
 {
-    let lines = passed_over(alloc, wanted, joined.unequal.as_slice())?;
-    let judgement = judge(alloc, wanted, joined)?;
-    let answer = tell_against(alloc, wanted, olders, &judgement)?;
+    let lines = passed_over(alloc, against.wanted, joined.unequal.as_slice())?;
+    let judgement = judge(alloc, against.wanted, joined)?;
+    let answer = tell_against(alloc, against, &judgement)?;
     with_complaints(lines, answer)
 }
 
 /// What is told of a judgement, and of what changes.
 fn tell_against(
     alloc: Global,
-    wanted: &Wanted,
-    olders: &[Older],
+    against: WantedAgainst<'_>,
     judgement: &Judgement,
 ) -> Result<Answer, AllocError>
-    ensures { IfOk result (λ answer. answer
-        ≡ spec.judged_against wanted.now olders.now judgement.now) }
+    ensures { IfOk result (λ answer. answer ≡ spec.judged_against against.entry.wanted.now
+        against.entry.olders.now judgement.now) }
 {
-    let answer = tell_judgement(alloc, wanted, judgement)?;
-    let told = compared_for(alloc, wanted, olders, &judgement.verdict, answer.status)?;
-    with_told(alloc, wanted, told.as_slice(), answer)
+    let answer = tell_judgement(alloc, against.wanted, judgement)?;
+    let told = compared_for(alloc, against, &judgement.verdict, answer.status)?;
+    with_told(alloc, against.wanted, told.as_slice(), answer)
 }
 
 /// The directions that are wanted, in order.
@@ -117,15 +124,15 @@ fn level_wanted(wanted: &Wanted) -> Level
 
 /// Appends what a pool changes of an older version, in each direction that is wanted.
 fn tell_older(
-    alloc: Global,
-    wanted: &Wanted,
     told: &mut Vec<ToldChanges>,
+    wanted: &Wanted,
     older: &Older,
     pool: &DescriptorPool,
 ) -> Result<(), AllocError>
     ensures { OnOk result (told.new.items ≡ told.old.items
         ++ spec.compared_with wanted.now pool.now older.now) }
 {
+    let alloc = *told.allocator();
     for direction in directions(wanted.compatibility) {
         let comparison = Comparison {
             direction: *direction,
@@ -142,16 +149,15 @@ fn tell_older(
 /// What an accepted batch changes of older versions, by the status of the answer to it.
 fn compared_for(
     alloc: Global,
-    wanted: &Wanted,
-    olders: &[Older],
+    against: WantedAgainst<'_>,
     verdict: &Verdict,
     status: Status,
 ) -> Result<Vec<ToldChanges>, AllocError>
-    ensures { IfOk result (λ told. told.items
-        ≡ spec.compared_for wanted.now olders.now verdict.now status) }
+    ensures { IfOk result (λ told. told.items ≡ spec.compared_for against.entry.wanted.now
+        against.entry.olders.now verdict.now status) }
 {
     match verdict {
-        Verdict::Accepted(pool) => compared_if(alloc, wanted, olders, pool, status),
+        Verdict::Accepted(pool) => compared_if(alloc, against, pool, status),
         Verdict::Refused(_) | Verdict::TooMany(_) | Verdict::Unequal(_) => Ok(Vec::new(alloc)),
     }
 }
@@ -159,16 +165,15 @@ fn compared_for(
 /// What the pool of an accepted batch changes of older versions, if the answer to it is a verdict.
 fn compared_if(
     alloc: Global,
-    wanted: &Wanted,
-    olders: &[Older],
+    against: WantedAgainst<'_>,
     pool: &DescriptorPool,
     status: Status,
 ) -> Result<Vec<ToldChanges>, AllocError>
-    ensures { IfOk result (λ told. told.items
-        ≡ spec.compared_if wanted.now olders.now pool.now status) }
+    ensures { IfOk result (λ told. told.items ≡ spec.compared_if against.entry.wanted.now
+        against.entry.olders.now pool.now status) }
 {
     match status {
-        Status::Accepted => compared(alloc, wanted, olders, pool),
+        Status::Accepted => compared(alloc, against, pool),
         _ => Ok(Vec::new(alloc)),
     }
 }
@@ -176,16 +181,17 @@ fn compared_if(
 /// What a pool changes of older versions.
 fn compared(
     alloc: Global,
-    wanted: &Wanted,
-    olders: &[Older],
+    against: WantedAgainst<'_>,
     pool: &DescriptorPool,
 ) -> Result<Vec<ToldChanges>, AllocError>
     ensures { IfOk result (λ told. told.items
-        ≡ flat_map (spec.compared_with wanted.now pool.now) olders.now) }
+        ≡ flat_map (spec.compared_with against.entry.wanted.now pool.now)
+        against.entry.olders.now) }
 {
+    let WantedAgainst { wanted, olders } = against;
     let mut told = Vec::new(alloc);
     for older in olders {
-        tell_older(alloc, wanted, &mut told, older, pool)?;
+        tell_older(&mut told, wanted, older, pool)?;
     }
     Ok(told)
 }

@@ -19,7 +19,8 @@ usage: check_descriptors [--strict] [--json] [--max-faults N] [--linked OUT] FIL
        check_descriptors [--list] [--describe NAME]... [--linked OUT] FILE...
        check_descriptors --against OLD... [--compatibility WHICH] [--level LEVEL] .. FILE...
 
-Links descriptor sets as one batch, and tells whether they break a rule, and what they change of older
+Links descriptor sets as one batch, and tells whether they break a rule, and what they change of \
+older
 versions.
 
     protoc --include_imports --include_source_info -o set.pb shop/order.proto
@@ -38,7 +39,8 @@ FILE             a descriptor set, as protoc writes it; - is the standard input.
 --list           of an accepted batch, tell each declaration: its kind and its full name
 --describe NAME  tell what a full name, or the name of a file, means in it; may be repeated
 --linked OUT     write the set of its linked files to OUT, whole or not at all
---against OLD    tell what it changes of an older version, the set OLD; may be repeated, each by itself
+--against OLD    tell what it changes of an older version, the set OLD; may be repeated, each \
+by itself
 --compatibility WHICH  backward (the default): it reads what the older version writes; forward:
                  the older version reads what it writes; full: both
 --level LEVEL    tell changes by which bytes are read otherwise, or calls: wire (the default);

@@ -55,7 +55,8 @@ pub(crate) fn complain_of_arguments(alloc: Global, words: &str) -> Result<Answer
         "       check_descriptors [--list] [--describe NAME]... [--linked OUT] FILE...\n",
     )?;
     complaint.push_str(
-        "       check_descriptors --against OLD... [--compatibility WHICH] [--level LEVEL] .. FILE...\n",
+        "       check_descriptors --against OLD... [--compatibility WHICH] [--level LEVEL] \
+         .. FILE...\n",
     )?;
     Ok(no_answer(String::new(alloc), complaint))
 }

@@ -35,7 +35,7 @@ fn tell_empty_range(
         tag: tag::RESERVED_RANGE,
         position,
     };
-    found.tell_entry_if(span.1 <= span.0, StrictKind::EmptyRange, id, at)
+    found.tell_entry_if(span.1 <= span.0, StrictKind::EmptyRange.of(id), at)
 }
 
 /// Appends which reserved ranges of an enum end before they begin.

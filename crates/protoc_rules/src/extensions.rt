@@ -11,7 +11,7 @@ use crate::Linked;
 use crate::faults::{Found, StrictKind};
 use crate::fields::{Site, tell_site};
 use crate::labels::{is_optional, is_required};
-use crate::maps::camel_case;
+use crate::maps::{MapSite, camel_case};
 use pool_types::{ExtensionDescriptorInner, Identity, KindIndex};
 use proto_types::FieldDescriptorProto;
 use proto_types::tag::field;
@@ -88,23 +88,24 @@ fn tell_extension_site(found: &mut Found, site: Site<'_>) -> Result<(), AllocErr
     tell_site(found, site)?;
     found.tell_if(
         required,
-        StrictKind::RequiredExtension,
-        site.id,
+        StrictKind::RequiredExtension.of(site.id),
         field::LABEL,
     )?;
     found.tell_if(
         in_oneof,
-        StrictKind::ExtensionOneof,
-        site.id,
+        StrictKind::ExtensionOneof.of(site.id),
         field::ONEOF_INDEX,
     )?;
     found.tell_if(
         json_name,
-        StrictKind::ExtensionJsonName,
-        site.id,
+        StrictKind::ExtensionJsonName.of(site.id),
         field::JSON_NAME,
     )?;
-    found.tell_if(wrong, StrictKind::MessageSetExtension, site.id, field::TYPE)
+    found.tell_if(
+        wrong,
+        StrictKind::MessageSetExtension.of(site.id),
+        field::TYPE,
+    )
 }
 
 impl Linked<'_> {
@@ -122,11 +123,11 @@ impl Linked<'_> {
         let wrong = site.in_proto3 && !is_of_options(extended.full_name());
         found.tell_if(
             wrong,
-            StrictKind::ExtensionInProto3,
-            site.id,
+            StrictKind::ExtensionInProto3.of(site.id),
             field::EXTENDEE,
         )?;
-        self.tell_map(found, site, extended)
+        let around = extended;
+        self.tell_map(found, MapSite { site, around })
     }
 
     /// Appends what an extension of the message with an index may not be.

@@ -97,6 +97,23 @@ pub enum StrictKind {
     ReservedName,
 }
 
+/// A rule, and the declaration that breaks it.
+#[derive(Clone, Copy)]
+pub(crate) struct Broken<'a> {
+    kind: StrictKind,
+    id: &'a Identity,
+}
+
+impl StrictKind {
+    /// This rule as a declaration breaks it.
+    pub(crate) fn of(self, id: &Identity) -> Broken<'_>
+        ensures kind { result.kind ≡ self }
+        ensures id { result.id.now ≡ id.now }
+    {
+        Broken { kind: self, id }
+    }
+}
+
 /// A broken rule, and where.
 #[derive(Drop)]
 pub struct StrictFault {
@@ -202,9 +219,11 @@ impl Found {
     }
 
     /// Appends a fault at a part of a declaration.
-    fn tell(&mut self, kind: StrictKind, id: &Identity, tag: i32) -> Result<(), AllocError>
-        ensures { OnOk result (self.new ≡ self.old ++ at_part kind id.now tag ∷ []) }
+    pub fn tell(&mut self, broken: Broken<'_>, tag: i32) -> Result<(), AllocError>
+        ensures { OnOk result (self.new
+            ≡ self.old ++ at_part broken.entry.kind broken.entry.id.now tag ∷ []) }
     {
+        let Broken { kind, id } = broken;
         let path = Path::part(self.alloc, id.path(), tag)?;
         let element = id.full_name.clone(self.alloc)?;
         self.faults.push(StrictFault {
@@ -218,17 +237,12 @@ impl Found {
     }
 
     /// Appends a fault at a part of a declaration, where a test holds.
-    pub fn tell_if(
-        &mut self,
-        holds: bool,
-        kind: StrictKind,
-        id: &Identity,
-        tag: i32,
-    ) -> Result<(), AllocError>
-        ensures { OnOk result (self.new ≡ self.old ++ only_if holds (at_part kind id.now tag)) }
+    pub fn tell_if(&mut self, holds: bool, broken: Broken<'_>, tag: i32) -> Result<(), AllocError>
+        ensures { OnOk result (self.new ≡ self.old
+            ++ only_if holds (at_part broken.entry.kind broken.entry.id.now tag)) }
     {
         if holds {
-            self.tell(kind, id, tag)?;
+            self.tell(broken, tag)?;
         }
         Ok(())
     }
@@ -236,13 +250,14 @@ impl Found {
     /// Appends a fault at an entry of a declaration, with a second one if there is such.
     pub fn tell_entry(
         &mut self,
-        kind: StrictKind,
-        id: &Identity,
+        broken: Broken<'_>,
         entry: Entry,
         second: Option<Entry>,
     ) -> Result<(), AllocError>
-        ensures { OnOk result (self.new ≡ self.old ++ at_entry kind id.now entry second ∷ []) }
+        ensures { OnOk result (self.new ≡ self.old
+            ++ at_entry broken.entry.kind broken.entry.id.now entry second ∷ []) }
     {
+        let Broken { kind, id } = broken;
         let second = entry_path_if(self.alloc, id, second)?;
         let path = entry_path(self.alloc, id, entry)?;
         let element = id.full_name.clone(self.alloc)?;
@@ -259,15 +274,15 @@ impl Found {
     /// Appends a fault at an entry of a declaration, where there is a second one.
     pub fn tell_pair(
         &mut self,
-        kind: StrictKind,
-        id: &Identity,
+        broken: Broken<'_>,
         entry: Entry,
         second: Option<Entry>,
     ) -> Result<(), AllocError>
-        ensures { OnOk result (self.new ≡ self.old ++ pair_faults kind id.now entry second) }
+        ensures { OnOk result (self.new ≡ self.old
+            ++ pair_faults broken.entry.kind broken.entry.id.now entry second) }
     {
         if second.is_some() {
-            self.tell_entry(kind, id, entry, second)?;
+            self.tell_entry(broken, entry, second)?;
         }
         Ok(())
     }
@@ -276,15 +291,14 @@ impl Found {
     pub fn tell_entry_if(
         &mut self,
         holds: bool,
-        kind: StrictKind,
-        id: &Identity,
+        broken: Broken<'_>,
         entry: Entry,
     ) -> Result<(), AllocError>
-        ensures { OnOk result (self.new
-            ≡ self.old ++ only_if holds (at_entry kind id.now entry None)) }
+        ensures { OnOk result (self.new ≡ self.old
+            ++ only_if holds (at_entry broken.entry.kind broken.entry.id.now entry None)) }
     {
         if holds {
-            self.tell_entry(kind, id, entry, None)?;
+            self.tell_entry(broken, entry, None)?;
         }
         Ok(())
     }

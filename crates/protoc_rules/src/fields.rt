@@ -69,15 +69,13 @@ pub(crate) fn tell_site(found: &mut Found, site: Site<'_>) -> Result<(), AllocEr
     tell_proto3(found, site)?;
     found.tell_if(
         default,
-        StrictKind::RepeatedDefault,
-        site.id,
+        StrictKind::RepeatedDefault.of(site.id),
         field::DEFAULT_VALUE,
     )?;
-    found.tell_if(packed, StrictKind::PackedField, site.id, field::OPTIONS)?;
+    found.tell_if(packed, StrictKind::PackedField.of(site.id), field::OPTIONS)?;
     found.tell_if(
         optional,
-        StrictKind::Proto3OptionalInProto2,
-        site.id,
+        StrictKind::Proto3OptionalInProto2.of(site.id),
         field::PROTO3_OPTIONAL,
     )
 }

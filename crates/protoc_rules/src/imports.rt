@@ -56,8 +56,7 @@ fn tell_import(
     let tag = DEPENDENCY;
     let first = entry_at(tag, first_same(&imports[..position], *import));
     found.tell_pair(
-        StrictKind::DuplicateImport,
-        id,
+        StrictKind::DuplicateImport.of(id),
         Entry { tag, position },
         first,
     )
@@ -136,9 +135,9 @@ fn tell_file(
     let id = file_id(found.alloc(), index)?;
     let unnamed = file.raw.name().is_empty();
     let in_cycle = !ends(known, id.file);
-    found.tell_if(unnamed, StrictKind::MissingFileName, &id, NAME)?;
+    found.tell_if(unnamed, StrictKind::MissingFileName.of(&id), NAME)?;
     tell_package(found, &id, file.raw.package())?;
-    found.tell_if(in_cycle, StrictKind::ImportCycle, &id, DEPENDENCY)?;
+    found.tell_if(in_cycle, StrictKind::ImportCycle.of(&id), DEPENDENCY)?;
     tell_imports(found, &id, file.dependencies.as_slice())
 }
 

@@ -22,6 +22,13 @@ pub struct Linked<'a> {
     pub extensions: &'a [ExtensionDescriptorInner],
 }
 
+/// A message of a pool, with its linked record.
+#[derive(Clone, Copy)]
+pub(crate) struct Recorded<'a> {
+    pub message: &'a MessageDescriptorInner,
+    pub record: &'a DescriptorProto,
+}
+
 impl<'a> Linked<'a> {
     /// Whether a file is one of proto3.
     pub(crate) fn in_proto3(self, file: u32) -> bool

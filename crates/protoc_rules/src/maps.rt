@@ -9,11 +9,20 @@ use crate::Linked;
 use crate::faults::{Found, StrictKind};
 use crate::fields::Site;
 use crate::labels::{is_optional, is_repeated};
+use crate::linked::Recorded;
 use descriptor_decoding::is_map_entry;
-use pool_types::{FieldDescriptorInner, Identity, KindIndex, MessageDescriptorInner};
+use pool_types::{FieldDescriptorInner, Identity, KindIndex};
 use proto_types::tag::field;
 use proto_types::{DescriptorProto, FieldDescriptorProto};
 use std::alloc::{AllocError, Global};
+
+/// A field or an extension that may be a map.
+#[derive(Clone, Copy)]
+pub(crate) struct MapSite<'a> {
+    pub site: Site<'a>,
+    /// The message whose field it is, or which it extends.
+    pub around: &'a Identity,
+}
 
 /// An ASCII letter in upper case, where that is wanted; any other byte as it is.
 fn upper_if(wanted: bool, byte: u8) -> u8
@@ -156,88 +165,82 @@ impl Linked<'_> {
         let wrong = self.begins_behind_zero(value.kind);
         found.tell_if(
             !is_key(key.kind),
-            StrictKind::MapKeyType,
-            id,
+            StrictKind::MapKeyType.of(id),
             field::TYPE_NAME,
         )?;
-        found.tell_if(wrong, StrictKind::MapEnumValue, id, field::TYPE_NAME)
+        found.tell_if(wrong, StrictKind::MapEnumValue.of(id), field::TYPE_NAME)
     }
 
-    /// Whether a message is made as the entry of a map field of the message with an identity.
+    /// Whether a message is made as the entry of a map field.
     fn is_entry_for(
         self,
         alloc: Global,
-        site: Site<'_>,
-        around: &Identity,
-        entry: &MessageDescriptorInner,
-        proto: &DescriptorProto,
+        map: MapSite<'_>,
+        recorded: Recorded<'_>,
     ) -> Result<bool, AllocError>
         ensures { IfOk result (λ is. is ≡ spec.is_entry_for (linked self.entry)
-            (site_of site.entry) around.now entry.now proto.now) }
+            (site_of map.entry.site) map.entry.around.now
+            recorded.entry.message.now recorded.entry.record.now) }
     {
-        let named = is_entry_name(alloc, proto.name(), site.record.name())?;
+        let (field, entry) = (map.site.record, recorded.record);
+        let named = is_entry_name(alloc, entry.name(), field.name())?;
         Ok(
             named
-                && is_repeated(site.record.label())
-                && is_plain(proto)
-                && has_parts(proto)
-                && self.is_around(entry.parent, around),
+                && is_repeated(field.label())
+                && is_plain(entry)
+                && has_parts(entry)
+                && self.is_around(recorded.message.parent, map.around),
         )
     }
 
-    /// Appends what the entry of a map field of the message with an identity may not be.
+    /// Appends what the entry of a map field may not be.
     fn tell_entry(
         self,
         found: &mut Found,
-        site: Site<'_>,
-        around: &Identity,
-        entry: &MessageDescriptorInner,
-        proto: &DescriptorProto,
+        map: MapSite<'_>,
+        recorded: Recorded<'_>,
     ) -> Result<(), AllocError>
         ensures { OnOk result (found.new ≡ found.old ++ spec.entry_faults (linked self.entry)
-            (site_of site.entry) around.now entry.now proto.now) }
+            (site_of map.entry.site) map.entry.around.now
+            recorded.entry.message.now recorded.entry.record.now) }
     {
-        if !says_map_entry(proto) {
+        let id = map.site.id;
+        if !says_map_entry(recorded.record) {
             return Ok(());
         }
-        if self.is_entry_for(found.alloc(), site, around, entry, proto)? {
-            return self.tell_kinds(found, site.id, entry.fields.as_slice());
+        if self.is_entry_for(found.alloc(), map, recorded)? {
+            return self.tell_kinds(found, id, recorded.message.fields.as_slice());
         }
-        found.tell_if(true, StrictKind::MapEntry, site.id, field::TYPE_NAME)
+        found.tell(StrictKind::MapEntry.of(id), field::TYPE_NAME)
     }
 
     /// Appends what a field whose type is the message with an index may not be as a map field.
     fn tell_message_map(
         self,
         found: &mut Found,
-        site: Site<'_>,
-        around: &Identity,
+        map: MapSite<'_>,
         index: u32,
     ) -> Result<(), AllocError>
         ensures { OnOk result (found.new ≡ found.old ++ spec.message_map_faults
-            (linked self.entry) (site_of site.entry) around.now index) }
+            (linked self.entry) (site_of map.entry.site) map.entry.around.now index) }
     {
-        let Some(entry) = self.message_at(index) else {
+        let Some(message) = self.message_at(index) else {
             return Ok(());
         };
-        match self.message_record(&entry.id) {
-            Some(record) => self.tell_entry(found, site, around, entry, record),
+        match self.message_record(&message.id) {
+            Some(record) => self.tell_entry(found, map, Recorded { message, record }),
             None => Ok(()),
         }
     }
 
-    /// Appends what the map field of the message with an identity may not be, if it is one.
-    pub(crate) fn tell_map(
-        self,
-        found: &mut Found,
-        site: Site<'_>,
-        around: &Identity,
-    ) -> Result<(), AllocError>
+    /// Appends what a map field may not be, if it is one.
+    pub(crate) fn tell_map(self, found: &mut Found, map: MapSite<'_>) -> Result<(), AllocError>
         ensures { OnOk result (found.new ≡ found.old
-            ++ spec.map_faults (linked self.entry) (site_of site.entry) around.now) }
+            ++ spec.map_faults (linked self.entry) (site_of map.entry.site)
+            map.entry.around.now) }
     {
-        match message_of(site.kind) {
-            Some(index) => self.tell_message_map(found, site, around, index),
+        match message_of(map.site.kind) {
+            Some(index) => self.tell_message_map(found, map, index),
             None => Ok(()),
         }
     }

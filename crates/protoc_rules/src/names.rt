@@ -51,7 +51,7 @@ pub(crate) fn tell_name(found: &mut Found, id: &Identity) -> Result<(), AllocErr
     ensures { OnOk result (found.new ≡ found.old ++ spec.name_faults id.now) }
 {
     let wrong = !is_identifier(declared_name(id));
-    found.tell_if(wrong, StrictKind::InvalidName, id, NAME)
+    found.tell_if(wrong, StrictKind::InvalidName.of(id), NAME)
 }
 
 /// Appends which names of an enum and of its values are no identifiers.

@@ -80,14 +80,13 @@ fn tell_oneof(
     let fields = declared.fields.as_slice();
     let (empty, scattered) = (fields.is_empty(), are_scattered(fields));
     tell_name(found, &declared.id)?;
-    found.tell_if(empty, StrictKind::EmptyOneof, &declared.id, oneof::NAME)?;
+    found.tell_if(empty, StrictKind::EmptyOneof.of(&declared.id), oneof::NAME)?;
     found.tell_if(
         scattered,
-        StrictKind::ScatteredOneof,
-        &declared.id,
+        StrictKind::ScatteredOneof.of(&declared.id),
         oneof::NAME,
     )?;
-    found.tell_if(late, StrictKind::LateOneof, &declared.id, oneof::NAME)
+    found.tell_if(late, StrictKind::LateOneof.of(&declared.id), oneof::NAME)
 }
 
 /// Appends what the oneofs of a message may not be, by the records of its fields.

@@ -51,8 +51,8 @@ fn tell_parts(found: &mut Found, id: &Identity, parts: &[&str]) -> Result<(), Al
         ++ spec.part_faults id.now (map (λ part. part.now) parts.now)) }
 {
     let (wrong, deep) = (has_wrong_part(parts), parts.len() > MOST_PARTS);
-    found.tell_if(wrong, StrictKind::InvalidPackage, id, PACKAGE)?;
-    found.tell_if(deep, StrictKind::DeepPackage, id, PACKAGE)
+    found.tell_if(wrong, StrictKind::InvalidPackage.of(id), PACKAGE)?;
+    found.tell_if(deep, StrictKind::DeepPackage.of(id), PACKAGE)
 }
 
 /// Appends what the package of a file may not be; the empty one is none.

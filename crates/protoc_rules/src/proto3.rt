@@ -40,21 +40,18 @@ pub(crate) fn tell_proto3(found: &mut Found, site: Site<'_>) -> Result<(), Alloc
     let closed = site.in_proto3 && site.is_closed;
     found.tell_if(
         required,
-        StrictKind::RequiredInProto3,
-        site.id,
+        StrictKind::RequiredInProto3.of(site.id),
         field::LABEL,
     )?;
     found.tell_if(
         default,
-        StrictKind::DefaultInProto3,
-        site.id,
+        StrictKind::DefaultInProto3.of(site.id),
         field::DEFAULT_VALUE,
     )?;
-    found.tell_if(group, StrictKind::GroupInProto3, site.id, field::TYPE)?;
+    found.tell_if(group, StrictKind::GroupInProto3.of(site.id), field::TYPE)?;
     found.tell_if(
         closed,
-        StrictKind::ClosedEnumInProto3,
-        site.id,
+        StrictKind::ClosedEnumInProto3.of(site.id),
         field::TYPE_NAME,
     )
 }

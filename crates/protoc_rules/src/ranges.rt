@@ -14,42 +14,51 @@ use std::alloc::AllocError;
 /// The greatest number that a field may have.
 const MAXIMUM: i64 = 536_870_911;
 
+/// The extension ranges of a message.
+#[derive(Clone, Copy)]
+struct Extensions<'a> {
+    spans: &'a [(i64, i64)],
+    /// Whether the message is a message set.
+    is_set: bool,
+}
+
 /// Appends what an extension range by itself may not be.
 fn tell_extension_range(
     found: &mut Found,
     id: &Identity,
-    spans: &[(i64, i64)],
+    extensions: Extensions<'_>,
     position: usize,
-    is_set: bool,
 ) -> Result<(), AllocError>
     ensures { OnOk result (found.new ≡ found.old
-        ++ told_at (spec.extension_range_faults is_set id.now) spans.now position) }
+        ++ told_at (spec.extension_range_faults extensions.entry.is_set id.now)
+        extensions.entry.spans.now position) }
 {
-    let Some(span) = span_at(spans, position) else {
+    let Some(span) = span_at(extensions.spans, position) else {
         return Ok(());
     };
     let at = Entry {
         tag: EXTENSION_RANGE,
         position,
     };
-    found.tell_entry_if(span.0 <= 0, StrictKind::RangeNotPositive, id, at)?;
-    found.tell_entry_if(span.1 <= span.0, StrictKind::EmptyRange, id, at)?;
-    let past = !is_set && span.1 > MAXIMUM + 1;
-    found.tell_entry_if(past, StrictKind::RangePastMaximum, id, at)
+    found.tell_entry_if(span.0 <= 0, StrictKind::RangeNotPositive.of(id), at)?;
+    found.tell_entry_if(span.1 <= span.0, StrictKind::EmptyRange.of(id), at)?;
+    let past = !extensions.is_set && span.1 > MAXIMUM + 1;
+    found.tell_entry_if(past, StrictKind::RangePastMaximum.of(id), at)
 }
 
 /// Appends what each extension range by itself may not be.
 fn tell_extension_ranges(
     found: &mut Found,
     id: &Identity,
-    spans: &[(i64, i64)],
-    is_set: bool,
+    extensions: Extensions<'_>,
 ) -> Result<(), AllocError>
-    ensures { OnOk result (found.new
-        ≡ found.old ++ each_told (spec.extension_range_faults is_set id.now) spans.now) }
+    ensures { OnOk result (found.new ≡ found.old
+        ++ each_told (spec.extension_range_faults extensions.entry.is_set id.now)
+        extensions.entry.spans.now) }
 {
+    let spans = extensions.spans;
     for position in 0..spans.len() {
-        tell_extension_range(found, id, spans, position, is_set)?;
+        tell_extension_range(found, id, extensions, position)?;
     }
     Ok(())
 }
@@ -71,7 +80,7 @@ fn tell_reserved_range(
         tag: RESERVED_RANGE,
         position,
     };
-    found.tell_entry_if(span.0 <= 0, StrictKind::RangeNotPositive, id, at)
+    found.tell_entry_if(span.0 <= 0, StrictKind::RangeNotPositive.of(id), at)
 }
 
 /// Appends which reserved ranges begin at 0 or below.
@@ -101,10 +110,10 @@ pub(crate) fn tell_ranges(
 {
     let extensions = extension_spans(found.alloc(), message.extension_range.as_slice())?;
     let reserved = reserved_spans(found.alloc(), message.reserved_range.as_slice())?;
-    let (extensions, reserved) = (extensions.as_slice(), reserved.as_slice());
-    tell_extension_ranges(found, id, extensions, is_set)?;
+    let (spans, reserved) = (extensions.as_slice(), reserved.as_slice());
+    tell_extension_ranges(found, id, Extensions { spans, is_set })?;
     tell_reserved_ranges(found, id, reserved)?;
     tell_overlaps(found, id, RESERVED_RANGE, reserved)?;
-    tell_overlaps(found, id, EXTENSION_RANGE, extensions)?;
-    tell_across(found, id, extensions, reserved)
+    tell_overlaps(found, id, EXTENSION_RANGE, spans)?;
+    tell_across(found, id, spans, reserved)
 }

@@ -54,7 +54,7 @@ fn tell_used(
     ensures { OnOk result (found.new ≡ found.old ++ spec.used_faults id.now entry member) }
 {
     match member {
-        Some(member) => found.tell_entry(StrictKind::ReservedName, id, member, Some(entry)),
+        Some(member) => found.tell_entry(StrictKind::ReservedName.of(id), member, Some(entry)),
         None => Ok(()),
     }
 }
@@ -68,28 +68,8 @@ fn earlier_name(reserved: ReservedNames<'_>, position: usize, name: &Text) -> Op
     entry_at(reserved.tag, first_equal(earlier, name))
 }
 
-/// Appends what a reserved name with a position breaks: that it is reserved twice, and that a field
-/// or a value has it.
-fn tell_name(
-    found: &mut Found,
-    id: &Identity,
-    reserved: ReservedNames<'_>,
-    position: usize,
-    name: &Text,
-) -> Result<(), AllocError>
-    requires { position ≤ length reserved.names.now }
-    ensures { OnOk result (found.new ≡ found.old
-        ++ spec.name_faults id.now (spec.reserved_names reserved.entry) position name.now) }
-{
-    let tag = reserved.tag;
-    let entry = Entry { tag, position };
-    let first = earlier_name(reserved, position, name);
-    let member = member_named(reserved.members, reserved.member_tag, name);
-    found.tell_pair(StrictKind::DuplicateReservedName, id, entry, first)?;
-    tell_used(found, id, entry, member)
-}
-
-/// Appends what the reserved name with a position breaks.
+/// Appends what the reserved name with a position breaks: that it is reserved twice, and that a
+/// field or a value has it.
 fn tell_reserved_name(
     found: &mut Found,
     id: &Identity,
@@ -101,10 +81,15 @@ fn tell_reserved_name(
         ++ told_at (spec.name_faults id.now (spec.reserved_names reserved.entry))
         reserved.entry.names.now position) }
 {
-    match reserved.names.get(position) {
-        Some(name) => tell_name(found, id, reserved, position, name),
-        None => Ok(()),
-    }
+    let Some(name) = reserved.names.get(position) else {
+        return Ok(());
+    };
+    let tag = reserved.tag;
+    let entry = Entry { tag, position };
+    let first = earlier_name(reserved, position, name);
+    let member = member_named(reserved.members, reserved.member_tag, name);
+    found.tell_pair(StrictKind::DuplicateReservedName.of(id), entry, first)?;
+    tell_used(found, id, entry, member)
 }
 
 /// Appends what each reserved name breaks.

@@ -54,7 +54,7 @@ pub(crate) fn tell_type(
     ensures { OnOk result (found.new ≡ found.old ++ spec.type_faults written id.now kind) }
 {
     match type_fault(written, kind) {
-        Some(fault) => found.tell_if(true, fault, id, field::TYPE_NAME),
+        Some(fault) => found.tell(fault.of(id), field::TYPE_NAME),
         None => Ok(()),
     }
 }

@@ -116,8 +116,7 @@ fn tell_clash(
     let first = if_differs(enumeration.values.as_slice(), position, first);
     let tag = VALUE;
     found.tell_pair(
-        StrictKind::ClashingValues,
-        &enumeration.id,
+        StrictKind::ClashingValues.of(&enumeration.id),
         Entry { tag, position },
         entry_at(tag, first),
     )

@@ -41,6 +41,7 @@ pub(crate) fn json_counts(alloc: Global, counts: Counts) -> Result<String, Alloc
         extensions,
     } = counts;
     format!(in alloc;
-        "{{\"files\":{files},\"messages\":{messages},\"enums\":{enums},\"services\":{services},\"extensions\":{extensions}}}"
+        "{{\"files\":{files},\"messages\":{messages},\"enums\":{enums},\
+         \"services\":{services},\"extensions\":{extensions}}}"
     )
 }

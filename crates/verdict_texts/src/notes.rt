@@ -20,6 +20,25 @@ use pool_faults::{DescriptorErrorKind, Label};
 use proto_types::FileDescriptorProto;
 use std::alloc::{AllocError, Global};
 
+/// A name, and where it is written.
+#[derive(Clone, Copy)]
+struct WrittenName<'a> {
+    name: &'a str,
+    /// The name of the file.
+    file: &'a str,
+}
+
+/// A name that is written at a place.
+fn written_name<'a>(name: &'a Text, place: &'a Label) -> WrittenName<'a>
+    ensures name { result.name.now ≡ name.now }
+    ensures file { result.file.now ≡ place.now.file }
+{
+    WrittenName {
+        name: name.as_str(),
+        file: place.file(),
+    }
+}
+
 /// Whether a file, if there is one, imports another.
 fn is_imported(importing: Option<&FileDescriptorProto>, file: &str) -> bool
     ensures { result ≡ spec.is_imported (option_copied importing.entry) file.now }
@@ -61,12 +80,13 @@ fn far_file<'a>(known: &Known<'a>, from: &str, name: &str) -> Option<&'a str>
 fn import_words(
     alloc: Global,
     known: &Known,
-    from: &str,
-    name: &str,
+    written: WrittenName<'_>,
 ) -> Result<Option<Text>, AllocError>
     requires { IsTrue known.now.1 }
-    ensures { IfOk result (λ words. words ≡ spec.import_note known.now.0 from.now name.now) }
+    ensures { IfOk result (λ words. words ≡ spec.import_note known.now.0
+        written.entry.file.now written.entry.name.now) }
 {
+    let (from, name) = (written.file, written.name);
     match far_file(known, from, name) {
         Some(file) => {
             let words = format!(in alloc;
@@ -134,26 +154,25 @@ fn nearer_words(alloc: Global, scope: &str, name: &str, dotted: &str) -> Result<
     Ok(Text::from_string(words))
 }
 
-/// What is told of a name that means something nearer, by the file in which it stands and the full
-/// name that it resolves to.
+/// What is told of a name that means something nearer, by the full name that it resolves to.
 fn shadowed_words(
     alloc: Global,
     known: &Known,
-    from: &str,
-    name: &str,
+    written: WrittenName<'_>,
     full_name: &str,
 ) -> Result<Option<Text>, AllocError>
     requires { IsTrue known.now.1 }
-    ensures { IfOk result (λ words. words
-        ≡ spec.shadowed_note known.now.0 from.now name.now full_name.now) }
+    ensures { IfOk result (λ words. words ≡ spec.shadowed_note known.now.0
+        written.entry.file.now written.entry.name.now full_name.now) }
 {
+    let name = written.name;
     let Some(scope) = scope_of(full_name, name) else {
         return Ok(None);
     };
     let Some(meant) = meant(alloc, known, scope, name)? else {
         return Ok(None);
     };
-    match dotted_words(alloc, known, from, meant.as_str())? {
+    match dotted_words(alloc, known, written.file, meant.as_str())? {
         Some(dotted) => Ok(Some(nearer_words(alloc, scope, name, dotted.as_str())?)),
         None => Ok(None),
     }
@@ -163,15 +182,14 @@ fn shadowed_words(
 fn suggestion_words(
     alloc: Global,
     known: &Known,
-    from: &str,
-    name: &str,
+    written: WrittenName<'_>,
 ) -> Result<Option<Text>, AllocError>
     requires { IsTrue known.now.1 }
-    ensures { IfOk result (λ words. words
-        ≡ spec.suggestion_note known.now.0 from.now name.now) }
+    ensures { IfOk result (λ words. words ≡ spec.suggestion_note known.now.0
+        written.entry.file.now written.entry.name.now) }
 {
-    match suggested(known.types(), name) {
-        Some(suggested) => dotted_words(alloc, known, from, suggested.as_str()),
+    match suggested(known.types(), written.name) {
+        Some(suggested) => dotted_words(alloc, known, written.file, suggested.as_str()),
         None => Ok(None),
     }
 }
@@ -224,19 +242,19 @@ fn with_words(alloc: Global, words: Text, more: Option<Text>) -> Result<Text, Al
 fn undefined_words(
     alloc: Global,
     known: &Known,
-    from: &str,
-    name: &str,
+    written: WrittenName<'_>,
     full_name: &str,
 ) -> Result<Option<Text>, AllocError>
     requires { IsTrue known.now.1 }
-    ensures { IfOk result (λ words. words
-        ≡ spec.undefined_note known.now.0 from.now name.now full_name.now) }
+    ensures { IfOk result (λ words. words ≡ spec.undefined_note known.now.0
+        written.entry.file.now written.entry.name.now full_name.now) }
 {
+    let name = written.name;
     if name != full_name {
-        return shadowed_words(alloc, known, from, name, full_name);
+        return shadowed_words(alloc, known, written, full_name);
     }
     let there = there_words(alloc, known, name)?;
-    let suggestion = suggestion_words(alloc, known, from, name)?;
+    let suggestion = suggestion_words(alloc, known, written)?;
     Ok(Some(with_words(alloc, there, suggestion)?))
 }
 
@@ -244,17 +262,16 @@ fn undefined_words(
 fn missing_words(
     alloc: Global,
     known: &Known,
-    from: &str,
-    name: &str,
+    written: WrittenName<'_>,
 ) -> Result<Option<Text>, AllocError>
     requires { IsTrue known.now.1 }
-    ensures { IfOk result (λ words. words
-        ≡ option_or (spec.import_note known.now.0 from.now name.now)
-        (spec.suggestion_note known.now.0 from.now name.now)) }
+    ensures { IfOk result (λ words. words ≡ option_or
+        (spec.import_note known.now.0 written.entry.file.now written.entry.name.now)
+        (spec.suggestion_note known.now.0 written.entry.file.now written.entry.name.now)) }
 {
-    match import_words(alloc, known, from, name)? {
+    match import_words(alloc, known, written)? {
         Some(words) => Ok(Some(words)),
-        None => suggestion_words(alloc, known, from, name),
+        None => suggestion_words(alloc, known, written),
     }
 }
 
@@ -286,19 +303,16 @@ fn looked_up(
 {
     match fault {
         DescriptorErrorKind::NameNotFound { name, found } => {
-            missing_words(alloc, known, found.file(), name.as_str())
+            missing_words(alloc, known, written_name(name, found))
         }
         DescriptorErrorKind::NameShadowed {
             name,
             shadowed_name,
             found,
-        } => undefined_words(
-            alloc,
-            known,
-            found.file(),
-            name.as_str(),
-            shadowed_name.as_str(),
-        ),
+        } => {
+            let written = written_name(name, found);
+            undefined_words(alloc, known, written, shadowed_name.as_str())
+        }
         DescriptorErrorKind::InvalidImportIndex | DescriptorErrorKind::InvalidOneofIndex => {
             index_words_at(alloc, known, place)
         }

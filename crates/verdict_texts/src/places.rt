@@ -37,30 +37,35 @@ pub(crate) fn no_room(alloc: Global) -> AllocError {
     AllocError
 }
 
+/// An entry of a list of a record.
+#[derive(Clone, Copy)]
+struct ListEntry<'a> {
+    /// The path of the record.
+    path: &'a [i32],
+    /// The field number of the list.
+    tag: i32,
+    position: usize,
+}
+
 /// The path of an entry of a list.
-fn below(alloc: Global, path: &[i32], tag: i32, position: usize) -> Result<Path, AllocError>
-    ensures { IfOk result (λ below. below ≡ entry_path path.now tag position) }
+fn path_of(alloc: Global, entry: ListEntry<'_>) -> Result<Path, AllocError>
+    ensures { IfOk result (λ path. path
+        ≡ entry_path entry.entry.path.now entry.entry.tag entry.entry.position) }
 {
-    match i32::try_from(position) {
-        Ok(position) => Path::below(alloc, path, tag, position),
+    match i32::try_from(entry.position) {
+        Ok(position) => Path::below(alloc, entry.path, entry.tag, position),
         Err(_) => Err(no_room(alloc)),
     }
 }
 
 /// Adds the path of an entry of a list where it is wanted.
-fn add_if(
-    paths: &mut Vec<Path>,
-    path: &[i32],
-    tag: i32,
-    position: usize,
-    is_wanted: bool,
-) -> Result<(), AllocError>
-    ensures { OnOk result (paths.new.items ≡ paths.old.items
-        ++ only_if is_wanted (entry_path path.now tag position)) }
+fn add_if(paths: &mut Vec<Path>, entry: ListEntry<'_>, is_wanted: bool) -> Result<(), AllocError>
+    ensures { OnOk result (paths.new.items ≡ paths.old.items ++ only_if is_wanted
+        (entry_path entry.entry.path.now entry.entry.tag entry.entry.position)) }
 {
     if is_wanted {
-        let at = below(*paths.allocator(), path, tag, position)?;
-        paths.push(at)?;
+        let path = path_of(*paths.allocator(), entry)?;
+        paths.push(path)?;
     }
     Ok(())
 }
@@ -84,7 +89,12 @@ fn add_imports(
 {
     for (position, index) in indexes.iter().enumerate() {
         let is_wanted = is_outside(imports, *index);
-        add_if(paths, &[], tag, position, is_wanted)?;
+        let entry = ListEntry {
+            path: &[],
+            tag,
+            position,
+        };
+        add_if(paths, entry, is_wanted)?;
     }
     Ok(())
 }
@@ -110,7 +120,12 @@ fn add_fields(
 {
     for (position, field) in message.field.as_slice().iter().enumerate() {
         let is_wanted = names_no_oneof(message, field);
-        add_if(paths, path, message::FIELD, position, is_wanted)?;
+        let entry = ListEntry {
+            path,
+            tag: message::FIELD,
+            position,
+        };
+        add_if(paths, entry, is_wanted)?;
     }
     Ok(())
 }
@@ -141,7 +156,12 @@ fn add_messages(
         ++ spec.messages_indexes path.now tag messages.now) }
 {
     for (position, message) in messages.as_slice().iter().enumerate() {
-        let at = below(*paths.allocator(), path, tag, position)?;
+        let entry = ListEntry {
+            path,
+            tag,
+            position,
+        };
+        let at = path_of(*paths.allocator(), entry)?;
         add_message(paths, at.as_slice(), message)?;
     }
     Ok(())
@@ -283,6 +303,15 @@ pub(crate) fn places_for(
     Ok(Items::new(alloc))
 }
 
+/// The places at which faults without a label can stand, in order.
+#[derive(Clone, Copy)]
+pub(crate) struct Places<'a> {
+    /// Those of names of files.
+    pub names: &'a [Label],
+    /// Those of indexes that no earlier fault has.
+    pub indexes: &'a [Label],
+}
+
 /// The first label that names a file.
 fn label_of<'a>(labels: &'a [Label], file: &str) -> Option<&'a Label>
     ensures { option_copied result ≡ find (λ l. bytes_eq l.file file.now) labels.now }
@@ -290,17 +319,14 @@ fn label_of<'a>(labels: &'a [Label], file: &str) -> Option<&'a Label>
     labels.iter().find(|label| label.file() == file)
 }
 
-/// Where a fault stands, by the names of files and by the indexes that no earlier fault has.
-pub(crate) fn place_among<'a>(
-    names: &'a [Label],
-    left: &'a [Label],
-    fault: &'a Fault,
-) -> Option<&'a Label>
-    ensures { option_copied result ≡ spec.place_among names.now left.now fault.now }
+/// Where a fault stands.
+pub(crate) fn place_among<'a>(places: Places<'a>, fault: &'a Fault) -> Option<&'a Label>
+    ensures { option_copied result ≡ spec.place_among places.entry.names.now
+        places.entry.indexes.now fault.now }
 {
     match fault {
-        Fault::DuplicateFileName { name } => label_of(names, name.as_str()),
-        Fault::InvalidImportIndex | Fault::InvalidOneofIndex => left.first(),
+        Fault::DuplicateFileName { name } => label_of(places.names, name.as_str()),
+        Fault::InvalidImportIndex | Fault::InvalidOneofIndex => places.indexes.first(),
         _ => fault.label(),
     }
 }

@@ -11,7 +11,7 @@ use crate::elements::element_of;
 use crate::fault_kinds::{FaultKind, fault_kind};
 use crate::known::{Known, records};
 use crate::notes::note;
-use crate::places::{Unplaced, left_behind, place_among, places_for};
+use crate::places::{Places, Unplaced, left_behind, place_among, places_for};
 use plain_data::{Items, Text};
 use pool_faults::{DescriptorErrorKind, Label};
 use pool_types::FileDescriptorInner;
@@ -149,21 +149,20 @@ fn told_fault(
 fn tell_each(
     alloc: Global,
     known: &Known,
-    names: &[Label],
-    indexes: &[Label],
+    places: Places<'_>,
     faults: &[DescriptorErrorKind],
 ) -> Result<Items<ToldFault>, AllocError>
     requires { IsTrue (list_any is_of_reference faults.now) → IsTrue known.now.1 }
-    ensures { IfOk result (λ told. told
-        ≡ flat_map_after (spec.told_after known.now.0 names.now indexes.now) faults.now) }
+    ensures { IfOk result (λ told. told ≡ flat_map_after (spec.told_after known.now.0
+        places.entry.names.now places.entry.indexes.now) faults.now) }
 {
-    let mut left = indexes;
+    let mut left = places;
     let mut told = Items::new(alloc);
     for fault in faults {
-        let place = place_among(names, left, fault);
+        let place = place_among(left, fault);
         let next = told_fault(alloc, known, fault, place)?;
         told.push(next)?;
-        left = left_behind(left, fault);
+        left.indexes = left_behind(left.indexes, fault);
     }
     Ok(told)
 }
@@ -186,5 +185,9 @@ pub fn tell_faults(
     let known = Known::for_faults(alloc, records, faults)?;
     let names = places_for(alloc, files, faults, Unplaced::Name)?;
     let indexes = places_for(alloc, files, faults, Unplaced::Index)?;
-    tell_each(alloc, &known, names.as_slice(), indexes.as_slice(), faults)
+    let places = Places {
+        names: names.as_slice(),
+        indexes: indexes.as_slice(),
+    };
+    tell_each(alloc, &known, places, faults)
 }

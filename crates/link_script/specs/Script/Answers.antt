@@ -14,13 +14,13 @@ use Rattle.link_script.specs.declared.script.statement.ScriptFault.{ScriptFault}
 use Rattle.link_script.specs.declared.script.line_error.LineError.{LineError}
 use Rattle.link_script.specs.declared.script.line_error.LineError.TheVariants.{Fault, OutOfMemory}
 use Rattle.link_script.specs.declared.script.standing.Standing.{Standing as Code}
+use Rattle.link_script.specs.declared.script.words.KeyedLine.{KeyedLine}
 use Rattle.link_script.specs.declared.script.words.Words.{Words}
 use Rattle.link_script.specs.declared.script.lines.Lines.{Lines}
 use Rattle.link_script.specs.declared.script.lines.Lines.TheVariants as left
 use Rattle.link_script.specs.declared.script.lines.FirstLine.{FirstLine}
 use Rattle.link_script.specs.Script.Words.{lines, words}
 use Rattle.link_script.specs.Script.Keyword.{Standing, standing_after}
-use Rattle.link_script.specs.declared.script.statement.Keyword.{Keyword}
 use Rattle.link_script.specs.Script.Arguments.{said_in, and_then, each_number}
 use Rattle.link_script.specs.Script.Reading.{Saying, of_words}
 
@@ -68,12 +68,15 @@ words_left w = words w.rest.now
 abbrev pub text_said : Standing → List ℕ → Saying
 text_said here line = of_words here line (words line)
 
+-- the statement that a line says by its keyword and the words behind it, or the fault
+abbrev pub said_by : KeyedLine → Result Statement ScriptFault
+said_by keyed = said_in keyed.line.now keyed.keyword (words_left keyed.words)
+
 -- what a line says is made of its keyword and the words behind it, where it has them
-abbrev pub IsBegun : List ℕ → Saying → Result (Option (Keyword × Words)) ScriptFault → Type 0
-IsBegun line read (Err fault) = read ≡ Err fault
-IsBegun line read (Ok None) = read ≡ Ok None
-IsBegun line read (Ok (Some b)) =
-    read ≡ and_then (said_in line b.0 (words_left b.1)) (λ s. Ok (Some (b.0, s)))
+abbrev pub IsBegun : Saying → Result (Option KeyedLine) ScriptFault → Type 0
+IsBegun said (Err fault) = said ≡ Err fault
+IsBegun said (Ok None) = said ≡ Ok None
+IsBegun said (Ok (Some keyed)) = said ≡ and_then (said_by keyed) (λ s. Ok (Some (keyed.keyword, s)))
 
 -- the numbers of a text between commas
 abbrev pub numbers_between : List ℕ → Result (List ℤ) ScriptFault

@@ -1,7 +1,7 @@
 //! The statements that keywords and the words behind them make.
 
 ghost use Rattle.link_script.specs.Script.Arguments as spec;
-ghost use Rattle.link_script.specs.Script.Answers.{IsAnswer, IsLocation, words_left};
+ghost use Rattle.link_script.specs.Script.Answers.{IsAnswer, IsLocation, said_by, words_left};
 ghost use Rattle.link_script.specs.declared.script.statement.Keyword.TheVariants as word;
 
 use super::line_error::LineError;
@@ -11,21 +11,16 @@ use super::statement::{Keyword, ScriptFault, Statement};
 use super::values::{
     given_number, given_text, label_of, name_of, number_of, numbers, text, truth, type_of,
 };
-use super::words::Words;
+use super::words::{KeyedLine, Words};
 use std::alloc::Global;
 
-/// The statement of a keyword and the words behind it, in a line.
-pub(super) fn statement(
-    alloc: Global,
-    line: &str,
-    keyword: Keyword,
-    words: Words<'_>,
-) -> Result<Statement, LineError>
-    ensures { IsAnswer (spec.said_in line.now keyword (words_left words.entry)) result }
+/// The statement of a line that begins with a keyword.
+pub(super) fn statement(alloc: Global, keyed: KeyedLine<'_>) -> Result<Statement, LineError>
+    ensures { IsAnswer (said_by keyed.entry) result }
 {
-    match keyword {
-        Keyword::Default => Ok(Statement::Default(rest(alloc, line)?)),
-        _ => of_words(alloc, keyword, words),
+    match keyed.keyword {
+        Keyword::Default => Ok(Statement::Default(rest(alloc, keyed.line)?)),
+        _ => of_words(alloc, keyed.keyword, keyed.words),
     }
 }
 

@@ -4,8 +4,7 @@ ghost use Rattle.std.specs.Prelude.{◌≡◌, ℕ, List, ◌∷◌, IfOk};
 ghost use Rattle.link_script.specs.Script.Words as spec;
 ghost use Rattle.link_script.specs.Script.Reading.{script, line_said};
 ghost use Rattle.link_script.specs.Script.Answers.{IsBegun, IsTextOf, standing_in, text_said};
-ghost use Rattle.link_script.specs.Script.Answers.{words_left};
-ghost use Rattle.link_script.specs.Script.Arguments.{said_in};
+ghost use Rattle.link_script.specs.Script.Answers.{said_by};
 ghost use Rattle.link_script.specs.Script.Left.{IsNext};
 ghost use Rattle.link_script.specs.Script.Obeying.{IsLineObeyed, IsNextObeyed, IsObeyed};
 ghost use Rattle.link_script.specs.Script.Obeying.{IsSaidObeyed};
@@ -17,7 +16,7 @@ use super::lines::{FirstLine, Lines};
 use super::obeys::{LastStatement, Obeys};
 use super::standing::Standing;
 use super::statement::{Keyword, Script, ScriptError, ScriptFault, Statement};
-use super::words::Words;
+use super::words::{KeyedLine, Words};
 use plain_data::Items;
 use std::alloc::{AllocError, Global};
 use std::marker::Model;
@@ -118,12 +117,9 @@ fn begins_comment(word: &str) -> bool
     matches!(word.as_bytes(), [] | [b'#', ..])
 }
 
-/// The keyword of a line of text that says something, and the words behind it.
-fn keyword_in<'a>(
-    here: &Standing,
-    line: &'a str,
-) -> Result<Option<(Keyword, Words<'a>)>, ScriptFault>
-    ensures { IsBegun line.now (text_said (standing_in here.now) line.now) result }
+/// A line of text that says something, as its keyword and the words behind it.
+fn keyed_line<'a>(here: &Standing, line: &'a str) -> Result<Option<KeyedLine<'a>>, ScriptFault>
+    ensures { IsBegun (text_said (standing_in here.now) line.now) result }
 {
     let mut words = Words::new(line);
     let Some(first) = words.next() else {
@@ -136,23 +132,20 @@ fn keyword_in<'a>(
     if !here.may_stand(keyword) {
         return Err(ScriptFault::Misplaced);
     }
-    Ok(Some((keyword, words)))
+    Ok(Some(KeyedLine {
+        line,
+        keyword,
+        words,
+    }))
 }
 
-/// Obeys what a keyword and the words behind it say in a line.
-fn obey_words<O: Obeys>(
-    alloc: Global,
-    line: &str,
-    keyword: Keyword,
-    words: Words<'_>,
-    to: &mut O,
-) -> Result<(), LineError>
-    ensures { IsSaidObeyed O.obeys (said_in line.now keyword (words_left words.entry)) to.old
-        result to.new }
+/// Obeys what a line says that begins with a keyword.
+fn obey_keyed<O: Obeys>(alloc: Global, keyed: KeyedLine<'_>, to: &mut O) -> Result<(), LineError>
+    ensures { IsSaidObeyed O.obeys (said_by keyed.entry) to.old result to.new }
 {
-    match keyword {
-        Keyword::At => to.locate(location_of(alloc, words)?)?,
-        _ => to.state(statement(alloc, line, keyword, words)?)?,
+    match keyed.keyword {
+        Keyword::At => to.locate(location_of(alloc, keyed.words)?)?,
+        _ => to.state(statement(alloc, keyed)?)?,
     }
     Ok(())
 }
@@ -167,10 +160,11 @@ fn obey_text<O: Obeys>(
     ensures { IsLineObeyed O.obeys (text_said (standing_in here.old) line.now)
         (standing_in here.old) to.old result (standing_in here.new) to.new }
 {
-    let Some((keyword, words)) = keyword_in(here, line)? else {
+    let Some(keyed) = keyed_line(here, line)? else {
         return Ok(false);
     };
-    obey_words(alloc, line, keyword, words, to)?;
+    let keyword = keyed.keyword;
+    obey_keyed(alloc, keyed, to)?;
     here.follow(keyword)?;
     Ok(true)
 }

@@ -5,11 +5,21 @@ ghost use Rattle.link_script.specs.Script.Words as spec;
 
 use super::cuts::cut_at;
 use super::rest::behind_spaces;
+use super::statement::Keyword;
 
 /// The words that are left to be read of a line, which are parted by runs of spaces.
 #[derive(Drop)]
 pub(super) struct Words<'a> {
     rest: &'a str,
+}
+
+/// A line that begins with a keyword.
+#[derive(Drop)]
+pub(super) struct KeyedLine<'a> {
+    pub(super) line: &'a str,
+    pub(super) keyword: Keyword,
+    /// The words behind the keyword.
+    pub(super) words: Words<'a>,
 }
 
 impl<'a> Words<'a> {

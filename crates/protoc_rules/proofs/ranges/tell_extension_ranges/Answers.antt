@@ -6,5 +6,5 @@ use Rattle.protoc_rules.proofs.ranges.tell_extension_ranges.Goals as goal
 
 pub loop-position-preserved : goal.loop-position-preserved
 loop-position-preserved c =
-    let next = told_further (extension_range_faults c.args.is_set c.args.id.now) c.args.spans.now c.loop-position.position c.loop-position-test.true in
+    let next = told_further (extension_range_faults c.args.extensions.is_set c.args.id.now) c.args.extensions.spans.now c.loop-position.position c.loop-position-test.true in
     grind (arith, common_steps, next)
