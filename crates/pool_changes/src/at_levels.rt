@@ -14,6 +14,7 @@ ghost use Rattle.pool_changes.specs.Sides.{both_of, reader, side, versions, writ
 
 use crate::by_level::{BehindWire, ByLevel};
 use crate::fields::{Part, extension_part_at, field_part, part_numbered};
+use crate::kept_fields::KeptPart;
 use crate::kinds::ElementChange;
 use crate::members::by_writer;
 use crate::named::{enum_named, message_named};
@@ -125,7 +126,7 @@ impl<'a> Telling<'a> {
     {
         let before = set_side(self.writer(), before);
         let after = set_side(self.reader(), after);
-        self.tell_differing(told, ElementChange::MessageSet, before, after)
+        self.tell_differing(told, ElementChange::MessageSet.between(before, after))
     }
 
     /// Appends what changes at wire of a message of the writer and the reader's with its name.
@@ -161,10 +162,15 @@ impl<'a> Telling<'a> {
     {
         match part_numbered(self.reader(), pair.after, field.entry.number) {
             Some(kept) => {
-                self.tell_part_json(&mut told.json, pair, field, kept)?;
-                self.tell_part_source(&mut told.source, pair, field, kept)
+                let kept = KeptPart {
+                    messages: pair,
+                    before: field,
+                    after: kept,
+                };
+                self.tell_part_json(&mut told.json, kept)?;
+                self.tell_part_source(&mut told.source, kept)
             }
-            None => self.tell_field_removed(&mut told.json, pair, field.id, field.entry.number),
+            None => self.tell_field_removed(&mut told.json, pair, field),
         }
     }
 
@@ -230,7 +236,7 @@ impl<'a> Telling<'a> {
             pair.entry.before.now.oneofs) }
     {
         for oneof in pair.before.oneofs.as_slice() {
-            self.tell_oneof(told, pair.before, pair.after, oneof)?;
+            self.tell_oneof(told, pair, oneof)?;
         }
         Ok(())
     }
@@ -349,7 +355,10 @@ impl<'a> Telling<'a> {
         self.tell_values(&mut told.json, before, after)?;
         let before = open_side(self.writer(), before);
         let after = open_side(self.reader(), after);
-        self.tell_differing(&mut told.source, ElementChange::EnumOpen, before, after)
+        self.tell_differing(
+            &mut told.source,
+            ElementChange::EnumOpen.between(before, after),
+        )
     }
 
     /// Appends what changes of an enum of the writer, at json and at source.
@@ -368,8 +377,8 @@ impl<'a> Telling<'a> {
         match enum_named(self.alloc, self.reader(), before.id.full_name())? {
             Some(after) => self.tell_kept_enum(told, before, after),
             None => {
-                let source = &mut told.source;
-                self.tell_removed(source, ElementChange::EnumRemoved, &before.id, "enum")
+                let removed = self.removed(ElementChange::EnumRemoved, &before.id, "enum");
+                self.tell_between(&mut told.source, removed)
             }
         }
     }

@@ -34,181 +34,150 @@ fn one_repeats(field: Part<'_>, kept: Part<'_>) -> bool
     }
 }
 
+/// A field or an extension of the writer, the reader's with its number, and their messages.
+#[derive(Clone, Copy)]
+pub(crate) struct KeptPart<'a> {
+    pub messages: Kept<'a>,
+    pub before: Part<'a>,
+    pub after: Part<'a>,
+}
+
 impl Telling<'_> {
-    /// Whether one of a kind with a number is among the changes of a message at wire, and is told.
-    fn is_told_at_wire(self, pair: Kept<'_>, number: u32, kind: WireChangeKind) -> bool
-        ensures { result ≡ tells self.entry.direction pair.entry.found.now number kind }
+    /// Whether one of a kind with its number is among the changes of the message at wire, and is
+    /// told.
+    fn is_told_at_wire(self, pair: KeptPart<'_>, kind: WireChangeKind) -> bool
+        ensures { result ≡ tells self.entry.direction pair.entry.messages.found.now
+            pair.entry.before.entry.number kind }
     {
-        tells(self.direction, pair.found, number, kind)
+        let found = pair.messages.found;
+        tells(self.direction, found, pair.before.entry.number, kind)
     }
 
     /// Whether JSON has a field in a form that the reader's reads.
-    fn keeps_form(self, field: Part<'_>, kept: Part<'_>) -> bool
-        ensures { result ≡ spec.keeps_form (versions self.entry) (part field.entry)
-            (part kept.entry) }
+    fn keeps_form(self, pair: KeptPart<'_>) -> bool
+        ensures { result ≡ spec.keeps_form (versions self.entry) (part pair.entry.before)
+            (part pair.entry.after) }
     {
-        reads_number(field.entry.kind, kept.entry.kind)
-            || field.form(self.writer()).is_like(kept.form(self.reader()))
+        let KeptPart { before, after, .. } = pair;
+        reads_number(before.entry.kind, after.entry.kind)
+            || before
+                .form(self.writer())
+                .is_like(after.form(self.reader()))
     }
 
     /// Appends what changes of its form in JSON, if that is not told at wire.
-    fn tell_form(
-        self,
-        told: &mut Items<ToldFault>,
-        pair: Kept<'_>,
-        field: Part<'_>,
-        kept: Part<'_>,
-    ) -> Result<(), AllocError>
+    fn tell_form(self, told: &mut Items<ToldFault>, pair: KeptPart<'_>) -> Result<(), AllocError>
         ensures { OnOk result (told.new ≡ told.old ++ spec.form_changes (versions self.entry)
-            pair.entry.found.now (part field.entry) (part kept.entry)) }
+            pair.entry.messages.found.now (part pair.entry.before) (part pair.entry.after)) }
     {
-        if self.is_told_at_wire(pair, field.entry.number, WireChangeKind::Kind)
-            || reads_number(field.entry.kind, kept.entry.kind)
+        let KeptPart { before, after, .. } = pair;
+        if self.is_told_at_wire(pair, WireChangeKind::Kind)
+            || reads_number(before.entry.kind, after.entry.kind)
         {
             return Ok(());
         }
-        let before = field.form(self.writer());
-        let after = kept.form(self.reader());
-        self.tell_differing(told, ElementChange::FieldJson, before, after)
+        let (before, after) = (before.form(self.writer()), after.form(self.reader()));
+        self.tell_differing(told, ElementChange::FieldJson.between(before, after))
     }
 
     /// Appends that it is repeated now, if that is not told at wire.
     fn tell_repeated(
         self,
         told: &mut Items<ToldFault>,
-        pair: Kept<'_>,
-        field: Part<'_>,
-        kept: Part<'_>,
+        pair: KeptPart<'_>,
     ) -> Result<(), AllocError>
         ensures { OnOk result (told.new ≡ told.old ++ spec.repeated_changes
-            (versions self.entry) pair.entry.found.now (part field.entry) (part kept.entry)) }
+            (versions self.entry) pair.entry.messages.found.now (part pair.entry.before)
+            (part pair.entry.after)) }
     {
-        if self.is_told_at_wire(pair, field.entry.number, WireChangeKind::Cardinality) {
+        if self.is_told_at_wire(pair, WireChangeKind::Cardinality) {
             return Ok(());
         }
-        self.tell_differing(
-            told,
-            ElementChange::FieldRepeated,
-            field.repeated(),
-            kept.repeated(),
-        )
+        let (before, after) = (pair.before.repeated(), pair.after.repeated());
+        self.tell_differing(told, ElementChange::FieldRepeated.between(before, after))
     }
 
     /// Appends what changes of it at json: its JSON name, its form, and whether it is repeated.
     pub(crate) fn tell_part_json(
         self,
         told: &mut Items<ToldFault>,
-        pair: Kept<'_>,
-        field: Part<'_>,
-        kept: Part<'_>,
+        pair: KeptPart<'_>,
     ) -> Result<(), AllocError>
         ensures { OnOk result (told.new ≡ told.old ++ spec.part_json (versions self.entry)
-            pair.entry.found.now (part field.entry) (part kept.entry)) }
+            pair.entry.messages.found.now (part pair.entry.before) (part pair.entry.after)) }
     {
-        self.tell_differing(
-            told,
-            ElementChange::FieldJsonName,
-            field.json(),
-            kept.json(),
-        )?;
-        self.tell_form(told, pair, field, kept)?;
-        self.tell_repeated(told, pair, field, kept)
+        let (before, after) = (pair.before.json(), pair.after.json());
+        self.tell_differing(told, ElementChange::FieldJsonName.between(before, after))?;
+        self.tell_form(told, pair)?;
+        self.tell_repeated(told, pair)
     }
 
     /// Appends what changes of its name, if the JSON name is the same.
-    fn tell_name(
-        self,
-        told: &mut Items<ToldFault>,
-        field: Part<'_>,
-        kept: Part<'_>,
-    ) -> Result<(), AllocError>
+    fn tell_name(self, told: &mut Items<ToldFault>, pair: KeptPart<'_>) -> Result<(), AllocError>
         ensures { OnOk result (told.new ≡ told.old ++ spec.name_changes (versions self.entry)
-            (part field.entry) (part kept.entry)) }
+            (part pair.entry.before) (part pair.entry.after)) }
     {
-        if field.json_name == kept.json_name {
-            self.tell_differing(told, ElementChange::FieldName, field.name(), kept.name())?;
+        if pair.before.json_name == pair.after.json_name {
+            let (before, after) = (pair.before.name(), pair.after.name());
+            self.tell_differing(told, ElementChange::FieldName.between(before, after))?;
         }
         Ok(())
     }
 
     /// Appends what changes of its type, if that is not told at wire or at json.
-    fn tell_type(
-        self,
-        told: &mut Items<ToldFault>,
-        pair: Kept<'_>,
-        field: Part<'_>,
-        kept: Part<'_>,
-    ) -> Result<(), AllocError>
+    fn tell_type(self, told: &mut Items<ToldFault>, pair: KeptPart<'_>) -> Result<(), AllocError>
         ensures { OnOk result (told.new ≡ told.old ++ spec.type_changes (versions self.entry)
-            pair.entry.found.now (part field.entry) (part kept.entry)) }
+            pair.entry.messages.found.now (part pair.entry.before) (part pair.entry.after)) }
     {
-        if self.is_told_at_wire(pair, field.entry.number, WireChangeKind::Kind)
-            || !self.keeps_form(field, kept)
-        {
+        if self.is_told_at_wire(pair, WireChangeKind::Kind) || !self.keeps_form(pair) {
             return Ok(());
         }
-        let before = field.type_(self.writer());
-        let after = kept.type_(self.reader());
-        self.tell_differing(told, ElementChange::FieldType, before, after)
+        let before = pair.before.type_(self.writer());
+        let after = pair.after.type_(self.reader());
+        self.tell_differing(told, ElementChange::FieldType.between(before, after))
     }
 
     /// Appends what changes of its presence, if that is not told at wire or at json.
     fn tell_presence(
         self,
         told: &mut Items<ToldFault>,
-        pair: Kept<'_>,
-        field: Part<'_>,
-        kept: Part<'_>,
+        pair: KeptPart<'_>,
     ) -> Result<(), AllocError>
         ensures { OnOk result (told.new ≡ told.old ++ spec.presence_changes
-            (versions self.entry) pair.entry.found.now (part field.entry) (part kept.entry)) }
+            (versions self.entry) pair.entry.messages.found.now (part pair.entry.before)
+            (part pair.entry.after)) }
     {
-        if self.is_told_at_wire(pair, field.entry.number, WireChangeKind::Required)
-            || one_repeats(field, kept)
+        if self.is_told_at_wire(pair, WireChangeKind::Required)
+            || one_repeats(pair.before, pair.after)
         {
             return Ok(());
         }
-        self.tell_differing(
-            told,
-            ElementChange::FieldPresence,
-            field.presence(),
-            kept.presence(),
-        )
+        let (before, after) = (pair.before.presence(), pair.after.presence());
+        self.tell_differing(told, ElementChange::FieldPresence.between(before, after))
     }
 
     /// Appends which oneof it is in, if that is not told at wire.
-    fn tell_moved(
-        self,
-        told: &mut Items<ToldFault>,
-        pair: Kept<'_>,
-        field: Part<'_>,
-        kept: Part<'_>,
-    ) -> Result<(), AllocError>
+    fn tell_moved(self, told: &mut Items<ToldFault>, pair: KeptPart<'_>) -> Result<(), AllocError>
         ensures { OnOk result (told.new ≡ told.old ++ spec.oneof_moves (versions self.entry)
-            pair.entry.before.now pair.entry.after.now pair.entry.found.now (part field.entry)
-            (part kept.entry)) }
+            pair.entry.messages.before.now pair.entry.messages.after.now
+            pair.entry.messages.found.now (part pair.entry.before) (part pair.entry.after)) }
     {
-        if self.is_told_at_wire(pair, field.entry.number, WireChangeKind::Oneof) {
+        if self.is_told_at_wire(pair, WireChangeKind::Oneof) {
             return Ok(());
         }
-        let before = field.oneof(self.writer(), pair.before);
-        let after = kept.oneof(self.reader(), pair.after);
-        self.tell_differing(told, ElementChange::FieldOneof, before, after)
+        let before = pair.before.oneof(self.writer(), pair.messages.before);
+        let after = pair.after.oneof(self.reader(), pair.messages.after);
+        self.tell_differing(told, ElementChange::FieldOneof.between(before, after))
     }
 
     /// Appends what changes of the default value that its record gives.
-    fn tell_default(
-        self,
-        told: &mut Items<ToldFault>,
-        field: Part<'_>,
-        kept: Part<'_>,
-    ) -> Result<(), AllocError>
+    fn tell_default(self, told: &mut Items<ToldFault>, pair: KeptPart<'_>) -> Result<(), AllocError>
         ensures { OnOk result (told.new ≡ told.old ++ spec.default_changes
-            (versions self.entry) (part field.entry) (part kept.entry)) }
+            (versions self.entry) (part pair.entry.before) (part pair.entry.after)) }
     {
-        let before = field.default(self.writer());
-        let after = kept.default(self.reader());
-        self.tell_differing(told, ElementChange::FieldDefault, before, after)
+        let before = pair.before.default(self.writer());
+        let after = pair.after.default(self.reader());
+        self.tell_differing(told, ElementChange::FieldDefault.between(before, after))
     }
 
     /// Appends what changes of it at source: its name, its type, its presence, its oneof, and its
@@ -216,18 +185,16 @@ impl Telling<'_> {
     pub(crate) fn tell_part_source(
         self,
         told: &mut Items<ToldFault>,
-        pair: Kept<'_>,
-        field: Part<'_>,
-        kept: Part<'_>,
+        pair: KeptPart<'_>,
     ) -> Result<(), AllocError>
         ensures { OnOk result (told.new ≡ told.old ++ spec.part_source (versions self.entry)
-            pair.entry.before.now pair.entry.after.now pair.entry.found.now (part field.entry)
-            (part kept.entry)) }
+            pair.entry.messages.before.now pair.entry.messages.after.now
+            pair.entry.messages.found.now (part pair.entry.before) (part pair.entry.after)) }
     {
-        self.tell_name(told, field, kept)?;
-        self.tell_type(told, pair, field, kept)?;
-        self.tell_presence(told, pair, field, kept)?;
-        self.tell_moved(told, pair, field, kept)?;
-        self.tell_default(told, field, kept)
+        self.tell_name(told, pair)?;
+        self.tell_type(told, pair)?;
+        self.tell_presence(told, pair)?;
+        self.tell_moved(told, pair)?;
+        self.tell_default(told, pair)
     }
 }

@@ -9,6 +9,7 @@ ghost use Rattle.pool_changes.specs.Options as spec;
 ghost use Rattle.pool_changes.specs.Sides.{side, versions};
 
 use crate::kinds::ElementChange;
+use crate::removed::KeptFile;
 use crate::sides::{Side, Telling, file_told};
 use descriptor_pool::DescriptorPool;
 use plain_data::Items;
@@ -250,31 +251,29 @@ impl Telling<'_> {
     fn tell_option(
         self,
         told: &mut Items<ToldFault>,
-        file: &FileDescriptorInner,
-        kept: &FileDescriptorInner,
+        files: KeptFile<'_>,
         option: CodeOption,
     ) -> Result<(), AllocError>
-        ensures { OnOk result (told.new ≡ told.old
-            ++ spec.option_changes (versions self.entry) file.now kept.now option) }
+        ensures { OnOk result (told.new ≡ told.old ++ spec.option_changes
+            (versions self.entry) files.entry.before.now files.entry.after.now option) }
     {
-        let before = option_side(self.writer(), file, option);
-        let after = option_side(self.reader(), kept, option);
-        self.tell_differing(told, ElementChange::OptionChanged, before, after)
+        let before = option_side(self.writer(), files.before, option);
+        let after = option_side(self.reader(), files.after, option);
+        self.tell_differing(told, ElementChange::OptionChanged.between(before, after))
     }
 
     /// Appends what changes of each option of two files.
     fn tell_each_option(
         self,
         told: &mut Items<ToldFault>,
-        file: &FileDescriptorInner,
-        kept: &FileDescriptorInner,
+        files: KeptFile<'_>,
     ) -> Result<(), AllocError>
-        ensures { OnOk result (told.new ≡ told.old
-            ++ flat_map (spec.option_changes (versions self.entry) file.now kept.now)
+        ensures { OnOk result (told.new ≡ told.old ++ flat_map (spec.option_changes
+            (versions self.entry) files.entry.before.now files.entry.after.now)
             spec.code_options) }
     {
         for option in code_options() {
-            self.tell_option(told, file, kept, *option)?;
+            self.tell_option(told, files, *option)?;
         }
         Ok(())
     }
@@ -283,15 +282,14 @@ impl Telling<'_> {
     pub(crate) fn tell_options(
         self,
         told: &mut Items<ToldFault>,
-        file: &FileDescriptorInner,
-        kept: &FileDescriptorInner,
+        files: KeptFile<'_>,
     ) -> Result<(), AllocError>
-        ensures { OnOk result (told.new ≡ told.old
-            ++ spec.options_changes (versions self.entry) file.now kept.now) }
+        ensures { OnOk result (told.new ≡ told.old ++ spec.options_changes
+            (versions self.entry) files.entry.before.now files.entry.after.now) }
     {
-        if encoded_options(&file.raw) == encoded_options(&kept.raw) {
+        if encoded_options(&files.before.raw) == encoded_options(&files.after.raw) {
             return Ok(());
         }
-        self.tell_each_option(told, file, kept)
+        self.tell_each_option(told, files)
     }
 }

@@ -9,6 +9,7 @@ ghost use Rattle.pool_changes.specs.Removed as spec;
 ghost use Rattle.pool_changes.specs.Sides.{reader, side, versions};
 
 use crate::Direction;
+use crate::fields::Part;
 use crate::kinds::ElementChange;
 use crate::pools::parts_of;
 use crate::sides::{Side, Telling, file_told};
@@ -23,6 +24,13 @@ use record_lists::find_field_proto;
 use schema_changes::{WireChange, WireChangeKind};
 use std::alloc::AllocError;
 use verdict_texts::ToldFault;
+
+/// A file of the writer, and the reader's with its name.
+#[derive(Clone, Copy)]
+pub(crate) struct KeptFile<'a> {
+    pub before: &'a FileDescriptorInner,
+    pub after: &'a FileDescriptorInner,
+}
 
 /// A message of the writer, the reader's with its name, and what changes of it at wire.
 #[derive(Clone, Copy)]
@@ -184,24 +192,20 @@ impl Telling<'_> {
     pub(crate) fn tell_field_removed(
         self,
         told: &mut Items<ToldFault>,
-        kept: Kept<'_>,
-        id: &Identity,
-        number: u32,
+        pair: Kept<'_>,
+        field: Part<'_>,
     ) -> Result<(), AllocError>
         ensures { OnOk result (told.new ≡ told.old ++ spec.field_removed (versions self.entry)
-            kept.entry.after.now kept.entry.found.now id.now number) }
+            pair.entry.after.now pair.entry.found.now field.entry.id.now
+            field.entry.entry.number) }
     {
-        if tells(
-            self.direction,
-            kept.found,
-            number,
-            WireChangeKind::FreeNumber,
-        ) {
+        let free = WireChangeKind::FreeNumber;
+        if tells(self.direction, pair.found, field.entry.number, free) {
             return Ok(());
         }
-        let before = Side::there(id, "field", "");
-        let after = Side::around(&kept.after.id, "field");
-        self.tell_between(told, ElementChange::FieldRemoved, before, after)
+        let before = Side::there(field.id, "field", "");
+        let after = Side::around(&pair.after.id, "field");
+        self.tell_between(told, ElementChange::FieldRemoved.between(before, after))
     }
 
     /// Appends that the name of a value has lost its number, by the first value that has it.
@@ -218,12 +222,12 @@ impl Telling<'_> {
         match enumeration.get_value(value.number) {
             Some(other) => {
                 let (before, after) = (value_side(value), value_side(other));
-                self.tell_between(told, ElementChange::ValueName, before, after)
+                self.tell_between(told, ElementChange::ValueName.between(before, after))
             }
             None => {
                 let before = Side::there(&value.id, "value", "");
                 let after = Side::around(&enumeration.id, "value");
-                self.tell_between(told, ElementChange::ValueRemoved, before, after)
+                self.tell_between(told, ElementChange::ValueRemoved.between(before, after))
             }
         }
     }
@@ -248,18 +252,18 @@ impl Telling<'_> {
     fn tell_kept_file(
         self,
         told: &mut Items<ToldFault>,
-        file: &FileDescriptorInner,
-        kept: &FileDescriptorInner,
+        files: KeptFile<'_>,
     ) -> Result<(), AllocError>
-        ensures { OnOk result (told.new ≡ told.old
-            ++ spec.file_changes (versions self.entry) file.now (Some kept.now)) }
+        ensures { OnOk result (told.new ≡ told.old ++ spec.file_changes (versions self.entry)
+            files.entry.before.now (Some files.entry.after.now)) }
     {
-        let (writer, reader) = (self.writer(), self.reader());
-        let (before, after) = (package_side(writer, file), package_side(reader, kept));
-        self.tell_differing(told, ElementChange::FilePackage, before, after)?;
-        let (before, after) = (syntax_side(writer, file), syntax_side(reader, kept));
-        self.tell_differing(told, ElementChange::FileSyntax, before, after)?;
-        self.tell_options(told, file, kept)
+        let before = package_side(self.writer(), files.before);
+        let after = package_side(self.reader(), files.after);
+        self.tell_differing(told, ElementChange::FilePackage.between(before, after))?;
+        let before = syntax_side(self.writer(), files.before);
+        let after = syntax_side(self.reader(), files.after);
+        self.tell_differing(told, ElementChange::FileSyntax.between(before, after))?;
+        self.tell_options(told, files)
     }
 
     /// Appends what the reader's file with its name changes of a writer's.
@@ -273,11 +277,17 @@ impl Telling<'_> {
             (spec.file_named (reader (versions self.entry)) (text_of file.now.raw.name))) }
     {
         match file_named(self.reader(), file.raw.name()) {
-            Some(kept) => self.tell_kept_file(told, file, kept),
+            Some(kept) => {
+                let files = KeptFile {
+                    before: file,
+                    after: kept,
+                };
+                self.tell_kept_file(told, files)
+            }
             None => {
                 let before = file_told(self.writer(), file, "file", "");
                 let after = Side::in_file(None, "file");
-                self.tell_between(told, ElementChange::FileRemoved, before, after)
+                self.tell_between(told, ElementChange::FileRemoved.between(before, after))
             }
         }
     }
@@ -294,25 +304,27 @@ impl Telling<'_> {
         if parts_of(self.writer()).is_map_entry(message) {
             return Ok(());
         }
-        self.tell_removed(told, ElementChange::MessageRemoved, &message.id, "message")
+        let removed = self.removed(ElementChange::MessageRemoved, &message.id, "message");
+        self.tell_between(told, removed)
     }
 
     /// Appends that a reader's message lacks a oneof of the writer's with its name, if it does.
     pub(crate) fn tell_oneof(
         self,
         told: &mut Items<ToldFault>,
-        before: &MessageDescriptorInner,
-        after: &MessageDescriptorInner,
+        pair: Kept<'_>,
         oneof: &OneofDescriptorInner,
     ) -> Result<(), AllocError>
-        ensures { OnOk result (told.new ≡ told.old
-            ++ spec.oneof_changes (versions self.entry) before.now after.now oneof.now) }
+        ensures { OnOk result (told.new ≡ told.old ++ spec.oneof_changes (versions self.entry)
+            pair.entry.before.now pair.entry.after.now oneof.now) }
     {
-        if has_oneof(after, oneof.id.full_name()) || is_synthetic(self.writer(), before, oneof) {
+        if has_oneof(pair.after, oneof.id.full_name())
+            || is_synthetic(self.writer(), pair.before, oneof)
+        {
             return Ok(());
         }
-        let written = Side::there(&oneof.id, "oneof", "");
-        let read = Side::around(&after.id, "oneof");
-        self.tell_between(told, ElementChange::OneofRemoved, written, read)
+        let before = Side::there(&oneof.id, "oneof", "");
+        let after = Side::around(&pair.after.id, "oneof");
+        self.tell_between(told, ElementChange::OneofRemoved.between(before, after))
     }
 }

@@ -102,11 +102,11 @@ impl Telling<'_> {
     {
         let (writer, reader) = (self.writer(), self.reader());
         let (before, after) = (input(writer, method), input(reader, kept));
-        self.tell_differing(told, ElementChange::MethodInput, before, after)?;
+        self.tell_differing(told, ElementChange::MethodInput.between(before, after))?;
         let (before, after) = (output(writer, method), output(reader, kept));
-        self.tell_differing(told, ElementChange::MethodOutput, before, after)?;
+        self.tell_differing(told, ElementChange::MethodOutput.between(before, after))?;
         let (before, after) = (streams(writer, method), streams(reader, kept));
-        self.tell_differing(told, ElementChange::MethodStreaming, before, after)
+        self.tell_differing(told, ElementChange::MethodStreaming.between(before, after))
     }
 
     /// Appends what a reader's service changes of a writer's method.
@@ -125,7 +125,7 @@ impl Telling<'_> {
             None => {
                 let before = Side::there(&method.id, "method", "");
                 let after = Side::around(&service.id, "method");
-                self.tell_between(told, ElementChange::MethodRemoved, before, after)
+                self.tell_between(told, ElementChange::MethodRemoved.between(before, after))
             }
         }
     }
@@ -158,7 +158,10 @@ impl Telling<'_> {
     {
         match service_named(self.alloc, self.reader(), service.id.full_name())? {
             Some(kept) => self.tell_methods(told, service, kept),
-            None => self.tell_removed(told, ElementChange::ServiceRemoved, &service.id, "service"),
+            None => {
+                let removed = ElementChange::ServiceRemoved;
+                self.tell_between(told, self.removed(removed, &service.id, "service"))
+            }
         }
     }
 

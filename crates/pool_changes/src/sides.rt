@@ -191,6 +191,29 @@ impl<'a> Side<'a> {
     }
 }
 
+/// A kind of change with both sides of it: the writer's, and the reader's.
+#[derive(Clone, Copy)]
+pub(crate) struct Difference<'a> {
+    pub change: ElementChange,
+    pub written: Side<'a>,
+    pub read: Side<'a>,
+}
+
+impl ElementChange {
+    /// It, with both sides.
+    pub(crate) fn between<'a>(self, written: Side<'a>, read: Side<'a>) -> Difference<'a>
+        ensures change { result.change ≡ self }
+        ensures written { spec.side result.written ≡ spec.side written.entry }
+        ensures read { spec.side result.read ≡ spec.side read.entry }
+    {
+        Difference {
+            change: self,
+            written,
+            read,
+        }
+    }
+}
+
 /// A file of a pool as a side, with what is told of it.
 pub(crate) fn file_told<'a>(
     pool: &DescriptorPool,
@@ -287,18 +310,21 @@ impl<'a> Telling<'a> {
         })
     }
 
-    /// Appends a change, by the side of the writer and that of the reader.
+    /// Appends a change by both sides.
     pub(crate) fn tell_between(
         self,
         told: &mut Items<ToldFault>,
-        change: ElementChange,
-        written: Side<'_>,
-        read: Side<'_>,
+        difference: Difference<'_>,
     ) -> Result<(), AllocError>
         ensures { OnOk result (told.new ≡ told.old ++ spec.told_between
-            (spec.versions self.entry) change (spec.side written.entry) (spec.side read.entry)
-            ∷ []) }
+            (spec.versions self.entry) difference.entry.change
+            (spec.side difference.entry.written) (spec.side difference.entry.read) ∷ []) }
     {
+        let Difference {
+            change,
+            written,
+            read,
+        } = difference;
         let (old, new) = match self.direction {
             Direction::Backward => (written, read),
             Direction::Forward => (read, written),
@@ -310,32 +336,32 @@ impl<'a> Telling<'a> {
     pub(crate) fn tell_differing(
         self,
         told: &mut Items<ToldFault>,
-        change: ElementChange,
-        written: Side<'_>,
-        read: Side<'_>,
+        difference: Difference<'_>,
     ) -> Result<(), AllocError>
         ensures { OnOk result (told.new ≡ told.old ++ spec.differing
-            (spec.versions self.entry) change (spec.side written.entry) (spec.side read.entry)) }
+            (spec.versions self.entry) difference.entry.change
+            (spec.side difference.entry.written) (spec.side difference.entry.read)) }
     {
-        if written.is_like(read) {
+        if difference.written.is_like(difference.read) {
             return Ok(());
         }
-        self.tell_between(told, change, written, read)
+        self.tell_between(told, difference)
     }
 
-    /// Appends that the reader lacks a message, an enum or a service, with the word for it.
-    pub(crate) fn tell_removed(
+    /// That the reader lacks a message, an enum or a service, with the word for it.
+    pub(crate) fn removed<'b>(
         self,
-        told: &mut Items<ToldFault>,
         change: ElementChange,
-        id: &Identity,
+        id: &'b Identity,
         word: &'static str,
-    ) -> Result<(), AllocError>
-        ensures { OnOk result (told.new ≡ told.old ++ spec.removed
-            (spec.versions self.entry) change id.now word.now) }
+    ) -> Difference<'b>
+        ensures change { result.change ≡ change }
+        ensures written { spec.side result.written ≡ spec.there id.now word.now [] }
+        ensures read { spec.side result.read ≡ spec.in_file (spec.file_like
+            (spec.writer (spec.versions self.entry)) (spec.reader (spec.versions self.entry))
+            id.now.file) word.now }
     {
-        let before = Side::there(id, word, "");
         let after = Side::in_file(self.file_like(id.file), word);
-        self.tell_between(told, change, before, after)
+        change.between(Side::there(id, word, ""), after)
     }
 }

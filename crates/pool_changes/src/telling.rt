@@ -8,7 +8,7 @@ ghost use Rattle.pool_changes.specs.Telling as spec;
 
 use crate::Direction;
 use crate::members::{has_old, new_shown, old_shown};
-use crate::words::{change_code, change_note, change_words};
+use crate::words::{DirectedChange, change_code};
 use plain_data::Text;
 use pool_faults::Label;
 use pool_types::Identity;
@@ -109,12 +109,16 @@ pub fn tell_change(
     ensures { IfOk result (λ told. told
         ≡ spec.told_change direction (compared sides.entry) change) }
 {
-    let WireChange { number, kind } = change;
-    let code = Text::from_str(alloc, change_code(kind))?;
-    let message = Text::from_string(change_words(alloc, direction, sides, kind, number)?);
-    let place = place_of(alloc, sides.new, new_shown(sides, number))?;
-    let second = old_place(alloc, sides, number)?;
-    let note = Text::from_string(change_note(alloc, direction, kind, number)?);
+    let directed = DirectedChange {
+        direction,
+        sides,
+        change,
+    };
+    let code = Text::from_str(alloc, change_code(change.kind))?;
+    let message = Text::from_string(directed.change_words(alloc)?);
+    let place = place_of(alloc, sides.new, new_shown(sides, change.number))?;
+    let second = old_place(alloc, sides, change.number)?;
+    let note = Text::from_string(directed.change_note(alloc)?);
     Ok(ToldFault {
         code,
         message,

@@ -8,7 +8,7 @@ ghost use Rattle.pool_changes.specs.Words as spec;
 use crate::Direction;
 use crate::members::{oneof_name, partner_name, shown_name};
 use pool_types::{Cardinality, KindIndex};
-use schema_changes::{Compared, Entry, Parts, WireChangeKind, lacking_number};
+use schema_changes::{Compared, Entry, Parts, WireChange, WireChangeKind, lacking_number};
 use std::alloc::{AllocError, Global};
 
 /// The name of a kind of change.
@@ -160,19 +160,6 @@ fn lacking_between(
     }
 }
 
-/// The first number of the writer's enum that the reader's kind lacks, of the fields or extensions
-/// with a number.
-fn lacking_in(direction: Direction, sides: Compared<'_>, number: u32) -> Option<i32>
-    ensures { result ≡ spec.lacking_in direction (compared sides.entry) number }
-{
-    let old = sides.old.entry_numbered(sides.before, number);
-    let new = sides.new.entry_numbered(sides.after, number);
-    match direction {
-        Direction::Backward => lacking_between(sides.old, old, sides.new, new),
-        Direction::Forward => lacking_between(sides.new, new, sides.old, old),
-    }
-}
-
 /// Which number is lacking, if one is.
 fn lacking_words(
     alloc: Global,
@@ -188,47 +175,6 @@ fn lacking_words(
         Direction::Backward => format!(in alloc; ", which lacks {number}"),
         Direction::Forward => format!(in alloc; "; the older one lacks {number}"),
     }
-}
-
-/// What is told behind both sides.
-fn behind_words(
-    alloc: Global,
-    direction: Direction,
-    sides: Compared<'_>,
-    kind: WireChangeKind,
-    number: u32,
-) -> Result<String, AllocError>
-    ensures { IfOk result (λ s. string_bytes s
-        ≡ spec.behind_words direction (compared sides.entry) kind number) }
-{
-    match kind {
-        WireChangeKind::Kind => {
-            lacking_words(alloc, direction, lacking_in(direction, sides, number))
-        }
-        WireChangeKind::FreeNumber => {
-            String::from_str(alloc, ", and its number is not reserved")
-        }
-        _ => Ok(String::new(alloc)),
-    }
-}
-
-/// Both sides of a change.
-fn both_words(
-    alloc: Global,
-    sides: Compared<'_>,
-    kind: WireChangeKind,
-    number: u32,
-) -> Result<String, AllocError>
-    ensures { IfOk result (λ s. string_bytes s
-        ≡ spec.both_words (compared sides.entry) kind number) }
-{
-    let old = sides.old.entry_numbered(sides.before, number);
-    let old = side_words(alloc, kind, sides.old, old)?;
-    let old = old.as_str();
-    let new = sides.new.entry_numbered(sides.after, number);
-    let new = side_words(alloc, kind, sides.new, new)?;
-    let new = new.as_str();
-    format!(in alloc; "{old} became {new}")
 }
 
 /// Both sides of a field that is in one oneof with another in the reader's version alone, by the
@@ -252,68 +198,109 @@ fn joined_words(
     }
 }
 
-/// Both sides of a change, and what is told behind them.
-fn sides_words(
-    alloc: Global,
-    direction: Direction,
-    sides: Compared<'_>,
-    kind: WireChangeKind,
-    number: u32,
-) -> Result<String, AllocError>
-    ensures { IfOk result (λ s. string_bytes s
-        ≡ spec.sides_words direction (compared sides.entry) kind number) }
-{
-    match kind {
-        WireChangeKind::Oneof => {
-            let partner = partner_name(direction, sides, number);
-            let oneof = oneof_name(direction, sides, number);
-            joined_words(alloc, direction, partner, oneof)
-        }
-        _ => {
-            let both = both_words(alloc, sides, kind, number)?;
-            let both = both.as_str();
-            let behind = behind_words(alloc, direction, sides, kind, number)?;
-            let behind = behind.as_str();
-            format!(in alloc; "{both}{behind}")
+/// A change of the two versions of a message, in the direction in which it is told.
+#[derive(Clone, Copy)]
+pub(crate) struct DirectedChange<'a> {
+    pub direction: Direction,
+    pub sides: Compared<'a>,
+    pub change: WireChange,
+}
+
+impl DirectedChange<'_> {
+    /// The first number of the writer's enum that the reader's kind lacks, of the fields or
+    /// extensions that have the number of the change.
+    fn lacking_in(self) -> Option<i32>
+        ensures { result ≡ spec.lacking_in self.entry.direction (compared self.entry.sides)
+            self.entry.change.number }
+    {
+        let sides = self.sides;
+        let old = sides.old.entry_numbered(sides.before, self.change.number);
+        let new = sides.new.entry_numbered(sides.after, self.change.number);
+        match self.direction {
+            Direction::Backward => lacking_between(sides.old, old, sides.new, new),
+            Direction::Forward => lacking_between(sides.new, new, sides.old, old),
         }
     }
-}
 
-/// The text of a change: the full name and the number of what changes, and both sides.
-pub(crate) fn change_words(
-    alloc: Global,
-    direction: Direction,
-    sides: Compared<'_>,
-    kind: WireChangeKind,
-    number: u32,
-) -> Result<String, AllocError>
-    ensures { IfOk result (λ s. string_bytes s
-        ≡ spec.change_words direction (compared sides.entry) kind number) }
-{
-    let name = shown_name(sides, number);
-    let words = sides_words(alloc, direction, sides, kind, number)?;
-    let words = words.as_str();
-    format!(in alloc; "'{name}' ({number}): {words}")
-}
+    /// What is told behind both sides.
+    fn behind_words(self, alloc: Global) -> Result<String, AllocError>
+        ensures { IfOk result (λ s. string_bytes s ≡ spec.behind_words self.entry.direction
+            (compared self.entry.sides) self.entry.change.kind self.entry.change.number) }
+    {
+        match self.change.kind {
+            WireChangeKind::Kind => lacking_words(alloc, self.direction, self.lacking_in()),
+            WireChangeKind::FreeNumber => {
+                String::from_str(alloc, ", and its number is not reserved")
+            }
+            _ => Ok(String::new(alloc)),
+        }
+    }
 
-/// What to do about a change.
-pub(crate) fn change_note(
-    alloc: Global,
-    direction: Direction,
-    kind: WireChangeKind,
-    number: u32,
-) -> Result<String, AllocError>
-    ensures { IfOk result (λ s. string_bytes s ≡ spec.change_note direction kind number) }
-{
-    match kind {
-        WireChangeKind::Kind | WireChangeKind::Cardinality => {
-            format!(in alloc; "take a new number, and write 'reserved {number};'")
+    /// Both sides.
+    fn both_words(self, alloc: Global) -> Result<String, AllocError>
+        ensures { IfOk result (λ s. string_bytes s ≡ spec.both_words
+            (compared self.entry.sides) self.entry.change.kind self.entry.change.number) }
+    {
+        let sides = self.sides;
+        let WireChange { number, kind } = self.change;
+        let old = sides.old.entry_numbered(sides.before, number);
+        let old = side_words(alloc, kind, sides.old, old)?;
+        let old = old.as_str();
+        let new = sides.new.entry_numbered(sides.after, number);
+        let new = side_words(alloc, kind, sides.new, new)?;
+        let new = new.as_str();
+        format!(in alloc; "{old} became {new}")
+    }
+
+    /// Both sides, and what is told behind them.
+    fn sides_words(self, alloc: Global) -> Result<String, AllocError>
+        ensures { IfOk result (λ s. string_bytes s ≡ spec.sides_words self.entry.direction
+            (compared self.entry.sides) self.entry.change.kind self.entry.change.number) }
+    {
+        match self.change.kind {
+            WireChangeKind::Oneof => {
+                let partner = partner_name(self.direction, self.sides, self.change.number);
+                let oneof = oneof_name(self.direction, self.sides, self.change.number);
+                joined_words(alloc, self.direction, partner, oneof)
+            }
+            _ => {
+                let both = self.both_words(alloc)?;
+                let both = both.as_str();
+                let behind = self.behind_words(alloc)?;
+                let behind = behind.as_str();
+                format!(in alloc; "{both}{behind}")
+            }
         }
-        WireChangeKind::FreeNumber => {
-            format!(in alloc; "write 'reserved {number};', so that no later field takes the number")
+    }
+
+    /// Its text: the full name and the number of what changes, and both sides.
+    pub(crate) fn change_words(self, alloc: Global) -> Result<String, AllocError>
+        ensures { IfOk result (λ s. string_bytes s ≡ spec.change_words self.entry.direction
+            (compared self.entry.sides) self.entry.change.kind self.entry.change.number) }
+    {
+        let number = self.change.number;
+        let name = shown_name(self.sides, number);
+        let words = self.sides_words(alloc)?;
+        let words = words.as_str();
+        format!(in alloc; "'{name}' ({number}): {words}")
+    }
+
+    /// What to do about it.
+    pub(crate) fn change_note(self, alloc: Global) -> Result<String, AllocError>
+        ensures { IfOk result (λ s. string_bytes s ≡ spec.change_note self.entry.direction
+            self.entry.change.kind self.entry.change.number) }
+    {
+        let WireChange { number, kind } = self.change;
+        match kind {
+            WireChangeKind::Kind | WireChangeKind::Cardinality => {
+                format!(in alloc; "take a new number, and write 'reserved {number};'")
+            }
+            WireChangeKind::FreeNumber => format!(in alloc;
+                "write 'reserved {number};', so that no later field takes the number"
+            ),
+            WireChangeKind::Oneof => String::from_str(alloc, oneof_note(self.direction)),
+            WireChangeKind::Required => String::from_str(alloc, required_note(self.direction)),
         }
-        WireChangeKind::Oneof => String::from_str(alloc, oneof_note(direction)),
-        WireChangeKind::Required => String::from_str(alloc, required_note(direction)),
     }
 }
 

@@ -6,4 +6,4 @@ use Rattle.pool_changes.proofs.sides.Telling.tell_each_option.Given as goal
 -- the options so far are told
 abbrev pub invariant-loop-option : goal.invariant-loop-option
 invariant-loop-option l = l.told ≡ l.initial.told
-    ++ flat_map (option_changes (versions l.self) l.file l.kept) (take l.option-index code_options)
+    ++ flat_map (option_changes (versions l.self) l.files.before.now l.files.after.now) (take l.option-index code_options)
