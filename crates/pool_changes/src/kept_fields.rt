@@ -59,10 +59,9 @@ impl Telling<'_> {
             (part pair.entry.after) }
     {
         let KeptPart { before, after, .. } = pair;
+        let reader = self.reader();
         reads_number(before.entry.kind, after.entry.kind)
-            || before
-                .form(self.writer())
-                .is_like(after.form(self.reader()))
+            || before.form(self.writer()).is_like(after.form(reader))
     }
 
     /// Appends what changes of its form in JSON, if that is not told at wire.
