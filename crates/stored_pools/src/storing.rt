@@ -5,8 +5,7 @@ ghost use Rattle.stored_pools.specs.Stored.{AreWhole, MakesPool, stored};
 
 use crate::laws::stored_is_loaded;
 use descriptor_decoding::{DecodeError, decode};
-use descriptor_encoding::encode_linked;
-use descriptor_encoding::written_is_read;
+use descriptor_encoding::{encode_linked, written_is_read};
 use descriptor_pool::{BuildError, DescriptorPool};
 use proto_types::FileDescriptorSet;
 use std::alloc::{AllocError, Global};

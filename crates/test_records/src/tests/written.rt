@@ -2,8 +2,7 @@
 
 use super::protoc::SET;
 use descriptor_decoding::{decode, decode_file};
-use descriptor_encoding::encode_file;
-use descriptor_encoding::canonical;
+use descriptor_encoding::{canonical, encode_file};
 use proto_types::{FileDescriptorProto, FileDescriptorSet};
 use std::alloc::{AllocError, Global};
 use std::process::Abort;
