@@ -5,7 +5,7 @@ ghost use Rattle.protoc_rules.specs.Faults.{each_told, told_at};
 ghost use Rattle.protoc_rules.specs.Ranges as spec;
 
 use crate::faults::{Entry, Found, StrictKind};
-use crate::spans::{extension_spans, reserved_spans, span_at, tell_across, tell_overlaps};
+use crate::spans::{Ranges, extension_spans, reserved_spans, span_at, tell_across, tell_overlaps};
 use pool_types::Identity;
 use proto_types::DescriptorProto;
 use proto_types::tag::message::{EXTENSION_RANGE, RESERVED_RANGE};
@@ -110,10 +110,15 @@ pub(crate) fn tell_ranges(
 {
     let extensions = extension_spans(found.alloc(), message.extension_range.as_slice())?;
     let reserved = reserved_spans(found.alloc(), message.reserved_range.as_slice())?;
-    let (spans, reserved) = (extensions.as_slice(), reserved.as_slice());
+    let (extensions, reserved) = (extensions.as_slice(), reserved.as_slice());
+    let spans = extensions;
     tell_extension_ranges(found, id, Extensions { spans, is_set })?;
     tell_reserved_ranges(found, id, reserved)?;
     tell_overlaps(found, id, RESERVED_RANGE, reserved)?;
-    tell_overlaps(found, id, EXTENSION_RANGE, spans)?;
-    tell_across(found, id, spans, reserved)
+    tell_overlaps(found, id, EXTENSION_RANGE, extensions)?;
+    let ranges = Ranges {
+        extensions,
+        reserved,
+    };
+    tell_across(found, id, ranges)
 }

@@ -1,9 +1,9 @@
 //! Ranges of numbers, each as its start and the number behind its last one.
 
-ghost use Rattle.std.specs.Prelude.{◌≡◌, ◌++◌, OnOk, IfOk, IsTrue, map, slice_get};
+ghost use Rattle.std.specs.Prelude.{◌≡◌, ◌<◌, ◌++◌, OnOk, IfOk, IsTrue, length, map, slice_get};
 ghost use Rattle.std.specs.Prelude.{position as position_of};
 ghost use Rattle.std.specs.List.{IsDistinct};
-ghost use Rattle.protoc_rules.specs.Faults.{each_told};
+ghost use Rattle.protoc_rules.specs.Faults.{each_told, told_at};
 ghost use Rattle.protoc_rules.specs.Spans as spec;
 
 use crate::faults::{Entry, Found, StrictKind, entry_at};
@@ -135,6 +135,26 @@ fn first_overlap(spans: &[(i64, i64)], span: (i64, i64)) -> Option<usize>
     spans.iter().position(|other| overlap(span, *other))
 }
 
+/// Appends that the range at an entry of a list overlaps with an earlier one, of which the first is
+/// told.
+fn tell_overlap(
+    found: &mut Found,
+    id: &Identity,
+    spans: &[(i64, i64)],
+    entry: Entry,
+) -> Result<(), AllocError>
+    requires { entry.position < length spans.now }
+    ensures { OnOk result (found.new ≡ found.old
+        ++ told_at (spec.earlier_overlap id.now entry.tag spans.now) spans.now entry.position) }
+{
+    let Entry { tag, position } = entry;
+    let Some(span) = spans.get(position) else {
+        return Ok(());
+    };
+    let second = entry_at(tag, first_overlap(&spans[..position], *span));
+    found.tell_pair(StrictKind::RangesOverlap.of(id), entry, second)
+}
+
 /// Appends which ranges of a list overlap with an earlier one, each with the first such. Where none
 /// does, they are not compared pair by pair.
 pub(crate) fn tell_overlaps(
@@ -152,8 +172,7 @@ pub(crate) fn tell_overlaps(
     tell_pairs(found, id, tag, spans)
 }
 
-/// Appends which ranges of a list overlap with an earlier one, of which the first is told, as each
-/// is compared with those.
+/// Appends which ranges of a list overlap with an earlier one, as each is compared with those.
 fn tell_pairs(
     found: &mut Found,
     id: &Identity,
@@ -163,12 +182,40 @@ fn tell_pairs(
     ensures { OnOk result (found.new
         ≡ found.old ++ each_told (spec.earlier_overlap id.now tag spans.now) spans.now) }
 {
-    for (position, span) in spans.iter().enumerate() {
-        let entry = Entry { tag, position };
-        let second = entry_at(tag, first_overlap(&spans[..position], *span));
-        found.tell_pair(StrictKind::RangesOverlap.of(id), entry, second)?;
+    for position in 0..spans.len() {
+        tell_overlap(found, id, spans, Entry { tag, position })?;
     }
     Ok(())
+}
+
+/// The ranges of a message.
+#[derive(Clone, Copy)]
+pub(crate) struct Ranges<'a> {
+    pub extensions: &'a [(i64, i64)],
+    pub reserved: &'a [(i64, i64)],
+}
+
+/// Appends that the extension range with a position overlaps with a reserved one, of which the
+/// first is told.
+fn tell_reserved(
+    found: &mut Found,
+    id: &Identity,
+    ranges: Ranges<'_>,
+    position: usize,
+) -> Result<(), AllocError>
+    ensures { OnOk result (found.new ≡ found.old
+        ++ told_at (spec.reserved_overlap id.now ranges.entry.reserved.now)
+        ranges.entry.extensions.now position) }
+{
+    let Some(span) = span_at(ranges.extensions, position) else {
+        return Ok(());
+    };
+    let at = Entry {
+        tag: EXTENSION_RANGE,
+        position,
+    };
+    let second = entry_at(RESERVED_RANGE, first_overlap(ranges.reserved, span));
+    found.tell_pair(StrictKind::RangesOverlap.of(id), at, second)
 }
 
 /// Appends which extension ranges of a message overlap with a reserved one, each with the first
@@ -176,36 +223,27 @@ fn tell_pairs(
 pub(crate) fn tell_across(
     found: &mut Found,
     id: &Identity,
-    extensions: &[(i64, i64)],
-    reserved: &[(i64, i64)],
+    ranges: Ranges<'_>,
 ) -> Result<(), AllocError>
-    ensures { OnOk result (found.new
-        ≡ found.old ++ each_told (spec.reserved_overlap id.now reserved.now) extensions.now) }
+    ensures { OnOk result (found.new ≡ found.old
+        ++ each_told (spec.reserved_overlap id.now ranges.entry.reserved.now)
+        ranges.entry.extensions.now) }
 {
-    if are_all_apart(found.alloc(), reserved, extensions)? {
+    if are_all_apart(found.alloc(), ranges.reserved, ranges.extensions)? {
         return Ok(());
     }
-    tell_pairs_across(found, id, extensions, reserved)
+    tell_pairs_across(found, id, ranges)
 }
 
-/// Appends which extension ranges overlap with a reserved one, of which the first is told, as each
-/// is compared with those.
-fn tell_pairs_across(
-    found: &mut Found,
-    id: &Identity,
-    extensions: &[(i64, i64)],
-    reserved: &[(i64, i64)],
-) -> Result<(), AllocError>
-    ensures { OnOk result (found.new
-        ≡ found.old ++ each_told (spec.reserved_overlap id.now reserved.now) extensions.now) }
+/// Appends which extension ranges overlap with a reserved one, as each is compared with those.
+fn tell_pairs_across(found: &mut Found, id: &Identity, ranges: Ranges<'_>) -> Result<(), AllocError>
+    ensures { OnOk result (found.new ≡ found.old
+        ++ each_told (spec.reserved_overlap id.now ranges.entry.reserved.now)
+        ranges.entry.extensions.now) }
 {
-    for (position, span) in extensions.iter().enumerate() {
-        let at = Entry {
-            tag: EXTENSION_RANGE,
-            position,
-        };
-        let second = entry_at(RESERVED_RANGE, first_overlap(reserved, *span));
-        found.tell_pair(StrictKind::RangesOverlap.of(id), at, second)?;
+    let extensions = ranges.extensions;
+    for position in 0..extensions.len() {
+        tell_reserved(found, id, ranges, position)?;
     }
     Ok(())
 }

@@ -4,15 +4,15 @@ use Rattle.std.proofs.lemmas.Int.{to_z-of_z}
 use Rattle.std.proofs.lemmas.List.{take_all}
 use Rattle.protoc_rules.specs.Faults.{each_told}
 use Rattle.protoc_rules.specs.Spans.{earlier_overlap}
-use Rattle.protoc_rules.proofs.Told.{told_next}
+use Rattle.protoc_rules.proofs.Told.{told_further}
 use Rattle.protoc_rules.proofs.spans.tell_pairs.Goals as goal
 
 pub loop-position-preserved : goal.loop-position-preserved
 loop-position-preserved c =
     let fits = c.ranges.tag in
-    let tell = earlier_overlap c.args.id.now c.args.tag c.args.spans.now in
-    let next = told_next tell c.args.spans.now c.loop-position.position c.index-spans-position.result c.loop-position-test.true c.index-spans-position.is in
-    simp to_z-of_z (grind (arith, common_steps, next))
+    let next = told_further (earlier_overlap c.args.id.now c.args.tag c.args.spans.now) c.args.spans.now c.loop-position.position c.loop-position-test.true in
+    let told = simp to_z-of_z at c.in_ok-tell_overlap.ensures in
+    simp to_z-of_z (grind (arith, common_steps, next, told))
 
 pub returns : goal.returns
 returns c =
