@@ -2,7 +2,6 @@
 
 ghost use Rattle.std.specs.Prelude.{◌≡◌, ◌∷◌, ◌++◌, IfOk, OnOk, string_bytes};
 ghost use Rattle.std.specs.List.{flat_map};
-ghost use Rattle.verdict_texts.specs.JsonFaults.{json_fault};
 ghost use Rattle.pool_changes.specs.Texts as spec;
 
 use crate::kinds::levels;
@@ -43,24 +42,26 @@ fn change_head(alloc: Global, changes: &ToldChanges, level: Level) -> Result<Str
     )
 }
 
-/// Writes a change: an object with the members of a head and with those of a fault.
+/// Writes a change at a level: an object with these members and with those of a fault.
+#[tactic(auto, unfolding(crate::specs::Texts::json_change))]
 fn write_change(
     alloc: Global,
     text: &mut String,
-    head: &str,
+    changes: &ToldChanges,
+    level: Level,
     change: &ToldFault,
 ) -> Result<(), AllocError>
     ensures { OnOk result (string_bytes text.new ≡ string_bytes text.old
-        ++ (head.now ++ spec.behind_first 123 (json_fault change.now))) }
+        ++ spec.json_change changes.now level change.now) }
 {
     let mut fault = String::new(alloc);
     write_fault_json(&mut fault, change)?;
-    text.push_str(head)?;
+    let head = change_head(alloc, changes, level)?;
+    text.push_str(head.as_str())?;
     text.push_str(behind_brace(fault.as_str()))
 }
 
 /// Writes the changes at a level that are told against an older version, with a comma before each.
-#[tactic(auto, unfolding(crate::specs::Texts::json_change))]
 fn write_level(
     alloc: Global,
     text: &mut String,
@@ -70,12 +71,10 @@ fn write_level(
     ensures { OnOk result (string_bytes text.new ≡ string_bytes text.old
         ++ spec.json_changes_at changes.now level) }
 {
-    let head = change_head(alloc, changes, level)?;
-    let head = head.as_str();
     let told = changes.at(level);
     for change in told {
         text.push(',')?;
-        write_change(alloc, text, head, change)?;
+        write_change(alloc, text, changes, level, change)?;
     }
     Ok(())
 }

@@ -6,4 +6,4 @@ use Rattle.pool_changes.proofs.objects.write_level.Given as goal
 abbrev pub invariant-loop-change : goal.invariant-loop-change
 invariant-loop-change l =
     string_bytes l.text ≡ string_bytes l.initial.text
-    ++ flat_map (λ told. 44 ∷ json_change l.changes l.fn.level told) (take l.change-index l.told)
+    ++ flat_map (λ told. 44 ∷ json_change l.changes l.level told) (take l.change-index l.told)
