@@ -68,8 +68,28 @@ fn earlier_name(reserved: ReservedNames<'_>, position: usize, name: &Text) -> Op
     entry_at(reserved.tag, first_equal(earlier, name))
 }
 
-/// Appends what the reserved name with a position breaks: that it is reserved twice, and that a
-/// field or a value has it.
+/// Appends what a reserved name with a position breaks: that it is reserved twice, and that a field
+/// or a value has it.
+fn tell_name(
+    found: &mut Found,
+    id: &Identity,
+    reserved: ReservedNames<'_>,
+    position: usize,
+    name: &Text,
+) -> Result<(), AllocError>
+    requires { position ≤ length reserved.names.now }
+    ensures { OnOk result (found.new ≡ found.old
+        ++ spec.name_faults id.now (spec.reserved_names reserved.entry) position name.now) }
+{
+    let tag = reserved.tag;
+    let entry = Entry { tag, position };
+    let first = earlier_name(reserved, position, name);
+    let member = member_named(reserved.members, reserved.member_tag, name);
+    found.tell_pair(StrictKind::DuplicateReservedName.of(id), entry, first)?;
+    tell_used(found, id, entry, member)
+}
+
+/// Appends what the reserved name with a position breaks.
 fn tell_reserved_name(
     found: &mut Found,
     id: &Identity,
@@ -81,15 +101,10 @@ fn tell_reserved_name(
         ++ told_at (spec.name_faults id.now (spec.reserved_names reserved.entry))
         reserved.entry.names.now position) }
 {
-    let Some(name) = reserved.names.get(position) else {
-        return Ok(());
-    };
-    let tag = reserved.tag;
-    let entry = Entry { tag, position };
-    let first = earlier_name(reserved, position, name);
-    let member = member_named(reserved.members, reserved.member_tag, name);
-    found.tell_pair(StrictKind::DuplicateReservedName.of(id), entry, first)?;
-    tell_used(found, id, entry, member)
+    match reserved.names.get(position) {
+        Some(name) => tell_name(found, id, reserved, position, name),
+        None => Ok(()),
+    }
 }
 
 /// Appends what each reserved name breaks.
