@@ -15,6 +15,7 @@ use std::alloc::{AllocError, Global};
 use std::cmp::Ordering;
 use std::fmt;
 use std::marker::Model;
+use std::ops::Range;
 
 /// A map from texts to numbers. All texts stand in one list of bytes. Contracts see it as the
 /// finite map.
@@ -350,7 +351,7 @@ fn find(bytes: &[u8], rows: &[Row], runs: &[usize], key: &[u8]) -> Option<usize>
     let hash = digest(key);
     let mut from = 0;
     for to in runs {
-        let at = find_in_run(bytes, rows, from, *to, hash, key);
+        let at = find_in_run(bytes, rows, from..*to, hash, key);
         if at.is_some() {
             return at;
         }
@@ -359,25 +360,24 @@ fn find(bytes: &[u8], rows: &[Row], runs: &[usize], key: &[u8]) -> Option<usize>
     find_from(bytes, rows, from, key)
 }
 
-/// The row of a text in a run from a position up to another, if there is one.
+/// The row of a text in a run of rows, if there is one.
 fn find_in_run(
     bytes: &[u8],
     rows: &[Row],
-    from: usize,
-    to: usize,
+    run: Range<usize>,
     hash: u32,
     key: &[u8],
 ) -> Option<usize>
     requires digest { hash ≡ digest_of key.now }
     requires within { AreWithin bytes.now rows.now }
-    requires digested { AreDigested bytes.now rows.now to }
-    requires order { from ≤ to }
-    requires end { to ≤ length rows.now }
-    requires run { IsRun bytes.now rows.now from to }
-    ensures { MatchOption result (LacksFrom bytes.now rows.now key.now from to)
+    requires digested { AreDigested bytes.now rows.now run.end }
+    requires order { run.start ≤ run.end }
+    requires end { run.end ≤ length rows.now }
+    requires run { IsRun bytes.now rows.now run.start run.end }
+    ensures { MatchOption result (LacksFrom bytes.now rows.now key.now run.start run.end)
         (λ at. Holds bytes.now rows.now key.now at) }
 {
-    let (mut low, mut high) = (from, to);
+    let (mut low, mut high) = (run.start, run.end);
     while low < high {
         let middle = low + (high - low) / 2;
         match order(bytes, &rows[middle], hash, key) {

@@ -16,7 +16,7 @@ loop-low-preserved-in-Less c =
       omega arith,
       omega arith,
       last,
-      λ i low high. less-below c.args.bytes.now c.args.rows.now c.args.from c.args.to c.requires.run c.args.key.now i mid low (omega arith) (omega arith) less,
+      λ i low high. less-below c.args.bytes.now c.args.rows.now c.args.run.start c.args.run.end c.requires.run c.args.key.now i mid low (omega arith) (omega arith) less,
       was.4,
     )
 
@@ -39,12 +39,12 @@ loop-low-preserved c =
       omega arith,
       omega arith,
       was.3,
-      λ i low high. greater-above c.args.bytes.now c.args.rows.now c.args.from c.args.to c.requires.run c.args.key.now i mid (omega arith) low high greater,
+      λ i low high. greater-above c.args.bytes.now c.args.rows.now c.args.run.start c.args.run.end c.requires.run c.args.key.now i mid (omega arith) low high greater,
     )
 
 pub returns : goal.returns
 returns c = λ at from to. next c at from to (cases_lt at c.loop-low.low)
   where
-    next : (c : goal.After-loop-low) (at : ℕ) → c.args.from ≤ at → at < c.args.to → (at < c.loop-low.low) ⊎ (c.loop-low.low ≤ at) → text_at c.args.bytes.now c.args.rows.now at ≡ c.args.key.now → ⊥
+    next : (c : goal.After-loop-low) (at : ℕ) → c.args.run.start ≤ at → at < c.args.run.end → (at < c.loop-low.low) ⊎ (c.loop-low.low ≤ at) → text_at c.args.bytes.now c.args.rows.now at ≡ c.args.key.now → ⊥
     next c at from to (inl under) = not-less _ _ (c.loop-low.invariant.3 at from under)
     next c at from to (inr over) = let done = c.loop-low-test.false in let order = c.loop-low.invariant.1 in not-greater _ _ (c.loop-low.invariant.4 at (omega arith) to)
