@@ -8,7 +8,7 @@ ghost use Rattle.field_rules.specs.Bounds.{AreRangesOf};
 ghost use Rattle.reference_pass.specs.SecondPass.{field_record_faults};
 ghost use Rattle.reference_pass.specs.Defaults.{field_default};
 ghost use Rattle.reference_pass.specs.Types.{field_kind};
-ghost use Rattle.reference_pass.specs.Items.{field_item, item_at};
+ghost use Rattle.reference_pass.specs.Items.{field_item};
 ghost use Rattle.reference_pass.specs.Reading.{ReadingTells, setting_of};
 ghost use Rattle.field_rules.specs.NamesBegin.{BeginsAtBoundary};
 ghost use Rattle.record_walk.specs.Place.{field_at, inside_of, message_at, shown_at};
@@ -22,7 +22,7 @@ use field_rules::{
 };
 use plain_data::duplicate_option;
 use pool_types::{
-    DefaultValue, FieldDescriptorInner, Identity, KindIndex, Syntax, cardinality_of, syntax_at,
+    DefaultValue, FieldDescriptorInner, KindIndex, Syntax, cardinality_of, syntax_at,
 };
 use proto_types::{FieldDescriptorProto, tag};
 use record_walk::Place;
@@ -78,8 +78,20 @@ pub(crate) fn read_field(
         path: id.path.as_slice(),
         full_name: id.full_name.as_str(),
     };
-    let (kind, default) = check_field(reading, of.owner, of.ranges, place, field)?;
-    item_at(reading, of, id, field, kind, default)
+    let (kind, default) = check_field(reading, of, place, field)?;
+    let json_name = duplicate_option(alloc, &field.json_name)?;
+    let oneofs = of.owner.message.oneof_decl.as_slice();
+    Ok(FieldDescriptorInner {
+        id,
+        number: item_number(field.number()),
+        json_name,
+        kind,
+        oneof: oneof_of(oneofs, field),
+        is_packed: is_packed(of.is_proto3, kind, field),
+        supports_presence: supports_presence(of.is_proto3, kind, field),
+        cardinality: cardinality_of(field.label()),
+        default,
+    })
 }
 
 /// The kind of the type of a field of a message and its default value, where one is given; where
@@ -87,13 +99,12 @@ pub(crate) fn read_field(
 /// `reading`.
 fn check_field(
     reading: &mut Reading,
-    owner: Owner,
-    ranges: &MessageRanges,
+    of: FieldOwner,
     place: Place,
     field: &FieldDescriptorProto,
 ) -> Result<(KindIndex, Option<DefaultValue>), AllocError>
-    requires short { lists_fit (of_message owner.message.now) ≡ true }
-    requires ranges { AreRangesOf ranges.now owner.message.now }
+    requires short { lists_fit (of_message of.owner.message.now) ≡ true }
+    requires ranges { AreRangesOf of.ranges.now of.owner.message.now }
     ensures kind { IfOk result (λ t. t.0
         ≡ unwrap_or (field_kind (setting_of reading.old)
         (shown_at place.entry (of_field field.now)) field.now) Double) }
@@ -102,44 +113,14 @@ fn check_field(
         (shown_at place.entry (of_field field.now)) field.now) }
     ensures faults { OnOk result (ReadingTells reading.old reading.new
         (field_record_faults (setting_of reading.old)
-        (message_at owner.entry.place owner.entry.message.now, owner.entry.message.now)
+        (message_at of.entry.owner.place of.entry.owner.message.now, of.entry.owner.message.now)
         (shown_at place.entry (of_field field.now)) field.now)) }
 {
-    let oneofs = owner.message.oneof_decl.as_slice();
-    check_field_number(&mut reading.faults, owner, ranges, place, field)?;
+    let oneofs = of.owner.message.oneof_decl.as_slice();
+    check_field_number(&mut reading.faults, of.owner, of.ranges, place, field)?;
     let (kind, default) = type_and_default(reading, place, field)?;
     check_oneof_index(&mut reading.faults, oneofs, field)?;
     Ok((kind.unwrap_or(KindIndex::Double), default))
-}
-
-/// The item of a field with an identity, whose type is of a kind, with a default value.
-fn item_at(
-    reading: &Reading,
-    of: FieldOwner,
-    id: Identity,
-    field: &FieldDescriptorProto,
-    kind: KindIndex,
-    default: Option<DefaultValue>,
-) -> Result<FieldDescriptorInner, AllocError>
-    requires { of.is_proto3 ≡ is_proto3 (syntax_at (setting_of reading.now).files id.file) }
-    ensures { IfOk result (λ item. item
-        ≡ item_at (setting_of reading.now)
-        (out-DescriptorProto of.entry.owner.message.now).oneof_decl
-        id field.now kind default) }
-{
-    let alloc = reading.faults.alloc;
-    let oneofs = of.owner.message.oneof_decl.as_slice();
-    Ok(FieldDescriptorInner {
-        id,
-        number: item_number(field.number()),
-        json_name: duplicate_option(alloc, &field.json_name)?,
-        kind,
-        oneof: oneof_of(oneofs, field),
-        is_packed: is_packed(of.is_proto3, kind, field),
-        supports_presence: supports_presence(of.is_proto3, kind, field),
-        cardinality: cardinality_of(field.label()),
-        default,
-    })
 }
 
 /// Whether the file with an index is written in proto3.

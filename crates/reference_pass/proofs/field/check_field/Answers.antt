@@ -32,9 +32,9 @@ pub returns-clause-faults : goal.returns-clause-faults
 returns-clause-faults c =
     let s = setting_of c.args.reading.now in
     let f = c.args.field.now in
-    let m = c.args.owner.message.now in
+    let m = c.args.of.owner.message.now in
     let d : Shown = shown_at c.args.place (of_field f) in
-    let number : Faults = field_number_faults s.files (message_at c.args.owner.place m) m d f in
+    let number : Faults = field_number_faults s.files (message_at c.args.of.owner.place m) m d f in
     let typing : Faults = type_faults s d f in
     let default : Faults = field_default_faults s d f in
     let oneof : Faults = oneof_faults (out-DescriptorProto m).oneof_decl f in

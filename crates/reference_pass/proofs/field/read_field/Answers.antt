@@ -1,6 +1,6 @@
-use Rattle.std.proofs.Common.{◌≡◌, List, Some, get_or, unwrap_or, ap, sym, subst, ◌∙◌}
+use Rattle.std.proofs.Common.{◌≡◌, List, Some, rules, FitsSigned, w32, to_z-of_z, get_or, unwrap_or, ap, subst, ◌∙◌}
 use Rattle.std.proofs.lemmas.List.{get_or_default}
-use Rattle.std.proofs.lemmas.Result.{IfOk-weaker}
+use Rattle.pool_types.specs.Kinds.{cardinality_of}
 use Rattle.pool_types.specs.declared.kinds.KindIndex.TheVariants.{Double}
 use Rattle.pool_types.specs.declared.contents.definition.Identity.{Identity}
 use Rattle.proto_types.specs.Field.{no_field}
@@ -8,36 +8,28 @@ use Rattle.proto_types.specs.declared.records.field.FieldDescriptorProto.{FieldD
 use Rattle.proto_types.specs.declared.tag.message.TheConstants.{FIELD}
 use Rattle.proto_types.specs.declared.message.DescriptorProto.{out-DescriptorProto}
 use Rattle.proto_types.specs.Names.{join}
-use Rattle.proto_types.specs.Readers.{text_of}
+use Rattle.proto_types.specs.Readers.{label_of, number_of, text_of}
 use Rattle.record_walk.specs.Protos.{of_field}
 use Rattle.record_walk.specs.Shown.{Shown}
 use Rattle.proto_types.specs.Paths.{entry_path}
+use Rattle.field_rules.specs.Encoding.{is_packed, supports_presence}
 use Rattle.field_rules.specs.Identities.{identity, named_at}
-use Rattle.field_rules.specs.NamesBegin.{BeginsAtBoundary}
+use Rattle.field_rules.specs.Maps.{item_number}
+use Rattle.field_rules.specs.Oneofs.{oneof_of}
 use Rattle.record_walk.specs.Place.{field_at, inside_of, message_at}
 use Rattle.reference_pass.specs.SecondPass.{Owner, field_record_faults}
 use Rattle.reference_pass.specs.Defaults.{field_default}
 use Rattle.reference_pass.specs.Types.{field_kind}
-use Rattle.reference_pass.specs.Items.{item_at}
-use Rattle.pool_types.specs.Syntaxes.{is_proto3, syntax_at}
 use Rattle.reference_pass.specs.Reading.{setting_of}
-use Rattle.reference_pass.proofs.Made.{known-ok}
-use Rattle.reference_pass.proofs.Readings.{reads-as, same-setting}
+use Rattle.reference_pass.proofs.Readings.{reads-as}
 use Rattle.reference_pass.proofs.field.read_field.Goals as goal
 
 -- the name of a field ends its full name
 pub returns-clause-begins : goal.returns-clause-begins
 returns-clause-begins c =
-    IfOk-weaker c.item_at.result _ _ (λ item is. subst BeginsAtBoundary (sym (ap (λ i. i.id) is)) c.in_ok-id.ensures.begins) c.item_at.ensures
+    c.in_ok-id.ensures.begins
 
--- the file is still of its syntax
-pub item_at-requires : goal.item_at-requires
-item_at-requires c =
-    let place = c.args.of.owner.place in
-    let file : c.in_ok-id.id.file ≡ place.file = ap (λ (d : Identity). d.file) c.in_ok-id.ensures.id in
-    c.requires.proto3 ∙ sym (λ j. is_proto3 (syntax_at (same-setting c.in_ok-kind.ensures.faults j).files (file j)))
-
--- the field is read where it stands
+-- the field is read where it stands, and each part of the item is as it is read
 pub returns-clause-item : goal.returns-clause-item
 returns-clause-item c =
     let s = setting_of c.args.reading.now in
@@ -61,8 +53,19 @@ returns-clause-item c =
     } in
     let kind = c.in_ok-kind.ensures.kind ∙ (λ j. unwrap_or (field_kind s (same j) (own j)) Double) in
     let default = c.in_ok-kind.ensures.default ∙ (λ j. field_default s (same j) (own j)) in
-    IfOk-weaker c.item_at.result _ _ (λ _ made. made ∙ (λ j. item_at (same-setting c.in_ok-kind.ensures.faults j) m.oneof_decl (id j) (own j) (kind j) (default j)))
-    c.item_at.ensures
+    let proto3 = c.requires.proto3 in
+    let number : FitsSigned w32 c.number.result = search rules in
+    λ j. record {
+      id = id j;
+      number = (c.item_number.ensures ∙ ap item_number (to_z-of_z number ∙ c.number.ensures) ∙ ap (λ h. item_number (number_of h.number)) own) j;
+      json_name = (c.in_ok-json_name.ensures ∙ ap (λ (h : FieldDescriptorProto). h.json_name) own) j;
+      kind = kind j;
+      oneof = (c.oneof_of.ensures ∙ (λ k. oneof_of (c.as_slice-oneofs.ensures k) (own k))) j;
+      is_packed = (c.is_packed.ensures ∙ (λ k. is_packed (proto3 k) (kind k) (own k))) j;
+      supports_presence = (c.supports_presence.ensures ∙ (λ k. supports_presence (proto3 k) (kind k) (own k))) j;
+      cardinality = (c.cardinality_of.ensures ∙ ap cardinality_of c.label.ensures ∙ ap (λ h. cardinality_of (label_of h.label)) own) j;
+      default = default j;
+    }
 
 pub returns-clause-faults : goal.returns-clause-faults
 returns-clause-faults c =
@@ -86,4 +89,4 @@ returns-clause-faults c =
       full_name = (c.as_str.ensures ∙ ap (λ (d : Identity). d.full_name) id) j;
       proto = of_field (own j);
     } in
-    known-ok c.item_at.result (reads-as (λ j. field_record_faults s owner (same j) (own j)) c.in_ok-kind.ensures.faults)
+    reads-as (λ j. field_record_faults s owner (same j) (own j)) c.in_ok-kind.ensures.faults
