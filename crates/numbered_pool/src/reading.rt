@@ -146,10 +146,7 @@ fn read_script(alloc: Global, bytes: &[u8]) -> Result<Items<FileDescriptorProto>
 }
 
 /// A list of one file.
-pub(crate) fn only(
-    alloc: Global,
-    file: FileDescriptorProto,
-) -> Result<Items<FileDescriptorProto>, AllocError>
+fn only(alloc: Global, file: FileDescriptorProto) -> Result<Items<FileDescriptorProto>, AllocError>
     ensures { IfOk result (λ files. files ≡ spec.only file) }
 {
     let mut files = Items::new(alloc);

@@ -79,13 +79,15 @@ fn tell_message_proto3(
     found: &mut Found,
     in_proto3: bool,
     recorded: Recorded<'_>,
+    is_message_set: bool,
 ) -> Result<(), AllocError>
+    requires { is_message_set ≡ says_message_set recorded.record.now }
     ensures { OnOk result (found.new ≡ found.old ++ spec.message_proto3_faults in_proto3
         recorded.entry.message.now.id recorded.entry.record.now) }
 {
     let Recorded { message, record } = recorded;
     let ranges = in_proto3 && !record.extension_range.as_slice().is_empty();
-    let set = in_proto3 && says_message_set(record);
+    let set = in_proto3 && is_message_set;
     found.tell_if(
         ranges,
         StrictKind::ExtensionRangesInProto3.of(&message.id),
@@ -112,16 +114,25 @@ fn reserved_of(recorded: Recorded<'_>) -> ReservedNames<'_>
 }
 
 /// Appends what a message may not be by its name, its place, its ranges and its reserved names.
-fn tell_own(found: &mut Found, recorded: Recorded<'_>) -> Result<(), AllocError>
-    ensures { OnOk result (found.new ≡ found.old
-        ++ spec.own_faults (says_message_set recorded.entry.record.now)
+fn tell_own(
+    found: &mut Found,
+    recorded: Recorded<'_>,
+    is_message_set: bool,
+) -> Result<(), AllocError>
+    ensures { OnOk result (found.new ≡ found.old ++ spec.own_faults is_message_set
         recorded.entry.message.now recorded.entry.record.now) }
 {
     let Recorded { message, record } = recorded;
-    let is_set = says_message_set(record);
     tell_identity(found, &message.id)?;
-    tell_ranges(found, &message.id, record, is_set)?;
+    tell_ranges(found, &message.id, record, is_message_set)?;
     tell_reserved_names(found, &message.id, reserved_of(recorded))
+}
+
+/// A message whose fields are looked at.
+#[derive(Clone, Copy)]
+struct FieldOwner<'a> {
+    message: &'a MessageDescriptorInner,
+    is_message_set: bool,
 }
 
 /// Appends what the oneofs of a message may not be.
@@ -138,14 +149,14 @@ impl Linked<'_> {
     fn tell_field(
         self,
         found: &mut Found,
-        recorded: Recorded<'_>,
+        owner: FieldOwner<'_>,
         field: &FieldDescriptorInner,
     ) -> Result<(), AllocError>
         ensures { OnOk result (found.new ≡ found.old
-            ++ spec.field_faults (linked self.entry) recorded.entry.message.now
-            (says_message_set recorded.entry.record.now) field.now) }
+            ++ spec.field_faults (linked self.entry) owner.entry.message.now
+            owner.entry.is_message_set field.now) }
     {
-        let message = recorded.message;
+        let message = owner.message;
         let Some(record) = self.field_record(&field.id) else {
             return Ok(());
         };
@@ -155,7 +166,7 @@ impl Linked<'_> {
             kind: field.kind,
             in_proto3: self.in_proto3(field.id.file),
             is_closed: self.is_closed(field.kind),
-            in_message_set: says_message_set(recorded.record),
+            in_message_set: owner.is_message_set,
         };
         let alone = is_alone(message.oneofs.as_slice(), field);
         tell_field_site(found, site, alone)?;
@@ -164,14 +175,14 @@ impl Linked<'_> {
     }
 
     /// Appends what the fields of a message may not be.
-    fn tell_fields(self, found: &mut Found, recorded: Recorded<'_>) -> Result<(), AllocError>
+    fn tell_fields(self, found: &mut Found, owner: FieldOwner<'_>) -> Result<(), AllocError>
         ensures { OnOk result (found.new ≡ found.old
-            ++ flat_map (spec.field_faults (linked self.entry) recorded.entry.message.now
-            (says_message_set recorded.entry.record.now)) recorded.entry.message.now.fields) }
+            ++ flat_map (spec.field_faults (linked self.entry) owner.entry.message.now
+            owner.entry.is_message_set) owner.entry.message.now.fields) }
     {
-        let fields = recorded.message.fields.as_slice();
+        let fields = owner.message.fields.as_slice();
         for field in fields {
-            self.tell_field(found, recorded, field)?;
+            self.tell_field(found, owner, field)?;
         }
         Ok(())
     }
@@ -182,10 +193,14 @@ impl Linked<'_> {
             (linked self.entry) recorded.entry.message.now recorded.entry.record.now) }
     {
         let in_proto3 = self.in_proto3(recorded.message.id.file);
-        tell_own(found, recorded)?;
-        tell_message_proto3(found, in_proto3, recorded)?;
+        let owner = FieldOwner {
+            message: recorded.message,
+            is_message_set: says_message_set(recorded.record),
+        };
+        tell_own(found, recorded, owner.is_message_set)?;
+        tell_message_proto3(found, in_proto3, recorded, owner.is_message_set)?;
         tell_message_oneofs(found, recorded)?;
-        self.tell_fields(found, recorded)
+        self.tell_fields(found, owner)
     }
 
     /// Appends what a message may not be.

@@ -111,8 +111,11 @@ pub(crate) fn tell_ranges(
     let extensions = extension_spans(found.alloc(), message.extension_range.as_slice())?;
     let reserved = reserved_spans(found.alloc(), message.reserved_range.as_slice())?;
     let (extensions, reserved) = (extensions.as_slice(), reserved.as_slice());
-    let spans = extensions;
-    tell_extension_ranges(found, id, Extensions { spans, is_set })?;
+    let own = Extensions {
+        spans: extensions,
+        is_set,
+    };
+    tell_extension_ranges(found, id, own)?;
     tell_reserved_ranges(found, id, reserved)?;
     tell_overlaps(found, id, RESERVED_RANGE, reserved)?;
     tell_overlaps(found, id, EXTENSION_RANGE, extensions)?;
