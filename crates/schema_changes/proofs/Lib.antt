@@ -3,3 +3,5 @@ pub mod Keeping
 pub mod Members
 pub mod Named
 pub mod Chained
+pub mod Tests
+pub mod Held

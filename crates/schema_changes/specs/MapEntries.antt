@@ -1,6 +1,6 @@
 -- Entries of maps. Their names are made of those of the map fields, so an entry with another name
 -- is kept too, where it keeps the key and the value (descriptor.proto on `map_entry`).
-use Rattle.std.specs.Prelude.{ℕ, Bool, true, false, not, ◌||◌, ◌&&◌, is_none, ◌==◌, length, Option}
+use Rattle.std.specs.Prelude.{ℕ, Bool, false, not, ◌||◌, ◌&&◌, is_none, ◌==◌, length, Option}
 use Rattle.std.specs.Prelude.{None, Some, Result, Ok, Err, option_and_then, slice_get}
 use Rattle.std.specs.Prelude.{if◌then◌else◌}
 use Rattle.std.specs.List.{list_all}

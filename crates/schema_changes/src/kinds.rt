@@ -2,12 +2,13 @@
 
 ghost use Rattle.std.specs.Prelude.{◌≡◌, ◌||◌};
 ghost use Rattle.std.specs.List.{list_all};
-ghost use Rattle.schema_changes.specs.Parts.{parts};
+ghost use Rattle.pool_types.specs.declared.kinds.KindIndex.TheVariants as kind;
+ghost use Rattle.schema_changes.specs.Parts.{parts, has_value};
 ghost use Rattle.schema_changes.specs.Kinds.{holds, holds_all, is_plain, holds_unsigned};
 ghost use Rattle.schema_changes.specs.Kinds.{keeps_numbers, text_check, keeps_check, entry_check};
 ghost use Rattle.schema_changes.specs.Kinds.{messages_of, keeps_cardinality};
 
-use crate::parts::has_value;
+use crate::parts::{has_value, has_value_near};
 use crate::{Entry, Parts};
 use pool_types::{Cardinality, EnumValueDescriptorInner, KindIndex};
 
@@ -52,11 +53,34 @@ pub(crate) fn is_plain(kind: KindIndex) -> bool
     )
 }
 
+/// Whether values have the numbers of others, of which most stand at the same positions.
+fn has_each(values: &[EnumValueDescriptorInner], others: &[EnumValueDescriptorInner]) -> bool
+    ensures { result ≡ list_all (λ v. has_value values.now v.number) others.now }
+{
+    for (position, other) in others.iter().enumerate() {
+        if !has_value_near(values, position, other.number) {
+            return false;
+        }
+    }
+    true
+}
+
+/// Whether the numbers of values are numbers of an enum.
+fn enum_holds_each(items: Parts<'_>, index: u32, values: &[EnumValueDescriptorInner]) -> bool
+    ensures { result
+        ≡ list_all (λ v. holds (parts items.entry) (kind.Enum index) v.number) values.now }
+{
+    items.is_open(index) || has_each(items.values(index), values)
+}
+
 /// Whether the numbers of values are numbers of a kind.
 fn holds_each(items: Parts<'_>, kind: KindIndex, values: &[EnumValueDescriptorInner]) -> bool
     ensures { result ≡ list_all (λ v. holds (parts items.entry) kind v.number) values.now }
 {
-    values.iter().all(|value| holds(items, kind, value.number))
+    match kind {
+        KindIndex::Enum(index) => enum_holds_each(items, index, values),
+        _ => values.iter().all(|value| holds(items, kind, value.number)),
+    }
 }
 
 /// Whether each number of an old kind is one of a new kind, and is encoded alike.

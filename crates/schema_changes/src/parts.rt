@@ -1,6 +1,6 @@
 //! The items of a pool by which bytes are read.
 
-ghost use Rattle.std.specs.Prelude.{◌≡◌};
+ghost use Rattle.std.specs.Prelude.{◌≡◌, true, IsTrue};
 ghost use Rattle.schema_changes.specs.Parts.{parts, in_proto3, is_open, has_value, values_of};
 ghost use Rattle.schema_changes.specs.Parts.{one_name};
 
@@ -72,4 +72,26 @@ pub(crate) fn has_value(values: &[EnumValueDescriptorInner], number: i32) -> boo
     ensures { result ≡ has_value values.now number }
 {
     values.iter().any(|value| value.number == number)
+}
+
+/// Whether the value at a position has a number.
+#[tactic(auto, using(crate::proofs::Tests::passes_at))]
+fn is_value_at(values: &[EnumValueDescriptorInner], position: usize, number: i32) -> bool
+    ensures { IsTrue result → has_value values.now number ≡ true }
+{
+    match values.get(position) {
+        Some(value) => value.number == number,
+        None => false,
+    }
+}
+
+/// Whether values have a number. Mostly the one at a position has it.
+pub(crate) fn has_value_near(
+    values: &[EnumValueDescriptorInner],
+    position: usize,
+    number: i32,
+) -> bool
+    ensures { result ≡ has_value values.now number }
+{
+    is_value_at(values, position, number) || has_value(values, number)
 }
