@@ -4,6 +4,8 @@ pub mod Lying
 pub mod Looking
 pub mod Itself
 pub mod Fresh
+pub mod Same
 pub mod Firsts
 pub mod Openings
+pub mod FieldsLed
 pub mod Untold

@@ -2,14 +2,17 @@
 use Rattle.std.proofs.Common.{◌≡◌, ◌<◌, ◌+◌, ◌==◌, ℕ, Bool, true, false, Option, Some, None, List, [], ◌∷◌, length, option_map, option_and_then, slice_get, refl, ap, sym, subst, ◌∙◌, arith}
 use Rattle.std.proofs.lemmas.Bool.{and_parts, eqb-true, eq-eqb}
 use Rattle.std.proofs.lemmas.List.Elements.{All-get_or}
+use Rattle.std.proofs.lemmas.Slice.Eq.{bytes_eq-Decides}
 use Rattle.std.proofs.lemmas.Option.{get_or_from_slice_get, slice_get_within}
 use Rattle.std.specs.FinMap as finite
 use Rattle.std.specs.List.{All, AllByRecursion, Contains}
 use Rattle.std.specs.Option.{IfSome, option_map_or}
+use Rattle.std.specs.Str.{bytes_eq}
 use Rattle.pool_types.specs.Contents.{Contents}
 use Rattle.pool_types.specs.Extension.{extension_numbered, has_number}
 use Rattle.pool_types.specs.declared.contents.definition.Definition.{Definition}
 use Rattle.pool_types.specs.declared.contents.definition.DefinitionKind.TheVariants as definition
+use Rattle.pool_types.specs.declared.contents.enumeration.EnumDescriptorInner.{EnumDescriptorInner}
 use Rattle.pool_types.specs.declared.contents.extension.ExtensionDescriptorInner.{ExtensionDescriptorInner}
 use Rattle.pool_types.specs.declared.contents.field.FieldDescriptorInner.{FieldDescriptorInner}
 use Rattle.pool_types.specs.declared.contents.message.MessageDescriptorInner.{MessageDescriptorInner}
@@ -26,6 +29,7 @@ use Rattle.schema_changes.specs.Parts.{parts_of}
 use Rattle.schema_changes.specs.Pools.{NamesMean, message_meant, message_named}
 use Rattle.schema_changes.specs.Unchanged.{LookUp, LooksUp}
 use Rattle.schema_changes.proofs.Keeping.{at-index}
+use Rattle.pool_changes.specs.Removed.{enum_meant, enum_named}
 use Rattle.pool_changes.proofs.Lists.{first-passes, made-at, passing, passing-has, picked-has}
 use Rattle.pool_changes.proofs.Lying.{Lies, OneofLies, made-lies}
 
@@ -112,6 +116,24 @@ unfolding message_named
 names_mean p pool n m there =
     named-by p m.id.full_name n m (finite.get p.names m.id.full_name)
     (subst (λ got. IfSome got (λ (x : MessageDescriptorInner). Means p x.id.full_name (definition.Message n))) there ((full_names_mean p pool).messages n)) there
+
+-- so does a name that is that of a message with an index
+pub message_meant_at : (p : Contents) → IsPool p → (n : ℕ) (m : MessageDescriptorInner) (name : List ℕ) → slice_get p.messages n ≡ Some m → bytes_eq m.id.full_name name ≡ true → message_named p name ≡ Some m
+message_meant_at p pool n m name there named =
+    subst (λ t. message_named p t ≡ Some m) ((bytes_eq-Decides m.id.full_name name).0 named) (names_mean p pool n m there)
+
+-- and one that is that of an enum
+enum-by : (p : Contents) (n : ℕ) (e : EnumDescriptorInner) (got : Option Definition) → option_map (λ def. def.kind) got ≡ Some (definition.Enum n) → slice_get p.enums n ≡ Some e
+    → option_and_then (λ d. enum_meant p d.kind) got ≡ Some e
+enum-by p n e None means there = absurd cc
+enum-by p n e (Some def) means there = let kind : def.kind ≡ definition.Enum n = cc in ap (enum_meant p) kind ∙ there
+
+pub enum_meant_at : (p : Contents) → IsPool p → (n : ℕ) (e : EnumDescriptorInner) (name : List ℕ) → slice_get p.enums n ≡ Some e → bytes_eq e.id.full_name name ≡ true → enum_named p name ≡ Some e
+unfolding enum_named
+enum_meant_at p pool n e name there named =
+    subst (λ t. option_and_then (λ (d : Definition). enum_meant p d.kind) (finite.get p.names t) ≡ Some e) ((bytes_eq-Decides e.id.full_name name).0 named)
+    (enum-by p n e (finite.get p.names e.id.full_name)
+    (subst (λ got. IfSome got (λ (x : EnumDescriptorInner). Means p x.id.full_name (definition.Enum n))) there ((full_names_mean p pool).enums n)) there)
 
 -- so do those of each pool of a chain
 pub all-look-up : (p : Contents) (qs : List Contents) → IsPool p → AllByRecursion IsPool qs → AllLookUp p qs

@@ -1,5 +1,5 @@
 -- What changes at json and at source of a field or an extension that is kept by its number.
-use Rattle.std.specs.Prelude.{Bool, true, false, not, ◌||◌, List, [], ◌++◌, if◌then◌else◌}
+use Rattle.std.specs.Prelude.{Bool, true, false, not, ◌||◌, ◌&&◌, List, [], ◌++◌, if◌then◌else◌}
 use Rattle.std.specs.Str.{bytes_eq}
 use Rattle.pool_types.specs.declared.contents.message.MessageDescriptorInner.{MessageDescriptorInner}
 use Rattle.pool_types.specs.declared.kinds.KindIndex.{KindIndex}
@@ -9,6 +9,7 @@ use Rattle.schema_changes.specs.declared.change.WireChange.{WireChange}
 use Rattle.schema_changes.specs.declared.change.WireChangeKind.TheVariants as change
 use Rattle.verdict_texts.specs.declared.telling.ToldFault.{ToldFault}
 use Rattle.pool_changes.specs.FieldParts.{Part, form_side, json_side, repeated_side, name_side}
+use Rattle.pool_changes.specs.FieldParts.{json_word, json_enum, type_word, type_name}
 use Rattle.pool_changes.specs.FieldParts.{type_side, presence_side, default_side, oneof_side}
 use Rattle.pool_changes.specs.Removed.{tells}
 use Rattle.pool_changes.specs.Sides.{Versions, writer, reader, are_alike, differing}
@@ -18,6 +19,16 @@ use Rattle.pool_changes.specs.declared.kinds.ElementChange.TheVariants as elemen
 abbrev pub reads_number : KindIndex → KindIndex → Bool
 reads_number kind.Int32 (kind.Enum e) = true
 reads_number _ _ = false
+
+-- whether values of two kinds have one form in JSON
+abbrev pub are_formed_alike : Versions → KindIndex → KindIndex → Bool
+are_formed_alike v k l = bytes_eq (json_word k) (json_word l)
+    && bytes_eq (json_enum (writer v) k) (json_enum (reader v) l)
+
+-- whether they are of one type
+abbrev pub are_typed_alike : Versions → KindIndex → KindIndex → Bool
+are_typed_alike v k l = bytes_eq (type_word (writer v) k) (type_word (reader v) l)
+    && bytes_eq (type_name (writer v) k) (type_name (reader v) l)
 
 -- whether JSON has a field in a form that the reader's reads
 abbrev pub keeps_form : Versions → Part → Part → Bool

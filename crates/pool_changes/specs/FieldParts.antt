@@ -68,6 +68,13 @@ abbrev pub part_numbered : Contents → MessageDescriptorInner → ℕ → Optio
 part_numbered p m n = option_or (option_map field_part (field_numbered m n))
     (option_and_then (extension_part_at p) (finite.get m.extension_numbers n))
 
+-- whether a kind is that of a message or of an enum, which has a name
+abbrev pub is_named : KindIndex → Bool
+is_named (kind.Message m) = true
+is_named (kind.Group m) = true
+is_named (kind.Enum e) = true
+is_named _ = false
+
 -- the word for the form that values of a kind have in JSON
 abbrev pub json_word : KindIndex → List ℕ
 json_word kind.Bool = codes "true or false"

@@ -1,23 +1,27 @@
 //! What changes at each level, in the order of the writer's items.
 
-ghost use Rattle.std.specs.Prelude.{◌≡◌, ◌++◌, IfOk, OnOk, Some, option_map};
+ghost use Rattle.std.specs.Prelude.{◌≡◌, ◌++◌, [], IfOk, IsTrue, OnOk, Some, option_map};
 ghost use Rattle.std.specs.List.{flat_map};
 ghost use Rattle.proto_types.specs.Readers.{text_of};
 ghost use Rattle.schema_changes.specs.Changes.{compared};
+ghost use Rattle.schema_changes.specs.MessageSets.{is_message_set};
+ghost use Rattle.schema_changes.specs.Parts.{parts_of};
 ghost use Rattle.schema_changes.specs.Pools.{message_named};
 ghost use Rattle.pool_changes.specs.AtLevels as spec;
 ghost use Rattle.pool_changes.specs.Comparing as comparing;
 ghost use Rattle.pool_changes.specs.Members.{by_writer};
 ghost use Rattle.pool_changes.specs.Removed.{enum_named, file_changes, file_named, oneof_changes};
+ghost use Rattle.pool_changes.specs.FieldChanges.{part_json, part_source};
 ghost use Rattle.pool_changes.specs.FieldParts.{extension_part_at, field_part, part};
 ghost use Rattle.pool_changes.specs.Sides.{both_of, reader, side, versions, writer};
 
+use crate::alike::is_one_truth;
 use crate::by_level::{BehindWire, ByLevel};
 use crate::fields::{Part, extension_part_at, field_part, part_numbered};
 use crate::kept_fields::KeptPart;
 use crate::kinds::ElementChange;
 use crate::members::by_writer;
-use crate::named::{enum_named, message_named};
+use crate::named::{enum_near, message_near};
 use crate::pools::parts_of;
 use crate::removed::{Kept, is_told};
 use crate::sides::{Side, Telling};
@@ -55,12 +59,18 @@ fn set_word(is_set: bool) -> &'static str
     }
 }
 
+/// Whether a message is a message set on the wire.
+fn is_set(pool: &DescriptorPool, message: &MessageDescriptorInner) -> bool
+    ensures { result ≡ is_message_set (parts_of pool.now) message.now }
+{
+    parts_of(pool).is_message_set(message)
+}
+
 /// Whether a message is a message set on the wire, as a side.
 fn set_side<'a>(pool: &DescriptorPool, message: &'a MessageDescriptorInner) -> Side<'a>
     ensures { side result ≡ comparing.set_side pool.now message.now }
 {
-    let is_set = parts_of(pool).is_message_set(message);
-    Side::there(&message.id, set_word(is_set), "")
+    Side::there(&message.id, set_word(is_set(pool, message)), "")
 }
 
 impl<'a> Telling<'a> {
@@ -114,6 +124,15 @@ impl<'a> Telling<'a> {
         Ok(())
     }
 
+    /// Whether both or none of two messages are message sets.
+    #[tactic(auto, using(crate::proofs::Same::set_none))]
+    fn is_set_like(self, before: &MessageDescriptorInner, after: &MessageDescriptorInner) -> bool
+        ensures { IsTrue result
+            → comparing.set_changes (versions self.entry) before.now after.now ≡ [] }
+    {
+        is_one_truth(is_set(self.writer(), before), is_set(self.reader(), after))
+    }
+
     /// Appends what changes where one of two messages is a message set, and the other is not.
     fn tell_set(
         self,
@@ -124,6 +143,9 @@ impl<'a> Telling<'a> {
         ensures { OnOk result (told.new ≡ told.old
             ++ comparing.set_changes (versions self.entry) before.now after.now) }
     {
+        if self.is_set_like(before, after) {
+            return Ok(());
+        }
         let before = set_side(self.writer(), before);
         let after = set_side(self.reader(), after);
         self.tell_differing(told, ElementChange::MessageSet.between(before, after))
@@ -144,6 +166,23 @@ impl<'a> Telling<'a> {
     {
         self.tell_each(told, sides, pair.found)?;
         self.tell_set(told, pair.before, pair.after)
+    }
+
+    /// Appends what changes at json and at source of a field or an extension that the reader's
+    /// message has too.
+    fn tell_kept_entry(self, told: &mut BehindWire, pair: KeptPart<'_>) -> Result<(), AllocError>
+        ensures json { OnOk result (told.new.json ≡ told.old.json ++ part_json
+            (versions self.entry) pair.entry.messages.found.now (part pair.entry.before)
+            (part pair.entry.after)) }
+        ensures source { OnOk result (told.new.source ≡ told.old.source ++ part_source
+            (versions self.entry) pair.entry.messages.before.now pair.entry.messages.after.now
+            pair.entry.messages.found.now (part pair.entry.before) (part pair.entry.after)) }
+    {
+        if self.is_untold(pair) {
+            return Ok(());
+        }
+        self.tell_part_json(&mut told.json, pair)?;
+        self.tell_part_source(&mut told.source, pair)
     }
 
     /// Appends what changes at json and at source of a field or an extension, which is looked up by
@@ -167,8 +206,7 @@ impl<'a> Telling<'a> {
                     before: field,
                     after: kept,
                 };
-                self.tell_part_json(&mut told.json, kept)?;
-                self.tell_part_source(&mut told.source, kept)
+                self.tell_kept_entry(told, kept)
             }
             None => self.tell_field_removed(&mut told.json, pair, field),
         }
@@ -283,10 +321,11 @@ impl<'a> Telling<'a> {
         self.tell_parts(&mut told.behind, pair)
     }
 
-    /// Appends what changes of a message of the writer, at each level.
+    /// Appends what changes of a message of the writer, which has an index, at each level.
     fn tell_message(
         self,
         told: &mut ByLevel,
+        index: usize,
         before: &MessageDescriptorInner,
     ) -> Result<(), AllocError>
         ensures wire { OnOk result (told.new.wire ≡ told.old.wire
@@ -299,7 +338,7 @@ impl<'a> Telling<'a> {
             ++ spec.message_source (versions self.entry) before.now
             (message_named (reader (versions self.entry)) before.now.id.full_name)) }
     {
-        match message_named(self.alloc, self.reader(), before.id.full_name())? {
+        match message_near(self.alloc, self.reader(), index, before.id.full_name())? {
             Some(after) => self.tell_kept_message(told, before, after),
             None => self.tell_message_removed(&mut told.behind.source, before),
         }
@@ -318,8 +357,9 @@ impl<'a> Telling<'a> {
             (message_named (reader (versions self.entry)) x.id.full_name))
             (writer (versions self.entry)).messages) }
     {
-        for message in self.writer().messages() {
-            self.tell_message(told, message)?;
+        let messages = self.writer().messages();
+        for (index, message) in messages.iter().enumerate() {
+            self.tell_message(told, index, message)?;
         }
         Ok(())
     }
@@ -334,8 +374,9 @@ impl<'a> Telling<'a> {
         ensures { OnOk result (told.new ≡ told.old
             ++ spec.enum_json (versions self.entry) before.now (Some after.now)) }
     {
-        for value in before.values.as_slice() {
-            self.tell_value(told, after, value)?;
+        let values = before.values.as_slice();
+        for (position, value) in values.iter().enumerate() {
+            self.tell_value(told, after, position, value)?;
         }
         Ok(())
     }
@@ -361,10 +402,11 @@ impl<'a> Telling<'a> {
         )
     }
 
-    /// Appends what changes of an enum of the writer, at json and at source.
+    /// Appends what changes of an enum of the writer, which has an index, at json and at source.
     fn tell_enum(
         self,
         told: &mut BehindWire,
+        index: usize,
         before: &EnumDescriptorInner,
     ) -> Result<(), AllocError>
         ensures json { OnOk result (told.new.json ≡ told.old.json
@@ -374,7 +416,7 @@ impl<'a> Telling<'a> {
             ++ spec.enum_source (versions self.entry) before.now
             (enum_named (reader (versions self.entry)) before.now.id.full_name)) }
     {
-        match enum_named(self.alloc, self.reader(), before.id.full_name())? {
+        match enum_near(self.alloc, self.reader(), index, before.id.full_name())? {
             Some(after) => self.tell_kept_enum(told, before, after),
             None => {
                 let removed = self.removed(ElementChange::EnumRemoved, &before.id, "enum");
@@ -394,8 +436,9 @@ impl<'a> Telling<'a> {
             (enum_named (reader (versions self.entry)) e.id.full_name))
             (writer (versions self.entry)).enums) }
     {
-        for enumeration in self.writer().enums() {
-            self.tell_enum(told, enumeration)?;
+        let enums = self.writer().enums();
+        for (index, enumeration) in enums.iter().enumerate() {
+            self.tell_enum(told, index, enumeration)?;
         }
         Ok(())
     }

@@ -250,7 +250,7 @@ impl<'a> Part<'a> {
     }
 
     /// The default value that its record gives, if it gives one.
-    fn default_text(self, pool: &'a DescriptorPool) -> Option<&'a Text>
+    pub(crate) fn default_text(self, pool: &'a DescriptorPool) -> Option<&'a Text>
         ensures { option_copied result ≡ option_and_then (λ r. r.default_value)
             (field_record pool.now (spec.part self.entry).id) }
     {

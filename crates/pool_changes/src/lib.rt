@@ -3,6 +3,7 @@
 //! in both versions and what to do, as lines for people and as objects of JSON.
 #![tactic(auto)]
 
+mod alike;
 mod at_levels;
 mod by_level;
 mod comparing;
@@ -16,6 +17,7 @@ mod members;
 mod named;
 mod objects;
 mod options;
+mod outer;
 mod pools;
 mod removed;
 mod services;

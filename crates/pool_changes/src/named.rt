@@ -1,6 +1,6 @@
 //! The message, the service or the enum of a pool that a full name means.
 
-ghost use Rattle.std.specs.Prelude.{◌≡◌, IfOk};
+ghost use Rattle.std.specs.Prelude.{◌≡◌, Some, IfOk, IfSome};
 ghost use Rattle.std.specs.FinMap as finite;
 ghost use Rattle.std.specs.Option.{option_copied};
 ghost use Rattle.pool_changes.specs.Removed as enums;
@@ -89,9 +89,45 @@ fn enum_meant(pool: &DescriptorPool, kind: DefinitionKind) -> Option<&EnumDescri
     }
 }
 
+/// The enum of a pool with an index, if it has a full name. The name then means it.
+#[tactic(auto, using(crate::proofs::Looking::enum_meant_at))]
+fn enum_at<'a>(
+    pool: &'a DescriptorPool,
+    index: usize,
+    name: &str,
+) -> Option<&'a EnumDescriptorInner>
+    ensures { IfSome result (λ e. enums.enum_named pool.now name.now ≡ Some e.now) }
+{
+    pool.made();
+    let enumeration = pool.enums().get(index)?;
+    if enumeration.id.full_name() == name {
+        Some(enumeration)
+    } else {
+        None
+    }
+}
+
+/// The enum of a pool that a full name means. That of most names has an index that is known.
+///
+/// # Errors
+/// `AllocError` where memory was refused.
+pub(crate) fn enum_near<'a>(
+    alloc: Global,
+    pool: &'a DescriptorPool,
+    index: usize,
+    name: &str,
+) -> Result<Option<&'a EnumDescriptorInner>, AllocError>
+    ensures { IfOk result (λ found. option_copied found ≡ enums.enum_named pool.now name.now) }
+{
+    match enum_at(pool, index, name) {
+        Some(enumeration) => Ok(Some(enumeration)),
+        None => enum_named(alloc, pool, name),
+    }
+}
+
 /// The enum of a pool that a full name means.
 #[tactic(auto, unfolding(crate::specs::Removed::enum_named))]
-pub(crate) fn enum_named<'a>(
+fn enum_named<'a>(
     alloc: Global,
     pool: &'a DescriptorPool,
     name: &str,
@@ -101,6 +137,42 @@ pub(crate) fn enum_named<'a>(
     match definition_of(alloc, pool, name)? {
         Some(definition) => Ok(enum_meant(pool, definition.kind)),
         None => Ok(None),
+    }
+}
+
+/// The message of a pool with an index, if it has a full name. The name then means it.
+#[tactic(auto, using(crate::proofs::Looking::message_meant_at))]
+fn message_at<'a>(
+    pool: &'a DescriptorPool,
+    index: usize,
+    name: &str,
+) -> Option<&'a MessageDescriptorInner>
+    ensures { IfSome result (λ m. message_named pool.now name.now ≡ Some m.now) }
+{
+    pool.made();
+    let message = pool.messages().get(index)?;
+    if message.id.full_name() == name {
+        Some(message)
+    } else {
+        None
+    }
+}
+
+/// The message of a pool that a full name means. That of most names has an index that is known.
+///
+/// # Errors
+/// `AllocError` where memory was refused.
+pub(crate) fn message_near<'a>(
+    alloc: Global,
+    pool: &'a DescriptorPool,
+    index: usize,
+    name: &str,
+) -> Result<Option<&'a MessageDescriptorInner>, AllocError>
+    ensures { IfOk result (λ found. option_copied found ≡ message_named pool.now name.now) }
+{
+    match message_at(pool, index, name) {
+        Some(message) => Ok(Some(message)),
+        None => message_named(alloc, pool, name),
     }
 }
 

@@ -1,20 +1,22 @@
 //! What a reader lacks of what a writer has: files, messages, enums and their parts.
 
-ghost use Rattle.std.specs.Prelude.{◌≡◌, ◌++◌, OnOk, Some};
+ghost use Rattle.std.specs.Prelude.{◌≡◌, ◌++◌, [], true, IsTrue, OnOk, Some};
 ghost use Rattle.std.specs.List.{list_any};
 ghost use Rattle.std.specs.Option.{option_copied};
 ghost use Rattle.proto_types.specs.Readers.{text_of};
 ghost use Rattle.pool_types.specs.LookUps.{value_numbered};
 ghost use Rattle.pool_changes.specs.Removed as spec;
-ghost use Rattle.pool_changes.specs.Sides.{reader, side, versions};
+ghost use Rattle.pool_changes.specs.Sides.{differing, reader, side, versions, writer};
+ghost use Rattle.pool_changes.specs.declared.kinds.ElementChange.TheVariants as element;
 
 use crate::Direction;
 use crate::fields::Part;
 use crate::kinds::ElementChange;
+use crate::outer::outer_field;
 use crate::pools::parts_of;
 use crate::sides::{Side, Telling, file_told};
 use descriptor_pool::DescriptorPool;
-use plain_data::Items;
+use plain_data::{Items, same};
 use pool_types::{
     EnumDescriptorInner, EnumValueDescriptorInner, FileDescriptorInner, Identity,
     MessageDescriptorInner, OneofDescriptorInner, Syntax,
@@ -83,11 +85,31 @@ fn is_value_like(value: &EnumValueDescriptorInner, other: &EnumValueDescriptorIn
     other.number == value.number && other.id.full_name() == value.id.full_name()
 }
 
-/// Whether one of some values has the full name and the number of another.
-fn has_value_like(values: &[EnumValueDescriptorInner], value: &EnumValueDescriptorInner) -> bool
+/// Whether the value at a position has the full name and the number of another.
+#[tactic(auto, using(schema_changes::proofs::Tests::passes_at))]
+fn is_value_at(
+    values: &[EnumValueDescriptorInner],
+    position: usize,
+    value: &EnumValueDescriptorInner,
+) -> bool
+    ensures { IsTrue result → list_any (spec.is_value_like value.now) values.now ≡ true }
+{
+    match values.get(position) {
+        Some(other) => is_value_like(value, other),
+        None => false,
+    }
+}
+
+/// Whether one of some values has the full name and the number of another. Mostly that is the one
+/// at its position.
+fn has_value_like(
+    values: &[EnumValueDescriptorInner],
+    position: usize,
+    value: &EnumValueDescriptorInner,
+) -> bool
     ensures { result ≡ list_any (spec.is_value_like value.now) values.now }
 {
-    values.iter().any(|other| is_value_like(value, other))
+    is_value_at(values, position, value) || values.iter().any(|other| is_value_like(value, other))
 }
 
 /// The name of a value, as a side.
@@ -105,7 +127,10 @@ pub(crate) fn field_record<'a>(
     ensures { option_copied result ≡ spec.field_record pool.now id.now }
 {
     let file = pool.files().get(id.file as usize)?;
-    find_field_proto(&file.raw, id.path())
+    match outer_field(&file.raw, id.path()) {
+        Some(field) => Some(field),
+        None => find_field_proto(&file.raw, id.path()),
+    }
 }
 
 /// Whether the field of a message at a position is one of proto3 that is said to be optional.
@@ -232,20 +257,75 @@ impl Telling<'_> {
         }
     }
 
-    /// Appends what a reader's enum changes of a value.
+    /// Appends what a reader's enum changes of a value, which has a position in the writer's.
     pub(crate) fn tell_value(
         self,
         told: &mut Items<ToldFault>,
         enumeration: &EnumDescriptorInner,
+        position: usize,
         value: &EnumValueDescriptorInner,
     ) -> Result<(), AllocError>
         ensures { OnOk result (told.new ≡ told.old
             ++ spec.value_changes (versions self.entry) enumeration.now value.now) }
     {
-        if has_value_like(enumeration.values.as_slice(), value) {
+        if has_value_like(enumeration.values.as_slice(), position, value) {
             return Ok(());
         }
         self.tell_value_lost(told, enumeration, value)
+    }
+
+    /// Whether two files are of one package.
+    #[tactic(auto, using(crate::proofs::Same::package_none))]
+    fn has_package_of(self, files: KeptFile<'_>) -> bool
+        ensures { IsTrue result → differing (versions self.entry) element.FilePackage
+            (spec.package_side (writer (versions self.entry)) files.entry.before.now)
+            (spec.package_side (reader (versions self.entry)) files.entry.after.now) ≡ [] }
+    {
+        files.before.raw.package() == files.after.raw.package()
+    }
+
+    /// Appends what changes of the packages of two files.
+    fn tell_package(
+        self,
+        told: &mut Items<ToldFault>,
+        files: KeptFile<'_>,
+    ) -> Result<(), AllocError>
+        ensures { OnOk result (told.new ≡ told.old ++ differing (versions self.entry)
+            element.FilePackage
+            (spec.package_side (writer (versions self.entry)) files.entry.before.now)
+            (spec.package_side (reader (versions self.entry)) files.entry.after.now)) }
+    {
+        if self.has_package_of(files) {
+            return Ok(());
+        }
+        let before = package_side(self.writer(), files.before);
+        let after = package_side(self.reader(), files.after);
+        self.tell_differing(told, ElementChange::FilePackage.between(before, after))
+    }
+
+    /// Whether two files are of one syntax.
+    #[tactic(auto, using(crate::proofs::Same::syntax_none))]
+    fn has_syntax_of(self, files: KeptFile<'_>) -> bool
+        ensures { IsTrue result → differing (versions self.entry) element.FileSyntax
+            (spec.syntax_side (writer (versions self.entry)) files.entry.before.now)
+            (spec.syntax_side (reader (versions self.entry)) files.entry.after.now) ≡ [] }
+    {
+        same(&files.before.syntax, &files.after.syntax)
+    }
+
+    /// Appends what changes of the syntaxes of two files.
+    fn tell_syntax(self, told: &mut Items<ToldFault>, files: KeptFile<'_>) -> Result<(), AllocError>
+        ensures { OnOk result (told.new ≡ told.old ++ differing (versions self.entry)
+            element.FileSyntax
+            (spec.syntax_side (writer (versions self.entry)) files.entry.before.now)
+            (spec.syntax_side (reader (versions self.entry)) files.entry.after.now)) }
+    {
+        if self.has_syntax_of(files) {
+            return Ok(());
+        }
+        let before = syntax_side(self.writer(), files.before);
+        let after = syntax_side(self.reader(), files.after);
+        self.tell_differing(told, ElementChange::FileSyntax.between(before, after))
     }
 
     /// Appends what a reader's file changes of a writer's with its name.
@@ -257,12 +337,8 @@ impl Telling<'_> {
         ensures { OnOk result (told.new ≡ told.old ++ spec.file_changes (versions self.entry)
             files.entry.before.now (Some files.entry.after.now)) }
     {
-        let before = package_side(self.writer(), files.before);
-        let after = package_side(self.reader(), files.after);
-        self.tell_differing(told, ElementChange::FilePackage.between(before, after))?;
-        let before = syntax_side(self.writer(), files.before);
-        let after = syntax_side(self.reader(), files.after);
-        self.tell_differing(told, ElementChange::FileSyntax.between(before, after))?;
+        self.tell_package(told, files)?;
+        self.tell_syntax(told, files)?;
         self.tell_options(told, files)
     }
 

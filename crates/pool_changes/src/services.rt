@@ -1,6 +1,6 @@
 //! What changes of services, so that calls go otherwise.
 
-ghost use Rattle.std.specs.Prelude.{◌≡◌, ◌++◌, OnOk, Some};
+ghost use Rattle.std.specs.Prelude.{◌≡◌, ◌++◌, [], IsTrue, OnOk, Some};
 ghost use Rattle.std.specs.List.{flat_map};
 ghost use Rattle.std.specs.Option.{option_copied};
 ghost use Rattle.pool_changes.specs.Services as spec;
@@ -90,6 +90,19 @@ fn streams<'a>(pool: &DescriptorPool, method: &'a MethodDescriptorInner) -> Side
 }
 
 impl Telling<'_> {
+    /// Whether two methods take and give messages of the same names, in streams or not.
+    #[tactic(auto, using(crate::proofs::Same::method_none))]
+    fn is_method_like(self, method: &MethodDescriptorInner, kept: &MethodDescriptorInner) -> bool
+        ensures { IsTrue result
+            → spec.kept_method_changes (versions self.entry) method.now kept.now ≡ [] }
+    {
+        let (writer, reader) = (self.writer(), self.reader());
+        let (before, after) = (parts_of(writer), parts_of(reader));
+        message_name(before, method.input) == message_name(after, kept.input)
+            && message_name(before, method.output) == message_name(after, kept.output)
+            && streaming(writer, method) == streaming(reader, kept)
+    }
+
     /// Appends what a reader's method changes of a writer's with its name.
     fn tell_kept_method(
         self,
@@ -100,6 +113,9 @@ impl Telling<'_> {
         ensures { OnOk result (told.new ≡ told.old
             ++ spec.kept_method_changes (versions self.entry) method.now kept.now) }
     {
+        if self.is_method_like(method, kept) {
+            return Ok(());
+        }
         let (writer, reader) = (self.writer(), self.reader());
         let (before, after) = (input(writer, method), input(reader, kept));
         self.tell_differing(told, ElementChange::MethodInput.between(before, after))?;

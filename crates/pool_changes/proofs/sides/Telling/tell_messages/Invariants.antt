@@ -6,15 +6,15 @@ use Rattle.pool_changes.specs.Sides.{versions, reader, writer}
 use Rattle.pool_changes.proofs.sides.Telling.tell_messages.Given as goal
 
 -- the messages so far are told
-abbrev pub invariant-loop-message : goal.invariant-loop-message
-invariant-loop-message l = record {
+abbrev pub invariant-loop-index : goal.invariant-loop-index
+invariant-loop-index l = record {
   wire : l.told.wire ≡ l.initial.told.wire
       ++ flat_map (λ x. message_told (versions l.self) x (message_named (reader (versions l.self)) x.id.full_name))
-      (take l.message-index (writer (versions l.self)).messages);
+      (take l.index (writer (versions l.self)).messages);
   json : l.told.behind.json ≡ l.initial.told.behind.json
       ++ flat_map (λ x. message_json (versions l.self) x (message_named (reader (versions l.self)) x.id.full_name))
-      (take l.message-index (writer (versions l.self)).messages);
+      (take l.index (writer (versions l.self)).messages);
   source : l.told.behind.source ≡ l.initial.told.behind.source
       ++ flat_map (λ x. message_source (versions l.self) x (message_named (reader (versions l.self)) x.id.full_name))
-      (take l.message-index (writer (versions l.self)).messages);
+      (take l.index (writer (versions l.self)).messages);
 }

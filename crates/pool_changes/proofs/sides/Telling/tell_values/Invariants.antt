@@ -4,5 +4,5 @@ use Rattle.pool_changes.specs.Sides.{versions}
 use Rattle.pool_changes.proofs.sides.Telling.tell_values.Given as goal
 
 -- the values so far are told
-abbrev pub invariant-loop-value : goal.invariant-loop-value
-invariant-loop-value l = l.told ≡ l.initial.told ++ flat_map (value_changes (versions l.self) l.after) (take l.value-index l.before.values)
+abbrev pub invariant-loop-position : goal.invariant-loop-position
+invariant-loop-position l = l.told ≡ l.initial.told ++ flat_map (value_changes (versions l.self) l.after) (take l.position l.before.values)

@@ -1,0 +1,196 @@
+//! Whether nothing changes at json and at source of a field or an extension. That is so of most,
+//! and is seen without both sides of each change.
+
+ghost use Rattle.std.specs.Prelude.{◌≡◌, true, IsTrue, is_some, []};
+ghost use Rattle.pool_types.specs.declared.kinds.KindIndex.TheVariants as kind;
+ghost use Rattle.schema_changes.specs.MapEntries.{map_entry_at};
+ghost use Rattle.schema_changes.specs.Parts.{parts_of};
+ghost use Rattle.pool_changes.specs.FieldChanges as spec;
+ghost use Rattle.pool_changes.specs.FieldParts.{part, json_side, name_side, repeated_side};
+ghost use Rattle.pool_changes.specs.FieldParts.{presence_side, oneof_side, default_side, is_named};
+ghost use Rattle.pool_changes.specs.Sides.{are_alike, versions, writer, reader};
+
+use crate::fields::Part;
+use crate::kept_fields::KeptPart;
+use crate::pools::parts_of;
+use crate::sides::Telling;
+use crate::words::{enum_name, message_name};
+use descriptor_pool::DescriptorPool;
+use plain_data::same;
+use pool_types::{Cardinality, KindIndex};
+
+/// Whether a kind is that of a message or of an enum, which has a name.
+fn is_named(kind: KindIndex) -> bool
+    ensures { result ≡ is_named kind }
+{
+    matches!(
+        kind,
+        KindIndex::Message(_) | KindIndex::Group(_) | KindIndex::Enum(_)
+    )
+}
+
+/// Whether the message with an index is an entry of a map.
+fn is_map_entry(pool: &DescriptorPool, index: u32) -> bool
+    ensures { result ≡ is_some (map_entry_at (parts_of pool.now) index) }
+{
+    match parts_of(pool).map_entry_at(index) {
+        Some(_) => true,
+        None => false,
+    }
+}
+
+/// Whether two truth values are one.
+pub(crate) fn is_one_truth(first: bool, second: bool) -> bool
+    ensures { IsTrue result → first ≡ second }
+{
+    first == second
+}
+
+/// Whether two cardinalities are one.
+fn is_one_cardinality(first: Cardinality, second: Cardinality) -> bool
+    ensures { IsTrue result → first ≡ second }
+{
+    same(&first, &second)
+}
+
+/// Whether two kinds are one.
+fn is_one_kind(first: KindIndex, second: KindIndex) -> bool
+    ensures { IsTrue result → first ≡ second }
+{
+    same(&first, &second)
+}
+
+/// Whether the JSON names of two fields are one, and their names.
+fn has_names_of(field: Part<'_>, kept: Part<'_>) -> bool
+    ensures json { IsTrue result → are_alike (json_side (part field.entry))
+        (json_side (part kept.entry)) ≡ true }
+    ensures name { IsTrue result → are_alike (name_side (part field.entry))
+        (name_side (part kept.entry)) ≡ true }
+{
+    field.json_name == kept.json_name && field.id.full_name() == kept.id.full_name()
+}
+
+/// Whether two fields may stand in a message as often.
+#[tactic(auto, using(crate::proofs::Same::repeated_alike))]
+fn is_as_often(field: Part<'_>, kept: Part<'_>) -> bool
+    ensures { IsTrue result → are_alike (repeated_side (part field.entry))
+        (repeated_side (part kept.entry)) ≡ true }
+{
+    is_one_cardinality(field.entry.cardinality, kept.entry.cardinality)
+}
+
+/// Whether a message tells of two fields alike whether they are set.
+#[tactic(auto, using(crate::proofs::Same::presence_alike))]
+fn has_presence_of(field: Part<'_>, kept: Part<'_>) -> bool
+    ensures { IsTrue result → are_alike (presence_side (part field.entry))
+        (presence_side (part kept.entry)) ≡ true }
+{
+    is_one_cardinality(field.entry.cardinality, kept.entry.cardinality)
+        && is_one_truth(field.has_presence, kept.has_presence)
+}
+
+impl Telling<'_> {
+    /// Whether two kinds without names are one.
+    #[tactic(auto, using(crate::proofs::Same::unnamed_formed, crate::proofs::Same::unnamed_typed))]
+    fn has_plain_kind_of(self, written: KindIndex, read: KindIndex) -> bool
+        ensures formed { IsTrue result
+            → spec.are_formed_alike (versions self.entry) written read ≡ true }
+        ensures typed { IsTrue result
+            → spec.are_typed_alike (versions self.entry) written read ≡ true }
+    {
+        !is_named(written) && is_one_kind(written, read)
+    }
+
+    /// Whether two messages have one name, and either both or none are entries of maps.
+    #[tactic(auto, using(crate::proofs::Same::message_typed))]
+    fn has_message_of(self, written: u32, read: u32) -> bool
+        ensures { IsTrue result → spec.are_typed_alike (versions self.entry)
+            (kind.Message written) (kind.Message read) ≡ true }
+    {
+        let (writer, reader) = (self.writer(), self.reader());
+        message_name(parts_of(writer), written) == message_name(parts_of(reader), read)
+            && is_one_truth(is_map_entry(writer, written), is_map_entry(reader, read))
+    }
+
+    /// Whether values of two kinds have one form in JSON, and one type.
+    fn has_kind_of(self, written: KindIndex, read: KindIndex) -> bool
+        ensures formed { IsTrue result → spec.are_formed_alike (versions self.entry) written read
+            ≡ true }
+        ensures typed { IsTrue result → spec.are_typed_alike (versions self.entry) written read
+            ≡ true }
+    {
+        let (writer, reader) = (parts_of(self.writer()), parts_of(self.reader()));
+        match (written, read) {
+            (KindIndex::Message(written), KindIndex::Message(read)) => {
+                self.has_message_of(written, read)
+            }
+            (KindIndex::Group(written), KindIndex::Group(read)) => {
+                message_name(writer, written) == message_name(reader, read)
+            }
+            (KindIndex::Enum(written), KindIndex::Enum(read)) => {
+                enum_name(writer, written) == enum_name(reader, read)
+            }
+            _ => self.has_plain_kind_of(written, read),
+        }
+    }
+
+    /// Whether two fields are in oneofs of one name, or in none.
+    #[tactic(auto, using(crate::proofs::Same::oneof_none))]
+    fn has_oneof_of(self, pair: KeptPart<'_>) -> bool
+        ensures { IsTrue result → are_alike
+            (oneof_side (writer (versions self.entry)) pair.entry.messages.before.now
+            (part pair.entry.before))
+            (oneof_side (reader (versions self.entry)) pair.entry.messages.after.now
+            (part pair.entry.after)) ≡ true }
+    {
+        match (pair.before.entry.oneof, pair.after.entry.oneof) {
+            (None, None) => true,
+            _ => {
+                let before = pair.before.oneof(self.writer(), pair.messages.before);
+                let after = pair.after.oneof(self.reader(), pair.messages.after);
+                before.is_like(after)
+            }
+        }
+    }
+
+    /// Whether the records of two fields give no default value.
+    #[tactic(auto, using(crate::proofs::Same::default_none))]
+    fn has_no_default(self, field: Part<'_>, kept: Part<'_>) -> bool
+        ensures { IsTrue result → are_alike
+            (default_side (writer (versions self.entry)) (part field.entry))
+            (default_side (reader (versions self.entry)) (part kept.entry)) ≡ true }
+    {
+        let before = field.default_text(self.writer());
+        let after = kept.default_text(self.reader());
+        matches!((before, after), (None, None))
+    }
+
+    /// Whether nothing changes of a field or an extension at json and at source, as far as is told
+    /// without both sides.
+    #[tactic(auto, using(crate::proofs::Same::json_none, crate::proofs::Same::source_none))]
+    pub(crate) fn is_untold(self, pair: KeptPart<'_>) -> bool
+        ensures json { IsTrue result → spec.part_json (versions self.entry)
+            pair.entry.messages.found.now (part pair.entry.before) (part pair.entry.after) ≡ [] }
+        ensures source { IsTrue result → spec.part_source (versions self.entry)
+            pair.entry.messages.before.now pair.entry.messages.after.now
+            pair.entry.messages.found.now (part pair.entry.before) (part pair.entry.after) ≡ [] }
+    {
+        let (before, after) = (pair.before, pair.after);
+        if !has_names_of(before, after) {
+            return false;
+        }
+        if !is_as_often(before, after) {
+            return false;
+        }
+        if !has_presence_of(before, after) {
+            return false;
+        }
+        if !self.has_kind_of(before.entry.kind, after.entry.kind) {
+            return false;
+        }
+        if !self.has_oneof_of(pair) {
+            return false;
+        }
+        self.has_no_default(before, after)
+    }
+}
