@@ -1,7 +1,6 @@
 //! What changes of services, so that calls go otherwise.
 
 ghost use Rattle.std.specs.Prelude.{◌≡◌, ◌++◌, [], IsTrue, OnOk, Some};
-ghost use Rattle.std.specs.List.{flat_map};
 ghost use Rattle.std.specs.Option.{option_copied};
 ghost use Rattle.pool_changes.specs.Services as spec;
 ghost use Rattle.pool_changes.specs.Sides.{side, versions, reader};
