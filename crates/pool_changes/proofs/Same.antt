@@ -1,12 +1,14 @@
 -- Where both sides of each change are told alike, nothing is told.
-use Rattle.std.proofs.Common.{◌≡◌, ℕ, Bool, true, false, not, ◌&&◌, ◌||◌, if◌then◌else◌, List, [], ◌∷◌, ◌++◌, None, option_and_then, is_some, refl, ap, cond, subst, sym, ◌∙◌}
+use Rattle.std.proofs.Common.{◌≡◌, ℕ, Bool, true, false, not, ◌&&◌, ◌||◌, if◌then◌else◌, List, [], ◌∷◌, ◌++◌, ◌≤◌, Option, None, Some, length, option_and_then, is_some, refl, ap, cond, subst, sym, ◌∙◌}
 use Rattle.std.proofs.lemmas.Bool.{and_from}
+use Rattle.std.proofs.lemmas.Option.{same_Some, slice_get_past}
 use Rattle.std.proofs.lemmas.Slice.Eq.{bytes_eq-Decides}
 use Rattle.std.specs.Str.{bytes_eq}
 use Rattle.proto_types.specs.Readers.{text_of}
 use Rattle.pool_types.specs.declared.contents.file.FileDescriptorInner.{FileDescriptorInner}
 use Rattle.pool_types.specs.declared.contents.service.MethodDescriptorInner.{MethodDescriptorInner}
 use Rattle.pool_types.specs.declared.contents.message.MessageDescriptorInner.{MessageDescriptorInner}
+use Rattle.pool_types.specs.declared.contents.oneof.OneofDescriptorInner.{OneofDescriptorInner}
 use Rattle.proto_types.specs.declared.records.field.FieldDescriptorProto.{FieldDescriptorProto}
 use Rattle.pool_types.specs.declared.kinds.KindIndex.{KindIndex}
 use Rattle.pool_types.specs.declared.kinds.KindIndex.TheVariants as kind
@@ -15,10 +17,10 @@ use Rattle.schema_changes.specs.MessageSets.{is_message_set}
 use Rattle.schema_changes.specs.Parts.{parts_of}
 use Rattle.schema_changes.specs.declared.change.WireChange.{WireChange}
 use Rattle.schema_changes.specs.declared.change.WireChangeKind.TheVariants as change
-use Rattle.pool_changes.specs.FieldChanges.{are_formed_alike, are_typed_alike, default_changes, form_changes, name_changes, oneof_moves, part_json, part_source, presence_changes, reads_number, repeated_changes, type_changes, keeps_form, one_repeats}
-use Rattle.pool_changes.specs.FieldParts.{Part, default_side, form_side, given_default, given_oneof, is_named, json_side, message_word, name_side, oneof_at, oneof_side, presence_side, presence_word, repeated_side, repeated_word, type_side}
+use Rattle.pool_changes.specs.FieldChanges.{HaveOneofsAlike, are_formed_alike, are_typed_alike, default_changes, form_changes, name_changes, oneof_moves, part_json, part_source, presence_changes, reads_number, repeated_changes, type_changes, keeps_form, one_repeats}
+use Rattle.pool_changes.specs.FieldParts.{Part, default_side, form_side, given_default, given_oneof, is_named, json_side, message_word, name_side, oneof_at, oneof_name, oneof_side, presence_side, presence_word, repeated_side, repeated_word, type_side}
 use Rattle.pool_changes.specs.Comparing.{set_changes, set_side, set_word}
-use Rattle.pool_changes.specs.Removed.{field_record, package_side, package_word, syntax_side, syntax_word, tells}
+use Rattle.pool_changes.specs.Removed.{field_record, is_synthetic, package_side, package_word, syntax_side, syntax_word, tells}
 use Rattle.pool_changes.specs.Services.{input, kept_method_changes, output, streaming, streams}
 use Rattle.pool_changes.specs.Words.{message_name}
 use Rattle.pool_changes.specs.Sides.{Side, Versions, are_alike, differing, reader, told_between, writer}
@@ -112,6 +114,27 @@ pub oneof_none : (v : Versions) (x y : MessageDescriptorInner) (f g : Part) → 
 oneof_none v x y f g out outside =
     subst (λ got. are_alike (given_oneof f (option_and_then (oneof_at (writer v) x) got)) (oneof_side (reader v) y g) ≡ true) (sym out)
     (subst (λ got. are_alike (given_oneof f None) (given_oneof g (option_and_then (oneof_at (reader v) y) got)) ≡ true) (sym outside) refl)
+
+-- where two oneofs have one name, or neither is there, the sides are told alike
+told-by-names : (f g : Part) (a b : Option OneofDescriptorInner) → oneof_name a ≡ oneof_name b → are_alike (given_oneof f a) (given_oneof g b) ≡ true
+told-by-names f g None None same = refl
+told-by-names f g (Some a) (Some b) same = subst (λ n. bytes_eq a.id.full_name n ≡ true) (same_Some a.id.full_name b.id.full_name same) (same-text a.id.full_name)
+told-by-names f g None (Some b) same = absurd cc
+told-by-names f g (Some a) None same = absurd cc
+
+pub oneof_alike : (v : Versions) (x y : MessageDescriptorInner) (f g : Part) (i : ℕ) → HaveOneofsAlike v x y → f.entry.oneof ≡ Some i → g.entry.oneof ≡ Some i
+    → are_alike (oneof_side (writer v) x f) (oneof_side (reader v) y g) ≡ true
+oneof_alike v x y f g i alike here there =
+    subst (λ got. are_alike (given_oneof f (option_and_then (oneof_at (writer v) x) got)) (oneof_side (reader v) y g) ≡ true) (sym here)
+    (subst (λ got. are_alike (given_oneof f (oneof_at (writer v) x i)) (given_oneof g (option_and_then (oneof_at (reader v) y) got)) ≡ true) (sym there)
+    (told-by-names f g (oneof_at (writer v) x i) (oneof_at (reader v) y i) (alike i)))
+
+-- past the oneofs of a message none is there
+pub none-past : (v : Versions) (x y : MessageDescriptorInner) (i : ℕ) → length x.oneofs ≤ i → length y.oneofs ≤ i
+    → oneof_name (oneof_at (writer v) x i) ≡ oneof_name (oneof_at (reader v) y i)
+none-past v x y i here there =
+    ap (λ got. oneof_name (option_and_then (λ o. if is_synthetic (writer v) x o then None else Some o) got)) (slice_get_past x.oneofs i here)
+    ∙ sym (ap (λ got. oneof_name (option_and_then (λ o. if is_synthetic (reader v) y o then None else Some o) got)) (slice_get_past y.oneofs i there))
 
 pub default_none : (v : Versions) (f g : Part) → option_and_then (λ (r : FieldDescriptorProto). r.default_value) (field_record (writer v) f.id) ≡ None
     → option_and_then (λ (r : FieldDescriptorProto). r.default_value) (field_record (reader v) g.id) ≡ None

@@ -1,5 +1,5 @@
 -- What changes at json and at source of a field or an extension that is kept by its number.
-use Rattle.std.specs.Prelude.{Bool, true, false, not, ◌||◌, ◌&&◌, List, [], ◌++◌, if◌then◌else◌}
+use Rattle.std.specs.Prelude.{◌≡◌, ℕ, Bool, true, false, not, ◌||◌, ◌&&◌, List, [], ◌++◌, if◌then◌else◌}
 use Rattle.std.specs.Str.{bytes_eq}
 use Rattle.pool_types.specs.declared.contents.message.MessageDescriptorInner.{MessageDescriptorInner}
 use Rattle.pool_types.specs.declared.kinds.KindIndex.{KindIndex}
@@ -11,6 +11,7 @@ use Rattle.verdict_texts.specs.declared.telling.ToldFault.{ToldFault}
 use Rattle.pool_changes.specs.FieldParts.{Part, form_side, json_side, repeated_side, name_side}
 use Rattle.pool_changes.specs.FieldParts.{json_word, json_enum, type_word, type_name}
 use Rattle.pool_changes.specs.FieldParts.{type_side, presence_side, default_side, oneof_side}
+use Rattle.pool_changes.specs.FieldParts.{oneof_at, oneof_name}
 use Rattle.pool_changes.specs.Removed.{tells}
 use Rattle.pool_changes.specs.Sides.{Versions, writer, reader, are_alike, differing}
 use Rattle.pool_changes.specs.declared.kinds.ElementChange.TheVariants as element
@@ -29,6 +30,11 @@ are_formed_alike v k l = bytes_eq (json_word k) (json_word l)
 abbrev pub are_typed_alike : Versions → KindIndex → KindIndex → Bool
 are_typed_alike v k l = bytes_eq (type_word (writer v) k) (type_word (reader v) l)
     && bytes_eq (type_name (writer v) k) (type_name (reader v) l)
+
+-- the oneofs of two messages at each position have one name, or neither is there
+abbrev pub HaveOneofsAlike : Versions → MessageDescriptorInner → MessageDescriptorInner → Type 0
+HaveOneofsAlike v x y =
+    (i : ℕ) → oneof_name (oneof_at (writer v) x i) ≡ oneof_name (oneof_at (reader v) y i)
 
 -- whether JSON has a field in a form that the reader's reads
 abbrev pub keeps_form : Versions → Part → Part → Bool

@@ -164,6 +164,10 @@ abbrev pub oneof_at : Contents → MessageDescriptorInner → ℕ → Option One
 oneof_at p m i = option_and_then (λ o. if is_synthetic p m o then None else Some o)
     (slice_get m.oneofs i)
 
+-- the full name of a oneof, where there is one
+abbrev pub oneof_name : Option OneofDescriptorInner → Option (List ℕ)
+oneof_name o = option_map (λ x. x.id.full_name) o
+
 -- a oneof that it is in, or none, as a side
 abbrev pub given_oneof : Part → Option OneofDescriptorInner → Side
 given_oneof f (Some o) = there f.id (codes "part of ") o.id.full_name

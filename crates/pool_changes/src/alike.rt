@@ -8,16 +8,18 @@ ghost use Rattle.schema_changes.specs.Parts.{parts_of};
 ghost use Rattle.pool_changes.specs.FieldChanges as spec;
 ghost use Rattle.pool_changes.specs.FieldParts.{part, json_side, name_side, repeated_side};
 ghost use Rattle.pool_changes.specs.FieldParts.{presence_side, oneof_side, default_side, is_named};
+ghost use Rattle.pool_changes.specs.FieldParts.{oneof_at, oneof_name};
+ghost use Rattle.std.specs.Option.{option_copied};
 ghost use Rattle.pool_changes.specs.Sides.{are_alike, versions, writer, reader};
 
-use crate::fields::Part;
+use crate::fields::{Part, oneof_at};
 use crate::kept_fields::KeptPart;
 use crate::pools::parts_of;
 use crate::sides::Telling;
 use crate::words::{enum_name, message_name};
 use descriptor_pool::DescriptorPool;
 use plain_data::same;
-use pool_types::{Cardinality, KindIndex};
+use pool_types::{Cardinality, KindIndex, MessageDescriptorInner, OneofDescriptorInner};
 
 /// Whether a kind is that of a message or of an enum, which has a name.
 fn is_named(kind: KindIndex) -> bool
@@ -68,6 +70,21 @@ fn has_names_of(field: Part<'_>, kept: Part<'_>) -> bool
         (name_side (part kept.entry)) ≡ true }
 {
     field.json_name == kept.json_name && field.id.full_name() == kept.id.full_name()
+}
+
+/// Whether two oneofs have one name, or neither is there.
+fn has_oneof_name_of(
+    oneof: Option<&OneofDescriptorInner>,
+    kept: Option<&OneofDescriptorInner>,
+) -> bool
+    ensures { IsTrue result
+        → oneof_name (option_copied oneof.entry) ≡ oneof_name (option_copied kept.entry) }
+{
+    match (oneof, kept) {
+        (Some(oneof), Some(kept)) => oneof.id.full_name() == kept.id.full_name(),
+        (None, None) => true,
+        _ => false,
+    }
 }
 
 /// Whether two fields may stand in a message as often.
@@ -134,9 +151,52 @@ impl Telling<'_> {
         }
     }
 
+    /// Whether the oneofs at a position in two messages have one name, or neither is there.
+    fn has_oneof_at(
+        self,
+        before: &MessageDescriptorInner,
+        after: &MessageDescriptorInner,
+        position: u32,
+    ) -> bool
+        ensures { IsTrue result
+            → oneof_name (oneof_at (writer (versions self.entry)) before.now position)
+            ≡ oneof_name (oneof_at (reader (versions self.entry)) after.now position) }
+    {
+        let before = oneof_at(self.writer(), before, position);
+        let after = oneof_at(self.reader(), after, position);
+        has_oneof_name_of(before, after)
+    }
+
+    /// Whether the oneofs at each position in two messages have one name, or neither is there. One
+    /// that stands for the presence of a field alone isn't.
+    pub(crate) fn has_oneofs_of(
+        self,
+        before: &MessageDescriptorInner,
+        after: &MessageDescriptorInner,
+    ) -> bool
+        ensures { IsTrue result
+            → spec.HaveOneofsAlike (versions self.entry) before.now after.now }
+    {
+        let count = before.oneofs.as_slice().len();
+        let Ok(positions) = u32::try_from(count) else {
+            return false;
+        };
+        if after.oneofs.as_slice().len() != count {
+            return false;
+        }
+        for position in 0..positions {
+            if !self.has_oneof_at(before, after, position) {
+                return false;
+            }
+        }
+        true
+    }
+
     /// Whether two fields are in oneofs of one name, or in none.
-    #[tactic(auto, using(crate::proofs::Same::oneof_none))]
+    #[tactic(auto, using(crate::proofs::Same::oneof_none, crate::proofs::Same::oneof_alike))]
     fn has_oneof_of(self, pair: KeptPart<'_>) -> bool
+        requires { IsTrue pair.messages.has_oneofs_alike → spec.HaveOneofsAlike
+            (versions self) pair.messages.before.now pair.messages.after.now }
         ensures { IsTrue result → are_alike
             (oneof_side (writer (versions self.entry)) pair.entry.messages.before.now
             (part pair.entry.before))
@@ -145,6 +205,8 @@ impl Telling<'_> {
     {
         match (pair.before.entry.oneof, pair.after.entry.oneof) {
             (None, None) => true,
+            (Some(before), Some(after)) if pair.messages.has_oneofs_alike && before == after =>
+                true,
             _ => {
                 let before = pair.before.oneof(self.writer(), pair.messages.before);
                 let after = pair.after.oneof(self.reader(), pair.messages.after);
@@ -169,6 +231,8 @@ impl Telling<'_> {
     /// without both sides.
     #[tactic(auto, using(crate::proofs::Same::json_none, crate::proofs::Same::source_none))]
     pub(crate) fn is_untold(self, pair: KeptPart<'_>) -> bool
+        requires { IsTrue pair.messages.has_oneofs_alike → spec.HaveOneofsAlike
+            (versions self) pair.messages.before.now pair.messages.after.now }
         ensures json { IsTrue result → spec.part_json (versions self.entry)
             pair.entry.messages.found.now (part pair.entry.before) (part pair.entry.after) ≡ [] }
         ensures source { IsTrue result → spec.part_source (versions self.entry)

@@ -284,7 +284,7 @@ impl<'a> Part<'a> {
 }
 
 /// The oneof of a message at a position, unless it stands for the presence of a field alone.
-fn oneof_at<'a>(
+pub(crate) fn oneof_at<'a>(
     pool: &DescriptorPool,
     message: &'a MessageDescriptorInner,
     position: u32,

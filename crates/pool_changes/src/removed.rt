@@ -40,6 +40,8 @@ pub(crate) struct Kept<'a> {
     pub before: &'a MessageDescriptorInner,
     pub after: &'a MessageDescriptorInner,
     pub found: &'a [WireChange],
+    /// Whether the oneofs at each position in both have one name, or neither is there.
+    pub has_oneofs_alike: bool,
 }
 
 /// Whether a kind of change is told in a direction: all are, but for an older reader that a number
@@ -160,12 +162,23 @@ pub(crate) fn is_synthetic(
         .any(|position| is_optional_at(pool, message, *position))
 }
 
-/// Whether a message has a oneof with a full name.
-fn has_oneof(message: &MessageDescriptorInner, name: &str) -> bool
+/// Whether the oneof of a message at a position has a full name.
+#[tactic(auto, using(schema_changes::proofs::Tests::passes_at))]
+fn is_oneof_at(message: &MessageDescriptorInner, position: usize, name: &str) -> bool
+    ensures { IsTrue result → spec.has_oneof message.now name.now ≡ true }
+{
+    match message.oneofs.as_slice().get(position) {
+        Some(oneof) => oneof.id.full_name() == name,
+        None => false,
+    }
+}
+
+/// Whether a message has a oneof with a full name. Mostly that is the one at a position.
+fn has_oneof(message: &MessageDescriptorInner, position: usize, name: &str) -> bool
     ensures { result ≡ spec.has_oneof message.now name.now }
 {
     let oneofs = message.oneofs.as_slice();
-    oneofs.iter().any(|oneof| oneof.id.full_name() == name)
+    is_oneof_at(message, position, name) || oneofs.iter().any(|oneof| oneof.id.full_name() == name)
 }
 
 /// The word before the package of a file, which may be none.
@@ -384,17 +397,19 @@ impl Telling<'_> {
         self.tell_between(told, removed)
     }
 
-    /// Appends that a reader's message lacks a oneof of the writer's with its name, if it does.
+    /// Appends that a reader's message lacks a oneof, which has a position in the writer's, if it
+    /// does.
     pub(crate) fn tell_oneof(
         self,
         told: &mut Items<ToldFault>,
         pair: Kept<'_>,
+        position: usize,
         oneof: &OneofDescriptorInner,
     ) -> Result<(), AllocError>
         ensures { OnOk result (told.new ≡ told.old ++ spec.oneof_changes (versions self.entry)
             pair.entry.before.now pair.entry.after.now oneof.now) }
     {
-        if has_oneof(pair.after, oneof.id.full_name())
+        if has_oneof(pair.after, position, oneof.id.full_name())
             || is_synthetic(self.writer(), pair.before, oneof)
         {
             return Ok(());
