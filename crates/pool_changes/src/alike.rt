@@ -2,6 +2,7 @@
 //! and is seen without both sides of each change.
 
 ghost use Rattle.std.specs.Prelude.{◌≡◌, true, IsTrue, is_some, []};
+ghost use Rattle.std.specs.Option.{option_copied};
 ghost use Rattle.pool_types.specs.declared.kinds.KindIndex.TheVariants as kind;
 ghost use Rattle.schema_changes.specs.MapEntries.{map_entry_at};
 ghost use Rattle.schema_changes.specs.Parts.{parts_of};
@@ -9,7 +10,6 @@ ghost use Rattle.pool_changes.specs.FieldChanges as spec;
 ghost use Rattle.pool_changes.specs.FieldParts.{part, json_side, name_side, repeated_side};
 ghost use Rattle.pool_changes.specs.FieldParts.{presence_side, oneof_side, default_side, is_named};
 ghost use Rattle.pool_changes.specs.FieldParts.{oneof_at, oneof_name};
-ghost use Rattle.std.specs.Option.{option_copied};
 ghost use Rattle.pool_changes.specs.Sides.{are_alike, versions, writer, reader};
 
 use crate::fields::{Part, oneof_at};
