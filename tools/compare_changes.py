@@ -6,15 +6,16 @@
 
 Pairs of random schemas are made, by a fixed seed (--seed): an older version of up to twenty fields,
 numbers, texts, enums, messages, maps and oneofs in proto2 or proto3, and a new one that changes some
-of it. `PROGRAM --against OLD --compatibility full --json NEW` tells what changes. Then protobuf's
+of it, and may have a message under another name. `PROGRAM --against OLD --compatibility full --json NEW` tells what changes. Then protobuf's
 Python package of the writer's version writes random messages, whole or in two parts, and that of the
 reader's version reads them.
 
 What should be: where nothing is told of a direction, each message is read, and each field that both
 versions have has the same value, down to the innermost message. Anything else is printed, and is a
 fault. Where something is told, but that a number is free, a message is looked for that is refused or
-read otherwise. It is a fault where none is found of more than a few: messages under another name may
-be alike, one that becomes repeated may lose nothing, and an enum may have the number 0 alone.
+read otherwise. It is a fault where none is found of more than a few: a message under another name may
+lack a number that is free, one that becomes repeated may lose nothing, and an enum may have the
+number 0 alone.
 
 Where protobuf's runtimes depart from the definitions (docs/CHANGES.md), the schemas are made so that
 it does not show:
@@ -201,6 +202,15 @@ def change_once(rng: random.Random, schema: Schema, gentle: bool) -> None:
         one.name = f"g{one.number}"
 
 
+def rename(schema: Schema, name: str, other: str) -> None:
+    """Gives a message another name, in the fields that hold it too."""
+    schema.messages = {
+        other if one == name else one: fields for one, fields in schema.messages.items()
+    }
+    for one in (one for fields in schema.messages.values() for one in fields):
+        one.kind = other if one.kind == name else one.kind
+
+
 def random_pair(rng: random.Random) -> Pair:
     """An older version, and a new one that changes some of it. Gentle changes keep most values."""
     old = random_schema(rng)
@@ -212,6 +222,8 @@ def random_pair(rng: random.Random) -> Pair:
         one = rng.choice(old.messages["M"])
         if one.label == "optional" and one.oneof is None:
             one.label = "required"
+    if rng.random() < 0.2:
+        rename(new, rng.choice(["N", "O"]), "P")
     return old, new
 
 
@@ -224,7 +236,7 @@ def type_of(record: Any, kind: str, as_bytes: bool) -> None:
     """Gives the record of a field its type."""
     if kind == "E":
         record.type, record.type_name = TYPES["enum"], ".m.E"
-    elif kind in ("M", "N", "O"):
+    elif kind in ("M", "N", "O", "P"):
         record.type, record.type_name = TYPES["message"], f".m.{kind}"
     else:
         record.type = TYPES["bytes" if as_bytes and kind == "string" else kind]
@@ -501,7 +513,7 @@ def compare_direction(
     classes = [classes_of(schema) for schema in pair]
     writers, readers = classes if direction == "backward" else reversed(classes)
     changed = {name for name in writers if any(f"'m.{name}." in code for code in codes)}
-    for name in sorted(changed):
+    for name in sorted(changed & set(readers)):
         if is_lost(rng, writers[name], readers[name], many * 20):
             tally.found += 1
         else:

@@ -257,12 +257,93 @@ told(
     kind("m.M.a", 1, "string of proto2", "string of proto3"),
 )
 
-# Messages: one with the same full name.
+# Messages: one with the same full name, or one under another name that keeps the fields.
+O = N.replace("message N", "message O")
+OF_N = message("optional N a = 1;")
+OF_O = message("optional O a = 1;")
+ANOTHER = kind("m.M.a", 1, "message m.N", "message m.O")
+kept("message-to-another-with-its-fields", P2 + N + O + OF_N, P2 + N + O + OF_O)
+kept("message-under-another-name", P2 + N + OF_N, P2 + O + OF_O)
+kept("message-under-another-name-with-wider-fields", P2 + N + OF_N, P2 + O.replace("int32", "int64") + OF_O)
+kept(
+    "message-under-another-name-with-a-further-field",
+    P2 + N + OF_N,
+    P2 + message("optional int32 x = 1;", "optional int32 y = 2;", "optional N z = 3;", name="O") + N + OF_O,
+)
+kept(
+    "message-under-another-name-with-a-reserved-field",
+    P2 + N + OF_N,
+    P2 + message("optional int32 y = 2;", "reserved 1;", name="O") + OF_O,
+)
+kept(
+    "message-under-another-name-that-holds-itself",
+    P3 + message("N next = 1;", name="N") + message("N a = 1;"),
+    P3 + message("O next = 1;", name="O") + message("O a = 1;"),
+)
+kept(
+    "message-under-another-name-with-a-map",
+    P3 + message("map<string, int32> x = 1;", name="N") + message("N a = 1;"),
+    P3 + message("map<string, int32> x = 1;", name="O") + message("O a = 1;"),
+)
+kept(
+    "message-under-another-name-with-a-oneof",
+    P3 + message("oneof o { int32 x = 1; int32 y = 2; }", name="N") + message("N a = 1;"),
+    P3 + message("oneof p { int32 x = 1; int32 y = 2; }", name="O") + message("O a = 1;"),
+)
+kept(
+    "message-under-another-name-as-the-value-of-a-map",
+    P3 + message("int32 x = 1;", name="N") + message("map<string, N> a = 1;"),
+    P3 + message("int32 x = 1;", name="O") + message("map<string, O> a = 1;"),
+)
+told("message-to-another", P2 + N + OF_N, P2 + O.replace("int32 x", "string x") + OF_O, ANOTHER)
 told(
-    "message-to-another",
-    P2 + N + N.replace("message N", "message O") + message("optional N a = 1;"),
-    P2 + N + N.replace("message N", "message O") + message("optional O a = 1;"),
-    kind("m.M.a", 1, "message m.N", "message m.O"),
+    "message-under-another-name-with-a-free-number",
+    P2 + N + OF_N,
+    P2 + message("optional int32 y = 2;", name="O") + OF_O,
+    ANOTHER,
+)
+told(
+    "message-under-another-name-with-a-required-field",
+    P2 + N + OF_N,
+    P2 + O.replace("optional int32 y", "required int32 y") + OF_O,
+    ANOTHER,
+)
+told(
+    "message-under-another-name-with-fields-in-one-oneof",
+    P3 + message("int32 x = 1;", "int32 y = 2;", name="N") + message("N a = 1;"),
+    P3 + message("oneof o { int32 x = 1; int32 y = 2; }", name="O") + message("O a = 1;"),
+    ANOTHER,
+)
+told(
+    "message-under-another-name-with-a-list-that-is-none",
+    P3 + message("repeated int32 x = 1;", name="N") + message("N a = 1;"),
+    P3 + message("int32 x = 1;", name="O") + message("O a = 1;"),
+    ANOTHER,
+)
+told(
+    "message-under-another-name-with-a-nested-one",
+    P3 + message("message I {", "  int32 i = 1;", "}", "I x = 1;", name="N") + message("N a = 1;"),
+    P3 + message("message I {", "  int32 i = 1;", "}", "I x = 1;", name="O") + message("O a = 1;"),
+    ANOTHER,
+)
+told(
+    "message-under-another-name-that-is-extended",
+    P2 + message("extensions 4;", name="N") + OF_N,
+    P2 + message("extensions 4;", name="O") + OF_O + "extend O {\n  optional int32 e = 4;\n}\n",
+    ANOTHER,
+)
+PAIR = message("string key = 1;", "int32 value = 2;", name="N")
+told(
+    "messages-to-a-map",
+    P3 + PAIR + message("repeated N a = 1;"),
+    P3 + PAIR + message("map<string, int32> a = 1;"),
+    kind("m.M.a", 1, "message m.N", "message m.M.AEntry"),
+)
+told(
+    "map-to-messages",
+    P3 + PAIR + message("map<string, int32> a = 1;"),
+    P3 + PAIR + message("repeated N a = 1;"),
+    kind("m.M.a", 1, "message m.M.AEntry", "message m.N"),
 )
 told(
     "message-to-bytes",
@@ -780,6 +861,38 @@ at_level("json", "json-message-removed", P2 + N + message(), P2 + message())
 CODE = "code names it: keep it, and mark it as deprecated"
 MISSING = "code goes by what it reads where nothing was written: leave it"
 OF_FILE = "code that is made of the file is another: leave it"
+at_level("json", "json-message-under-another-name", P2 + N + OF_N, P2 + O + OF_O)
+at_level(
+    "json",
+    "json-message-under-another-name-with-a-further-field",
+    P2 + N + OF_N,
+    P2 + message("optional string z = 3;", "optional int32 y = 2;", "optional int32 x = 1;", name="O") + OF_O,
+)
+at_level(
+    "json",
+    "json-message-under-another-name-that-holds-itself",
+    P3 + message("N next = 1;", name="N") + message("N a = 1;"),
+    P3 + message("O next = 1;", name="O") + message("O a = 1;"),
+)
+for each_row, each_old, each_new in (
+    ("a-field-of-another-name", "optional int32 y", "optional int32 z"),
+    ("a-field-of-another-form", "optional bool y", "optional int32 y"),
+    ("a-list-that-was-one-value", "optional int32 y", "repeated int32 y"),
+):
+    at_level(
+        "json",
+        f"json-message-under-another-name-with-{each_row}",
+        P2 + N.replace("optional int32 y", each_old) + OF_N,
+        P2 + O.replace("optional int32 y", each_new) + OF_O,
+        form("object m.N", "object m.O"),
+    )
+at_level(
+    "json",
+    "json-message-under-another-name-that-lacks-a-field",
+    P2 + N + OF_N,
+    P2 + message("optional int32 y = 2;", "reserved 1;", name="O") + OF_O,
+    form("object m.N", "object m.O"),
+)
 
 
 def source(code: str, before: str, after: str, note: str, element: str = "m.M.a") -> Change:
@@ -890,6 +1003,14 @@ at_level(
     P3 + E + message("int32 a = 1;"),
     P3 + E + message("E a = 1;"),
     source("field-type", "int32", "enum m.E", TYPE),
+)
+at_level(
+    "source",
+    "source-message-under-another-name",
+    P2 + N + OF_N,
+    P2 + O + OF_O,
+    gone("source", "message-removed", "message", "m.N", FILE, CODE),
+    source("field-type", "message m.N", "message m.O", TYPE),
 )
 at_level(
     "source",
@@ -1134,6 +1255,29 @@ BEYOND = {
     ("uint32-to-uint64", "backward"): (0, 1),
     ("value-of-a-map-is-wider", "backward"): (0, 1),
     ("option-at-wire", "backward"): (0, 1),
+    ("message-to-another-with-its-fields", "backward"): (0, 1),
+    ("message-under-another-name", "backward"): (0, 2),
+    ("message-under-another-name-with-wider-fields", "backward"): (0, 2),
+    ("message-under-another-name-with-a-further-field", "backward"): (0, 1),
+    ("message-under-another-name-with-a-reserved-field", "backward"): (1, 1),
+    ("message-under-another-name-that-holds-itself", "backward"): (0, 2),
+    ("message-under-another-name-with-a-map", "backward"): (0, 2),
+    ("message-under-another-name-with-a-oneof", "backward"): (0, 2),
+    ("message-under-another-name-as-the-value-of-a-map", "backward"): (0, 2),
+    ("message-to-another", "backward"): (0, 1),
+    ("message-under-another-name-with-a-free-number", "backward"): (0, 1),
+    ("message-under-another-name-with-a-required-field", "backward"): (0, 1),
+    ("message-under-another-name-with-fields-in-one-oneof", "backward"): (0, 1),
+    ("message-under-another-name-with-a-list-that-is-none", "backward"): (0, 1),
+    ("message-under-another-name-with-a-nested-one", "backward"): (0, 2),
+    ("message-under-another-name-that-is-extended", "backward"): (0, 1),
+    ("json-message-under-another-name", "backward"): (0, 2),
+    ("json-message-under-another-name-with-a-further-field", "backward"): (0, 2),
+    ("json-message-under-another-name-that-holds-itself", "backward"): (0, 2),
+    ("json-message-under-another-name-with-a-field-of-another-name", "backward"): (0, 1),
+    ("json-message-under-another-name-with-a-field-of-another-form", "backward"): (0, 1),
+    ("json-message-under-another-name-with-a-list-that-was-one-value", "backward"): (0, 1),
+    ("json-message-under-another-name-that-lacks-a-field", "backward"): (0, 1),
 }
 
 

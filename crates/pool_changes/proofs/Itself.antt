@@ -30,7 +30,7 @@ use Rattle.schema_changes.specs.declared.entries.Entry.{Entry}
 use Rattle.schema_changes.specs.Changes.{Compared, entry_changes, extension_changes, first_some, joined_changes, kept_changes, members_changes, message_changes, old_entry, old_member, oneof_changes, required_changes, required_extension_changes, unless, was_required}
 use Rattle.schema_changes.specs.Entries.{entry_numbered, extension_at, extension_entry, extension_in, field_entry}
 use Rattle.schema_changes.specs.Kinds.{holds, holds_all, is_required, keeps_cardinality, keeps_check, keeps_numbers, messages_of, text_check}
-use Rattle.schema_changes.specs.MapEntries.{are_paired, keep_maps, keeps_kind, map_entry_at}
+use Rattle.schema_changes.specs.Pairs.{are_paired, keeps_kind, keeps_map, keeps_message}
 use Rattle.schema_changes.specs.Parts.{Parts, are_named_alike, has_value, in_proto3, is_open, one_name, parts_of, values_of}
 use Rattle.schema_changes.specs.Pools.{changes_from, changes_with, message_named, of_message, wire_changes}
 use Rattle.schema_changes.proofs.Keeping.{at-index, followed, mapped}
@@ -82,7 +82,7 @@ pair-itself : (p : Parts) (m : ℕ) → m < length p.messages → are_paired p m
 unfolding are_paired
 pair-itself p m below =
     let x = found-below p.messages m below in
-    or_left (one_name p m p m) (keep_maps p (map_entry_at p m) p (map_entry_at p m)) (named-itself p m x.0 x.1)
+    or_left (one_name p m p m || keeps_map p m p m) (keeps_message p m p m) (or_left (one_name p m p m) (keeps_map p m p m) (named-itself p m x.0 x.1))
 
 kind-itself : (p : Parts) (b : Bool) (k : KindIndex) → KindLies (length p.messages) k
     → (keeps_numbers p k p k || keeps_check (text_check b k) (text_check b k) || option_map_or (λ e. are_paired p e.0 p e.1) (messages_of k k) false) ≡ true

@@ -1,26 +1,23 @@
 -- Where both sides of each change are told alike, nothing is told.
-use Rattle.std.proofs.Common.{◌≡◌, ℕ, Bool, true, false, not, ◌&&◌, ◌||◌, if◌then◌else◌, List, [], ◌∷◌, ◌++◌, ◌≤◌, Option, None, Some, length, option_and_then, is_some, refl, ap, cond, subst, sym, ◌∙◌}
-use Rattle.std.proofs.lemmas.Bool.{and_from}
-use Rattle.std.proofs.lemmas.Option.{same_Some, slice_get_past}
+use Rattle.std.proofs.Common.{◌≡◌, ℕ, Bool, true, false, not, ◌&&◌, ◌||◌, if◌then◌else◌, List, [], ◌∷◌, ◌++◌, None, option_and_then, is_some, refl, ap, cond, subst, sym, ◌∙◌}
+use Rattle.std.proofs.lemmas.Bool.{and_from, or_left, or_right}
 use Rattle.std.proofs.lemmas.Slice.Eq.{bytes_eq-Decides}
 use Rattle.std.specs.Str.{bytes_eq}
 use Rattle.proto_types.specs.Readers.{text_of}
 use Rattle.pool_types.specs.declared.contents.file.FileDescriptorInner.{FileDescriptorInner}
 use Rattle.pool_types.specs.declared.contents.service.MethodDescriptorInner.{MethodDescriptorInner}
 use Rattle.pool_types.specs.declared.contents.message.MessageDescriptorInner.{MessageDescriptorInner}
-use Rattle.pool_types.specs.declared.contents.oneof.OneofDescriptorInner.{OneofDescriptorInner}
 use Rattle.proto_types.specs.declared.records.field.FieldDescriptorProto.{FieldDescriptorProto}
-use Rattle.pool_types.specs.declared.kinds.KindIndex.{KindIndex}
 use Rattle.pool_types.specs.declared.kinds.KindIndex.TheVariants as kind
 use Rattle.schema_changes.specs.MapEntries.{map_entry_at}
 use Rattle.schema_changes.specs.MessageSets.{is_message_set}
 use Rattle.schema_changes.specs.Parts.{parts_of}
 use Rattle.schema_changes.specs.declared.change.WireChange.{WireChange}
 use Rattle.schema_changes.specs.declared.change.WireChangeKind.TheVariants as change
-use Rattle.pool_changes.specs.FieldChanges.{HaveOneofsAlike, are_formed_alike, are_typed_alike, default_changes, form_changes, name_changes, oneof_moves, part_json, part_source, presence_changes, reads_number, repeated_changes, type_changes, keeps_form, one_repeats}
-use Rattle.pool_changes.specs.FieldParts.{Part, default_side, form_side, given_default, given_oneof, is_named, json_side, message_word, name_side, oneof_at, oneof_name, oneof_side, presence_side, presence_word, repeated_side, repeated_word, type_side}
+use Rattle.pool_changes.specs.FieldChanges.{are_formed_alike, are_typed_alike, default_changes, form_changes, name_changes, oneof_moves, part_json, part_source, presence_changes, reads_number, repeated_changes, type_changes, keeps_form, are_messages_alike, one_repeats}
+use Rattle.pool_changes.specs.FieldParts.{Part, default_side, form_side, given_default, given_oneof, json_side, message_word, name_side, object_word, oneof_at, oneof_side, presence_side, presence_word, repeated_side, repeated_word, type_side}
 use Rattle.pool_changes.specs.Comparing.{set_changes, set_side, set_word}
-use Rattle.pool_changes.specs.Removed.{field_record, is_synthetic, package_side, package_word, syntax_side, syntax_word, tells}
+use Rattle.pool_changes.specs.Removed.{field_record, package_side, package_word, syntax_side, syntax_word, tells}
 use Rattle.pool_changes.specs.Services.{input, kept_method_changes, output, streaming, streams}
 use Rattle.pool_changes.specs.Words.{message_name}
 use Rattle.pool_changes.specs.Sides.{Side, Versions, are_alike, differing, reader, told_between, writer}
@@ -33,65 +30,26 @@ same-text t = (bytes_eq-Decides t t).1 refl
 
 -- ---- kinds
 
-pub unnamed_formed : (v : Versions) (k l : KindIndex) → is_named k ≡ false → k ≡ l → are_formed_alike v k l ≡ true
-unnamed_formed v k l unnamed same = subst (λ x. are_formed_alike v k x ≡ true) same (itself k unnamed)
-  where
-    itself : (x : KindIndex) → is_named x ≡ false → are_formed_alike v x x ≡ true
-    itself kind.Double h = refl
-    itself kind.Float h = refl
-    itself kind.Int32 h = refl
-    itself kind.Int64 h = refl
-    itself kind.Uint32 h = refl
-    itself kind.Uint64 h = refl
-    itself kind.Sint32 h = refl
-    itself kind.Sint64 h = refl
-    itself kind.Fixed32 h = refl
-    itself kind.Fixed64 h = refl
-    itself kind.Sfixed32 h = refl
-    itself kind.Sfixed64 h = refl
-    itself kind.Bool h = refl
-    itself kind.String h = refl
-    itself kind.Bytes h = refl
-    itself (kind.Message m) h = absurd cc
-    itself (kind.Group m) h = absurd cc
-    itself (kind.Enum e) h = absurd cc
-
-pub unnamed_typed : (v : Versions) (k l : KindIndex) → is_named k ≡ false → k ≡ l → are_typed_alike v k l ≡ true
-unnamed_typed v k l unnamed same = subst (λ x. are_typed_alike v k x ≡ true) same (itself k unnamed)
-  where
-    itself : (x : KindIndex) → is_named x ≡ false → are_typed_alike v x x ≡ true
-    itself kind.Double h = refl
-    itself kind.Float h = refl
-    itself kind.Int32 h = refl
-    itself kind.Int64 h = refl
-    itself kind.Uint32 h = refl
-    itself kind.Uint64 h = refl
-    itself kind.Sint32 h = refl
-    itself kind.Sint64 h = refl
-    itself kind.Fixed32 h = refl
-    itself kind.Fixed64 h = refl
-    itself kind.Sfixed32 h = refl
-    itself kind.Sfixed64 h = refl
-    itself kind.Bool h = refl
-    itself kind.String h = refl
-    itself kind.Bytes h = refl
-    itself (kind.Message m) h = absurd cc
-    itself (kind.Group m) h = absurd cc
-    itself (kind.Enum e) h = absurd cc
-
 -- a message that is an entry of a map in both versions, or in none
-typed-by : (a b : Bool) (m n : List ℕ) → bytes_eq m n ≡ true → a ≡ b
-    → (bytes_eq (message_word a) (message_word b) && bytes_eq (if a then [] else m) (if b then [] else n)) ≡ true
-typed-by true true m n names same = refl
-typed-by false false m n names same = names
-typed-by true false m n names same = absurd cc
-typed-by false true m n names same = absurd cc
+module _ (word : Bool → List ℕ) where
+  named-by : (a b : Bool) (m n : List ℕ) → bytes_eq m n ≡ true → a ≡ b
+      → (bytes_eq (word a) (word b) && bytes_eq (if a then [] else m) (if b then [] else n)) ≡ true
+  named-by true true m n names same = and_from (bytes_eq (word true) (word true)) true (same-text (word true)) refl
+  named-by false false m n names same = and_from (bytes_eq (word false) (word false)) (bytes_eq m n) (same-text (word false)) names
+  named-by true false m n names same = absurd cc
+  named-by false true m n names same = absurd cc
 
-pub message_typed : (v : Versions) (m n : ℕ) → bytes_eq (message_name (parts_of (writer v)) m) (message_name (parts_of (reader v)) n) ≡ true
-    → is_some (map_entry_at (parts_of (writer v)) m) ≡ is_some (map_entry_at (parts_of (reader v)) n) → are_typed_alike v (kind.Message m) (kind.Message n) ≡ true
-message_typed v m n names same =
-    typed-by (is_some (map_entry_at (parts_of (writer v)) m)) (is_some (map_entry_at (parts_of (reader v)) n))
-    (message_name (parts_of (writer v)) m) (message_name (parts_of (reader v)) n) names same
+module _ (v : Versions) (m n : ℕ) (names : bytes_eq (message_name (parts_of (writer v)) m) (message_name (parts_of (reader v)) n) ≡ true)
+    (same : is_some (map_entry_at (parts_of (writer v)) m) ≡ is_some (map_entry_at (parts_of (reader v)) n)) where
+  pub message_formed : are_formed_alike v (kind.Message m) (kind.Message n) ≡ true
+  message_formed =
+      named-by object_word (is_some (map_entry_at (parts_of (writer v)) m)) (is_some (map_entry_at (parts_of (reader v)) n))
+      (message_name (parts_of (writer v)) m) (message_name (parts_of (reader v)) n) names same
+
+  pub message_typed : are_typed_alike v (kind.Message m) (kind.Message n) ≡ true
+  message_typed =
+      named-by message_word (is_some (map_entry_at (parts_of (writer v)) m)) (is_some (map_entry_at (parts_of (reader v)) n))
+      (message_name (parts_of (writer v)) m) (message_name (parts_of (reader v)) n) names same
 
 -- ---- how often a field may stand, and whether it is told that it is set
 
@@ -115,27 +73,6 @@ oneof_none v x y f g out outside =
     subst (λ got. are_alike (given_oneof f (option_and_then (oneof_at (writer v) x) got)) (oneof_side (reader v) y g) ≡ true) (sym out)
     (subst (λ got. are_alike (given_oneof f None) (given_oneof g (option_and_then (oneof_at (reader v) y) got)) ≡ true) (sym outside) refl)
 
--- where two oneofs have one name, or neither is there, the sides are told alike
-told-by-names : (f g : Part) (a b : Option OneofDescriptorInner) → oneof_name a ≡ oneof_name b → are_alike (given_oneof f a) (given_oneof g b) ≡ true
-told-by-names f g None None same = refl
-told-by-names f g (Some a) (Some b) same = subst (λ n. bytes_eq a.id.full_name n ≡ true) (same_Some a.id.full_name b.id.full_name same) (same-text a.id.full_name)
-told-by-names f g None (Some b) same = absurd cc
-told-by-names f g (Some a) None same = absurd cc
-
-pub oneof_alike : (v : Versions) (x y : MessageDescriptorInner) (f g : Part) (i : ℕ) → HaveOneofsAlike v x y → f.entry.oneof ≡ Some i → g.entry.oneof ≡ Some i
-    → are_alike (oneof_side (writer v) x f) (oneof_side (reader v) y g) ≡ true
-oneof_alike v x y f g i alike here there =
-    subst (λ got. are_alike (given_oneof f (option_and_then (oneof_at (writer v) x) got)) (oneof_side (reader v) y g) ≡ true) (sym here)
-    (subst (λ got. are_alike (given_oneof f (oneof_at (writer v) x i)) (given_oneof g (option_and_then (oneof_at (reader v) y) got)) ≡ true) (sym there)
-    (told-by-names f g (oneof_at (writer v) x i) (oneof_at (reader v) y i) (alike i)))
-
--- past the oneofs of a message none is there
-pub none-past : (v : Versions) (x y : MessageDescriptorInner) (i : ℕ) → length x.oneofs ≤ i → length y.oneofs ≤ i
-    → oneof_name (oneof_at (writer v) x i) ≡ oneof_name (oneof_at (reader v) y i)
-none-past v x y i here there =
-    ap (λ got. oneof_name (option_and_then (λ o. if is_synthetic (writer v) x o then None else Some o) got)) (slice_get_past x.oneofs i here)
-    ∙ sym (ap (λ got. oneof_name (option_and_then (λ o. if is_synthetic (reader v) y o then None else Some o) got)) (slice_get_past y.oneofs i there))
-
 pub default_none : (v : Versions) (f g : Part) → option_and_then (λ (r : FieldDescriptorProto). r.default_value) (field_record (writer v) f.id) ≡ None
     → option_and_then (λ (r : FieldDescriptorProto). r.default_value) (field_record (reader v) g.id) ≡ None
     → are_alike (default_side (writer v) f) (default_side (reader v) g) ≡ true
@@ -148,6 +85,9 @@ default_none v f g none given =
 either-none : {X : Type 0} (b : Bool) (xs : List X) → xs ≡ [] → (if b then [] else xs) ≡ []
 either-none true xs none = refl
 either-none false xs none = none
+
+kept-none : {X : Type 0} (b c : Bool) (xs : List X) → c ≡ true → (if b || c then [] else xs) ≡ []
+kept-none b c xs kept = ap (λ d. if d then [] else xs) (or_right b c kept)
 
 or-none : {X : Type 0} (b : Bool) (xs : List X) → xs ≡ [] → (if b then xs else []) ≡ []
 or-none true xs none = none
@@ -207,9 +147,10 @@ module _ (v : Versions) (found : List WireChange) (f g : Part) where
       both-none (differing v element.FieldJsonName (json_side f) (json_side g)) (form_changes v found f g ++ repeated_changes v found f g)
       (alike-none v element.FieldJsonName (json_side f) (json_side g) json)
       (both-none (form_changes v found f g) (repeated_changes v found f g)
-      (either-none (tells v.direction found f.entry.number change.Kind || reads_number f.entry.kind g.entry.kind)
-      (differing v element.FieldJson (form_side (writer v) f) (form_side (reader v) g))
-      (alike-none v element.FieldJson (form_side (writer v) f) (form_side (reader v) g) form))
+      (kept-none (tells v.direction found f.entry.number change.Kind) (keeps_form v f g)
+      (told_between v element.FieldJson (form_side (writer v) f) (form_side (reader v) g) ∷ [])
+      (or_left (reads_number f.entry.kind g.entry.kind || are_alike (form_side (writer v) f) (form_side (reader v) g)) (are_messages_alike v f.entry.kind g.entry.kind)
+      (or_right (reads_number f.entry.kind g.entry.kind) (are_alike (form_side (writer v) f) (form_side (reader v) g)) form)))
       (either-none (tells v.direction found f.entry.number change.Cardinality)
       (differing v element.FieldRepeated (repeated_side f) (repeated_side g))
       (alike-none v element.FieldRepeated (repeated_side f) (repeated_side g) repeated)))

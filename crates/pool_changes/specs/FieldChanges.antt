@@ -1,20 +1,22 @@
 -- What changes at json and at source of a field or an extension that is kept by its number.
-use Rattle.std.specs.Prelude.{◌≡◌, ℕ, Bool, true, false, not, ◌||◌, ◌&&◌, List, [], ◌++◌}
-use Rattle.std.specs.Prelude.{if◌then◌else◌}
+use Rattle.std.specs.Prelude.{ℕ, Bool, true, false, not, ◌||◌, ◌&&◌, ◌==◌, List, [], ◌∷◌, ◌++◌}
+use Rattle.std.specs.Prelude.{slice_get, Option, Some, if◌then◌else◌}
+use Rattle.std.specs.List.{list_all}
+use Rattle.std.specs.Option.{option_map_or}
 use Rattle.std.specs.Str.{bytes_eq}
+use Rattle.pool_types.specs.declared.contents.field.FieldDescriptorInner.{FieldDescriptorInner}
 use Rattle.pool_types.specs.declared.contents.message.MessageDescriptorInner.{MessageDescriptorInner}
 use Rattle.pool_types.specs.declared.kinds.KindIndex.{KindIndex}
 use Rattle.pool_types.specs.declared.kinds.KindIndex.TheVariants as kind
-use Rattle.schema_changes.specs.Kinds.{is_repeated}
+use Rattle.schema_changes.specs.Kinds.{is_repeated, messages_of}
 use Rattle.schema_changes.specs.declared.change.WireChange.{WireChange}
 use Rattle.schema_changes.specs.declared.change.WireChangeKind.TheVariants as change
 use Rattle.verdict_texts.specs.declared.telling.ToldFault.{ToldFault}
-use Rattle.pool_changes.specs.FieldParts.{Part, form_side, json_side, repeated_side, name_side}
-use Rattle.pool_changes.specs.FieldParts.{json_word, json_enum, type_word, type_name}
+use Rattle.pool_changes.specs.FieldParts.{Part, field_part, part_numbered, form_side, json_side, repeated_side, name_side}
+use Rattle.pool_changes.specs.FieldParts.{json_word, type_word, type_name}
 use Rattle.pool_changes.specs.FieldParts.{type_side, presence_side, default_side, oneof_side}
-use Rattle.pool_changes.specs.FieldParts.{oneof_at, oneof_name}
 use Rattle.pool_changes.specs.Removed.{tells}
-use Rattle.pool_changes.specs.Sides.{Versions, writer, reader, are_alike, differing}
+use Rattle.pool_changes.specs.Sides.{Versions, writer, reader, are_alike, differing, told_between}
 use Rattle.pool_changes.specs.declared.kinds.ElementChange.TheVariants as element
 
 -- whether a parser of JSON reads a number where a kind has names
@@ -24,29 +26,63 @@ reads_number _ _ = false
 
 -- whether values of two kinds have one form in JSON
 abbrev pub are_formed_alike : Versions → KindIndex → KindIndex → Bool
-are_formed_alike v k l = bytes_eq (json_word k) (json_word l)
-    && bytes_eq (json_enum (writer v) k) (json_enum (reader v) l)
+are_formed_alike v k l = bytes_eq (json_word (writer v) k) (json_word (reader v) l)
+    && bytes_eq (type_name (writer v) k) (type_name (reader v) l)
 
 -- whether they are of one type
 abbrev pub are_typed_alike : Versions → KindIndex → KindIndex → Bool
 are_typed_alike v k l = bytes_eq (type_word (writer v) k) (type_word (reader v) l)
     && bytes_eq (type_name (writer v) k) (type_name (reader v) l)
 
--- the oneofs of two messages at each position have one name, or neither is there
-abbrev pub HaveOneofsAlike : Versions → MessageDescriptorInner → MessageDescriptorInner → Type 0
-HaveOneofsAlike v x y =
-    (i : ℕ) → oneof_name (oneof_at (writer v) x i) ≡ oneof_name (oneof_at (reader v) y i)
+-- whether one of two is repeated, and the other is not
+abbrev pub one_repeats : Part → Part → Bool
+one_repeats f g = if is_repeated f.entry.cardinality then not (is_repeated g.entry.cardinality)
+    else is_repeated g.entry.cardinality
+
+-- whether JSON has values of two kinds of fields of two messages, which may have other names, in a
+-- form that the reader's reads: both may be the two messages themselves
+abbrev pub keeps_inner_form : Versions → ℕ → ℕ → KindIndex → KindIndex → Bool
+keeps_inner_form v m n k l = reads_number k l || are_formed_alike v k l
+    || option_map_or (λ e. e.0 == m && e.1 == n) (messages_of k l) false
+
+-- whether JSON has a field of a message as one of another: by its JSON name, in a form that is read,
+-- and as often
+abbrev pub is_shown_alike : Versions → ℕ → ℕ → Part → Part → Bool
+is_shown_alike v m n f g = bytes_eq f.json_name g.json_name
+    && keeps_inner_form v m n f.entry.kind g.entry.kind && not (one_repeats f g)
+
+-- whether JSON has a field as the field of the reader's message with its number
+abbrev pub is_shown_in : Versions → ℕ → ℕ → MessageDescriptorInner → FieldDescriptorInner → Bool
+is_shown_in v m n y f =
+    option_map_or (is_shown_alike v m n (field_part f)) (part_numbered (reader v) y f.number) false
+
+-- whether JSON has each field of a message as the reader's message has it
+abbrev pub are_shown_in : Versions → ℕ → ℕ → Option MessageDescriptorInner
+    → Option MessageDescriptorInner → Bool
+are_shown_in v m n (Some x) (Some y) = list_all (is_shown_in v m n y) x.fields
+are_shown_in v m n _ _ = false
+
+-- whether JSON has two messages, by their indexes, alike, which may have other names
+abbrev pub have_fields_alike : Versions → ℕ → ℕ → Bool
+have_fields_alike v m n =
+    are_shown_in v m n (slice_get (writer v).messages m) (slice_get (reader v).messages n)
+
+-- whether two kinds are those of messages that JSON has alike under other names
+abbrev pub are_messages_alike : Versions → KindIndex → KindIndex → Bool
+are_messages_alike v k l = bytes_eq (json_word (writer v) k) (json_word (reader v) l)
+    && option_map_or (λ e. have_fields_alike v e.0 e.1) (messages_of k l) false
 
 -- whether JSON has a field in a form that the reader's reads
 abbrev pub keeps_form : Versions → Part → Part → Bool
 keeps_form v f g = reads_number f.entry.kind g.entry.kind
     || are_alike (form_side (writer v) f) (form_side (reader v) g)
+    || are_messages_alike v f.entry.kind g.entry.kind
 
 -- what changes of its form in JSON, if that is not told at wire
 abbrev pub form_changes : Versions → List WireChange → Part → Part → List ToldFault
 form_changes v found f g =
-    if tells v.direction found f.entry.number change.Kind || reads_number f.entry.kind g.entry.kind
-    then [] else differing v element.FieldJson (form_side (writer v) f) (form_side (reader v) g)
+    if tells v.direction found f.entry.number change.Kind || keeps_form v f g then [] else
+    told_between v element.FieldJson (form_side (writer v) f) (form_side (reader v) g) ∷ []
 
 -- that it is repeated now, if that is not told at wire
 abbrev pub repeated_changes : Versions → List WireChange → Part → Part → List ToldFault
@@ -69,11 +105,6 @@ abbrev pub type_changes : Versions → List WireChange → Part → Part → Lis
 type_changes v found f g =
     if tells v.direction found f.entry.number change.Kind || not (keeps_form v f g) then []
     else differing v element.FieldType (type_side (writer v) f) (type_side (reader v) g)
-
--- whether one of two is repeated, and the other is not
-abbrev pub one_repeats : Part → Part → Bool
-one_repeats f g = if is_repeated f.entry.cardinality then not (is_repeated g.entry.cardinality)
-    else is_repeated g.entry.cardinality
 
 -- what changes of its presence, if that is not told at wire or at json
 abbrev pub presence_changes : Versions → List WireChange → Part → Part → List ToldFault

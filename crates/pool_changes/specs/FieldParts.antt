@@ -75,25 +75,6 @@ is_named (kind.Group m) = true
 is_named (kind.Enum e) = true
 is_named _ = false
 
--- the word for the form that values of a kind have in JSON
-abbrev pub json_word : KindIndex → List ℕ
-json_word kind.Bool = codes "true or false"
-json_word kind.String = codes "text"
-json_word kind.Bytes = codes "text in base64"
-json_word (kind.Message m) = codes "object"
-json_word (kind.Group m) = codes "object"
-json_word (kind.Enum e) = codes "name of a value of "
-json_word _ = codes "number"
-
--- the enum whose names JSON has
-abbrev pub json_enum : Contents → KindIndex → List ℕ
-json_enum p (kind.Enum e) = enum_name (parts_of p) e
-json_enum p _ = []
-
--- the form in JSON, as a side
-abbrev pub form_side : Contents → Part → Side
-form_side p f = there f.id (json_word f.entry.kind) (json_enum p f.entry.kind)
-
 -- the JSON name, as a side
 abbrev pub json_side : Part → Side
 json_side f = there f.id (codes "JSON name ") f.json_name
@@ -139,6 +120,26 @@ type_name p other = []
 abbrev pub type_side : Contents → Part → Side
 type_side p f = there f.id (type_word p f.entry.kind) (type_name p f.entry.kind)
 
+-- the word for the form that messages have in JSON, by whether they are entries of a map
+abbrev pub object_word : Bool → List ℕ
+object_word true = codes "object of keys and values"
+object_word false = codes "object "
+
+-- the word for the form that values of a kind have in JSON, before the name of a message or of an
+-- enum
+abbrev pub json_word : Contents → KindIndex → List ℕ
+json_word p kind.Bool = codes "true or false"
+json_word p kind.String = codes "text"
+json_word p kind.Bytes = codes "text in base64"
+json_word p (kind.Message m) = object_word (is_some (map_entry_at (parts_of p) m))
+json_word p (kind.Group m) = codes "object "
+json_word p (kind.Enum e) = codes "name of a value of "
+json_word p _ = codes "number"
+
+-- the form in JSON, as a side
+abbrev pub form_side : Contents → Part → Side
+form_side p f = there f.id (json_word p f.entry.kind) (type_name p f.entry.kind)
+
 -- how a message tells that it is set, in words
 abbrev pub presence_word : Cardinality → Bool → List ℕ
 presence_word cardinality.Required _ = codes "required"
@@ -163,10 +164,6 @@ default_side p f = given_default f (option_and_then (λ r. r.default_value) (fie
 abbrev pub oneof_at : Contents → MessageDescriptorInner → ℕ → Option OneofDescriptorInner
 oneof_at p m i = option_and_then (λ o. if is_synthetic p m o then None else Some o)
     (slice_get m.oneofs i)
-
--- the full name of a oneof, where there is one
-abbrev pub oneof_name : Option OneofDescriptorInner → Option (List ℕ)
-oneof_name o = option_map (λ x. x.id.full_name) o
 
 -- a oneof that it is in, or none, as a side
 abbrev pub given_oneof : Part → Option OneofDescriptorInner → Side

@@ -1,6 +1,6 @@
 -- What a reader lacks of what a writer has: files, messages, enums and their parts.
 use Rattle.std.specs.Prelude.{ℕ, ℤ, Bool, true, false, ◌&&◌, ◌||◌, ◌==◌, List, [], ◌∷◌, ◌++◌, codes}
-use Rattle.std.specs.Prelude.{slice_get, option_and_then, Option, Some, None, if◌then◌else◌}
+use Rattle.std.specs.Prelude.{length, slice_get, option_and_then, Option, Some, None, if◌then◌else◌}
 use Rattle.std.specs.FinMap as finite
 use Rattle.std.specs.List.{list_any}
 use Rattle.std.specs.Option.{option_or, option_map_or}
@@ -148,9 +148,10 @@ abbrev pub is_optional_at : Contents → MessageDescriptorInner → ℕ → Bool
 is_optional_at p m i = option_map_or (λ r. flag_of r.proto3_optional)
     (option_and_then (λ f. field_record p f.id) (slice_get m.fields i)) false
 
--- whether a oneof stands for the presence of a field alone
+-- whether a oneof stands for the presence of a field alone: it has that field alone, which is said to
+-- be optional (descriptor.proto on `proto3_optional`)
 abbrev pub is_synthetic : Contents → MessageDescriptorInner → OneofDescriptorInner → Bool
-is_synthetic p m o = list_any (is_optional_at p m) o.fields
+is_synthetic p m o = length o.fields == 1 && list_any (is_optional_at p m) o.fields
 
 -- whether a message has a oneof with a full name
 abbrev pub has_oneof : MessageDescriptorInner → List ℕ → Bool

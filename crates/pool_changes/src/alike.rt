@@ -1,25 +1,20 @@
 //! Whether nothing changes at json and at source of a field or an extension. That is so of most,
 //! and is seen without both sides of each change.
 
-ghost use Rattle.std.specs.Prelude.{◌≡◌, true, IsTrue, is_some, []};
-ghost use Rattle.std.specs.Option.{option_copied};
+ghost use Rattle.std.specs.Prelude.{◌≡◌, true, IsTrue, []};
 ghost use Rattle.pool_types.specs.declared.kinds.KindIndex.TheVariants as kind;
-ghost use Rattle.schema_changes.specs.MapEntries.{map_entry_at};
-ghost use Rattle.schema_changes.specs.Parts.{parts_of};
 ghost use Rattle.pool_changes.specs.FieldChanges as spec;
 ghost use Rattle.pool_changes.specs.FieldParts.{part, json_side, name_side, repeated_side};
 ghost use Rattle.pool_changes.specs.FieldParts.{presence_side, oneof_side, default_side, is_named};
-ghost use Rattle.pool_changes.specs.FieldParts.{oneof_at, oneof_name};
 ghost use Rattle.pool_changes.specs.Sides.{are_alike, versions, writer, reader};
 
-use crate::fields::{Part, oneof_at};
+use crate::fields::{Part, is_map_entry};
 use crate::kept_fields::KeptPart;
 use crate::pools::parts_of;
 use crate::sides::Telling;
 use crate::words::{enum_name, message_name};
-use descriptor_pool::DescriptorPool;
 use plain_data::same;
-use pool_types::{Cardinality, KindIndex, MessageDescriptorInner, OneofDescriptorInner};
+use pool_types::KindIndex;
 
 /// Whether a kind is that of a message or of an enum, which has a name.
 fn is_named(kind: KindIndex) -> bool
@@ -31,35 +26,11 @@ fn is_named(kind: KindIndex) -> bool
     )
 }
 
-/// Whether the message with an index is an entry of a map.
-fn is_map_entry(pool: &DescriptorPool, index: u32) -> bool
-    ensures { result ≡ is_some (map_entry_at (parts_of pool.now) index) }
-{
-    match parts_of(pool).map_entry_at(index) {
-        Some(_) => true,
-        None => false,
-    }
-}
-
 /// Whether two truth values are one.
 pub(crate) fn is_one_truth(first: bool, second: bool) -> bool
     ensures { IsTrue result → first ≡ second }
 {
     first == second
-}
-
-/// Whether two cardinalities are one.
-fn is_one_cardinality(first: Cardinality, second: Cardinality) -> bool
-    ensures { IsTrue result → first ≡ second }
-{
-    same(&first, &second)
-}
-
-/// Whether two kinds are one.
-fn is_one_kind(first: KindIndex, second: KindIndex) -> bool
-    ensures { IsTrue result → first ≡ second }
-{
-    same(&first, &second)
 }
 
 /// Whether the JSON names of two fields are one, and their names.
@@ -72,56 +43,36 @@ fn has_names_of(field: Part<'_>, kept: Part<'_>) -> bool
     field.json_name == kept.json_name && field.id.full_name() == kept.id.full_name()
 }
 
-/// Whether two oneofs have one name, or neither is there.
-fn has_oneof_name_of(
-    oneof: Option<&OneofDescriptorInner>,
-    kept: Option<&OneofDescriptorInner>,
-) -> bool
-    ensures { IsTrue result
-        → oneof_name (option_copied oneof.entry) ≡ oneof_name (option_copied kept.entry) }
-{
-    match (oneof, kept) {
-        (Some(oneof), Some(kept)) => oneof.id.full_name() == kept.id.full_name(),
-        (None, None) => true,
-        _ => false,
-    }
-}
-
-/// Whether two fields may stand in a message as often.
-#[tactic(auto, using(crate::proofs::Same::repeated_alike))]
-fn is_as_often(field: Part<'_>, kept: Part<'_>) -> bool
-    ensures { IsTrue result → are_alike (repeated_side (part field.entry))
-        (repeated_side (part kept.entry)) ≡ true }
-{
-    is_one_cardinality(field.entry.cardinality, kept.entry.cardinality)
-}
-
-/// Whether a message tells of two fields alike whether they are set.
-#[tactic(auto, using(crate::proofs::Same::presence_alike))]
+/// Whether two fields may stand in a message as often, and it tells of both alike whether they are
+/// set.
+#[tactic(auto, using(crate::proofs::Same::repeated_alike, crate::proofs::Same::presence_alike))]
 fn has_presence_of(field: Part<'_>, kept: Part<'_>) -> bool
-    ensures { IsTrue result → are_alike (presence_side (part field.entry))
+    ensures repeated { IsTrue result → are_alike (repeated_side (part field.entry))
+        (repeated_side (part kept.entry)) ≡ true }
+    ensures presence { IsTrue result → are_alike (presence_side (part field.entry))
         (presence_side (part kept.entry)) ≡ true }
 {
-    is_one_cardinality(field.entry.cardinality, kept.entry.cardinality)
+    same(&field.entry.cardinality, &kept.entry.cardinality)
         && is_one_truth(field.has_presence, kept.has_presence)
 }
 
 impl Telling<'_> {
     /// Whether two kinds without names are one.
-    #[tactic(auto, using(crate::proofs::Same::unnamed_formed, crate::proofs::Same::unnamed_typed))]
     fn has_plain_kind_of(self, written: KindIndex, read: KindIndex) -> bool
         ensures formed { IsTrue result
             → spec.are_formed_alike (versions self.entry) written read ≡ true }
         ensures typed { IsTrue result
             → spec.are_typed_alike (versions self.entry) written read ≡ true }
     {
-        !is_named(written) && is_one_kind(written, read)
+        !is_named(written) && same(&written, &read)
     }
 
     /// Whether two messages have one name, and either both or none are entries of maps.
-    #[tactic(auto, using(crate::proofs::Same::message_typed))]
+    #[tactic(auto, using(crate::proofs::Same::message_formed, crate::proofs::Same::message_typed))]
     fn has_message_of(self, written: u32, read: u32) -> bool
-        ensures { IsTrue result → spec.are_typed_alike (versions self.entry)
+        ensures formed { IsTrue result → spec.are_formed_alike (versions self.entry)
+            (kind.Message written) (kind.Message read) ≡ true }
+        ensures typed { IsTrue result → spec.are_typed_alike (versions self.entry)
             (kind.Message written) (kind.Message read) ≡ true }
     {
         let (writer, reader) = (self.writer(), self.reader());
@@ -151,68 +102,21 @@ impl Telling<'_> {
         }
     }
 
-    /// Whether the oneofs at a position in two messages have one name, or neither is there.
-    fn has_oneof_at(
-        self,
-        before: &MessageDescriptorInner,
-        after: &MessageDescriptorInner,
-        position: u32,
-    ) -> bool
-        ensures { IsTrue result
-            → oneof_name (oneof_at (writer (versions self.entry)) before.now position)
-            ≡ oneof_name (oneof_at (reader (versions self.entry)) after.now position) }
-    {
-        let before = oneof_at(self.writer(), before, position);
-        let after = oneof_at(self.reader(), after, position);
-        has_oneof_name_of(before, after)
-    }
-
-    /// Whether the oneofs at each position in two messages have one name, or neither is there. One
-    /// that stands for the presence of a field alone isn't.
-    pub(crate) fn has_oneofs_of(
-        self,
-        before: &MessageDescriptorInner,
-        after: &MessageDescriptorInner,
-    ) -> bool
-        ensures { IsTrue result
-            → spec.HaveOneofsAlike (versions self.entry) before.now after.now }
-    {
-        let count = before.oneofs.as_slice().len();
-        let Ok(positions) = u32::try_from(count) else {
-            return false;
-        };
-        if after.oneofs.as_slice().len() != count {
-            return false;
-        }
-        for position in 0..positions {
-            if !self.has_oneof_at(before, after, position) {
-                return false;
-            }
-        }
-        true
-    }
-
     /// Whether two fields are in oneofs of one name, or in none.
-    #[tactic(auto, using(crate::proofs::Same::oneof_none, crate::proofs::Same::oneof_alike))]
+    #[tactic(auto, using(crate::proofs::Same::oneof_none))]
     fn has_oneof_of(self, pair: KeptPart<'_>) -> bool
-        requires { IsTrue pair.messages.has_oneofs_alike → spec.HaveOneofsAlike
-            (versions self) pair.messages.before.now pair.messages.after.now }
         ensures { IsTrue result → are_alike
             (oneof_side (writer (versions self.entry)) pair.entry.messages.before.now
             (part pair.entry.before))
             (oneof_side (reader (versions self.entry)) pair.entry.messages.after.now
             (part pair.entry.after)) ≡ true }
     {
-        match (pair.before.entry.oneof, pair.after.entry.oneof) {
-            (None, None) => true,
-            (Some(before), Some(after)) if pair.messages.has_oneofs_alike && before == after =>
-                true,
-            _ => {
-                let before = pair.before.oneof(self.writer(), pair.messages.before);
-                let after = pair.after.oneof(self.reader(), pair.messages.after);
-                before.is_like(after)
-            }
+        if pair.before.entry.oneof.is_none() && pair.after.entry.oneof.is_none() {
+            return true;
         }
+        let before = pair.before.oneof(self.writer(), pair.messages.before);
+        let after = pair.after.oneof(self.reader(), pair.messages.after);
+        before.is_like(after)
     }
 
     /// Whether the records of two fields give no default value.
@@ -231,8 +135,6 @@ impl Telling<'_> {
     /// without both sides.
     #[tactic(auto, using(crate::proofs::Same::json_none, crate::proofs::Same::source_none))]
     pub(crate) fn is_untold(self, pair: KeptPart<'_>) -> bool
-        requires { IsTrue pair.messages.has_oneofs_alike → spec.HaveOneofsAlike
-            (versions self) pair.messages.before.now pair.messages.after.now }
         ensures json { IsTrue result → spec.part_json (versions self.entry)
             pair.entry.messages.found.now (part pair.entry.before) (part pair.entry.after) ≡ [] }
         ensures source { IsTrue result → spec.part_source (versions self.entry)
@@ -241,9 +143,6 @@ impl Telling<'_> {
     {
         let (before, after) = (pair.before, pair.after);
         if !has_names_of(before, after) {
-            return false;
-        }
-        if !is_as_often(before, after) {
             return false;
         }
         if !has_presence_of(before, after) {

@@ -11,7 +11,7 @@ ghost use Rattle.pool_changes.specs.AtLevels as spec;
 ghost use Rattle.pool_changes.specs.Comparing as comparing;
 ghost use Rattle.pool_changes.specs.Members.{by_writer};
 ghost use Rattle.pool_changes.specs.Removed.{enum_named, file_changes, file_named, oneof_changes};
-ghost use Rattle.pool_changes.specs.FieldChanges.{HaveOneofsAlike, part_json, part_source};
+ghost use Rattle.pool_changes.specs.FieldChanges.{part_json, part_source};
 ghost use Rattle.pool_changes.specs.FieldParts.{extension_part_at, field_part, part};
 ghost use Rattle.pool_changes.specs.Sides.{both_of, reader, side, versions, writer};
 
@@ -171,8 +171,6 @@ impl<'a> Telling<'a> {
     /// Appends what changes at json and at source of a field or an extension that the reader's
     /// message has too.
     fn tell_kept_entry(self, told: &mut BehindWire, pair: KeptPart<'_>) -> Result<(), AllocError>
-        requires { IsTrue pair.messages.has_oneofs_alike → HaveOneofsAlike
-            (versions self) pair.messages.before.now pair.messages.after.now }
         ensures json { OnOk result (told.new.json ≡ told.old.json ++ part_json
             (versions self.entry) pair.entry.messages.found.now (part pair.entry.before)
             (part pair.entry.after)) }
@@ -195,8 +193,6 @@ impl<'a> Telling<'a> {
         pair: Kept<'_>,
         field: Part<'_>,
     ) -> Result<(), AllocError>
-        requires { IsTrue pair.has_oneofs_alike → HaveOneofsAlike
-            (versions self) pair.before.now pair.after.now }
         ensures json { OnOk result (told.new.json ≡ told.old.json ++ spec.numbered_json
             (versions self.entry) pair.entry.after.now pair.entry.found.now (part field.entry)) }
         ensures source { OnOk result (told.new.source ≡ told.old.source ++ spec.numbered_source
@@ -223,8 +219,6 @@ impl<'a> Telling<'a> {
         pair: Kept<'_>,
         extension: Option<Part<'_>>,
     ) -> Result<(), AllocError>
-        requires { IsTrue pair.has_oneofs_alike → HaveOneofsAlike
-            (versions self) pair.before.now pair.after.now }
         ensures json { OnOk result (told.new.json ≡ told.old.json ++ spec.extension_json
             (versions self.entry) pair.entry.after.now pair.entry.found.now
             (option_map part extension.entry)) }
@@ -240,8 +234,6 @@ impl<'a> Telling<'a> {
 
     /// Appends what changes at json and at source of the fields of a message.
     fn tell_fields(self, told: &mut BehindWire, pair: Kept<'_>) -> Result<(), AllocError>
-        requires { IsTrue pair.has_oneofs_alike → HaveOneofsAlike
-            (versions self) pair.before.now pair.after.now }
         ensures json { OnOk result (told.new.json ≡ told.old.json ++ flat_map
             (λ f. spec.numbered_json (versions self.entry) pair.entry.after.now
             pair.entry.found.now (field_part f)) pair.entry.before.now.fields) }
@@ -258,8 +250,6 @@ impl<'a> Telling<'a> {
 
     /// Appends what changes at json and at source of the extensions of a message.
     fn tell_extensions(self, told: &mut BehindWire, pair: Kept<'_>) -> Result<(), AllocError>
-        requires { IsTrue pair.has_oneofs_alike → HaveOneofsAlike
-            (versions self) pair.before.now pair.after.now }
         ensures json { OnOk result (told.new.json ≡ told.old.json ++ flat_map
             (λ i. spec.extension_json (versions self.entry) pair.entry.after.now
             pair.entry.found.now (extension_part_at (writer (versions self.entry)) i))
@@ -294,8 +284,6 @@ impl<'a> Telling<'a> {
     /// message.
     #[tactic(auto, unfolding(crate::specs::AtLevels::entries_json, crate::specs::AtLevels::parts_source))]
     fn tell_parts(self, told: &mut BehindWire, pair: Kept<'_>) -> Result<(), AllocError>
-        requires { IsTrue pair.has_oneofs_alike → HaveOneofsAlike
-            (versions self) pair.before.now pair.after.now }
         ensures json { OnOk result (told.new.json ≡ told.old.json ++ spec.entries_json
             (versions self.entry) pair.entry.before.now pair.entry.after.now pair.entry.found.now) }
         ensures source { OnOk result (told.new.source ≡ told.old.source ++ spec.parts_source
@@ -329,7 +317,6 @@ impl<'a> Telling<'a> {
             before,
             after,
             found: found.as_slice(),
-            has_oneofs_alike: self.has_oneofs_of(before, after),
         };
         self.tell_wire(&mut told.wire, sides, pair)?;
         self.tell_parts(&mut told.behind, pair)

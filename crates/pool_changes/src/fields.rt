@@ -1,8 +1,10 @@
 //! A field or an extension of a message, as JSON and code that is made of the schema have it.
 
-ghost use Rattle.std.specs.Prelude.{◌≡◌, option_map, option_and_then, unwrap_or};
+ghost use Rattle.std.specs.Prelude.{◌≡◌, is_some, option_map, option_and_then, unwrap_or};
 ghost use Rattle.std.specs.Option.{option_copied};
 ghost use Rattle.pool_types.specs.Kinds.{kind_name};
+ghost use Rattle.schema_changes.specs.MapEntries.{map_entry_at};
+ghost use Rattle.schema_changes.specs.Parts.{parts_of};
 ghost use Rattle.pool_changes.specs.FieldParts as spec;
 ghost use Rattle.pool_changes.specs.Removed.{field_record};
 ghost use Rattle.pool_changes.specs.Sides.{side};
@@ -88,27 +90,13 @@ pub(crate) fn part_numbered<'a>(
     }
 }
 
-/// The word for the form that values of a kind have in JSON.
-fn json_word(kind: KindIndex) -> &'static str
-    ensures { result.now ≡ spec.json_word kind }
+/// Whether the message with an index is an entry of a map.
+pub(crate) fn is_map_entry(pool: &DescriptorPool, index: u32) -> bool
+    ensures { result ≡ is_some (map_entry_at (parts_of pool.now) index) }
 {
-    match kind {
-        KindIndex::Bool => "true or false",
-        KindIndex::String => "text",
-        KindIndex::Bytes => "text in base64",
-        KindIndex::Message(_) | KindIndex::Group(_) => "object",
-        KindIndex::Enum(_) => "name of a value of ",
-        _ => "number",
-    }
-}
-
-/// The enum whose names JSON has.
-fn json_enum(pool: &DescriptorPool, kind: KindIndex) -> &str
-    ensures { result.now ≡ spec.json_enum pool.now kind }
-{
-    match kind {
-        KindIndex::Enum(index) => enum_name(parts_of(pool), index),
-        _ => "",
+    match parts_of(pool).map_entry_at(index) {
+        Some(_) => true,
+        None => false,
     }
 }
 
@@ -159,10 +147,7 @@ fn type_word(pool: &DescriptorPool, kind: KindIndex) -> &'static str
     ensures { result.now ≡ spec.type_word pool.now kind }
 {
     match kind {
-        KindIndex::Message(index) => match parts_of(pool).map_entry_at(index) {
-            Some(_) => message_word(true),
-            None => message_word(false),
-        },
+        KindIndex::Message(index) => message_word(is_map_entry(pool, index)),
         KindIndex::Group(_) => "group ",
         KindIndex::Enum(_) => "enum ",
         _ => scalar_word(kind),
@@ -173,14 +158,15 @@ fn type_word(pool: &DescriptorPool, kind: KindIndex) -> &'static str
 fn type_message(pool: &DescriptorPool, index: u32) -> &str
     ensures { result.now ≡ spec.type_message pool.now index }
 {
-    match parts_of(pool).map_entry_at(index) {
-        Some(_) => "",
-        None => message_name(parts_of(pool), index),
+    if is_map_entry(pool, index) {
+        ""
+    } else {
+        message_name(parts_of(pool), index)
     }
 }
 
 /// The name of the message or the enum of a kind.
-fn type_name(pool: &DescriptorPool, kind: KindIndex) -> &str
+pub(crate) fn type_name(pool: &DescriptorPool, kind: KindIndex) -> &str
     ensures { result.now ≡ spec.type_name pool.now kind }
 {
     match kind {
@@ -188,6 +174,33 @@ fn type_name(pool: &DescriptorPool, kind: KindIndex) -> &str
         KindIndex::Group(index) => message_name(parts_of(pool), index),
         KindIndex::Enum(index) => enum_name(parts_of(pool), index),
         _ => "",
+    }
+}
+
+/// The word for the form that messages have in JSON, by whether they are entries of a map.
+fn object_word(is_entry: bool) -> &'static str
+    ensures { result.now ≡ spec.object_word is_entry }
+{
+    if is_entry {
+        "object of keys and values"
+    } else {
+        "object "
+    }
+}
+
+/// The word for the form that values of a kind have in JSON, before the name of a message or of an
+/// enum.
+pub(crate) fn json_word(pool: &DescriptorPool, kind: KindIndex) -> &'static str
+    ensures { result.now ≡ spec.json_word pool.now kind }
+{
+    match kind {
+        KindIndex::Bool => "true or false",
+        KindIndex::String => "text",
+        KindIndex::Bytes => "text in base64",
+        KindIndex::Message(index) => object_word(is_map_entry(pool, index)),
+        KindIndex::Group(_) => "object ",
+        KindIndex::Enum(_) => "name of a value of ",
+        _ => "number",
     }
 }
 
@@ -209,7 +222,7 @@ impl<'a> Part<'a> {
         ensures { side result ≡ spec.form_side pool.now (spec.part self.entry) }
     {
         let kind = self.entry.kind;
-        Side::there(self.id, json_word(kind), json_enum(pool, kind))
+        Side::there(self.id, json_word(pool, kind), type_name(pool, kind))
     }
 
     /// Its JSON name, as a side.

@@ -1,18 +1,19 @@
 //! What changes at json and at source of a field or an extension that is kept by its number.
 
 ghost use Rattle.std.specs.Prelude.{◌≡◌, ◌++◌, OnOk};
+ghost use Rattle.std.specs.List.{list_all};
 ghost use Rattle.pool_changes.specs.FieldChanges as spec;
 ghost use Rattle.pool_changes.specs.FieldParts.{part};
 ghost use Rattle.pool_changes.specs.Removed.{tells};
 ghost use Rattle.pool_changes.specs.Sides.{versions};
 
-use crate::fields::Part;
+use crate::fields::{Part, field_part, json_word, part_numbered, type_name};
 use crate::kinds::ElementChange;
 use crate::removed::{Kept, tells};
 use crate::sides::Telling;
 use plain_data::Items;
-use pool_types::{Cardinality, KindIndex};
-use schema_changes::WireChangeKind;
+use pool_types::{Cardinality, FieldDescriptorInner, KindIndex, MessageDescriptorInner};
+use schema_changes::{WireChangeKind, messages_of};
 use std::alloc::AllocError;
 use verdict_texts::ToldFault;
 
@@ -53,6 +54,97 @@ impl Telling<'_> {
         tells(self.direction, found, pair.before.entry.number, kind)
     }
 
+    /// Whether values of two kinds have one form in JSON.
+    fn is_formed_alike(self, written: KindIndex, read: KindIndex) -> bool
+        ensures { result ≡ spec.are_formed_alike (versions self.entry) written read }
+    {
+        let (writer, reader) = (self.writer(), self.reader());
+        json_word(writer, written) == json_word(reader, read)
+            && type_name(writer, written) == type_name(reader, read)
+    }
+
+    /// Whether JSON has values of two kinds of fields of two messages in a form that the reader's
+    /// reads: both may be the two messages themselves.
+    fn keeps_inner_form(self, pair: (u32, u32), written: KindIndex, read: KindIndex) -> bool
+        ensures { result
+            ≡ spec.keeps_inner_form (versions self.entry) pair.0 pair.1 written read }
+    {
+        reads_number(written, read)
+            || self.is_formed_alike(written, read)
+            || match messages_of(written, read) {
+                Some((written, read)) => written == pair.0 && read == pair.1,
+                None => false,
+            }
+    }
+
+    /// Whether JSON has a field of a message as one of another.
+    fn is_shown_alike(self, pair: (u32, u32), field: Part<'_>, kept: Part<'_>) -> bool
+        ensures { result ≡ spec.is_shown_alike (versions self.entry) pair.0 pair.1
+            (part field.entry) (part kept.entry) }
+    {
+        field.json_name == kept.json_name
+            && self.keeps_inner_form(pair, field.entry.kind, kept.entry.kind)
+            && !one_repeats(field, kept)
+    }
+
+    /// Whether JSON has a field as the field of the reader's message with its number.
+    fn is_shown_in(
+        self,
+        pair: (u32, u32),
+        message: &MessageDescriptorInner,
+        field: &FieldDescriptorInner,
+    ) -> bool
+        ensures { result ≡ spec.is_shown_in (versions self.entry) pair.0 pair.1 message.now
+            field.now }
+    {
+        match part_numbered(self.reader(), message, field.number) {
+            Some(kept) => self.is_shown_alike(pair, field_part(field), kept),
+            None => false,
+        }
+    }
+
+    /// Whether JSON has each field of a message as the reader's message has it.
+    fn are_shown_in(
+        self,
+        pair: (u32, u32),
+        before: &MessageDescriptorInner,
+        after: &MessageDescriptorInner,
+    ) -> bool
+        ensures { result ≡ list_all
+            (spec.is_shown_in (versions self.entry) pair.0 pair.1 after.now) before.now.fields }
+    {
+        let fields = before.fields.as_slice();
+        fields
+            .iter()
+            .all(|field| self.is_shown_in(pair, after, field))
+    }
+
+    /// Whether JSON has two messages, by their indexes, alike, which may have other names.
+    fn has_fields_alike(self, pair: (u32, u32)) -> bool
+        ensures { result ≡ spec.have_fields_alike (versions self.entry) pair.0 pair.1 }
+    {
+        let before = self.writer().messages().get(pair.0 as usize);
+        let after = self.reader().messages().get(pair.1 as usize);
+        match (before, after) {
+            (Some(before), Some(after)) => self.are_shown_in(pair, before, after),
+            _ => false,
+        }
+    }
+
+    /// Whether two kinds are those of messages that JSON has alike under other names.
+    fn has_messages_alike(self, written: KindIndex, read: KindIndex) -> bool
+        ensures { result ≡ spec.are_messages_alike (versions self.entry) written read }
+    {
+        let (writer, reader) = (self.writer(), self.reader());
+        if json_word(writer, written) != json_word(reader, read) {
+            return false;
+        }
+        match messages_of(written, read) {
+            Some(pair) => self.has_fields_alike(pair),
+            None => false,
+        }
+    }
+
     /// Whether JSON has a field in a form that the reader's reads.
     fn keeps_form(self, pair: KeptPart<'_>) -> bool
         ensures { result ≡ spec.keeps_form (versions self.entry) (part pair.entry.before)
@@ -62,6 +154,7 @@ impl Telling<'_> {
         let reader = self.reader();
         reads_number(before.entry.kind, after.entry.kind)
             || before.form(self.writer()).is_like(after.form(reader))
+            || self.has_messages_alike(before.entry.kind, after.entry.kind)
     }
 
     /// Appends what changes of its form in JSON, if that is not told at wire.
@@ -69,14 +162,12 @@ impl Telling<'_> {
         ensures { OnOk result (told.new ≡ told.old ++ spec.form_changes (versions self.entry)
             pair.entry.messages.found.now (part pair.entry.before) (part pair.entry.after)) }
     {
-        let KeptPart { before, after, .. } = pair;
-        if self.is_told_at_wire(pair, WireChangeKind::Kind)
-            || reads_number(before.entry.kind, after.entry.kind)
-        {
+        if self.is_told_at_wire(pair, WireChangeKind::Kind) || self.keeps_form(pair) {
             return Ok(());
         }
-        let (before, after) = (before.form(self.writer()), after.form(self.reader()));
-        self.tell_differing(told, ElementChange::FieldJson.between(before, after))
+        let before = pair.before.form(self.writer());
+        let after = pair.after.form(self.reader());
+        self.tell_between(told, ElementChange::FieldJson.between(before, after))
     }
 
     /// Appends that it is repeated now, if that is not told at wire.

@@ -79,8 +79,8 @@ impl Pools<'_> {
 }
 
 /// What a new pool changes of an old one, so that bytes are read otherwise: the changes of each
-/// message of the old pool, in order, if the new one has a message of that name. A map field may be
-/// renamed, where its key and its value are kept.
+/// message of the old pool, in order, if the new one has a message of that name. A field may hold a
+/// message under another name, where that keeps the fields of the old one.
 ///
 /// # Errors
 /// `AllocError` where memory was refused.

@@ -40,8 +40,6 @@ pub(crate) struct Kept<'a> {
     pub before: &'a MessageDescriptorInner,
     pub after: &'a MessageDescriptorInner,
     pub found: &'a [WireChange],
-    /// Whether the oneofs at each position in both have one name, or neither is there.
-    pub has_oneofs_alike: bool,
 }
 
 /// Whether a kind of change is told in a direction: all are, but for an older reader that a number
@@ -148,7 +146,8 @@ fn is_optional_at(pool: &DescriptorPool, message: &MessageDescriptorInner, posit
     }
 }
 
-/// Whether a oneof stands for the presence of a field alone.
+/// Whether a oneof stands for the presence of a field alone: it has that field alone, which is said
+/// to be optional.
 pub(crate) fn is_synthetic(
     pool: &DescriptorPool,
     message: &MessageDescriptorInner,
@@ -157,9 +156,10 @@ pub(crate) fn is_synthetic(
     ensures { result ≡ spec.is_synthetic pool.now message.now oneof.now }
 {
     let positions = oneof.fields.as_slice();
-    positions
-        .iter()
-        .any(|position| is_optional_at(pool, message, *position))
+    positions.len() == 1
+        && positions
+            .iter()
+            .any(|position| is_optional_at(pool, message, *position))
 }
 
 /// Whether the oneof of a message at a position has a full name.

@@ -13,7 +13,7 @@ use Rattle.message_values.proofs.Joined.{all-joined}
 use Rattle.message_values.proofs.Step.{law, keeps-all-own}
 use Rattle.schema_changes.specs.declared.entries.Entry.{Entry}
 use Rattle.schema_changes.specs.Parts.{parts_of}
-use Rattle.schema_changes.specs.MapEntries.{are_paired}
+use Rattle.schema_changes.specs.Pairs.{are_paired}
 use Rattle.schema_changes.specs.Entries.{entry_at, field_seen, field_at, schema_of}
 use Rattle.schema_changes.specs.Unchanged.{LookUp}
 use Rattle.schema_changes.specs.Pools.{NamesMean}

@@ -9,7 +9,7 @@ use Rattle.pool_types.specs.declared.kinds.KindIndex.{KindIndex}
 use Rattle.pool_types.specs.declared.kinds.KindIndex.TheVariants as index
 use Rattle.pool_types.specs.declared.contents.enumeration.EnumValueDescriptorInner.{EnumValueDescriptorInner}
 use Rattle.message_values.specs.Schema.{Kind}
-use Rattle.message_values.specs.Numbers.{Form, form, is_signed, is_unsigned, has_number}
+use Rattle.message_values.specs.Numbers.{form, is_signed, is_unsigned, has_number}
 use Rattle.message_values.specs.Numbers as form
 use Rattle.message_values.specs.Fields.{has_text}
 use Rattle.message_values.specs.Kept.{Pairs, KeepsForm}
@@ -17,7 +17,7 @@ use Rattle.schema_changes.specs.declared.entries.Entry.{Entry}
 use Rattle.schema_changes.specs.Parts.{Parts, in_proto3, is_open, has_value, values_of}
 use Rattle.schema_changes.specs.Entries.{kind_seen, schema_of}
 use Rattle.schema_changes.specs.Kinds.{is_natural, is_bit, holds, holds_all, is_plain, holds_unsigned, keeps_numbers, text_check, keeps_check, messages_of}
-use Rattle.schema_changes.specs.MapEntries.{are_paired, keeps_kind}
+use Rattle.schema_changes.specs.Pairs.{are_paired, keeps_kind}
 use Rattle.schema_changes.specs.Unchanged.{IsReached}
 
 -- the pairs of some messages

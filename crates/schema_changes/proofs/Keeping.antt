@@ -17,7 +17,7 @@ use Rattle.pool_types.specs.declared.kinds.Cardinality.TheVariants as cardinalit
 use Rattle.pool_types.specs.declared.kinds.KindIndex.{KindIndex}
 use Rattle.pool_types.specs.declared.kinds.KindIndex.TheVariants as index
 use Rattle.message_values.specs.Values.{Numbered}
-use Rattle.message_values.specs.Schema.{Schema, Kind, Field}
+use Rattle.message_values.specs.Schema.{Kind, Field}
 use Rattle.message_values.specs.Schema as kind
 use Rattle.message_values.specs.Numbers.{Form, form}
 use Rattle.message_values.specs.Numbers as form
@@ -25,7 +25,7 @@ use Rattle.message_values.specs.Fields.{in_one}
 use Rattle.message_values.specs.Fields as fields
 use Rattle.message_values.specs.Reading.{IsRead}
 use Rattle.message_values.specs.Writing.{Besides, IsWritten}
-use Rattle.message_values.specs.Kept.{KeepsCardinality, KeepsField, KeepsMessage, KeepsAll}
+use Rattle.message_values.specs.Kept.{Pairs, KeepsCardinality, KeepsField, KeepsMessage, KeepsAll}
 use Rattle.message_values.specs.Carried.{AreCarried}
 use Rattle.message_values.proofs.Step.{law}
 use Rattle.schema_changes.specs.declared.change.WireChangeKind.{WireChangeKind}
@@ -34,7 +34,8 @@ use Rattle.schema_changes.specs.declared.entries.Entry.{Entry}
 use Rattle.schema_changes.specs.Parts.{Parts, in_proto3, are_named_alike, named_as, one_name}
 use Rattle.schema_changes.specs.Entries.{field_entry, extension_entry, extension_at, extension_in, entry_numbered, entry_at, kind_seen, cardinality_seen, field_seen, field_at, schema_of}
 use Rattle.schema_changes.specs.Kinds.{entry_check, keeps_numbers, keeps_check, messages_of, keeps_kind_by, keeps_cardinality, is_repeated, is_required}
-use Rattle.schema_changes.specs.MapEntries.{is_map_entry, map_entry_at, keeps_entry, keeps_part, keeps_map_entry, keep_maps, are_paired, keeps_kind}
+use Rattle.schema_changes.specs.MapEntries.{is_map_entry, map_entry_at, plain_message_at}
+use Rattle.schema_changes.specs.Pairs.{keeps_but_kind, keeps_entry, keeps_part, keeps_number, keeps_parts, keeps_there, keeps_map, are_inner_pairs, keeps_message, are_paired, keeps_kind}
 use Rattle.schema_changes.specs.Changes.{Compared, old_entry, new_entry, unless, kept_changes, entry_changes, old_member, first_some, joined_changes, members_changes, oneof_changes, was_required, required_changes, extension_changes, required_extension_changes, message_changes}
 use Rattle.schema_changes.specs.Unchanged.{LooksUp, LookUp, NothingChanges, IsReached, IsClosed, LeavesOut}
 use Rattle.schema_changes.proofs.Forms.{named_alike, keeps-form}
@@ -373,7 +374,7 @@ module _ (reached : ℕ → Bool) (old new : Parts) (m n : ℕ) (x y : MessageDe
   pub keeps-message : KeepsMessage (named_alike reached old new) besides (schema_of old) (schema_of new) m n
   keeps-message = record { fields = fields-kept; required = required-kept; oneofs = oneofs-kept; left_out = left-out (besides m) new n free }
 
--- ---- entries of maps
+-- ---- messages that are a pair by their parts
 
 all-at : {X : Type 0} (test : X → Bool) (xs : List X) (i : ℕ) (x : X) → list_all test xs ≡ true → slice_get xs i ≡ Some x → test x ≡ true
 all-at test [] i x all at = absurd cc
@@ -384,7 +385,7 @@ none-contained : (xs : List ℕ) (x : ℕ) → (length xs == 0) ≡ true → Con
 none-contained xs x empty has = let none : length xs ≡ 0 = eqb-true (length xs) 0 empty in omega (arith, none, has.1)
 
 -- what kinds keep by one test they keep by a wider one
-kind-wider : (P Q : ℕ → ℕ → Bool) (old new : Parts) (f g : Entry) → ((m n : ℕ) → P m n ≡ true → Q m n ≡ true) → keeps_kind_by P old f new g ≡ true → keeps_kind_by Q old f new g ≡ true
+kind-wider : (P Q : Pairs) (old new : Parts) (f g : Entry) → ((m n : ℕ) → P m n ≡ true → Q m n ≡ true) → keeps_kind_by P old f new g ≡ true → keeps_kind_by Q old f new g ≡ true
 kind-wider P Q old new f g wider h =
     let scalar = keeps_numbers old f.kind new g.kind || keeps_check (entry_check old f) (entry_check new g) in
     elim (or_cases scalar (option_map_or (λ e. P e.0 e.1) (messages_of f.kind g.kind) false) h) [
@@ -398,69 +399,25 @@ kind-wider P Q old new f g wider h =
 
 named-paired : (old new : Parts) (m n : ℕ) → one_name old m new n ≡ true → are_paired old m new n ≡ true
 unfolding are_paired
-named-paired old new m n named = or_left (one_name old m new n) (keep_maps old (map_entry_at old m) new (map_entry_at new n)) named
+named-paired old new m n named = or_left (one_name old m new n || keeps_map old m new n) (keeps_message old m new n) (or_left (one_name old m new n) (keeps_map old m new n) named)
 
-module _ (reached : ℕ → Bool) (old new : Parts) (m n : ℕ) (x y : MessageDescriptorInner) (at-x : slice_get old.messages m ≡ Some x) (at-y : slice_get new.messages n ≡ Some y) (looks-new : LooksUp new y)
-    (reaches : (k : ℕ) (f : Entry) → entry_at old m k ≡ Some f → IsReached reached f.kind) (besides : Besides) (free : (k : ℕ) → besides m k ≡ true → entry_at new n k ≡ None) (keeps : keeps_map_entry old x new y ≡ true) where
-  -- what each part of the new entry keeps
-  part-at : (k : ℕ) (g : Entry) → entry_numbered new y k ≡ Some g → (is_none g.oneof ≡ true) × (keeps_entry old (entry_numbered old x k) new g ≡ true)
-  unfolding keeps_map_entry
-  part-at k g eg = by (source new y looks-new k g eg).0 (source new y looks-new k g eg).1
-    where
-      both : ((length y.extensions == 0) ≡ true) × (list_all (λ z. keeps_part old x new (field_entry z)) y.fields ≡ true)
-      both = and_parts (length y.extensions == 0) (list_all (λ z. keeps_part old x new (field_entry z)) y.fields) keeps
+map-paired : (old new : Parts) (m n : ℕ) → keeps_map old m new n ≡ true → are_paired old m new n ≡ true
+unfolding are_paired
+map-paired old new m n map = or_left (one_name old m new n || keeps_map old m new n) (keeps_message old m new n) (or_right (one_name old m new n) (keeps_map old m new n) map)
 
-      by : Source new y g → g.number ≡ k → (is_none g.oneof ≡ true) × (keeps_entry old (entry_numbered old x k) new g ≡ true)
-      by (OfField i z at same) number =
-          let part = subst (λ e. keeps_part old x new e ≡ true) same (all-at (λ z. keeps_part old x new (field_entry z)) y.fields i z both.1 at) in
-          let halves = and_parts (is_none g.oneof) (keeps_entry old (entry_numbered old x g.number) new g) part in
-          (halves.0, subst (λ k. keeps_entry old (entry_numbered old x k) new g ≡ true) number halves.1)
-      by (OfExtension i has at nothing) number = absurd (none-contained y.extensions i both.0 has)
+-- messages of a pair have one name, or keep each other by a test that only pairs pass
+data Paired (old new : Parts) (m n : ℕ) : Type 0 where
+  ByName : one_name old m new n ≡ true → Paired old new m n
+  ByParts : (P : Pairs) (x y : MessageDescriptorInner) → ((a b : ℕ) → P a b ≡ true → are_paired old a new b ≡ true)
+      → slice_get old.messages m ≡ Some x → slice_get new.messages n ≡ Some y → keeps_parts P old x new y ≡ true → Paired old new m n
 
-  kept-part : (k : ℕ) (f g : Entry) → entry_numbered old x k ≡ Some f → entry_numbered new y k ≡ Some g
-      → (keeps_kind_by (λ a b. one_name old a new b) old f new g ≡ true) × (keeps_cardinality f.kind f.cardinality g.cardinality ≡ true)
-  kept-part k f g e eg =
-      let kept = subst (λ got. keeps_entry old got new g ≡ true) e (part-at k g eg).1 in
-      let three = and_parts (keeps_kind_by (λ a b. one_name old a new b) old f new g && keeps_cardinality f.kind f.cardinality g.cardinality) (not (is_required g.cardinality) || is_required f.cardinality) kept in
-      and_parts (keeps_kind_by (λ a b. one_name old a new b) old f new g) (keeps_cardinality f.kind f.cardinality g.cardinality) three.0
+-- messages of which the new one keeps the old one are there
+kept-there : (P : Pairs) (old new : Parts) (a b : Option MessageDescriptorInner) → keeps_there P old a new b ≡ true → (x : MessageDescriptorInner) × (y : MessageDescriptorInner) × (a ≡ Some x) × (b ≡ Some y) × (keeps_parts P old x new y ≡ true)
+kept-there P old new (Some x) (Some y) h = (x, y, refl, refl, h)
+kept-there P old new None b h = absurd (false≢true h)
+kept-there P old new (Some x) None h = absurd (false≢true h)
 
-  map-fields : (k : ℕ) (F G : Field) → field_at old m k ≡ Some F → field_at new n k ≡ Some G → KeepsField (named_alike reached old new) (schema_of old) (schema_of new) F G
-  map-fields k F G e eg =
-      let f = entry-seen old m x at-x k F e in
-      let g = entry-seen new n y at-y k G eg in
-      let kept = kept-part k f.0 g.0 f.1 g.1 in
-      let kind = kind-wider (λ a b. one_name old a new b) (λ a b. are_paired old a new b) old new f.0 g.0 (named-paired old new) kept.0 in
-      subst₂ (λ a b. KeepsField (named_alike reached old new) (schema_of old) (schema_of new) a b) f.2 g.2 (record {
-        kind = keeps-form reached old new f.0 g.0 (reaches k f.0 (entry-is old m x at-x k ∙ f.1)) kind;
-        cardinality = cardinality-by (form (kind_seen (in_proto3 old (f.0).file) (f.0).kind)) (is_message (f.0).kind) (f.0).cardinality (g.0).cardinality (has-messages (in_proto3 old (f.0).file) (f.0).kind) kept.1;
-      })
-
-  needed : (k : ℕ) (g : Entry) (got : Option Entry) → entry_numbered old x k ≡ got → keeps_entry old got new g ≡ true → is_required g.cardinality ≡ true → (f : Entry) × (entry_numbered old x k ≡ Some f) × (is_required f.cardinality ≡ true)
-  needed k g None e kept needs = absurd (false≢true (sym (ap not needs) ∙ kept))
-  needed k g (Some f) e kept needs =
-      let last = and_parts (keeps_kind_by (λ a b. one_name old a new b) old f new g && keeps_cardinality f.kind f.cardinality g.cardinality) (not (is_required g.cardinality) || is_required f.cardinality) kept in
-      (f, e, or_of_not (is_required g.cardinality) (is_required f.cardinality) last.1 needs)
-
-  map-required : (k : ℕ) (G : Field) → field_at new n k ≡ Some G → G.cardinality ≡ kind.Required → (F : Field) × (field_at old m k ≡ Some F) × (F.cardinality ≡ kind.Required)
-  map-required k G eg req =
-      let g = entry-seen new n y at-y k G eg in
-      let needs : is_required (g.0).cardinality ≡ true = required-seen (g.0).cardinality (ap (λ (z : Field). z.cardinality) g.2 ∙ req) in
-      let f = needed k g.0 (entry_numbered old x k) refl (part-at k g.0 g.1).1 needs in
-      (field_seen old f.0, ap (option_map (field_seen old)) (entry-is old m x at-x k ∙ f.1), seen-required (f.0).cardinality f.2)
-
-  no-oneof : (o p : Option ℕ) → is_none o ≡ true → in_one o p ≡ true → ⊥
-  no-oneof None p none one = false≢true one
-  no-oneof (Some o) p none one = false≢true none
-
-  map-oneofs : (k l : ℕ) (F F' G G' : Field) → field_at old m k ≡ Some F → field_at old m l ≡ Some F' → field_at new n k ≡ Some G → field_at new n l ≡ Some G' → k ≢ l → in_one G.oneof G'.oneof ≡ true → in_one F.oneof F'.oneof ≡ true
-  map-oneofs k l F F' G G' e e' eg eg' apart one =
-      let g = entry-seen new n y at-y k G eg in
-      absurd (no-oneof (g.0).oneof G'.oneof (part-at k g.0 g.1).0 (ap (λ (z : Field). in_one z.oneof G'.oneof) g.2 ∙ one))
-
-  keeps-map : KeepsMessage (named_alike reached old new) besides (schema_of old) (schema_of new) m n
-  keeps-map = record { fields = map-fields; required = map-required; oneofs = map-oneofs; left_out = left-out (besides m) new n free }
-
--- the entry of a map that is there
+-- the entry of a map, or the message that is none, is there
 entry-there : (p : Parts) (m : ℕ) (x : MessageDescriptorInner) → map_entry_at p m ≡ Some x → slice_get p.messages m ≡ Some x
 unfolding map_entry_at
 entry-there p m x h =
@@ -471,14 +428,131 @@ entry-there p m x h =
     by true z is = is
     by false z is = absurd cc
 
-maps-there : (old new : Parts) (a b : Option MessageDescriptorInner) → keep_maps old a new b ≡ true → (x : MessageDescriptorInner) × (y : MessageDescriptorInner) × (a ≡ Some x) × (b ≡ Some y) × (keeps_map_entry old x new y ≡ true)
-maps-there old new (Some x) (Some y) h = (x, y, refl, refl, h)
-maps-there old new None b h = absurd (false≢true h)
-maps-there old new (Some x) None h = absurd (false≢true h)
+plain-there : (p : Parts) (m : ℕ) (x : MessageDescriptorInner) → plain_message_at p m ≡ Some x → slice_get p.messages m ≡ Some x
+unfolding plain_message_at
+plain-there p m x h =
+    let z = followed (λ z. cond (is_map_entry p z) None (Some z)) (slice_get p.messages m) x h in
+    z.1 ∙ by (is_map_entry p z.0) z.0 z.2
+  where
+    by : (b : Bool) (z : MessageDescriptorInner) → cond b None (Some z) ≡ Some x → Some z ≡ Some x
+    by true z is = absurd cc
+    by false z is = is
 
-pair-cases : (old new : Parts) (m n : ℕ) → are_paired old m new n ≡ true → (one_name old m new n ≡ true) ⊎ (keep_maps old (map_entry_at old m) new (map_entry_at new n) ≡ true)
+by-map : (old new : Parts) (m n : ℕ) → keeps_map old m new n ≡ true → Paired old new m n
+unfolding keeps_map
+by-map old new m n h =
+    let there = kept-there (λ a b. one_name old a new b) old new (map_entry_at old m) (map_entry_at new n) h in
+    ByParts (λ a b. one_name old a new b) there.0 there.1 (named-paired old new) (entry-there old m there.0 there.2) (entry-there new n there.1 there.3) there.4
+
+by-message : (old new : Parts) (m n : ℕ) → are_paired old m new n ≡ true → keeps_message old m new n ≡ true → Paired old new m n
+unfolding keeps_message
+by-message old new m n pair h =
+    let there = kept-there (are_inner_pairs old m new n) old new (plain_message_at old m) (plain_message_at new n) h in
+    ByParts (are_inner_pairs old m new n) there.0 there.1 inner (plain-there old m there.0 there.2) (plain-there new n there.1 there.3) there.4
+  where
+    inner : (a b : ℕ) → are_inner_pairs old m new n a b ≡ true → are_paired old a new b ≡ true
+    inner a b is =
+        elim (or_cases (one_name old a new b || keeps_map old a new b) (a == m && b == n) is) [
+          | inl known ↦ elim (or_cases (one_name old a new b) (keeps_map old a new b) known) [
+            | inl named ↦ named-paired old new a b named
+            | inr map ↦ map-paired old new a b map
+          ]
+          | inr same ↦
+              let both = and_parts (a == m) (b == n) same in
+              subst₂ (λ i j. are_paired old i new j ≡ true) (sym (eqb-true a m both.0)) (sym (eqb-true b n both.1)) pair
+        ]
+
+pair-cases : (old new : Parts) (m n : ℕ) → are_paired old m new n ≡ true → Paired old new m n
 unfolding are_paired
-pair-cases old new m n h = or_cases (one_name old m new n) (keep_maps old (map_entry_at old m) new (map_entry_at new n)) h
+pair-cases old new m n h =
+    elim (or_cases (one_name old m new n || keeps_map old m new n) (keeps_message old m new n) h) [
+      | inl known ↦ elim (or_cases (one_name old m new n) (keeps_map old m new n) known) [
+        | inl named ↦ ByName named
+        | inr map ↦ by-map old new m n map
+      ]
+      | inr kept ↦ by-message old new m n h kept
+    ]
+
+module _ (reached : ℕ → Bool) (old new : Parts) (m n : ℕ) (x y : MessageDescriptorInner) (at-x : slice_get old.messages m ≡ Some x) (at-y : slice_get new.messages n ≡ Some y) (looks-new : LooksUp new y)
+    (reaches : (k : ℕ) (f : Entry) → entry_at old m k ≡ Some f → IsReached reached f.kind) (besides : Besides) (free : (k : ℕ) → besides m k ≡ true → entry_at new n k ≡ None)
+    (P : Pairs) (paired : (a b : ℕ) → P a b ≡ true → are_paired old a new b ≡ true) (keeps : keeps_parts P old x new y ≡ true) where
+  -- what each part of the new message keeps
+  part-at : (k : ℕ) (g : Entry) → entry_numbered new y k ≡ Some g → keeps_entry P old (entry_numbered old x k) new g ≡ true
+  unfolding keeps_parts
+  part-at k g eg = by (source new y looks-new k g eg).0 (source new y looks-new k g eg).1
+    where
+      alone : Bool
+      alone = length x.extensions == 0 && length y.extensions == 0
+
+      kept : Bool
+      kept = list_all (λ z. keeps_part P old x new (field_entry z)) y.fields
+
+      both : (alone ≡ true) × (kept ≡ true)
+      both = and_parts alone kept (and_parts (alone && kept) (list_all (keeps_number new y) x.fields) keeps).0
+
+      by : Source new y g → g.number ≡ k → keeps_entry P old (entry_numbered old x k) new g ≡ true
+      by (OfField i z at same) number =
+          let part = subst (λ e. keeps_part P old x new e ≡ true) same (all-at (λ z. keeps_part P old x new (field_entry z)) y.fields i z both.1 at) in
+          subst (λ k. keeps_entry P old (entry_numbered old x k) new g ≡ true) number part
+      by (OfExtension i has at nothing) number = absurd (none-contained y.extensions i (and_parts (length x.extensions == 0) (length y.extensions == 0) both.0).1 has)
+
+  kept-part : (k : ℕ) (f g : Entry) → entry_numbered old x k ≡ Some f → entry_numbered new y k ≡ Some g
+      → (keeps_kind_by P old f new g ≡ true) × (keeps_cardinality f.kind f.cardinality g.cardinality ≡ true) × ((is_none g.oneof || in_one f.oneof g.oneof) ≡ true)
+  kept-part k f g e eg =
+      let kept = subst (λ got. keeps_entry P old got new g ≡ true) e (part-at k g eg) in
+      let halves = and_parts (keeps_kind_by P old f new g) (keeps_but_kind f g) kept in
+      let counted = keeps_cardinality f.kind f.cardinality g.cardinality in
+      let needed = not (is_required g.cardinality) || is_required f.cardinality in
+      let places = and_parts (counted && needed) (is_none g.oneof || in_one f.oneof g.oneof) halves.1 in
+      (halves.0, (and_parts counted needed places.0).0, places.1)
+
+  pair-fields : (k : ℕ) (F G : Field) → field_at old m k ≡ Some F → field_at new n k ≡ Some G → KeepsField (named_alike reached old new) (schema_of old) (schema_of new) F G
+  pair-fields k F G e eg =
+      let f = entry-seen old m x at-x k F e in
+      let g = entry-seen new n y at-y k G eg in
+      let kept = kept-part k f.0 g.0 f.1 g.1 in
+      let kind = kind-wider P (λ a b. are_paired old a new b) old new f.0 g.0 paired kept.0 in
+      subst₂ (λ a b. KeepsField (named_alike reached old new) (schema_of old) (schema_of new) a b) f.2 g.2 (record {
+        kind = keeps-form reached old new f.0 g.0 (reaches k f.0 (entry-is old m x at-x k ∙ f.1)) kind;
+        cardinality = cardinality-by (form (kind_seen (in_proto3 old (f.0).file) (f.0).kind)) (is_message (f.0).kind) (f.0).cardinality (g.0).cardinality (has-messages (in_proto3 old (f.0).file) (f.0).kind) kept.1;
+      })
+
+  needed-at : (k : ℕ) (g : Entry) (got : Option Entry) → entry_numbered old x k ≡ got → keeps_entry P old got new g ≡ true → is_required g.cardinality ≡ true → (f : Entry) × (entry_numbered old x k ≡ Some f) × (is_required f.cardinality ≡ true)
+  needed-at k g None e kept needs = absurd (false≢true (sym (ap not needs) ∙ kept))
+  needed-at k g (Some f) e kept needs =
+      let counted = keeps_cardinality f.kind f.cardinality g.cardinality in
+      let needed = not (is_required g.cardinality) || is_required f.cardinality in
+      let place = (and_parts (keeps_kind_by P old f new g) (keeps_but_kind f g) kept).1 in
+      let first = (and_parts (counted && needed) (is_none g.oneof || in_one f.oneof g.oneof) place).0 in
+      (f, e, or_of_not (is_required g.cardinality) (is_required f.cardinality) (and_parts counted needed first).1 needs)
+
+  pair-required : (k : ℕ) (G : Field) → field_at new n k ≡ Some G → G.cardinality ≡ kind.Required → (F : Field) × (field_at old m k ≡ Some F) × (F.cardinality ≡ kind.Required)
+  pair-required k G eg req =
+      let g = entry-seen new n y at-y k G eg in
+      let needs : is_required (g.0).cardinality ≡ true = required-seen (g.0).cardinality (ap (λ (z : Field). z.cardinality) g.2 ∙ req) in
+      let f = needed-at k g.0 (entry_numbered old x k) refl (part-at k g.0 g.1) needs in
+      (field_seen old f.0, ap (option_map (field_seen old)) (entry-is old m x at-x k ∙ f.1), seen-required (f.0).cardinality f.2)
+
+  -- what is in a oneof is in the old one
+  in-old : (o p q : Option ℕ) → (is_none o || in_one p o) ≡ true → in_one o q ≡ true → in_one p o ≡ true
+  in-old (Some o) p q h one = h
+  in-old None p q h one = absurd (false≢true one)
+
+  pair-oneofs : (k l : ℕ) (F F' G G' : Field) → field_at old m k ≡ Some F → field_at old m l ≡ Some F' → field_at new n k ≡ Some G → field_at new n l ≡ Some G' → k ≢ l → in_one G.oneof G'.oneof ≡ true → in_one F.oneof F'.oneof ≡ true
+  pair-oneofs k l F F' G G' e e' eg eg' apart one =
+      let f = entry-seen old m x at-x k F e in
+      let f' = entry-seen old m x at-x l F' e' in
+      let g = entry-seen new n y at-y k G eg in
+      let g' = entry-seen new n y at-y l G' eg' in
+      let both : in_one (g.0).oneof (g'.0).oneof ≡ true = subst₂ (λ (a b : Field). in_one a.oneof b.oneof ≡ true) (sym g.2) (sym g'.2) one in
+      let here = in-old (g.0).oneof (f.0).oneof (g'.0).oneof (kept-part k f.0 g.0 f.1 g.1).2 both in
+      let there = in-old (g'.0).oneof (f'.0).oneof (g.0).oneof (kept-part l f'.0 g'.0 f'.1 g'.1).2 (turned (g.0).oneof (g'.0).oneof both) in
+      let across = one_oneof (g.0).oneof (f.0).oneof (g'.0).oneof (turned (f.0).oneof (g.0).oneof here) both in
+      subst₂ (λ (a b : Field). in_one a.oneof b.oneof ≡ true) f.2 f'.2
+      (one_oneof (g'.0).oneof (f.0).oneof (f'.0).oneof (turned (f.0).oneof (g'.0).oneof across) (turned (f'.0).oneof (g'.0).oneof there))
+
+  keeps-pair : KeepsMessage (named_alike reached old new) besides (schema_of old) (schema_of new) m n
+  keeps-pair = record { fields = pair-fields; required = pair-required; oneofs = pair-oneofs; left_out = left-out (besides m) new n free }
 
 -- messages with one name are there
 named-at : (new : Parts) (n : ℕ) (x : MessageDescriptorInner) (r : Option MessageDescriptorInner) → slice_get new.messages n ≡ r → named_as new n x ≡ true → (y : MessageDescriptorInner) × (r ≡ Some y) × (are_named_alike x y ≡ true)
@@ -497,25 +571,25 @@ both-named old new m n h = both-at old new m n (slice_get old.messages m) refl h
 
 -- the messages of a pair are there
 pub both-paired : (old new : Parts) (m n : ℕ) → are_paired old m new n ≡ true → (x : MessageDescriptorInner) × (y : MessageDescriptorInner) × (slice_get old.messages m ≡ Some x) × (slice_get new.messages n ≡ Some y)
-both-paired old new m n pair = elim (pair-cases old new m n pair) [
-  | inl named ↦ let b = both-named old new m n named in (b.0, b.1, b.2, b.3)
-  | inr maps ↦ let b = maps-there old new (map_entry_at old m) (map_entry_at new n) maps in (b.0, b.1, entry-there old m b.0 b.2, entry-there new n b.1 b.3)
-]
+both-paired old new m n pair = by (pair-cases old new m n pair)
+  where
+    by : Paired old new m n → (x : MessageDescriptorInner) × (y : MessageDescriptorInner) × (slice_get old.messages m ≡ Some x) × (slice_get new.messages n ≡ Some y)
+    by (ByName named) = let b = both-named old new m n named in (b.0, b.1, b.2, b.3)
+    by (ByParts P x y paired at-x at-y keeps) = (x, y, at-x, at-y)
 
 pub keeps-all : (old new : Parts) (reached : ℕ → Bool) (besides : Besides) → LookUp old → LookUp new → IsClosed old reached → NothingChanges old new reached → LeavesOut old new reached besides
     → KeepsAll (named_alike reached old new) besides (schema_of old) (schema_of new)
-keeps-all old new reached besides look-old look-new closed none free m n pair =
-    let p = and_parts (reached m) (are_paired old m new n) pair in
-    elim (pair-cases old new m n p.1) [
-      | inl named ↦
-          let b = both-named old new m n named in
-          keeps-message reached old new m n b.0 b.1 b.2 b.3 (look-old m b.0 b.2) (look-new n b.1 b.3) (λ k f e. closed m k f p.0 e) besides (λ k. free m n k p.0 p.1) (none m n b.0 b.1 p.0 named b.2 b.3)
-      | inr maps ↦
-          let b = maps-there old new (map_entry_at old m) (map_entry_at new n) maps in
-          let at-x = entry-there old m b.0 b.2 in
-          let at-y = entry-there new n b.1 b.3 in
-          keeps-map reached old new m n b.0 b.1 at-x at-y (look-new n b.1 at-y) (λ k f e. closed m k f p.0 e) besides (λ k. free m n k p.0 p.1) b.4
-    ]
+keeps-all old new reached besides look-old look-new closed none free m n pair = by (pair-cases old new m n p.1)
+  where
+    p : (reached m ≡ true) × (are_paired old m new n ≡ true)
+    p = and_parts (reached m) (are_paired old m new n) pair
+
+    by : Paired old new m n → KeepsMessage (named_alike reached old new) besides (schema_of old) (schema_of new) m n
+    by (ByName named) =
+        let b = both-named old new m n named in
+        keeps-message reached old new m n b.0 b.1 b.2 b.3 (look-old m b.0 b.2) (look-new n b.1 b.3) (λ k f e. closed m k f p.0 e) besides (λ k. free m n k p.0 p.1) (none m n b.0 b.1 p.0 named b.2 b.3)
+    by (ByParts P x y paired at-x at-y keeps) =
+        keeps-pair reached old new m n x y at-x at-y (look-new n y at-y) (λ k f e. closed m k f p.0 e) besides (λ k. free m n k p.0 p.1) P paired keeps
 
 pub unchanged : (old new : Parts) (reached : ℕ → Bool) (besides : Besides) → LookUp old → LookUp new → IsClosed old reached → NothingChanges old new reached → LeavesOut old new reached besides
     → (levels m n : ℕ) → reached m ≡ true → one_name old m new n ≡ true → (vs : List Numbered) → IsWritten (schema_of old) besides levels m vs

@@ -5,7 +5,7 @@ use Rattle.pool_types.specs.Contents.{Contents}
 use Rattle.schema_changes.specs.declared.entries.Entry.{Entry}
 use Rattle.schema_changes.specs.Parts.{parts_of}
 use Rattle.schema_changes.specs.Entries.{entry_at}
-use Rattle.schema_changes.specs.MapEntries.{are_paired}
+use Rattle.schema_changes.specs.Pairs.{are_paired}
 use Rattle.schema_changes.specs.Unchanged.{LookUp}
 use Rattle.schema_changes.specs.Pools.{wire_changes, NamesMean}
 

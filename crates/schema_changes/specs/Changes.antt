@@ -14,7 +14,7 @@ use Rattle.schema_changes.specs.declared.entries.Entry.{Entry}
 use Rattle.schema_changes.specs.Parts.{Parts, parts}
 use Rattle.schema_changes.specs.Entries.{field_entry, extension_in, entry_numbered}
 use Rattle.schema_changes.specs.Kinds.{keeps_cardinality, is_required}
-use Rattle.schema_changes.specs.MapEntries.{keeps_kind}
+use Rattle.schema_changes.specs.Pairs.{keeps_kind}
 use Rattle.schema_changes.specs.Records.{is_kept_free}
 
 -- an old and a new message that are compared, each with the items of its pool

@@ -4,6 +4,7 @@ pub mod Kinds
 pub mod Lacking
 pub mod Records
 pub mod MapEntries
+pub mod Pairs
 pub mod MessageSets
 pub mod Changes
 pub mod Unchanged

@@ -10,7 +10,7 @@ use Rattle.pool_types.specs.declared.contents.oneof.OneofDescriptorInner.{OneofD
 use Rattle.message_values.specs.Writing.{Besides}
 use Rattle.schema_changes.specs.declared.entries.Entry.{Entry}
 use Rattle.schema_changes.specs.Parts.{Parts, one_name}
-use Rattle.schema_changes.specs.MapEntries.{are_paired}
+use Rattle.schema_changes.specs.Pairs.{are_paired}
 use Rattle.schema_changes.specs.Entries.{entry_at}
 use Rattle.schema_changes.specs.Changes.{message_changes}
 

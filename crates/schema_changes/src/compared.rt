@@ -14,7 +14,7 @@ ghost use Rattle.schema_changes.specs.Changes.{message_changes};
 
 use crate::entries::field_entry;
 use crate::kinds::keeps_cardinality;
-use crate::map_entries::keeps_kind;
+use crate::pairs::keeps_kind;
 use crate::{Entry, Parts, WireChange, WireChangeKind};
 use pool_types::{Cardinality, MessageDescriptorInner};
 use std::alloc::AllocError;
@@ -62,7 +62,7 @@ impl Compared<'_> {
     }
 
     /// The new entry with a number.
-    fn new_entry(self, number: u32) -> Option<Entry>
+    pub(crate) fn new_entry(self, number: u32) -> Option<Entry>
         ensures { result ≡ new_entry (compared self.entry) number }
     {
         self.new.entry_numbered(self.after, number)

@@ -4,7 +4,7 @@ ghost use Rattle.std.specs.Prelude.{◌≡◌, ◌||◌};
 ghost use Rattle.std.specs.List.{list_all};
 ghost use Rattle.pool_types.specs.declared.kinds.KindIndex.TheVariants as kind;
 ghost use Rattle.schema_changes.specs.Parts.{parts, has_value};
-ghost use Rattle.schema_changes.specs.Kinds.{holds, holds_all, is_plain, holds_unsigned};
+ghost use Rattle.schema_changes.specs.Kinds.{holds, holds_all, is_plain};
 ghost use Rattle.schema_changes.specs.Kinds.{keeps_numbers, text_check, keeps_check, entry_check};
 ghost use Rattle.schema_changes.specs.Kinds.{messages_of, keeps_cardinality};
 
@@ -145,7 +145,7 @@ fn keeps_check(old: Option<bool>, new: Option<bool>) -> bool
 }
 
 /// The two messages of an old and a new kind, where both are messages or both are groups.
-pub(crate) fn messages_of(old: KindIndex, new: KindIndex) -> Option<(u32, u32)>
+pub fn messages_of(old: KindIndex, new: KindIndex) -> Option<(u32, u32)>
     ensures { result ≡ messages_of old new }
 {
     match (old, new) {

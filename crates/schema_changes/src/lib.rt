@@ -10,12 +10,14 @@ mod laws;
 mod map_entries;
 mod message_sets;
 mod oneofs;
+mod pairs;
 mod parts;
 mod records;
 
 pub use change::{MessageChange, WireChange, WireChangeKind};
 pub use compared::Compared;
 pub use entries::{Entry, extension_entry, field_entry};
+pub use kinds::messages_of;
 pub use lacking::lacking_number;
 pub use laws::{chains, no_change_is_read, unchanged_is_read};
 pub use parts::Parts;

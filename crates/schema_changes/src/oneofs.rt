@@ -11,7 +11,7 @@ use pool_types::OneofDescriptorInner;
 use std::alloc::AllocError;
 
 /// Whether two fields are in one oneof of their message.
-fn in_one(first: Option<u32>, second: Option<u32>) -> bool
+pub(crate) fn in_one(first: Option<u32>, second: Option<u32>) -> bool
     ensures { result ≡ in_one first second }
 {
     match (first, second) {

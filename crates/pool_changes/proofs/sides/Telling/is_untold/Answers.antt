@@ -9,5 +9,5 @@ pub returns-clause-source : goal.returns-clause-source
 returns-clause-source c none =
     source_none (versions c.args.self) c.args.pair.messages.found.now (part c.args.pair.before) (part c.args.pair.after)
     c.args.pair.messages.before.now c.args.pair.messages.after.now
-    (c.if-not-has_names_of.ensures.name refl) (c.if-not-has_kind_of.ensures.typed refl) (c.if-not-has_presence_of.ensures refl)
+    (c.if-not-has_names_of.ensures.name refl) (c.if-not-has_kind_of.ensures.typed refl) (c.if-not-has_presence_of.ensures.presence refl)
     (c.if-not-has_oneof_of.ensures refl) (c.has_no_default.ensures none)
