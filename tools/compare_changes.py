@@ -6,9 +6,9 @@
 
 Pairs of random schemas are made, by a fixed seed (--seed): an older version of up to twenty fields,
 numbers, texts, enums, messages, maps and oneofs in proto2 or proto3, and a new one that changes some
-of it, and may have a message under another name. `PROGRAM --against OLD --compatibility full --json NEW` tells what changes. Then protobuf's
-Python package of the writer's version writes random messages, whole or in two parts, and that of the
-reader's version reads them.
+of it, and may have a message under another name. What changes is told by `PROGRAM --against OLD
+--compatibility full --json NEW`. Then protobuf's Python package of the writer's version writes random
+messages, whole or in two parts, and that of the reader's version reads them.
 
 What should be: where nothing is told of a direction, each message is read, and each field that both
 versions have has the same value, down to the innermost message. Anything else is printed, and is a
