@@ -17,12 +17,13 @@ use Rattle.pool_types.specs.declared.contents.message.MessageDescriptorInner.{Me
 use Rattle.pool_types.specs.declared.contents.oneof.OneofDescriptorInner.{OneofDescriptorInner}
 use Rattle.pool_types.specs.declared.contents.service.MethodDescriptorInner.{MethodDescriptorInner}
 use Rattle.pool_types.specs.declared.contents.service.ServiceDescriptorInner.{ServiceDescriptorInner}
+use Rattle.descriptor_decoding.specs.Flags.{says}
 use Rattle.descriptor_check.specs.Values.{default_words}
 use Rattle.verdict_texts.specs.Lines.{plain_text}
 use Rattle.record_lists.specs.Flags.{is_map}
 use Rattle.record_lists.specs.Records.{enum_parts, enum_record, is_service_deprecated}
 use Rattle.record_lists.specs.Records.{is_value_deprecated, message_parts, message_record}
-use Rattle.record_lists.specs.Records.{method_parts, says}
+use Rattle.record_lists.specs.Records.{method_parts}
 use Rattle.record_lists.specs.declared.records.MethodParts.{MethodParts}
 use Rattle.descriptor_check.specs.Words.{name_word, file_name, message_name, place_words}
 use Rattle.descriptor_check.specs.Words.{syntax_word}

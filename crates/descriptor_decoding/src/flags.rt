@@ -5,6 +5,7 @@ ghost use Rattle.wire_format.specs.declared.fault.WireFault.{WireFault};
 ghost use Rattle.wire_format.specs.Reading.{Reads};
 ghost use Rattle.proto_types.specs.declared.message.DescriptorProto.{out-DescriptorProto};
 ghost use Rattle.descriptor_decoding.specs.Flags.{flag_of, flag_in};
+ghost use Rattle.descriptor_decoding.specs.Flags.{says_map_entry, says_message_set};
 
 use crate::decoding::LEVELS;
 use crate::parts::merge_bool;
@@ -58,6 +59,20 @@ pub fn is_message_set(message: &DescriptorProto) -> Result<bool, WireFault>
     ensures { Reads (λ x. x) result (flag_in 1 (out-DescriptorProto message.now).options) }
 {
     flag(1, &message.options)
+}
+
+/// Whether the options of a message say that it is an entry of a map; wrong bytes say nothing.
+pub fn says_map_entry(message: &DescriptorProto) -> bool
+    ensures { result ≡ says_map_entry message.now }
+{
+    is_map_entry(message).unwrap_or(false)
+}
+
+/// Whether the options of a message say that it is a message set; wrong bytes say nothing.
+pub fn says_message_set(message: &DescriptorProto) -> bool
+    ensures { result ≡ says_message_set message.now }
+{
+    is_message_set(message).unwrap_or(false)
 }
 
 /// A declaration whose options may say that it is deprecated.

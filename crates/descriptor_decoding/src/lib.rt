@@ -19,4 +19,4 @@ mod utf8;
 
 pub use decoding::{LEVELS, decode, decode_file};
 pub use error::DecodeError;
-pub use flags::{Deprecated, is_map_entry, is_message_set};
+pub use flags::{Deprecated, is_map_entry, is_message_set, says_map_entry, says_message_set};

@@ -26,10 +26,11 @@ use Rattle.pool_types.specs.declared.kinds.KindIndex.{KindIndex}
 use Rattle.pool_types.specs.declared.kinds.KindIndex.TheVariants as kind
 use Rattle.pool_types.specs.declared.kinds.Syntax.{Syntax}
 use Rattle.pool_types.specs.declared.kinds.Syntax.TheVariants.{Proto2, Proto3}
+use Rattle.descriptor_decoding.specs.Flags.{says}
 use Rattle.record_lists.specs.Flags.{is_closed, is_group, is_list, is_map, is_repeated, is_required}
 use Rattle.record_lists.specs.Flags.{is_synthetic}
 use Rattle.record_lists.specs.Records.{enum_parts, field_parts, is_service_deprecated}
-use Rattle.record_lists.specs.Records.{is_value_deprecated, message_parts, method_parts, says}
+use Rattle.record_lists.specs.Records.{is_value_deprecated, message_parts, method_parts}
 use Rattle.record_lists.specs.declared.records.MessageParts.{MessageParts}
 use Rattle.numbered_pool.specs.declared.numbers.EnumItem.{EnumItem}
 use Rattle.numbered_pool.specs.declared.numbers.ExtensionItem.{ExtensionItem}

@@ -1,10 +1,9 @@
 -- The items of a pool that rules look at, and what is looked up in them.
 use Rattle.std.specs.Prelude.{ℕ, Bool, false, not, List, slice_get}
 use Rattle.std.specs.Option.{option_and_then, option_map_or, option_or}
-use Rattle.std.specs.Result.{result_unwrap_or}
 use Rattle.std.specs.declared.option.Option.{Option}
-use Rattle.descriptor_decoding.specs.Flags.{flag_in}
-use Rattle.proto_types.specs.declared.message.DescriptorProto.{DescriptorProto, out-DescriptorProto}
+use Rattle.descriptor_decoding.specs.Flags.{says_message_set}
+use Rattle.proto_types.specs.declared.message.DescriptorProto.{DescriptorProto}
 use Rattle.proto_types.specs.declared.records.enumeration.EnumDescriptorProto.{EnumDescriptorProto}
 use Rattle.proto_types.specs.declared.records.field.FieldDescriptorProto.{FieldDescriptorProto}
 use Rattle.pool_types.specs.Contents.{Contents}
@@ -78,10 +77,6 @@ is_closed_enum l e =
 abbrev pub is_closed : Linked → KindIndex → Bool
 is_closed l (index.Enum e) = is_closed_enum l e
 is_closed l _ = false
-
--- whether the options of a message say that it is a message set; wrong bytes say nothing
-abbrev pub says_message_set : DescriptorProto → Bool
-says_message_set m = result_unwrap_or (flag_in 1 (out-DescriptorProto m).options) false
 
 -- whether the message with an index is a message set
 abbrev pub is_message_set : Linked → ℕ → Bool

@@ -3,7 +3,6 @@ use Rattle.std.specs.Prelude.{ℕ, ℤ, pos, ◌-◌, nat_le, Bool, true, false,
 use Rattle.std.specs.Prelude.{◌∷◌, ◌++◌, codes, length, slice_get, if◌then◌else◌}
 use Rattle.std.specs.Option.{option_map_or}
 use Rattle.std.specs.Ordering.{int_eq}
-use Rattle.std.specs.Result.{result_unwrap_or}
 use Rattle.std.specs.Str.{bytes_eq}
 use Rattle.std.specs.declared.option.Option.{Option}
 use Rattle.std.specs.declared.option.Option.TheVariants.{None, Some}
@@ -12,7 +11,7 @@ use Rattle.proto_types.specs.Readers.{label_of, number_of, text_of}
 use Rattle.proto_types.specs.declared.message.DescriptorProto.{DescriptorProto, out-DescriptorProto}
 use Rattle.proto_types.specs.declared.records.field.FieldDescriptorProto.{FieldDescriptorProto}
 use Rattle.proto_types.specs.declared.tag.field.TheConstants as field
-use Rattle.descriptor_decoding.specs.Flags.{flag_in}
+use Rattle.descriptor_decoding.specs.Flags.{says_map_entry}
 use Rattle.pool_types.specs.declared.contents.definition.Identity.{Identity}
 use Rattle.pool_types.specs.declared.contents.enumeration.EnumDescriptorInner.{EnumDescriptorInner}
 use Rattle.pool_types.specs.declared.contents.field.FieldDescriptorInner.{FieldDescriptorInner}
@@ -40,10 +39,6 @@ camel_case capital (c ∷ cs) = (if c == 95 then [] else upper_if capital c ∷ 
 -- whether a name is that of the entry of a map field
 abbrev pub is_entry_name : List ℕ → List ℕ → Bool
 is_entry_name entry f = bytes_eq entry (camel_case true f ++ codes "Entry")
-
--- whether the options of a message say that it is the entry of a map; wrong bytes say nothing
-abbrev pub says_map_entry : DescriptorProto → Bool
-says_map_entry m = result_unwrap_or (flag_in 7 (out-DescriptorProto m).options) false
 
 -- whether a field is optional and has a number and a name
 abbrev pub is_part : FieldDescriptorProto → ℤ → List ℕ → Bool

@@ -9,6 +9,7 @@ use Rattle.proto_types.specs.declared.message.DescriptorProto.{DescriptorProto, 
 use Rattle.proto_types.specs.declared.records.field.FieldDescriptorProto.{FieldDescriptorProto}
 use Rattle.proto_types.specs.declared.tag.field.TheConstants as field
 use Rattle.proto_types.specs.declared.tag.message.TheConstants as message
+use Rattle.descriptor_decoding.specs.Flags.{says_message_set}
 use Rattle.pool_types.specs.declared.contents.definition.Identity.{Identity}
 use Rattle.pool_types.specs.declared.contents.field.FieldDescriptorInner.{FieldDescriptorInner}
 use Rattle.pool_types.specs.declared.contents.message.MessageDescriptorInner.{MessageDescriptorInner}
@@ -18,7 +19,6 @@ use Rattle.protoc_rules.specs.Faults.{at_part}
 use Rattle.protoc_rules.specs.Fields.{site_faults}
 use Rattle.protoc_rules.specs.Labels.{is_optional}
 use Rattle.protoc_rules.specs.Linked.{Linked, field_record, in_proto3, is_closed, message_record}
-use Rattle.protoc_rules.specs.Linked.{says_message_set}
 use Rattle.protoc_rules.specs.Maps.{map_faults}
 use Rattle.protoc_rules.specs.Names.{name_faults}
 use Rattle.protoc_rules.specs.Oneofs.{is_alone, oneofs_faults}

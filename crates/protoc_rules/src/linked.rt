@@ -4,7 +4,7 @@ ghost use Rattle.std.specs.Prelude.{◌≡◌, slice_get};
 ghost use Rattle.std.specs.Option.{option_copied};
 ghost use Rattle.protoc_rules.specs.Linked as spec;
 
-use descriptor_decoding::is_message_set;
+use descriptor_decoding::says_message_set;
 use pool_types::{
     EnumDescriptorInner, ExtensionDescriptorInner, FileDescriptorInner, Identity, KindIndex,
     MessageDescriptorInner, ServiceDescriptorInner, Syntax,
@@ -96,11 +96,4 @@ impl<'a> Linked<'a> {
             None => false,
         }
     }
-}
-
-/// Whether the options of a message say that it is a message set.
-pub(crate) fn says_message_set(message: &DescriptorProto) -> bool
-    ensures { result ≡ spec.says_message_set message.now }
-{
-    is_message_set(message).unwrap_or(false)
 }

@@ -10,7 +10,7 @@ use crate::faults::{Found, StrictKind};
 use crate::fields::Site;
 use crate::labels::{is_optional, is_repeated};
 use crate::linked::Recorded;
-use descriptor_decoding::is_map_entry;
+use descriptor_decoding::says_map_entry;
 use pool_types::{FieldDescriptorInner, Identity, KindIndex};
 use proto_types::tag::field;
 use proto_types::{DescriptorProto, FieldDescriptorProto};
@@ -58,13 +58,6 @@ fn is_entry_name(alloc: Global, entry: &str, field: &str) -> Result<bool, AllocE
     let mut wanted = camel_case(alloc, field.as_bytes(), true)?;
     wanted.extend_from_slice(b"Entry")?;
     Ok(entry.as_bytes() == wanted.as_slice())
-}
-
-/// Whether the options of a message say that it is the entry of a map.
-fn says_map_entry(message: &DescriptorProto) -> bool
-    ensures { result ≡ spec.says_map_entry message.now }
-{
-    is_map_entry(message).unwrap_or(false)
 }
 
 /// Whether a field is optional and has a number and a name.

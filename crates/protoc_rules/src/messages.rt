@@ -2,8 +2,9 @@
 
 ghost use Rattle.std.specs.Prelude.{◌≡◌, ◌++◌, OnOk};
 ghost use Rattle.std.specs.List.{flat_map};
+ghost use Rattle.descriptor_decoding.specs.Flags.{says_message_set};
 ghost use Rattle.protoc_rules.specs.Fields.{site_of};
-ghost use Rattle.protoc_rules.specs.Linked.{linked, says_message_set};
+ghost use Rattle.protoc_rules.specs.Linked.{linked};
 ghost use Rattle.protoc_rules.specs.Messages as spec;
 ghost use Rattle.protoc_rules.specs.Reserved.{reserved_names};
 
@@ -11,12 +12,13 @@ use crate::Linked;
 use crate::faults::{Found, StrictKind};
 use crate::fields::{Site, tell_site};
 use crate::labels::is_optional;
-use crate::linked::{Recorded, says_message_set};
+use crate::linked::Recorded;
 use crate::maps::MapSite;
 use crate::names::tell_name;
 use crate::oneofs::{is_alone, tell_oneofs};
 use crate::ranges::tell_ranges;
 use crate::reserved::{ReservedNames, tell_reserved_names};
+use descriptor_decoding::says_message_set;
 use pool_types::{FieldDescriptorInner, Identity, MessageDescriptorInner};
 use proto_types::FieldDescriptorProto;
 use proto_types::tag::{field, message as tag};

@@ -1,16 +1,14 @@
 -- The linked records of items, by the files of a pool and the identities of the items.
-use Rattle.std.specs.Prelude.{ℕ, Bool, false, List, length, slice_get}
+use Rattle.std.specs.Prelude.{Bool, false, List, length, slice_get}
 use Rattle.std.specs.Option.{option_and_then, option_map_or, option_or}
-use Rattle.std.specs.Result.{result_unwrap_or}
 use Rattle.std.specs.declared.option.Option.{Option}
-use Rattle.descriptor_decoding.specs.Flags.{flag_in}
+use Rattle.descriptor_decoding.specs.Flags.{says, says_map_entry, says_message_set}
 use Rattle.proto_types.specs.Readers.{flag_of}
 use Rattle.proto_types.specs.declared.message.DescriptorProto.{DescriptorProto, out-DescriptorProto}
 use Rattle.proto_types.specs.declared.message.OneofDescriptorProto.{OneofDescriptorProto}
 use Rattle.proto_types.specs.declared.records.enumeration.EnumDescriptorProto.{EnumDescriptorProto}
 use Rattle.proto_types.specs.declared.records.enumeration.EnumValueDescriptorProto.{EnumValueDescriptorProto}
 use Rattle.proto_types.specs.declared.records.field.FieldDescriptorProto.{FieldDescriptorProto}
-use Rattle.proto_types.specs.declared.records.options.Options.{Options}
 use Rattle.proto_types.specs.declared.records.service.MethodDescriptorProto.{MethodDescriptorProto}
 use Rattle.proto_types.specs.declared.records.service.ServiceDescriptorProto.{ServiceDescriptorProto}
 use Rattle.pool_types.specs.declared.contents.definition.Identity.{Identity}
@@ -59,10 +57,6 @@ service_record = record_by as_service
 abbrev pub method_record : List FileDescriptorInner → Identity → Option MethodDescriptorProto
 method_record = record_by as_method
 
--- whether options say the truth value with a number; wrong bytes say nothing
-abbrev pub says : {T : Type 0} → ℕ → Option (Options T) → Bool
-says number options = result_unwrap_or (flag_in number options) false
-
 -- how much the record of a message has of each kind, and what its options say
 abbrev pub parts_of_message : DescriptorProto → MessageParts
 parts_of_message r = record {
@@ -72,8 +66,8 @@ parts_of_message r = record {
   extension_ranges = length (out-DescriptorProto r).extension_range;
   reserved_ranges = length (out-DescriptorProto r).reserved_range;
   reserved_names = length (out-DescriptorProto r).reserved_name;
-  is_map_entry = says 7 (out-DescriptorProto r).options;
-  is_message_set = says 1 (out-DescriptorProto r).options;
+  is_map_entry = says_map_entry r;
+  is_message_set = says_message_set r;
   is_deprecated = says 3 (out-DescriptorProto r).options;
 }
 

@@ -10,7 +10,7 @@ use crate::{
     find_enum_proto, find_enum_value_proto, find_field_proto, find_message_proto,
     find_method_proto, find_oneof_proto, find_service_proto,
 };
-use descriptor_decoding::{Deprecated, is_map_entry, is_message_set};
+use descriptor_decoding::{Deprecated, says_map_entry, says_message_set};
 use pool_types::{FileDescriptorInner, Identity};
 use proto_types::{
     DescriptorProto, EnumDescriptorProto, EnumValueDescriptorProto, FieldDescriptorProto,
@@ -175,8 +175,8 @@ fn parts_of_message(proto: &DescriptorProto) -> MessageParts
         extension_ranges: proto.extension_range.as_slice().len() as u64,
         reserved_ranges: proto.reserved_range.as_slice().len() as u64,
         reserved_names: proto.reserved_name.as_slice().len() as u64,
-        is_map_entry: is_map_entry(proto).unwrap_or(false),
-        is_message_set: is_message_set(proto).unwrap_or(false),
+        is_map_entry: says_map_entry(proto),
+        is_message_set: says_message_set(proto),
         is_deprecated: is_deprecated(proto),
     }
 }

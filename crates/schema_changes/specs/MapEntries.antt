@@ -1,22 +1,11 @@
 -- Entries of maps (descriptor.proto on `map_entry`).
-use Rattle.std.specs.Prelude.{ℕ, Bool, false, ◌&&◌, ◌==◌, length, Option, None, Some, Result, Ok}
-use Rattle.std.specs.Prelude.{Err, option_and_then, slice_get, if◌then◌else◌}
+use Rattle.std.specs.Prelude.{ℕ, Bool, false, ◌&&◌, ◌==◌, length, Option, None, Some}
+use Rattle.std.specs.Prelude.{option_and_then, slice_get, if◌then◌else◌}
 use Rattle.std.specs.Option.{option_map_or}
-use Rattle.wire_format.specs.declared.fault.WireFault.{WireFault}
-use Rattle.proto_types.specs.declared.message.DescriptorProto.{DescriptorProto, out-DescriptorProto}
-use Rattle.descriptor_decoding.specs.Flags.{flag_in}
+use Rattle.descriptor_decoding.specs.Flags.{says_map_entry}
 use Rattle.pool_types.specs.declared.contents.message.MessageDescriptorInner.{MessageDescriptorInner}
 use Rattle.schema_changes.specs.Parts.{Parts}
 use Rattle.schema_changes.specs.Records.{message_record}
-
--- whether a truth value was read, and is true
-abbrev pub is_read_true : Result Bool WireFault → Bool
-is_read_true (Ok b) = b
-is_read_true (Err f) = false
-
--- whether the options of a record say that it is an entry of a map
-abbrev pub says_map_entry : DescriptorProto → Bool
-says_map_entry m = is_read_true (flag_in 7 (out-DescriptorProto m).options)
 
 -- whether a message is an entry of a map: it has two fields, the key and the value, and the options
 -- of its record say so

@@ -2,25 +2,15 @@
 
 ghost use Rattle.std.specs.Prelude.{◌≡◌, false};
 ghost use Rattle.std.specs.Option.{option_copied, option_map_or};
+ghost use Rattle.descriptor_decoding.specs.Flags.{says_map_entry};
 ghost use Rattle.schema_changes.specs.Parts.{parts};
 ghost use Rattle.schema_changes.specs.Records.{message_record};
-ghost use Rattle.schema_changes.specs.MapEntries.{says_map_entry, is_map_entry, map_entry_at};
+ghost use Rattle.schema_changes.specs.MapEntries.{is_map_entry, map_entry_at};
 ghost use Rattle.schema_changes.specs.MapEntries.{plain_message_at};
 
 use crate::Parts;
-use descriptor_decoding::is_map_entry;
+use descriptor_decoding::says_map_entry;
 use pool_types::MessageDescriptorInner;
-use proto_types::DescriptorProto;
-
-/// Whether the options of a record say that it is an entry of a map.
-fn says_map_entry(message: &DescriptorProto) -> bool
-    ensures { result ≡ says_map_entry message.now }
-{
-    match is_map_entry(message) {
-        Ok(is_entry) => is_entry,
-        Err(_) => false,
-    }
-}
 
 impl<'a> Parts<'a> {
     /// Whether the options of the record of a message say that it is an entry of a map.

@@ -2,29 +2,19 @@
 
 ghost use Rattle.std.specs.Prelude.{◌≡◌, false};
 ghost use Rattle.std.specs.Option.{option_map_or};
+ghost use Rattle.descriptor_decoding.specs.Flags.{says_message_set};
 ghost use Rattle.schema_changes.specs.MessageSets as spec;
 ghost use Rattle.schema_changes.specs.Parts.{parts};
 ghost use Rattle.schema_changes.specs.Records.{message_record};
 
 use crate::Parts;
-use descriptor_decoding::is_message_set;
+use descriptor_decoding::says_message_set;
 use pool_types::MessageDescriptorInner;
-use proto_types::DescriptorProto;
-
-/// Whether the options of a record say that it is a message set.
-fn says_message_set(message: &DescriptorProto) -> bool
-    ensures { result ≡ spec.says_message_set message.now }
-{
-    match is_message_set(message) {
-        Ok(is_set) => is_set,
-        Err(_) => false,
-    }
-}
 
 impl Parts<'_> {
     /// Whether the options of the record of a message say that it is a message set.
     fn says_message_set(self, message: &MessageDescriptorInner) -> bool
-        ensures { result ≡ option_map_or spec.says_message_set
+        ensures { result ≡ option_map_or says_message_set
             (message_record (parts self.entry) message.now) false }
     {
         match self.message_record(message) {
