@@ -29,6 +29,7 @@ ghost use Rattle.descriptor_pool.specs.Pool.{Made};
 
 use crate::error::BuildError;
 use name_pass::NameVisitor;
+use name_resolution::PackageNames;
 use name_tables::{FileNames, PoolNames, ScopedNames};
 use pool_contents::{DescriptorPoolInner, GrowingPool};
 use pool_faults::{DescriptorError, DescriptorErrorKind};
@@ -272,7 +273,7 @@ fn read_items(terms: Terms, pool: &GrowingPool) -> Result<NewItems, BuildError>
         items,
         reading: Reading {
             faults: Faults::new(alloc, &inner.files, terms.most),
-            names: &inner.names,
+            names: PackageNames::new(&inner.names),
             file_names: &inner.file_names,
         },
     };

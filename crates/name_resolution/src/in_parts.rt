@@ -1,18 +1,16 @@
-ghost use Rattle.std.specs.Prelude.{◌≡◌, ◌∷◌, [], ℕ, List, Bool, false, IfOk, IfSome, IsOk, None};
-ghost use Rattle.std.specs.Prelude.{Some, if◌then◌else◌};
+ghost use Rattle.std.specs.Prelude.{◌≡◌, ◌∷◌, [], ℕ, Bool, false, IfOk, IfSome, IsOk, None, Some};
 ghost use Rattle.std.specs.BTreeSet.{contains_by};
 ghost use Rattle.std.specs.FinMap as finite;
 ghost use Rattle.std.specs.List.{find};
-ghost use Rattle.std.specs.Option.{option_copied, option_map_or};
+ghost use Rattle.std.specs.Option.{option_map_or};
 ghost use Rattle.std.specs.Ordering.{nat_cmp};
 ghost use Rattle.proto_types.specs.Names.{join};
 ghost use Rattle.pool_types.specs.Definition.{is_parent};
 ghost use Rattle.name_tables.specs.Parts.{parts};
 ghost use Rattle.name_resolution.specs.declared.filter.ResolveNameFilter.{ResolveNameFilter};
 ghost use Rattle.name_resolution.specs.Parents.{outer};
-ghost use Rattle.name_resolution.specs.Resolution.{definition_found, dotted, has_leading_dot};
-ghost use Rattle.name_resolution.specs.Resolution.{holds_first, look, not_found, resolution};
-ghost use Rattle.name_resolution.specs.Resolution.{resolution_in, simple};
+ghost use Rattle.name_resolution.specs.Resolution.{dotted, holds_first, look, not_found};
+ghost use Rattle.name_resolution.specs.Resolution.{resolution, resolution_in, simple};
 
 use crate::filter::ResolveNameFilter;
 use crate::resolution::{ResolveNameResult, first_part};
@@ -50,24 +48,6 @@ pub fn resolve_in_parts<'a>(
         None if name.contains('.') => look_for_parts(alloc, wanted, names.scope(scope), name),
         None => look_outwards(alloc, wanted, names.scope(scope), name),
     }
-}
-
-/// The definition that a name with a leading dot means, where `resolve_in_parts` finds it, whatever
-/// the scope. Any other name has none here. No memory is taken.
-pub fn find_in_parts<'a>(
-    visible: &BTreeSet<u32>,
-    names: &'a PartNames,
-    name: &str,
-    filter: ResolveNameFilter,
-) -> Option<&'a Definition>
-    ensures { (scope : List ℕ) → option_copied result
-        ≡ (if has_leading_dot name.now then definition_found (resolution names.now
-        (λ n. contains_by (nat_cmp n) visible.now) filter scope name.now) else None) }
-{
-    let full_name = name.strip_prefix('.')?;
-    let def = names.scope("").find(full_name)?;
-    let wanted = Wanted { visible, filter };
-    wanted.is_wanted(def).then_some(def)
 }
 
 /// What a name means in one scope alone.

@@ -5,6 +5,7 @@ mod filter;
 mod imports;
 mod in_parts;
 mod last_seen;
+mod package_names;
 mod parents;
 mod resolution;
 mod seen;
@@ -14,7 +15,8 @@ mod wants;
 
 pub use filter::ResolveNameFilter;
 pub use imports::imported_files;
-pub use in_parts::{find_in_parts, resolve_in_parts};
+pub use in_parts::resolve_in_parts;
+pub use package_names::PackageNames;
 pub use parents::{CandidateParents, parents_count};
 pub use resolution::{ResolveNameResult, resolve_name};
 pub use visibility::{Sight, visible_from};

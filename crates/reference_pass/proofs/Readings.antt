@@ -27,7 +27,7 @@ reads-told told = record { told = told; names = refl; file_names = refl }
 pub same-setting : {a b : Reading} {fs : Faults} → ReadingTells a b fs → setting_of b ≡ setting_of a
 same-setting reads = λ j. record {
   files = map (λ f. f.raw) (reads.told.files j);
-  names = (reads.names j).now;
+  names = reads.names j;
   file_names = (reads.file_names j).now;
   seen = map (λ f. f.transitive_dependencies) (reads.told.files j);
 }

@@ -9,7 +9,7 @@ use Rattle.reference_pass.specs.declared.reading.Reading.{Reading}
 abbrev pub setting_of : Reading → Setting
 setting_of r = record {
   files = named_files r.faults;
-  names = r.names.now;
+  names = r.names;
   file_names = r.file_names.now;
   seen = map (λ f. f.transitive_dependencies) r.faults.labels;
 }

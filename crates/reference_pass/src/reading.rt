@@ -7,9 +7,10 @@ ghost use Rattle.name_resolution.specs.Resolution.{resolution_in};
 ghost use Rattle.reference_pass.specs.Setting.{resolve};
 ghost use Rattle.record_walk.specs.Faults.{Tells, named_files};
 
-use name_resolution::{ResolveNameFilter, ResolveNameResult, find_in_parts, resolve_in_parts};
-use name_tables::{FileNames, PoolNames};
+use name_resolution::{PackageNames, ResolveNameFilter, ResolveNameResult, resolve_in_parts};
+use name_tables::FileNames;
 use pool_types::Definition;
+use proto_types::FileDescriptorProto;
 use record_walk::{Faults, Place};
 use std::alloc::AllocError;
 use std::collections::BTreeSet;
@@ -19,7 +20,7 @@ use std::collections::BTreeSet;
 #[derive(Drop)]
 pub struct Reading<'f> {
     pub faults: Faults<'f>,
-    pub names: &'f PoolNames,
+    pub names: PackageNames<'f>,
     pub file_names: &'f FileNames,
 }
 
@@ -43,11 +44,13 @@ impl<'f> Reading<'f> {
         let alloc = self.faults.alloc;
         let nothing = BTreeSet::new(alloc);
         let visible = self.visible(place.file).unwrap_or(&nothing);
-        resolve_in_parts(alloc, visible, self.names, place.full_name, written, filter)
+        let names = self.names.table();
+        resolve_in_parts(alloc, visible, names, place.full_name, written, filter)
     }
 
     /// The definition that a name means that a declaration writes, where it is found and the name
     /// has a leading dot. Any other name has none here, and a file that isn't there finds none.
+    #[inline(always)]
     pub(crate) fn find(
         &self,
         place: Place,
@@ -59,10 +62,21 @@ impl<'f> Reading<'f> {
             place.entry.full_name.now filter written.now) else None) }
     {
         let visible = self.visible(place.file)?;
-        find_in_parts(visible, self.names, written, filter)
+        self.names.find(visible, written, filter)
+    }
+
+    /// Looks for names from the package of the file with an index on, where that has messages
+    /// enough to write many.
+    pub(crate) fn enter_package(&mut self, file: u32)
+        ensures { self.new ≡ self.old }
+    {
+        if let Some(file) = self.faults.files().get(file as usize) {
+            self.names.enter(package_of(&file.raw));
+        }
     }
 
     /// The files that the file with an index sees.
+    #[inline(always)]
     fn visible(&self, file: u32) -> Option<&'f BTreeSet<u32>>
         ensures { option_copied result ≡ slice_get (setting_of self.now).seen file }
     {
@@ -75,6 +89,7 @@ impl<'f> Reading<'f> {
     ///
     /// # Errors
     /// `AllocError` where memory was refused.
+    #[inline(never)]
     pub fn resolve_checked(
         &mut self,
         place: Place,
@@ -115,6 +130,16 @@ impl<'f> Reading<'f> {
             place.entry.file place.entry.full_name.now ResolveNameFilter.Message written.now)))) }
     {
         self.resolve_checked(place, tag, ResolveNameFilter::Message, written)
+    }
+}
+
+/// The package from which the names that a file writes are looked for; the empty one where it has
+/// one message, for which the way to the package would be the longer one.
+fn package_of(file: &FileDescriptorProto) -> &str {
+    if file.message_type.as_slice().len() > 1 {
+        file.package()
+    } else {
+        ""
     }
 }
 

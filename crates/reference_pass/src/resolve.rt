@@ -57,6 +57,7 @@ impl Visitor for ResolveVisitor<'_> {
         index: u32,
         file: &FileDescriptorProto,
     ) -> Result<(), AllocError> {
+        self.reading.enter_package(index);
         check_imports(&mut self.reading, index, file)
     }
 

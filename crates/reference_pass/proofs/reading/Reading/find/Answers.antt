@@ -37,13 +37,13 @@ returns-in_err-visible c =
     let s = setting_of c.args.self.now in
     let none : record { keys = [] } ≡ seen_by s c.args.place.file = ap (λ o. unwrap_or o (record { keys = [] })) c.in_err-visible.ensures in
     ap option_copied c.from_residual.ensures
-    ∙ none-found c.args.self.now.names.now c.args.filter c.args.place.full_name.now c.args.written.now
-    ∙ ap (found_by c.args.self.now.names.now c.args.filter c.args.place.full_name.now c.args.written.now) none
+    ∙ none-found c.args.self.now.names c.args.filter c.args.place.full_name.now c.args.written.now
+    ∙ ap (found_by c.args.self.now.names c.args.filter c.args.place.full_name.now c.args.written.now) none
 
 -- the files that are seen are those of the setting
 pub returns : goal.returns
 returns c =
     let s = setting_of c.args.self.now in
     let seen : c.in_ok-visible.visible.now ≡ seen_by s c.args.place.file = ap (λ o. unwrap_or o (record { keys = [] })) c.in_ok-visible.ensures in
-    c.find_in_parts.ensures c.args.place.full_name.now
-    ∙ ap (found_by c.args.self.now.names.now c.args.filter c.args.place.full_name.now c.args.written.now) seen
+    c.find.ensures c.args.place.full_name.now
+    ∙ ap (found_by c.args.self.now.names c.args.filter c.args.place.full_name.now c.args.written.now) seen

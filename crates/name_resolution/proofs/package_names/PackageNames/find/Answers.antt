@@ -8,12 +8,11 @@ use Rattle.std.proofs.lemmas.Bool.{ne_eqb}
 use Rattle.std.proofs.lemmas.Str.Pattern.{strip_prefix_char}
 use Rattle.pool_types.specs.Contents.{ByText}
 use Rattle.pool_types.specs.declared.contents.definition.Definition.{Definition}
-use Rattle.proto_types.specs.Names.{join}
 use Rattle.name_resolution.specs.declared.filter.ResolveNameFilter.{ResolveNameFilter}
 use Rattle.name_resolution.specs.Filter.{is_match}
 use Rattle.name_resolution.specs.Resolution.{Resolution, found, invalid_type, not_imported, shadowed, not_found, definition_found, has_leading_dot, is_found, look, resolution}
 use Rattle.name_resolution.proofs.Innermost.{judged-unwanted, look-defined, look-wanted}
-use Rattle.name_resolution.proofs.in_parts.find_in_parts.Goals as goal
+use Rattle.name_resolution.proofs.package_names.PackageNames.find.Goals as goal
 
 -- where nothing is found, there is no definition
 unfound : (r : Resolution) → is_found r ≡ false → definition_found r ≡ None
@@ -49,15 +48,15 @@ pub returns-in_err-full_name : goal.returns-in_err-full_name
 returns-in_err-full_name c = λ scope.
     let none : (rest : List ℕ) → c.args.name.now ≢ 46 ∷ rest = strip_prefix_char 46 c.args.name.now None c.in_err-full_name.ensures.cases (omega arith) in
     ap option_copied c.from_residual.ensures
-    ∙ none-undotted c.args.names.now (λ n. contains_by (nat_cmp n) c.args.visible.now) c.args.filter scope c.args.name.now none
+    ∙ none-undotted c.args.self.now (λ n. contains_by (nat_cmp n) c.args.visible.now) c.args.filter scope c.args.name.now none
 
 pub returns : goal.returns
 returns c = λ scope.
-    let names = c.args.names.now in
+    let names = c.args.self.now in
     let seen : ℕ → Bool = λ n. contains_by (nat_cmp n) c.args.visible.now in
     let full = c.in_ok-full_name.full_name in
     let def = c.in_ok-def.def in
     let written : c.args.name.now ≡ 46 ∷ full.now = strip_prefix_char 46 c.args.name.now (Some full) c.in_ok-full_name.ensures.cases (omega arith) in
-    let got : finite.get names full.now ≡ Some def.now = ap (λ s. finite.get s.0 (join s.1 full.now)) (sym c.scope.ensures) ∙ sym c.in_ok-def.ensures in
+    let got : finite.get names full.now ≡ Some def.now = sym c.in_ok-def.ensures in
     ap option_copied c.then_some.ensures
     ∙ when-wanted names seen c.args.filter scope c.args.name.now full.now written def got c.is_wanted.result c.is_wanted.ensures
