@@ -14,7 +14,7 @@ use Rattle.schema_changes.specs.MessageSets.{is_message_set}
 use Rattle.schema_changes.specs.Parts.{parts_of}
 use Rattle.schema_changes.specs.declared.change.WireChange.{WireChange}
 use Rattle.schema_changes.specs.declared.change.WireChangeKind.TheVariants as change
-use Rattle.pool_changes.specs.FieldChanges.{are_formed_alike, are_typed_alike, default_changes, form_changes, name_changes, oneof_moves, part_json, part_source, presence_changes, reads_number, repeated_changes, type_changes, keeps_form, are_messages_alike, one_repeats}
+use Rattle.pool_changes.specs.FieldChanges.{are_formed_alike, are_typed_alike, default_changes, form_changes, name_changes, oneof_moves, part_json, part_source, presence_changes, reads_number, keeps_values, repeated_changes, type_changes, keeps_form, are_messages_alike, one_repeats}
 use Rattle.pool_changes.specs.FieldParts.{Part, default_side, form_side, given_default, given_oneof, json_side, message_word, name_side, object_word, oneof_at, oneof_side, presence_side, presence_word, repeated_side, repeated_word, type_side}
 use Rattle.pool_changes.specs.Comparing.{set_changes, set_side, set_word}
 use Rattle.pool_changes.specs.Removed.{field_record, package_side, package_word, syntax_side, syntax_word, tells}
@@ -149,8 +149,8 @@ module _ (v : Versions) (found : List WireChange) (f g : Part) where
       (both-none (form_changes v found f g) (repeated_changes v found f g)
       (kept-none (tells v.direction found f.entry.number change.Kind) (keeps_form v f g)
       (told_between v element.FieldJson (form_side (writer v) f) (form_side (reader v) g) ∷ [])
-      (or_left (reads_number f.entry.kind g.entry.kind || are_alike (form_side (writer v) f) (form_side (reader v) g)) (are_messages_alike v f.entry.kind g.entry.kind)
-      (or_right (reads_number f.entry.kind g.entry.kind) (are_alike (form_side (writer v) f) (form_side (reader v) g)) form)))
+      (or_left (keeps_values v f.entry.kind g.entry.kind) (are_messages_alike v f.entry.kind g.entry.kind)
+      (or_right (reads_number f.entry.kind g.entry.kind) (are_formed_alike v f.entry.kind g.entry.kind) form)))
       (either-none (tells v.direction found f.entry.number change.Cardinality)
       (differing v element.FieldRepeated (repeated_side f) (repeated_side g))
       (alike-none v element.FieldRepeated (repeated_side f) (repeated_side g) repeated)))

@@ -12,11 +12,11 @@ use Rattle.schema_changes.specs.Kinds.{is_repeated, messages_of}
 use Rattle.schema_changes.specs.declared.change.WireChange.{WireChange}
 use Rattle.schema_changes.specs.declared.change.WireChangeKind.TheVariants as change
 use Rattle.verdict_texts.specs.declared.telling.ToldFault.{ToldFault}
-use Rattle.pool_changes.specs.FieldParts.{Part, field_part, part_numbered, form_side, json_side, repeated_side, name_side}
-use Rattle.pool_changes.specs.FieldParts.{json_word, type_word, type_name}
+use Rattle.pool_changes.specs.FieldParts.{Part, field_part, part_numbered, form_side, json_side}
+use Rattle.pool_changes.specs.FieldParts.{json_word, type_word, type_name, repeated_side, name_side}
 use Rattle.pool_changes.specs.FieldParts.{type_side, presence_side, default_side, oneof_side}
 use Rattle.pool_changes.specs.Removed.{tells}
-use Rattle.pool_changes.specs.Sides.{Versions, writer, reader, are_alike, differing, told_between}
+use Rattle.pool_changes.specs.Sides.{Versions, writer, reader, differing, told_between}
 use Rattle.pool_changes.specs.declared.kinds.ElementChange.TheVariants as element
 
 -- whether a parser of JSON reads a number where a kind has names
@@ -39,14 +39,18 @@ abbrev pub one_repeats : Part → Part → Bool
 one_repeats f g = if is_repeated f.entry.cardinality then not (is_repeated g.entry.cardinality)
     else is_repeated g.entry.cardinality
 
+-- whether a parser of JSON reads values of a kind as those of another
+abbrev pub keeps_values : Versions → KindIndex → KindIndex → Bool
+keeps_values v k l = reads_number k l || are_formed_alike v k l
+
 -- whether JSON has values of two kinds of fields of two messages, which may have other names, in a
 -- form that the reader's reads: both may be the two messages themselves
 abbrev pub keeps_inner_form : Versions → ℕ → ℕ → KindIndex → KindIndex → Bool
-keeps_inner_form v m n k l = reads_number k l || are_formed_alike v k l
-    || option_map_or (λ e. e.0 == m && e.1 == n) (messages_of k l) false
+keeps_inner_form v m n k l =
+    keeps_values v k l || option_map_or (λ e. e.0 == m && e.1 == n) (messages_of k l) false
 
--- whether JSON has a field of a message as one of another: by its JSON name, in a form that is read,
--- and as often
+-- whether JSON has a field of a message as one of another: by its JSON name, in a form that is
+-- read, and as often
 abbrev pub is_shown_alike : Versions → ℕ → ℕ → Part → Part → Bool
 is_shown_alike v m n f g = bytes_eq f.json_name g.json_name
     && keeps_inner_form v m n f.entry.kind g.entry.kind && not (one_repeats f g)
@@ -74,8 +78,7 @@ are_messages_alike v k l = bytes_eq (json_word (writer v) k) (json_word (reader 
 
 -- whether JSON has a field in a form that the reader's reads
 abbrev pub keeps_form : Versions → Part → Part → Bool
-keeps_form v f g = reads_number f.entry.kind g.entry.kind
-    || are_alike (form_side (writer v) f) (form_side (reader v) g)
+keeps_form v f g = keeps_values v f.entry.kind g.entry.kind
     || are_messages_alike v f.entry.kind g.entry.kind
 
 -- what changes of its form in JSON, if that is not told at wire

@@ -148,8 +148,8 @@ abbrev pub is_optional_at : Contents → MessageDescriptorInner → ℕ → Bool
 is_optional_at p m i = option_map_or (λ r. flag_of r.proto3_optional)
     (option_and_then (λ f. field_record p f.id) (slice_get m.fields i)) false
 
--- whether a oneof stands for the presence of a field alone: it has that field alone, which is said to
--- be optional (descriptor.proto on `proto3_optional`)
+-- whether a oneof stands for the presence of a field alone: it has that field alone, which is said
+-- to be optional (descriptor.proto on `proto3_optional`)
 abbrev pub is_synthetic : Contents → MessageDescriptorInner → OneofDescriptorInner → Bool
 is_synthetic p m o = length o.fields == 1 && list_any (is_optional_at p m) o.fields
 

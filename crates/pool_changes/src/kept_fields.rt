@@ -63,14 +63,20 @@ impl Telling<'_> {
             && type_name(writer, written) == type_name(reader, read)
     }
 
+    /// Whether a parser of JSON reads values of a kind as those of another.
+    fn keeps_values(self, written: KindIndex, read: KindIndex) -> bool
+        ensures { result ≡ spec.keeps_values (versions self.entry) written read }
+    {
+        reads_number(written, read) || self.is_formed_alike(written, read)
+    }
+
     /// Whether JSON has values of two kinds of fields of two messages in a form that the reader's
     /// reads: both may be the two messages themselves.
     fn keeps_inner_form(self, pair: (u32, u32), written: KindIndex, read: KindIndex) -> bool
         ensures { result
             ≡ spec.keeps_inner_form (versions self.entry) pair.0 pair.1 written read }
     {
-        reads_number(written, read)
-            || self.is_formed_alike(written, read)
+        self.keeps_values(written, read)
             || match messages_of(written, read) {
                 Some((written, read)) => written == pair.0 && read == pair.1,
                 None => false,
@@ -150,11 +156,8 @@ impl Telling<'_> {
         ensures { result ≡ spec.keeps_form (versions self.entry) (part pair.entry.before)
             (part pair.entry.after) }
     {
-        let KeptPart { before, after, .. } = pair;
-        let reader = self.reader();
-        reads_number(before.entry.kind, after.entry.kind)
-            || before.form(self.writer()).is_like(after.form(reader))
-            || self.has_messages_alike(before.entry.kind, after.entry.kind)
+        let (written, read) = (pair.before.entry.kind, pair.after.entry.kind);
+        self.keeps_values(written, read) || self.has_messages_alike(written, read)
     }
 
     /// Appends what changes of its form in JSON, if that is not told at wire.

@@ -33,7 +33,7 @@ impl Compared<'_> {
     }
 
     /// Whether the new message has the numbers of the old fields, or keeps them free.
-    fn keeps_numbers(self) -> bool
+    fn keeps_each_number(self) -> bool
         ensures { result ≡ list_all (keeps_number (parts self.entry.new) self.entry.after.now)
             self.entry.before.now.fields }
     {
@@ -100,7 +100,7 @@ impl Compared<'_> {
             (parts self.entry.old) self.entry.before.now
             (parts self.entry.new) self.entry.after.now }
     {
-        self.is_unextended() && self.keeps_named_parts() && self.keeps_numbers()
+        self.is_unextended() && self.keeps_named_parts() && self.keeps_each_number()
     }
 
     /// Whether the kind of a new field keeps that of an old one, in two messages that may have
@@ -161,7 +161,7 @@ impl Compared<'_> {
             (parts self.entry.old) self.entry.before.now
             (parts self.entry.new) self.entry.after.now }
     {
-        self.is_unextended() && self.keeps_inner_parts(pair) && self.keeps_numbers()
+        self.is_unextended() && self.keeps_inner_parts(pair) && self.keeps_each_number()
     }
 }
 
