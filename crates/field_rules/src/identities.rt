@@ -16,6 +16,8 @@ use std::alloc::{AllocError, Global};
 ///
 /// # Errors
 /// `AllocError` where memory was refused.
+// Inlined, as the others are, so that an identity is made where it stays.
+#[inline(always)]
 pub fn identity(alloc: Global, place: Place, name: &str) -> Result<Identity, AllocError>
     ensures id { IfOk result (λ id. id
         ≡ named_at place.entry.file place.entry.path.now place.entry.full_name.now name.now) }
@@ -41,6 +43,7 @@ pub struct ListPlace {
 ///
 /// # Errors
 /// `AllocError` where memory was refused.
+#[inline(always)]
 pub fn identity_inside(
     alloc: Global,
     place: Place,
@@ -64,6 +67,7 @@ pub fn identity_inside(
 ///
 /// # Errors
 /// `AllocError` where memory was refused.
+#[inline(always)]
 pub fn identity_beside(
     alloc: Global,
     place: Place,
@@ -85,6 +89,7 @@ pub fn identity_beside(
 }
 
 /// Where a declaration of this full name stands, which ends with its name.
+#[inline(always)]
 fn named_at(file: u32, path: Path, full_name: Text, name: &str) -> Identity
     ensures id { result ≡ named_at file path full_name name.now }
     ensures begins { EndsWith full_name name.now → BeginsAtBoundary result }

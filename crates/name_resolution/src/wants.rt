@@ -20,6 +20,7 @@ pub(crate) struct Wanted<'a> {
 
 impl Wanted<'_> {
     /// Whether it wants a definition.
+    #[inline(always)]
     pub(crate) fn is_wanted(self, def: &Definition) -> bool
         ensures { result ≡ (contains_by (nat_cmp def.now.file) self.entry.visible.now
             && is_match self.entry.filter def.now.kind) }

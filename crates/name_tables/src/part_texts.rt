@@ -53,6 +53,7 @@ impl PartTexts {
     ///
     /// # Errors
     /// `AllocError` where memory was refused.
+    #[inline(always)]
     pub(crate) fn push(&mut self, text: &[u8]) -> Result<(), AllocError>
         ensures ok { OnOk result (self.new ≡ self.old ++ text.now ∷ []) }
         ensures err { OnErr result (self.new ≡ self.old) }

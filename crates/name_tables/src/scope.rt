@@ -68,6 +68,7 @@ impl<'a, 't> Scope<'a, 't> {
     }
 
     /// What a name inside it means, or none where the table lacks it.
+    #[inline(always)]
     pub fn find(&self, name: &str) -> Option<&'a Definition>
         ensures { option_copied result ≡ map.get self.now.0 (join self.now.1 name.now) }
     {
@@ -107,6 +108,7 @@ impl<'a, 't> Scope<'a, 't> {
 }
 
 /// The branch to which a name leads from another: from the root, that of the whole name.
+#[inline(always)]
 pub(crate) fn go_down(tree: &NameTree, from: u32, name: &str) -> Option<u32>
     requires { IsTree tree.now }
     ensures found { IfSome result (λ k. IsDescendant tree.now from (parts name.now) k) }

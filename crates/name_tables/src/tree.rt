@@ -151,6 +151,7 @@ impl NameTree {
     ///
     /// # Errors
     /// `AllocError` where memory was refused, as it is past 4,294,967,296 branches.
+    #[inline(always)]
     pub fn insert(&mut self, parent: u32, part: &str) -> Result<u32, AllocError>
         requires { parent < length self.old }
         ensures ok { IfOk result (λ k. InsertsChild self.old self.new parent part.now k) }

@@ -31,6 +31,8 @@ use std::alloc::AllocError;
 
 /// The kind of the type of a field or an extension, where it has one, and the default value, where
 /// one is given. What these break is appended to `reading`, the type before the default.
+// Inlined, so that neither is written to memory.
+#[inline(always)]
 pub(crate) fn type_and_default(
     reading: &mut Reading,
     place: Place,
@@ -56,6 +58,7 @@ pub(crate) fn type_and_default(
 }
 
 /// The kind of a type that a field names by its number, and the default value.
+#[inline(always)]
 fn written_type(
     faults: &mut Faults,
     place: Place,
@@ -96,6 +99,7 @@ fn tell_missing_type(faults: &mut Faults, place: Place) -> Result<(), AllocError
 }
 
 /// The kind of the definition that the type name of a field means, and the default value.
+#[inline(always)]
 fn named_type(
     reading: &mut Reading,
     place: Place,
