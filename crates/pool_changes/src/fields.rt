@@ -2,7 +2,6 @@
 
 ghost use Rattle.std.specs.Prelude.{◌≡◌, is_some, option_map, option_and_then, unwrap_or};
 ghost use Rattle.std.specs.Option.{option_copied};
-ghost use Rattle.pool_types.specs.Kinds.{kind_name};
 ghost use Rattle.schema_changes.specs.MapEntries.{map_entry_at};
 ghost use Rattle.schema_changes.specs.Parts.{parts_of};
 ghost use Rattle.pool_changes.specs.FieldParts as spec;
@@ -117,31 +116,6 @@ fn message_word(is_entry: bool) -> &'static str
     if is_entry { "map" } else { "message " }
 }
 
-/// The word for a kind that is no message and no enum.
-fn scalar_word(kind: KindIndex) -> &'static str
-    ensures { result.now ≡ kind_name kind }
-{
-    match kind {
-        KindIndex::Double => "double",
-        KindIndex::Float => "float",
-        KindIndex::Int32 => "int32",
-        KindIndex::Int64 => "int64",
-        KindIndex::Uint32 => "uint32",
-        KindIndex::Uint64 => "uint64",
-        KindIndex::Sint32 => "sint32",
-        KindIndex::Sint64 => "sint64",
-        KindIndex::Fixed32 => "fixed32",
-        KindIndex::Fixed64 => "fixed64",
-        KindIndex::Sfixed32 => "sfixed32",
-        KindIndex::Sfixed64 => "sfixed64",
-        KindIndex::Bool => "bool",
-        KindIndex::String => "string",
-        KindIndex::Bytes => "bytes",
-        KindIndex::Message(_) | KindIndex::Group(_) => "message",
-        KindIndex::Enum(_) => "enum",
-    }
-}
-
 /// The word for a kind, before the name of a message or of an enum.
 fn type_word(pool: &DescriptorPool, kind: KindIndex) -> &'static str
     ensures { result.now ≡ spec.type_word pool.now kind }
@@ -150,7 +124,7 @@ fn type_word(pool: &DescriptorPool, kind: KindIndex) -> &'static str
         KindIndex::Message(index) => message_word(is_map_entry(pool, index)),
         KindIndex::Group(_) => "group ",
         KindIndex::Enum(_) => "enum ",
-        _ => scalar_word(kind),
+        _ => kind.name(),
     }
 }
 

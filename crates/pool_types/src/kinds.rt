@@ -202,7 +202,7 @@ impl KindIndex {
     }
 
     /// The name that stands in a `.proto` file; of a group, a message and an enum the word for it.
-    fn name(&self) -> &'static str
+    pub fn name(&self) -> &'static str
         ensures { result.now ≡ kind_name self.now }
     {
         match self {
