@@ -222,7 +222,7 @@ pub fn merge_messages<M: Message>(
     }
 }
 
-/// Puts a message of these bytes behind the others, if a level is left.
+/// Puts a message of these bytes behind the others, if a level is left. It is read where it stays.
 #[tactic(auto, unfolding(crate::specs::Parts::messages_merged))]
 fn add_message<M: Message>(
     items: &mut Items<M>,
@@ -234,8 +234,7 @@ fn add_message<M: Message>(
         (messages_merged M.nothing (within context.levels M.merged)
         (Len bytes.now ends) items.old) }
 {
-    let mut message = M::empty(context.alloc);
-    merge_inner(&mut message, context, ends, bytes)?;
-    items.push(message)?;
-    Ok(())
+    let position = items.as_slice().len();
+    items.push(M::empty(context.alloc))?;
+    merge_inner(&mut items.as_mut_slice()[position], context, ends, bytes)
 }
