@@ -77,6 +77,7 @@ impl NameVisitor<'_, '_> {
 
     /// Enters the name of what stands at a path in a new file; where it clashes with a holder, that
     /// is a fault.
+    #[inline(always)]
     fn enter(
         &mut self,
         name: NameInScope,

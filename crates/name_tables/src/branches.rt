@@ -1,4 +1,4 @@
-ghost use Rattle.std.specs.Prelude.{◌≡◌, ◌<◌, ◌∷◌, [], length, IsTrue, IfOk, OnOk, OnErr, None};
+ghost use Rattle.std.specs.Prelude.{◌≡◌, ◌<◌, ◌∷◌, [], length, IfOk, OnOk, OnErr, None};
 ghost use Rattle.std.specs.FinMap as map;
 ghost use Rattle.std.specs.Option.{option_copied};
 ghost use Rattle.name_tables.specs.Parts.{name_of, parts};
@@ -7,7 +7,7 @@ ghost use Rattle.name_tables.specs.Branches.{AreBranches, names_of};
 ghost use Rattle.name_tables.specs.NameTables.{inserted};
 
 use crate::entered::Entered;
-use crate::parts::Parts;
+use crate::parts::{Parts, is_part};
 use crate::tree::NameTree;
 use pool_types::Definition;
 use std::alloc::AllocError;
@@ -66,6 +66,7 @@ impl Branches {
     ///
     /// # Errors
     /// `AllocError` where memory was refused. All names mean what they did then.
+    #[inline(always)]
     pub(crate) fn define_new(
         &mut self,
         branch: u32,
@@ -93,6 +94,7 @@ impl Branches {
 ///
 /// # Errors
 /// `AllocError` where memory was refused.
+#[inline(always)]
 pub(crate) fn insert_below(tree: &mut NameTree, from: u32, name: &str) -> Result<u32, AllocError>
     requires tree { IsTree tree.old }
     requires from { from < length tree.old }
@@ -106,18 +108,12 @@ pub(crate) fn insert_below(tree: &mut NameTree, from: u32, name: &str) -> Result
     insert_parts(tree, from, name)
 }
 
-/// Whether a name has no dot.
-fn is_part(name: &str) -> bool
-    ensures { IsTrue result → parts name.now ≡ name.now ∷ [] }
-{
-    !name.as_bytes().contains(&b'.')
-}
-
 /// The child of a branch with a part, which is inserted where there is none.
 ///
 /// # Errors
 /// `AllocError` where memory was refused.
-pub(crate) fn insert_part(tree: &mut NameTree, from: u32, part: &str) -> Result<u32, AllocError>
+#[inline(always)]
+fn insert_part(tree: &mut NameTree, from: u32, part: &str) -> Result<u32, AllocError>
     requires tree { IsTree tree.old }
     requires from { from < length tree.old }
     requires part { parts part.now ≡ part.now ∷ [] }
@@ -133,7 +129,9 @@ pub(crate) fn insert_part(tree: &mut NameTree, from: u32, part: &str) -> Result<
 ///
 /// # Errors
 /// `AllocError` where memory was refused.
-fn insert_parts(tree: &mut NameTree, from: u32, name: &str) -> Result<u32, AllocError>
+// Not inlined, since few names that come have a dot.
+#[inline(never)]
+pub(crate) fn insert_parts(tree: &mut NameTree, from: u32, name: &str) -> Result<u32, AllocError>
     requires tree { IsTree tree.old }
     requires from { from < length tree.old }
     ensures tree { IsTree tree.new }

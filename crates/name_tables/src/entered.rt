@@ -150,6 +150,7 @@ impl<T: InFile> Entered<T> {
     ///
     /// # Errors
     /// `AllocError` where memory was refused. Each number has then what it had.
+    #[inline(always)]
     pub(crate) fn insert(&mut self, number: u32, value: T) -> Result<(), AllocError>
         ensures ok { OnOk result (Enters self.old self.new number value) }
         ensures err { OnErr result ((k : ℕ) → value_at self.new k ≡ value_at self.old k) }
@@ -247,6 +248,7 @@ fn pad<T: Drop>(values: &mut Vec<Option<T>>, number: usize) -> Result<(), AllocE
 ///
 /// # Errors
 /// `AllocError` where memory was refused.
+#[inline(always)]
 fn set<T: Drop>(values: &mut Vec<Option<T>>, number: usize, value: T) -> Result<(), AllocError>
     requires { number ≤ length values.old.items }
     ensures ok { OnOk result (Enters values.old.items values.new.items number value) }

@@ -1,4 +1,4 @@
-ghost use Rattle.std.specs.Prelude.{◌≡◌, ◌∷◌};
+ghost use Rattle.std.specs.Prelude.{◌≡◌, ◌∷◌, [], IsTrue};
 ghost use Rattle.std.specs.Iterator.{YieldsFirstRef, item_count};
 ghost use Rattle.name_tables.specs.Parts.{parts, parts_left};
 
@@ -49,8 +49,18 @@ impl<'a> Iterator for Parts<'a> {
 fn first_and_rest(name: &str) -> (&str, Option<&str>)
     ensures { parts name.now ≡ result.0.now ∷ parts_left result.1 }
 {
+    if is_part(name) {
+        return (name, None);
+    }
     match name.split_once('.') {
         Some((part, rest)) => (part, Some(rest)),
         None => (name, None),
     }
+}
+
+/// Whether a name has no dot.
+pub(crate) fn is_part(name: &str) -> bool
+    ensures { IsTrue result → parts name.now ≡ name.now ∷ [] }
+{
+    !name.as_bytes().contains(&b'.')
 }

@@ -7,7 +7,7 @@ ghost use Rattle.name_tables.specs.Parts.{name_of, parts};
 ghost use Rattle.name_tables.specs.Tree.{IsDescendant, IsTree, KeepsBranches, path};
 ghost use Rattle.name_tables.specs.Scopes.{IsScope};
 
-use crate::branches::{Branches, insert_below, insert_part};
+use crate::branches::{Branches, insert_below, insert_parts};
 use crate::part_names::PartNames;
 use crate::tree::NameTree;
 use pool_types::Definition;
@@ -101,6 +101,8 @@ impl ScopedNames {
     ///
     /// # Errors
     /// `AllocError` where memory was refused.
+    // Inlined, as the two below are: each is asked for once a name.
+    #[inline(always)]
     pub fn open(&mut self, level: usize, name: &str) -> Result<(), AllocError>
         requires { level < length self.old.1 }
         ensures names { self.new.0 ≡ self.old.0 }
@@ -133,6 +135,7 @@ impl ScopedNames {
     ///
     /// # Errors
     /// `AllocError` where memory was refused. All names mean what they did then.
+    #[inline(always)]
     pub fn define(&mut self, definition: Definition) -> Result<(), AllocError>
         requires some { 0 < length self.old.1 }
         requires none { map.get self.old.0 (get_or self.old.1 (length self.old.1 - 1) []) ≡ None }
@@ -174,7 +177,7 @@ fn name_branch(tree: &mut NameTree, scope: u32) -> Result<u32, AllocError>
         IsDescendant tree.new 0 (parts (name_of (path tree.old scope))) k) }
 {
     if scope == 0 {
-        return insert_part(tree, 0, "");
+        return insert_parts(tree, 0, "");
     }
     Ok(scope)
 }

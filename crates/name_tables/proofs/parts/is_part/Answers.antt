@@ -3,7 +3,7 @@ use Rattle.std.specs.Bool.{MatchBool}
 use Rattle.std.specs.List.{All}
 use Rattle.std.proofs.lemmas.Bool.{true≢false}
 use Rattle.std.proofs.lemmas.List.Splits.{slice_split_none}
-use Rattle.name_tables.proofs.branches.is_part.Goals as goal
+use Rattle.name_tables.proofs.parts.is_part.Goals as goal
 
 -- what an answer of false says
 otherwise : (P : Type 0) {Q : Type 0} (answer : Bool) → IsTrue (not answer) → MatchBool answer P Q → Q
