@@ -1,4 +1,5 @@
 pub mod NamesBegin
+pub mod NamesBehind
 pub mod Differing
 pub mod Behind
 pub mod Each

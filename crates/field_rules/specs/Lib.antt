@@ -1,4 +1,5 @@
 pub mod Identities
+pub mod InnerNames
 pub mod NamesBegin
 pub mod FieldNumber
 pub mod Ranges

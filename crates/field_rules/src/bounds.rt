@@ -11,6 +11,9 @@ pub(crate) fn reserved_bounds(
 ) -> Result<Vec<(i32, i32)>, AllocError>
     ensures { IfOk result (λ bounds. bounds.items ≡ reserved_bounds ranges.now) }
 {
+    if ranges.is_empty() {
+        return Ok(Vec::new(alloc));
+    }
     let bounds = ranges.iter().map(|range| (range.start(), range.end()));
     bounds.collect(alloc)
 }
@@ -22,6 +25,9 @@ pub(crate) fn extension_bounds(
 ) -> Result<Vec<(i32, i32)>, AllocError>
     ensures { IfOk result (λ bounds. bounds.items ≡ extension_bounds ranges.now) }
 {
+    if ranges.is_empty() {
+        return Ok(Vec::new(alloc));
+    }
     let bounds = ranges.iter().map(|range| (range.start(), range.end()));
     bounds.collect(alloc)
 }

@@ -56,7 +56,7 @@ fn push_json_name(
 }
 
 /// How many bytes the names of fields have in all.
-fn name_bytes(fields: &[FieldDescriptorProto]) -> usize {
+pub(crate) fn name_bytes(fields: &[FieldDescriptorProto]) -> usize {
     let mut bytes = 0usize;
     for field in fields {
         bytes = bytes.saturating_add(field.name().len());

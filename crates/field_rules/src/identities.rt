@@ -1,13 +1,18 @@
-ghost use Rattle.std.specs.Prelude.{◌≡◌, ◌++◌, ◌<◌, ◌^◌, IfOk};
+ghost use Rattle.std.specs.Prelude.{◌≡◌, ◌∷◌, ◌++◌, ◌<◌, ◌^◌, List, IfOk, OnOk};
 ghost use Rattle.proto_types.specs.Names.{join};
+ghost use Rattle.proto_types.specs.Readers.{text_of};
+ghost use Rattle.proto_types.specs.declared.records.field.FieldDescriptorProto.{FieldDescriptorProto};
+ghost use Rattle.proto_types.specs.declared.tag.message.TheConstants.{FIELD};
 ghost use Rattle.record_walk.specs.FullNames.{EndsWith};
 ghost use Rattle.proto_types.specs.Paths.{entry_path};
 ghost use Rattle.field_rules.specs.Identities.{named_at, before_ending};
+ghost use Rattle.field_rules.specs.InnerNames.{AreNamesOf};
 ghost use Rattle.field_rules.specs.NamesBegin.{BeginsAtBoundary};
 
+use crate::inner_names::InnerNames;
 use plain_data::{Path, Text};
 use pool_types::Identity;
-use proto_types::join_text;
+use proto_types::{FieldDescriptorProto, join_text, tag};
 use record_walk::Place;
 use std::alloc::{AllocError, Global};
 
@@ -59,6 +64,35 @@ pub fn identity_inside(
     let path = Path::below(alloc, place.path, at.tag, at.position as i32)?;
     let full_name = join_text(alloc, place.full_name, name)?;
     Ok(named_at(place.file, path, full_name, name))
+}
+
+/// Where the next field of a message stands, whose full name is taken. Its position is below 2 to
+/// the 31st. The name begins in the full name where a character begins.
+///
+/// # Errors
+/// `AllocError` where memory was refused.
+#[inline(always)]
+pub fn identity_of_field(
+    names: &mut InnerNames,
+    message: Place,
+    position: usize,
+    field: &FieldDescriptorProto,
+) -> Result<Identity, AllocError>
+    requires position { position < 2 ^ 31 }
+    requires names { (rest : List FieldDescriptorProto)
+        × AreNamesOf names.old message.full_name.now (field.now ∷ rest) }
+    ensures id { IfOk result (λ id. id ≡ named_at message.entry.file
+        (entry_path message.entry.path.now FIELD position)
+        (join message.entry.full_name.now (text_of field.now.name)) (text_of field.now.name)) }
+    ensures begins { IfOk result (λ id. BeginsAtBoundary id) }
+    ensures names { OnOk result ((rest : List FieldDescriptorProto)
+        → AreNamesOf names.old message.entry.full_name.now (field.now ∷ rest)
+        → AreNamesOf names.new message.entry.full_name.now rest) }
+{
+    let tag = tag::message::FIELD;
+    let path = Path::below(names.alloc, message.path, tag, position as i32)?;
+    let full_name = names.next(message.full_name, field)?;
+    Ok(named_at(message.file, path, full_name, field.name()))
 }
 
 /// Where an entry of a list of a declaration stands that is named beside it. The declaration's own

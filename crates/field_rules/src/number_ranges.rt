@@ -36,18 +36,38 @@ impl NumberRanges {
     ///
     /// # Errors
     /// `AllocError` where memory was refused.
+    // Inlined, since most messages have no ranges.
+    #[inline(always)]
     pub fn new(alloc: Global, ranges: Vec<(i32, i32)>) -> Result<NumberRanges, AllocError>
         ensures { IfOk result (λ made. made ≡ ranges.items) }
     {
         let levels = levels_for(ranges.len());
-        let mut starts = Vec::new(alloc);
-        let mut ends = Vec::new(alloc);
         if levels > 0 {
-            let begin = starts_of(alloc, ranges.as_slice())?;
-            push_table(alloc, &mut starts, begin.as_slice(), levels)?;
-            let end = ends_of(alloc, ranges.as_slice())?;
-            push_table(alloc, &mut ends, end.as_slice(), levels)?;
+            return NumberRanges::with_tables(alloc, ranges, levels);
         }
+        Ok(NumberRanges {
+            ranges,
+            levels,
+            starts: Vec::new(alloc),
+            ends: Vec::new(alloc),
+        })
+    }
+
+    /// These ranges, halved so many times.
+    #[inline(never)]
+    fn with_tables(
+        alloc: Global,
+        ranges: Vec<(i32, i32)>,
+        levels: usize,
+    ) -> Result<NumberRanges, AllocError>
+        ensures { IfOk result (λ made. made ≡ ranges.items) }
+    {
+        let mut starts = Vec::new(alloc);
+        let begin = starts_of(alloc, ranges.as_slice())?;
+        push_table(alloc, &mut starts, begin.as_slice(), levels)?;
+        let mut ends = Vec::new(alloc);
+        let end = ends_of(alloc, ranges.as_slice())?;
+        push_table(alloc, &mut ends, end.as_slice(), levels)?;
         Ok(NumberRanges {
             ranges,
             levels,

@@ -40,14 +40,14 @@ impl Path {
     ///
     /// # Errors
     /// `AllocError` where memory was refused.
+    // Inlined, as the two below are, so that a short path is made where it stays.
+    #[inline(always)]
     pub fn from_slice(alloc: Global, numbers: &[i32]) -> Result<Path, AllocError>
         ensures { IfOk result (λ path. path ≡ numbers.now) }
     {
         let len = numbers.len();
         if len > INLINE {
-            return Ok(Path {
-                numbers: Numbers::Many(Vec::from_slice(alloc, numbers)?),
-            });
+            return Path::many(alloc, numbers, &[]);
         }
         Ok(Path {
             numbers: Numbers::Few(inline(numbers), len as u8),
@@ -58,6 +58,7 @@ impl Path {
     ///
     /// # Errors
     /// `AllocError` where memory was refused.
+    #[inline(always)]
     pub fn below(
         alloc: Global,
         numbers: &[i32],
@@ -68,13 +69,7 @@ impl Path {
     {
         let len = numbers.len();
         if len > INLINE - 2 {
-            let mut many = Vec::with_capacity(alloc, len.saturating_add(2))?;
-            many.extend_from_slice(numbers)?;
-            many.push(tag)?;
-            many.push(position)?;
-            return Ok(Path {
-                numbers: Numbers::Many(many),
-            });
+            return Path::many(alloc, numbers, &[tag, position]);
         }
         let mut few = inline(numbers);
         few[len] = tag;
@@ -88,22 +83,32 @@ impl Path {
     ///
     /// # Errors
     /// `AllocError` where memory was refused.
+    #[inline(always)]
     pub fn part(alloc: Global, numbers: &[i32], tag: i32) -> Result<Path, AllocError>
         ensures { IfOk result (λ path. path ≡ numbers.now ++ tag ∷ []) }
     {
         let len = numbers.len();
         if len > INLINE - 1 {
-            let mut many = Vec::with_capacity(alloc, len.saturating_add(1))?;
-            many.extend_from_slice(numbers)?;
-            many.push(tag)?;
-            return Ok(Path {
-                numbers: Numbers::Many(many),
-            });
+            return Path::many(alloc, numbers, &[tag]);
         }
         let mut few = inline(numbers);
         few[len] = tag;
         Ok(Path {
             numbers: Numbers::Few(few, len as u8 + 1),
+        })
+    }
+
+    /// A copy of the numbers and of their ending, which takes memory.
+    #[inline(never)]
+    fn many(alloc: Global, numbers: &[i32], ending: &[i32]) -> Result<Path, AllocError>
+        ensures { IfOk result (λ path. path ≡ numbers.now ++ ending.now) }
+    {
+        let len = numbers.len().saturating_add(ending.len());
+        let mut many = Vec::with_capacity(alloc, len)?;
+        many.extend_from_slice(numbers)?;
+        many.extend_from_slice(ending)?;
+        Ok(Path {
+            numbers: Numbers::Many(many),
         })
     }
 
@@ -133,7 +138,21 @@ impl Path {
 }
 
 /// The numbers, and zeros behind them.
+// Most paths lead to what stands in a file, or in a message there.
+#[inline(always)]
 fn inline(numbers: &[i32]) -> [i32; 8]
+    requires { length numbers.now ≤ 8 }
+    ensures { take (length numbers.now) result ≡ numbers.now }
+{
+    match numbers {
+        [a, b] => [*a, *b, 0, 0, 0, 0, 0, 0],
+        [a, b, c, d] => [*a, *b, *c, *d, 0, 0, 0, 0],
+        _ => copied(numbers),
+    }
+}
+
+/// The numbers, and zeros behind them, however many they are.
+fn copied(numbers: &[i32]) -> [i32; 8]
     requires { length numbers.now ≤ 8 }
     ensures { take (length numbers.now) result ≡ numbers.now }
 {

@@ -625,7 +625,7 @@ impl PartialEq for TextMap {
     }
 }
 
-/// How many entries there are.
+/// Only how many entries there are.
 impl fmt::Debug for TextMap {
     fn fmt<W: fmt::Write>(&self, f: &mut fmt::Formatter<W>) -> fmt::Result {
         f.debug_struct("TextMap").field("len", &self.len()).finish()

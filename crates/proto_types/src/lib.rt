@@ -12,7 +12,7 @@ mod text;
 
 pub use file::{FileDescriptorProto, FileDescriptorSet};
 pub use message::{DescriptorProto, ExtensionRange, OneofDescriptorProto, ReservedRange};
-pub use names::{join, join_text, write_joined};
+pub use names::{join, join_text, joined_len, push_joined, write_joined};
 pub use paths::entry_path;
 pub use records::{
     EnumDescriptorProto, EnumOptions, EnumReservedRange, EnumValueDescriptorProto,

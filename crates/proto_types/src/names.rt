@@ -1,4 +1,4 @@
-ghost use Rattle.std.specs.Prelude.{◌≡◌, IfOk, OnOk, string_bytes};
+ghost use Rattle.std.specs.Prelude.{◌≡◌, ◌++◌, length, IfOk, OnOk, string_bytes};
 ghost use Rattle.proto_types.specs.Names.{join};
 
 use plain_data::Text;
@@ -21,6 +21,7 @@ pub fn join(alloc: Global, scope: &str, name: &str) -> Result<String, AllocError
 ///
 /// # Errors
 /// `AllocError` where memory was refused.
+#[inline(always)]
 pub fn join_text(alloc: Global, scope: &str, name: &str) -> Result<Text, AllocError>
     ensures { IfOk result (λ full. full ≡ join scope.now name.now) }
 {
@@ -38,9 +39,30 @@ pub fn write_joined(full_name: &mut String, scope: &str, name: &str) -> Result<(
     ensures { OnOk result (string_bytes full_name.new ≡ join scope.now name.now) }
 {
     full_name.clear();
+    push_joined(full_name, scope, name)
+}
+
+/// Puts the full name of a name inside a scope behind a text.
+///
+/// # Errors
+/// `AllocError` where memory was refused. The text may be any then.
+pub fn push_joined(text: &mut String, scope: &str, name: &str) -> Result<(), AllocError>
+    ensures { OnOk result
+        (string_bytes text.new ≡ string_bytes text.old ++ join scope.now name.now) }
+{
     if !scope.is_empty() {
-        full_name.push_str(scope)?;
-        full_name.push('.')?;
+        text.push_str(scope)?;
+        text.push('.')?;
     }
-    full_name.push_str(name)
+    text.push_str(name)
+}
+
+/// How many bytes the full name of a name inside a scope has.
+pub fn joined_len(scope: &str, name: &str) -> usize
+    ensures { result ≡ length (join scope.now name.now) }
+{
+    if scope.is_empty() {
+        return name.len();
+    }
+    scope.len() + 1 + name.len()
 }

@@ -1,10 +1,12 @@
-ghost use Rattle.std.specs.Prelude.{◌≡◌, ◌<◌, true, IfOk, OnOk, length, get_or, unwrap_or};
+ghost use Rattle.std.specs.Prelude.{◌≡◌, ◌+◌, ◌<◌, true, IfOk, OnOk, length, drop, get_or};
+ghost use Rattle.std.specs.Prelude.{unwrap_or};
 ghost use Rattle.pool_types.specs.declared.kinds.KindIndex.TheVariants.{Double};
 ghost use Rattle.proto_types.specs.Field.{no_field};
 ghost use Rattle.proto_types.specs.declared.message.DescriptorProto.{out-DescriptorProto};
 ghost use Rattle.record_walk.specs.Counts.{lists_fit};
 ghost use Rattle.record_walk.specs.Protos.{of_field, of_message};
 ghost use Rattle.field_rules.specs.Bounds.{AreRangesOf};
+ghost use Rattle.field_rules.specs.InnerNames.{AreNamesOf};
 ghost use Rattle.reference_pass.specs.SecondPass.{field_record_faults};
 ghost use Rattle.reference_pass.specs.Defaults.{field_default};
 ghost use Rattle.reference_pass.specs.Types.{field_kind};
@@ -17,14 +19,14 @@ ghost use Rattle.pool_types.specs.Syntaxes.{is_proto3, syntax_at};
 use crate::reading::Reading;
 use crate::types::type_and_default;
 use field_rules::{
-    ListPlace, MessageRanges, Owner, check_field_number, check_oneof_index, identity_inside,
+    InnerNames, MessageRanges, Owner, check_field_number, check_oneof_index, identity_of_field,
     is_packed, item_number, oneof_of, supports_presence,
 };
 use plain_data::duplicate_option;
 use pool_types::{
     DefaultValue, FieldDescriptorInner, KindIndex, Syntax, cardinality_of, syntax_at,
 };
-use proto_types::{FieldDescriptorProto, tag};
+use proto_types::FieldDescriptorProto;
 use record_walk::Place;
 use std::alloc::AllocError;
 
@@ -37,11 +39,12 @@ pub(crate) struct FieldOwner<'a> {
     pub(crate) is_proto3: bool,
 }
 
-/// The item of the field of a message with a position. What the field breaks by itself is appended
-/// to `reading`: its number, its type, its default value, its oneof.
+/// The item of the field of a message with a position, whose full name comes next. What the field
+/// breaks by itself is appended to `reading`: its number, its type, its default value, its oneof.
 pub(crate) fn read_field(
     reading: &mut Reading,
     of: FieldOwner,
+    names: &mut InnerNames,
     position: usize,
 ) -> Result<FieldDescriptorInner, AllocError>
     requires short { lists_fit (of_message of.owner.message.now) ≡ true }
@@ -49,6 +52,8 @@ pub(crate) fn read_field(
     requires proto3 { of.is_proto3
         ≡ is_proto3 (syntax_at (setting_of reading.old).files of.owner.place.file) }
     requires there { position < length (out-DescriptorProto of.owner.message.now).field }
+    requires names { AreNamesOf names.old of.owner.place.full_name.now
+        (drop position (out-DescriptorProto of.owner.message.now).field) }
     ensures item { IfOk result (λ item. item
         ≡ field_item (setting_of reading.old)
         (out-DescriptorProto of.entry.owner.message.now).oneof_decl
@@ -56,6 +61,8 @@ pub(crate) fn read_field(
         (get_or (out-DescriptorProto of.entry.owner.message.now).field position no_field))
         (get_or (out-DescriptorProto of.entry.owner.message.now).field position no_field)) }
     ensures begins { IfOk result (λ item. BeginsAtBoundary item.id) }
+    ensures names { OnOk result (AreNamesOf names.new of.entry.owner.place.full_name.now
+        (drop (position + 1) (out-DescriptorProto of.entry.owner.message.now).field)) }
     ensures faults { OnOk result (ReadingTells reading.old reading.new
         (field_record_faults (setting_of reading.old)
         (message_at of.entry.owner.place of.entry.owner.message.now, of.entry.owner.message.now)
@@ -66,11 +73,7 @@ pub(crate) fn read_field(
     let alloc = reading.faults.alloc;
     let around = of.owner.place;
     let field = &of.owner.message.field.as_slice()[position];
-    let at = ListPlace {
-        tag: tag::message::FIELD,
-        position,
-    };
-    let id = identity_inside(alloc, around, at, field.name())?;
+    let id = identity_of_field(names, around, position, field)?;
     let place = Place {
         file: around.file,
         parent: Some(around.index),

@@ -16,7 +16,9 @@ ghost use Rattle.reference_pass.specs.Reading.{ReadingTells, setting_of};
 
 use crate::field::{FieldOwner, is_proto3, read_field};
 use crate::reading::Reading;
-use field_rules::{FieldMaps, ListPlace, MessageRanges, Owner, identity, identity_inside, members};
+use field_rules::{
+    FieldMaps, InnerNames, ListPlace, MessageRanges, Owner, identity, identity_inside, members,
+};
 use plain_data::{Items, NumberMap};
 use pool_types::{FieldDescriptorInner, MessageDescriptorInner, OneofDescriptorInner};
 use proto_types::{DescriptorProto, tag};
@@ -95,9 +97,11 @@ fn read_fields(
         (out-DescriptorProto of.entry.owner.message.now).field)) }
 {
     let fields = of.owner.message.field.as_slice();
-    let mut items = Vec::with_capacity(reading.faults.alloc, fields.len())?;
+    let alloc = reading.faults.alloc;
+    let mut names = InnerNames::new(alloc, of.owner.place.full_name, fields)?;
+    let mut items = Vec::with_capacity(alloc, fields.len())?;
     for position in 0..fields.len() {
-        items.push(read_field(reading, of, position)?)?;
+        items.push(read_field(reading, of, &mut names, position)?)?;
         maps.insert(&mut reading.faults, of.owner, position)?;
     }
     Ok(items)

@@ -1,4 +1,5 @@
-use Rattle.std.proofs.Common.{◌≡◌, List, Some, rules, FitsSigned, w32, to_z-of_z, get_or, unwrap_or, ap, subst, ◌∙◌}
+use Rattle.std.proofs.Common.{◌≡◌, ℕ, ◌+◌, ◌<◌, List, ◌∷◌, Some, rules, FitsSigned, w32, to_z-of_z, length, drop, get_or, unwrap_or, ap, sym, subst, ◌∙◌, add-one}
+use Rattle.std.proofs.Math.Seq.{drop-cons}
 use Rattle.std.proofs.lemmas.List.{get_or_default}
 use Rattle.pool_types.specs.Kinds.{cardinality_of}
 use Rattle.pool_types.specs.declared.kinds.KindIndex.TheVariants.{Double}
@@ -14,6 +15,7 @@ use Rattle.record_walk.specs.Shown.{Shown}
 use Rattle.proto_types.specs.Paths.{entry_path}
 use Rattle.field_rules.specs.Encoding.{is_packed, supports_presence}
 use Rattle.field_rules.specs.Identities.{identity, named_at}
+use Rattle.field_rules.specs.InnerNames.{AreNamesOf}
 use Rattle.field_rules.specs.Maps.{item_number}
 use Rattle.field_rules.specs.Oneofs.{oneof_of}
 use Rattle.record_walk.specs.Place.{field_at, inside_of, message_at}
@@ -23,6 +25,31 @@ use Rattle.reference_pass.specs.Types.{field_kind}
 use Rattle.reference_pass.specs.Reading.{setting_of}
 use Rattle.reference_pass.proofs.Readings.{reads-as}
 use Rattle.reference_pass.proofs.field.read_field.Goals as goal
+
+-- the field comes next, before those behind it
+came : (fs : List FieldDescriptorProto) (i : ℕ) (g : FieldDescriptorProto) → i < length fs → g ≡ get_or fs i no_field → drop i fs ≡ g ∷ drop (i + 1) fs
+came fs i g there own =
+    let next : drop i fs ≡ get_or fs i no_field ∷ drop (i + 1) fs = rw add-one (drop-cons fs i no_field there) in
+    next ∙ ap (λ h. h ∷ drop (i + 1) fs) (sym own)
+
+pub identity_of_field-requires-clause-names : goal.identity_of_field-requires-clause-names
+identity_of_field-requires-clause-names c =
+    let i = c.args.position in
+    let fs = (out-DescriptorProto c.args.of.owner.message.now).field in
+    let g = c.index-as_slice-position.result in
+    let is = subst (λ (fs : List FieldDescriptorProto). g ≡ get_or fs i g) c.as_slice.ensures c.index-as_slice-position.is in
+    let own : g ≡ get_or fs i no_field = is ∙ get_or_default fs i g no_field c.requires.there in
+    (drop (i + 1) fs, subst (AreNamesOf c.args.names.now c.args.of.owner.place.full_name.now) (came fs i g c.requires.there own) c.requires.names)
+
+-- the names of those are left
+pub returns-clause-names : goal.returns-clause-names
+returns-clause-names c =
+    let i = c.args.position in
+    let fs = (out-DescriptorProto c.args.of.owner.message.now).field in
+    let g = c.index-as_slice-position.result in
+    let is = subst (λ (fs : List FieldDescriptorProto). g ≡ get_or fs i g) c.as_slice.ensures c.index-as_slice-position.is in
+    let own : g ≡ get_or fs i no_field = is ∙ get_or_default fs i g no_field c.requires.there in
+    c.in_ok-id.ensures.names (drop (i + 1) fs) (subst (AreNamesOf c.args.names.now c.args.of.owner.place.full_name.now) (came fs i g c.requires.there own) c.requires.names)
 
 -- the name of a field ends its full name
 pub returns-clause-begins : goal.returns-clause-begins
@@ -40,8 +67,7 @@ returns-clause-item c =
     let f = get_or m.field i no_field in
     let is = subst (λ (fs : List FieldDescriptorProto). g ≡ get_or fs i g) c.as_slice.ensures c.index-as_slice-position.is in
     let own : g ≡ f = is ∙ get_or_default m.field i g no_field c.requires.there in
-    let name = c.name.ensures ∙ ap (λ h. text_of h.name) own in
-    let id : c.in_ok-id.id ≡ identity (field_at (inside_of place) i f) = c.in_ok-id.ensures.id ∙ ap (λ n. named_at place.file (entry_path place.path.now FIELD i) (join place.full_name.now n) n) name in
+    let id : c.in_ok-id.id ≡ identity (field_at (inside_of place) i f) = c.in_ok-id.ensures.id ∙ ap (λ (h : FieldDescriptorProto). named_at place.file (entry_path place.path.now FIELD i) (join place.full_name.now (text_of h.name)) (text_of h.name)) own in
     let there : Shown = record { file = place.file; parent = Some place.index; index = i; path = c.as_slice-2.result.now; full_name = c.as_str.result.now; proto = of_field g } in
     let same : there ≡ field_at (inside_of place) i f = λ j. record {
       file = place.file;
@@ -78,8 +104,7 @@ returns-clause-faults c =
     let f = get_or m.field i no_field in
     let is = subst (λ (fs : List FieldDescriptorProto). g ≡ get_or fs i g) c.as_slice.ensures c.index-as_slice-position.is in
     let own : g ≡ f = is ∙ get_or_default m.field i g no_field c.requires.there in
-    let name = c.name.ensures ∙ ap (λ h. text_of h.name) own in
-    let id : c.in_ok-id.id ≡ identity (field_at (inside_of place) i f) = c.in_ok-id.ensures.id ∙ ap (λ n. named_at place.file (entry_path place.path.now FIELD i) (join place.full_name.now n) n) name in
+    let id : c.in_ok-id.id ≡ identity (field_at (inside_of place) i f) = c.in_ok-id.ensures.id ∙ ap (λ (h : FieldDescriptorProto). named_at place.file (entry_path place.path.now FIELD i) (join place.full_name.now (text_of h.name)) (text_of h.name)) own in
     let there : Shown = record { file = place.file; parent = Some place.index; index = i; path = c.as_slice-2.result.now; full_name = c.as_str.result.now; proto = of_field g } in
     let same : there ≡ field_at (inside_of place) i f = λ j. record {
       file = place.file;

@@ -46,6 +46,7 @@ loop-position-preserved c =
       begin = subst (All Begins) (sym c.in_ok-push.ensures.items)
           (All-push Begins c.loop-position.items.items c.in_ok-read_field.field-0 c.loop-position.invariant.begin c.in_ok-read_field.ensures.begins);
       maps = c.in_ok-insert.ensures.maps;
+      names = c.in_ok-read_field.ensures.names;
       faults = reads-next (λ t n g. field_faults t owner (field_at here n g) g) m.field i f below is so_far refl
           (reads-two own (reads-as (ap (λ t. duplicate_faults t.files owner.0.file owner.0.path (take i m.field) i f) (same-setting own)) (reads-told c.in_ok-insert.ensures.faults)));
     }

@@ -4,8 +4,8 @@ use Rattle.std.specs.Str.{IsUtf8}
 use Rattle.plain_data.proofs.text.Text.concatenated.Goals as goal
 
 -- texts behind one another are a text
-pub invariant_of-result-2 : goal.invariant_of-result-2
-invariant_of-result-2 c =
+pub invariant_of-result : goal.invariant_of-result
+invariant_of-result c =
     let first = c.args.first.now in
     let second = c.args.second.now in
     let third = c.args.third.now in

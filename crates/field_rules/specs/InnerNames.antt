@@ -1,0 +1,15 @@
+-- The full names of the fields of a message, one behind another.
+use Rattle.std.specs.Prelude.{◌≡◌, ℕ, List, IfSome}
+use Rattle.std.specs.List.{flat_map}
+use Rattle.proto_types.specs.Names.{join}
+use Rattle.proto_types.specs.Readers.{text_of}
+use Rattle.proto_types.specs.declared.records.field.FieldDescriptorProto.{FieldDescriptorProto}
+use Rattle.field_rules.specs.declared.inner_names.InnerNames.{InnerNames}
+
+-- the full names of fields in a scope, one behind another
+abbrev pub names_behind : List ℕ → List FieldDescriptorProto → List ℕ
+names_behind scope fields = flat_map (λ f. join scope (text_of f.name)) fields
+
+-- names that share their memory are those of fields in a scope
+abbrev pub AreNamesOf : InnerNames → List ℕ → List FieldDescriptorProto → Type 0
+AreNamesOf names scope fields = IfSome names.shared (λ text. text ≡ names_behind scope fields)
