@@ -1,4 +1,5 @@
 ghost use Rattle.std.specs.Prelude.{◌≡◌, [], ◌∷◌, ◌++◌, ◌≤◌, take, length, IfOk};
+ghost use Rattle.plain_data.specs.Lists.{listed};
 ghost use Rattle.plain_data.specs.Paths.{numbers_of};
 
 use crate::Duplicate;
@@ -47,7 +48,7 @@ impl Path {
     {
         let len = numbers.len();
         if len > INLINE {
-            return Path::many(alloc, numbers, &[]);
+            return Path::copied(alloc, numbers);
         }
         Ok(Path {
             numbers: Numbers::Few(inline(numbers), len as u8),
@@ -69,7 +70,7 @@ impl Path {
     {
         let len = numbers.len();
         if len > INLINE - 2 {
-            return Path::many(alloc, numbers, &[tag, position]);
+            return Path::many(alloc, numbers, tag, Some(position));
         }
         let mut few = inline(numbers);
         few[len] = tag;
@@ -89,7 +90,7 @@ impl Path {
     {
         let len = numbers.len();
         if len > INLINE - 1 {
-            return Path::many(alloc, numbers, &[tag]);
+            return Path::many(alloc, numbers, tag, None);
         }
         let mut few = inline(numbers);
         few[len] = tag;
@@ -98,15 +99,32 @@ impl Path {
         })
     }
 
-    /// A copy of the numbers and of their ending, which takes memory.
+    /// A copy of the numbers, which takes memory.
     #[inline(never)]
-    fn many(alloc: Global, numbers: &[i32], ending: &[i32]) -> Result<Path, AllocError>
-        ensures { IfOk result (λ path. path ≡ numbers.now ++ ending.now) }
+    fn copied(alloc: Global, numbers: &[i32]) -> Result<Path, AllocError>
+        ensures { IfOk result (λ path. path ≡ numbers.now) }
     {
-        let len = numbers.len().saturating_add(ending.len());
-        let mut many = Vec::with_capacity(alloc, len)?;
+        Ok(Path {
+            numbers: Numbers::Many(Vec::from_slice(alloc, numbers)?),
+        })
+    }
+
+    /// A copy of the numbers, and one or two more behind them, which takes memory.
+    #[inline(never)]
+    fn many(
+        alloc: Global,
+        numbers: &[i32],
+        tag: i32,
+        position: Option<i32>,
+    ) -> Result<Path, AllocError>
+        ensures { IfOk result (λ path. path ≡ numbers.now ++ tag ∷ listed position) }
+    {
+        let mut many = Vec::with_capacity(alloc, numbers.len().saturating_add(2))?;
         many.extend_from_slice(numbers)?;
-        many.extend_from_slice(ending)?;
+        many.push(tag)?;
+        if let Some(position) = position {
+            many.push(position)?;
+        }
         Ok(Path {
             numbers: Numbers::Many(many),
         })
@@ -147,12 +165,12 @@ fn inline(numbers: &[i32]) -> [i32; 8]
     match numbers {
         [a, b] => [*a, *b, 0, 0, 0, 0, 0, 0],
         [a, b, c, d] => [*a, *b, *c, *d, 0, 0, 0, 0],
-        _ => copied(numbers),
+        _ => padded(numbers),
     }
 }
 
 /// The numbers, and zeros behind them, however many they are.
-fn copied(numbers: &[i32]) -> [i32; 8]
+fn padded(numbers: &[i32]) -> [i32; 8]
     requires { length numbers.now ≤ 8 }
     ensures { take (length numbers.now) result ≡ numbers.now }
 {

@@ -348,8 +348,8 @@ fn is_dotted(reference: &Option<Text>, full_name: &str) -> bool
     let Some(name) = reference else {
         return false;
     };
-    match name.as_str().strip_prefix('.') {
-        Some(rest) => rest == full_name,
+    match name.as_str().as_bytes().split_first() {
+        Some((first, rest)) => *first == b'.' && rest == full_name.as_bytes(),
         None => false,
     }
 }
