@@ -14,3 +14,4 @@ pub mod Around
 pub mod Innermost
 pub mod Held
 pub mod Found
+pub mod FirstParts

@@ -5,7 +5,8 @@ use Rattle.std.specs.Option.{option_map, option_map_or}
 use Rattle.std.proofs.lemmas.List.{length-map}
 use Rattle.std.proofs.lemmas.Option.{slice_get-map}
 use Rattle.name_tables.specs.Tree.{branch}
-use Rattle.name_tables.specs.Nodes.{Row, branch_of, branches_of, Key, as_key, key_of, key_at, front_digest, digest_from, child_digest, taken_in}
+use Rattle.plain_data.specs.Digests.{digest_after}
+use Rattle.name_tables.specs.Nodes.{Row, branch_of, branches_of, Key, as_key, key_of, key_at, front_digest, child_digest}
 
 -- what is read of an element is read of what a function keeps of it
 map_or-through : {X Y Z : Type 0} (f : X → Y) (g : Y → Z) (other : Z) (found : Option X) → option_map_or g (option_map f found) other ≡ option_map_or (λ x. g (f x)) found other
@@ -36,11 +37,11 @@ module _ (xs ys : List Row) where
   -- names of children of a branch with the same key begin with the same digest
   front-same : (parent : ℕ) → key_at xs parent ≡ key_at ys parent → front_digest xs parent ≡ front_digest ys parent
   front-same zero same = refl
-  front-same (suc k) same = ap (λ (key : Key). taken_in key.digest 46) same
+  front-same (suc k) same = ap (λ (key : Key). key.digest) same
 
   -- and so has each name the same digest
   pub digest-same : (parent : ℕ) (part : List ℕ) → key_at xs parent ≡ key_at ys parent → child_digest xs parent part ≡ child_digest ys parent part
-  digest-same parent part same = ap (λ front. digest_from front part) (front-same parent same)
+  digest-same parent part same = ap (λ front. digest_after front part) (front-same parent same)
 
   -- a key has the digest of its name where it had it before
   pub digests-same : (k : ℕ) → key_at xs k ≡ key_at ys k → key_at xs (key_at ys k).parent ≡ key_at ys (key_at ys k).parent

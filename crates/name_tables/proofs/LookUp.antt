@@ -1,19 +1,20 @@
 -- How a branch is found by its whole name.
-use Rattle.std.proofs.Common.{◌≡◌, ◌≢◌, ◌<◌, ◌≤◌, ℕ, zero, suc, Bool, true, cond, ltb, List, [], ◌∷◌, ◌++◌, None, Some, length, refl, ap, sym, subst, ◌∙◌, le_refl, append_assoc, get_or, arith}
+use Rattle.std.proofs.Common.{◌≡◌, ◌≢◌, ◌<◌, ℕ, zero, suc, Bool, true, cond, ltb, List, [], ◌∷◌, ◌++◌, None, Some, length, refl, ap, sym, subst, ◌∙◌, append_assoc, get_or, arith}
 use Rattle.std.specs.List.{slice_get}
 use Rattle.std.specs.Option.{option_map}
 use Rattle.std.proofs.lemmas.Bool.{lt-ltb}
 use Rattle.std.proofs.lemmas.List.{length-map, append_cancel_right}
 use Rattle.std.proofs.lemmas.Option.{none-some, slice_get-map}
 use Rattle.name_tables.specs.Tree.{Branch, IsChild, IsTree, IsDescendant, path}
-use Rattle.name_tables.specs.Nodes.{Row, row, rows, branches_of, branch_of, child_at, Key, key_at, front_digest, first_digest, digest_from, digest_of, taken_in, digit_of, digit_at, slot_at, IsFoundFrom, IsFound, IsTrie}
+use Rattle.name_tables.specs.Nodes.{Row, row, rows, branches_of, branch_of, child_at, Key, key_at, front_digest, digest_along, digest_of, digest_digit, digit_at, slot_at, IsFoundFrom, IsFound, IsTrie}
+use Rattle.plain_data.specs.Digests.{digest_after}
 use Rattle.name_tables.specs.Parts.{name_of, parts}
 use Rattle.name_tables.specs.declared.nodes.Slot.{Slot}
 use Rattle.name_tables.specs.declared.nodes.Node.{Node}
 use Rattle.name_tables.proofs.NameParts.{name_of-last, parts-name_of, parts-some}
 use Rattle.name_tables.proofs.Rows.{length-rows, row-read}
 use Rattle.name_tables.proofs.Paths.{descendant-some, name-descendant, path-child, path-descendant, path-whole}
-use Rattle.name_tables.proofs.Slots.{child-node, found-one, found-past, found-some}
+use Rattle.name_tables.proofs.Slots.{child-key, found-one, found-past, found-some}
 
 -- what stands before the part in the name of a child
 abbrev pub before_part : List Branch → ℕ → List ℕ
@@ -80,18 +81,13 @@ module _ (parts : List (List ℕ)) (nodes : List Node) (tree : IsTree (branches_
       pub node-front : text ≡ name_of (path (branches_of (rows parts nodes)) at) → front ≡ before_part (branches_of (rows parts nodes)) node.parent
       node-front is = append_cancel_right front (before_part (branches_of (rows parts nodes)) node.parent) part (sym split ∙ is ∙ node-named)
 
--- the digest of a text behind another goes on from that of the other
-digest_from-append : (digest : ℕ) (xs ys : List ℕ) → digest_from digest (xs ++ ys) ≡ digest_from (digest_from digest xs) ys
-digest_from-append digest [] ys = refl
-digest_from-append digest (x ∷ xs) ys = digest_from-append (taken_in digest x) xs ys
-
 -- what is chosen where a test holds
 cond-first : (b : Bool) (x y : ℕ) → b ≡ true → cond b x y ≡ x
 cond-first b x y is = ap (λ b. cond b x y) is
 
 -- the first digits of a key are those of its digest
-digit-first : (key : Key) (level : ℕ) → level < 16 → digit_at key level ≡ digit_of key.digest level
-digit-first key level low = cond-first (ltb level 16) (digit_of key.digest level) _ (lt-ltb level 16 low)
+digit-first : (key : Key) (level : ℕ) → level < 16 → digit_at key level ≡ digest_digit key.digest level
+digit-first key level low = cond-first (ltb level 16) (digest_digit key.digest level) _ (lt-ltb level 16 low)
 
 -- a search has come to a branch, and what has the name lies ahead
 abbrev pub IsAhead : List Row → List ℕ → ℕ → ℕ → Type 0
@@ -102,23 +98,21 @@ module _ (nodes : List Row) (trie : IsTrie nodes) (tree : IsTree (branches_of no
   inside-branches : (k : ℕ) → k < length nodes → k < length (branches_of nodes)
   inside-branches k inside = subst (λ n. k < n) (sym (length-map nodes branch_of)) inside
 
-  -- the digest of a name up to the part
-  front-named : (parent : ℕ) → (0 < parent → (key_at nodes parent).digest ≡ digest_of (name_of (path (branches_of nodes) parent))) → front_digest nodes parent ≡ digest_of (before_part (branches_of nodes) parent)
-  front-named zero named = refl
-  front-named (suc p) named =
-      ap (λ digest. taken_in digest 46) (named (omega arith)) ∙ sym (digest_from-append first_digest (name_of (path (branches_of nodes) (suc p))) (46 ∷ []))
+  -- what stands before the names of its children has the digest of a branch
+  front-own : (k : ℕ) → 0 < k → (key_at nodes k).digest ≡ front_digest nodes k
+  front-own zero above = absurd (omega arith)
+  front-own (suc k) above = refl
 
-  -- each of the first branches has the digest of its whole name
-  digest-upto : (n k : ℕ) → k ≤ n → 0 < k → k < length nodes → (key_at nodes k).digest ≡ digest_of (name_of (path (branches_of nodes) k))
-  digest-upto zero k low above inside = absurd (omega arith)
-  digest-upto (suc n) k low above inside =
-      let key : Key = key_at nodes k in
-      let below : IsChild (branches_of nodes) key.parent key.part k = child-node nodes k above inside in
-      let up : key.parent < k = trie.parents k above inside in
-      trie.digests k above inside
-      ∙ ap (λ front. digest_from front key.part) (front-named key.parent (λ some. digest-upto n key.parent (omega arith) some (omega arith)))
-      ∙ sym (digest_from-append first_digest (before_part (branches_of nodes) key.parent) key.part)
-      ∙ ap digest_of (sym (name-child (branches_of nodes) tree key.parent key.part k below (inside-branches k inside)))
+  -- a child has the digest of its part behind its parent's
+  digest-child : (from : ℕ) (part : List ℕ) (k : ℕ) → IsChild (branches_of nodes) from part k → front_digest nodes k ≡ digest_after (front_digest nodes from) part
+  digest-child from part k below =
+      sym (front-own k below.0) ∙ ap (λ (key : Key). key.digest) (child-key nodes from part k below trie)
+
+  -- parts that lead down from a branch go on from its digest
+  digest-down : (from : ℕ) (ps : List (List ℕ)) (k : ℕ) → IsDescendant (branches_of nodes) from ps k → front_digest nodes k ≡ digest_along (front_digest nodes from) ps
+  digest-down from [] k down = ap (front_digest nodes) (sym down)
+  digest-down from (p ∷ ps) k (j, below, down) =
+      digest-down j ps k down ∙ ap (λ front. digest_along front ps) (digest-child from p j below)
 
   module _ (name : List ℕ) where
     -- the branch to which the parts of a name lead is not the root
@@ -129,7 +123,7 @@ module _ (nodes : List Row) (trie : IsTrie nodes) (tree : IsTree (branches_of no
 
     -- it has the digest of the name
     descendant-digest : (k : ℕ) → IsDescendant (branches_of nodes) 0 (parts name) k → (key_at nodes k).digest ≡ digest_of name
-    descendant-digest k down = digest-upto k k (le_refl k) (descendant-inside k down).0 (descendant-inside k down).1 ∙ ap digest_of (sym (name-descendant (branches_of nodes) tree name k down))
+    descendant-digest k down = front-own k (descendant-inside k down).0 ∙ digest-down 0 (parts name) k down
 
     -- a search begins at the root
     pub ahead-first : IsAhead nodes name 0 0
@@ -148,19 +142,19 @@ module _ (nodes : List Row) (trie : IsTrie nodes) (tree : IsTree (branches_of no
 
     module _ (digest level at : ℕ) (is : digest ≡ digest_of name) (low : level < 16) (ahead : IsAhead nodes name level at) where
       -- the slot at which the search goes on is known by the digest
-      slot_at-descendant : (k : ℕ) → IsDescendant (branches_of nodes) 0 (parts name) k → slot_at (key_at nodes k) level at ≡ record { node = at; digit = digit_of digest level }
+      slot_at-descendant : (k : ℕ) → IsDescendant (branches_of nodes) 0 (parts name) k → slot_at (key_at nodes k) level at ≡ record { node = at; digit = digest_digit digest level }
       slot_at-descendant k down =
           let at_digit : ℕ → Slot = λ digit. record { node = at; digit = digit } in
-          ap at_digit (digit-first (key_at nodes k) level low ∙ ap (λ number. digit_of number level) (descendant-digest k down ∙ sym is))
+          ap at_digit (digit-first (key_at nodes k) level low ∙ ap (λ number. digest_digit number level) (descendant-digest k down ∙ sym is))
 
       -- where nothing stands, nothing has the name
-      pub ahead-none : child_at nodes (record { node = at; digit = digit_of digest level }) ≡ None → (k : ℕ) → IsDescendant (branches_of nodes) 0 (parts name) k → ⊥
+      pub ahead-none : child_at nodes (record { node = at; digit = digest_digit digest level }) ≡ None → (k : ℕ) → IsDescendant (branches_of nodes) 0 (parts name) k → ⊥
       ahead-none none k down =
           let stands = found-some nodes (key_at nodes k) k (slot_at (key_at nodes k) level at) level (ahead k down) in
           none-some stands.0 (sym none ∙ ap (child_at nodes) (sym (slot_at-descendant k down)) ∙ stands.1)
 
       -- and it lies behind a branch with another key
-      pub ahead-next : (next : ℕ) → child_at nodes (record { node = at; digit = digit_of digest level }) ≡ Some next
+      pub ahead-next : (next : ℕ) → child_at nodes (record { node = at; digit = digest_digit digest level }) ≡ Some next
           → ((k : ℕ) → IsDescendant (branches_of nodes) 0 (parts name) k → key_at nodes next ≢ key_at nodes k) → IsAhead nodes name (suc level) next
       ahead-next next stands apart k down =
           found-past nodes (key_at nodes k) k (slot_at (key_at nodes k) level at) level next (ahead k down) (ap (child_at nodes) (slot_at-descendant k down) ∙ stands) (apart k down)

@@ -1,18 +1,21 @@
 -- A name is its parts with a dot between each two, and its parts have no dots.
-use Rattle.std.proofs.Common.{◌≡◌, ◌≢◌, ◌<◌, arith, ℕ, suc, Bool, true, false, cond, eqb, Option, None, Some, List, [], ◌∷◌, ◌++◌, length, get_or, Bor, append_assoc, refl, ap, sym, subst, ◌∙◌}
-use Rattle.std.specs.List.{All, onto_first}
+use Rattle.std.proofs.Common.{◌≡◌, ◌≢◌, ◌<◌, ◌≤◌, arith, ltb, ◌⊎◌, inl, inr, ℕ, zero, suc, take, drop, le_refl, Bool, true, false, cond, eqb, None, Some, List, [], ◌∷◌, ◌++◌, length, get_or, append_assoc, refl, ap, sym, subst, ◌∙◌}
+use Rattle.std.specs.List.{All, onto_first, position, position_or_len}
+use Rattle.std.proofs.lemmas.List.Quantifiers.{position-Some}
+use Rattle.std.proofs.lemmas.List.Sums.{fails_before_first}
 use Rattle.std.proofs.lemmas.List.Elements.{All-nil, All-cons, All-head, All-tail}
 use Rattle.std.proofs.lemmas.List.Splits.{length-slice_split, slice_split_at, slice_split_none, slice_split-cons_yes, slice_split-cons_no, join_with_byte-slice_split}
-use Rattle.std.specs.Option.{MatchOption}
+use Rattle.std.proofs.lemmas.Option.{none-some}
 use Rattle.std.specs.Str.{NoCharPasses}
 use Rattle.std.specs.Str.Pattern.{RFindsChar, SplitsAroundMatch}
 use Rattle.std.proofs.lemmas.List.{take-append-drop}
-use Rattle.std.proofs.lemmas.Str.Pattern.{IsSplitOnceResult, split_parts, NoCharPasses-char, drop_at_char}
+use Rattle.std.proofs.lemmas.Str.Pattern.{NoCharPasses-char, drop_at_char}
+use Rattle.std.proofs.lemmas.Bool.{cases_lt, eqb-true, lt-ltb}
 use Rattle.std.proofs.lemmas.Bool.Decides.{nat_tests}
 use Rattle.name_tables.specs.Parts.{parts, name_of}
 
 -- a byte is a dot
-abbrev is_dot : ℕ → Bool
+abbrev pub is_dot : ℕ → Bool
 is_dot byte = eqb byte 46
 
 -- any other byte is no dot
@@ -33,12 +36,49 @@ undotted [] none = All-nil (λ c. is_dot c ≡ false)
 undotted (c ∷ cs) none =
     All-cons (λ c. is_dot c ≡ false) c cs (no_dot c (none 0 (omega arith))) (undotted cs (λ i below. none (suc i) (omega arith)))
 
--- the first part and those behind its dot, where a name was split
-pub parts-split : (name : List ℕ) (found : Option (Bor (List ℕ) × Bor (List ℕ))) → IsSplitOnceResult 46 name found → MatchOption found (parts name ≡ name ∷ []) (λ x. parts name ≡ x.0.now ∷ parts x.1.now)
-parts-split name None split = slice_split_none is_dot name (undotted name (split_parts 46 name None split (omega arith)))
-parts-split name (Some x) split =
-    let cut = split_parts 46 name (Some x) split (omega arith) in
-    ap parts cut.0 ∙ slice_split_at is_dot x.0.now 46 x.1.now (undotted x.0.now cut.1) refl
+-- what stands before a place, where nothing is a dot
+before-all : (name : List ℕ) (at : ℕ) → at ≤ length name → ((k : ℕ) → k < at → is_dot (get_or name k 0) ≡ false) → All (λ c. is_dot c ≡ false) (take at name)
+before-all name zero within none = All-nil (λ c. is_dot c ≡ false)
+before-all [] (suc at) within none = absurd (omega arith)
+before-all (c ∷ cs) (suc at) within none = All-cons (λ c. is_dot c ≡ false) c (take at cs) (none 0 (omega arith)) (before-all cs at (omega arith) (λ k below. none (suc k) (omega arith)))
+
+-- a name is what stands before a place, what stands there, and what stands behind it
+cut-at : (name : List ℕ) (at : ℕ) → at < length name → name ≡ take at name ++ get_or name at 0 ∷ drop (suc at) name
+cut-at [] at within = absurd (omega arith)
+cut-at (c ∷ cs) zero within = refl
+cut-at (c ∷ cs) (suc at) within = ap (λ bytes. c ∷ bytes) (cut-at cs at (omega arith))
+
+-- a byte below 128 stands where the first dot does
+pub dot-there : (name : List ℕ) (at : ℕ) → position is_dot name ≡ Some at → (at < length name) × (get_or name at 0 < 128)
+dot-there name at is =
+    let found = position-Some is_dot name at 0 is in
+    let dot : get_or name at 0 ≡ 46 = eqb-true (get_or name at 0) 46 found.1 in
+    (found.0, omega (arith, dot))
+
+-- the first part and those behind the first dot
+pub parts-first : (name : List ℕ) (at : ℕ) → position is_dot name ≡ Some at → parts name ≡ take at name ∷ parts (drop (suc at) name)
+parts-first name at is =
+    let found = position-Some is_dot name at 0 is in
+    ap parts (cut-at name at found.0)
+    ∙ slice_split_at is_dot (take at name) (get_or name at 0) (drop (suc at) name) (before-all name at (omega (arith, found.0)) found.2) found.1
+
+take-whole : (xs : List ℕ) → take (length xs) xs ≡ xs
+take-whole [] = refl
+take-whole (x ∷ xs) = ap (λ ys. x ∷ ys) (take-whole xs)
+
+nowhere : (at len : ℕ) → cond (ltb at len) (Some at) None ≡ None → len ≤ at
+nowhere at len none = next (cases_lt at len)
+  where
+    next : (at < len) ⊎ (len ≤ at) → len ≤ at
+    next (inl less) = let some : cond (ltb at len) (Some at) None ≡ Some at = ap (λ b. cond b (Some at) None) (lt-ltb at len less) in absurd (none-some at (sym none ∙ some))
+    next (inr beyond) = beyond
+
+-- a name without a dot is one part
+pub parts-one : (name : List ℕ) → position is_dot name ≡ None → parts name ≡ name ∷ []
+parts-one name none =
+    let far : length name ≤ position_or_len is_dot name = nowhere (position_or_len is_dot name) (length name) none in
+    let plain = before-all name (length name) (le_refl (length name)) (λ k below. fails_before_first is_dot name k 0 (omega (arith, far, below))) in
+    slice_split_none is_dot name (subst (All (λ c. is_dot c ≡ false)) (take-whole name) plain)
 
 -- an element before the first of the parts
 onto_first-append : (c : ℕ) (ps qs : List (List ℕ)) → ps ≢ [] → onto_first c (ps ++ qs) ≡ onto_first c ps ++ qs

@@ -3,7 +3,7 @@ use Rattle.std.proofs.Common.{◌≡◌, ◌≢◌, ◌<◌, arith, ℕ, zero, s
 use Rattle.std.specs.List.{slice_get}
 use Rattle.std.specs.Option.{option_map_or}
 use Rattle.std.proofs.lemmas.Option.{slice_get_read}
-use Rattle.name_tables.specs.Nodes.{as_key, key_of, front_digest, taken_in, row, rows}
+use Rattle.name_tables.specs.Nodes.{as_key, key_of, front_digest, row, rows}
 use Rattle.name_tables.specs.declared.nodes.Node.{Node}
 
 -- there are as many as nodes
@@ -49,10 +49,10 @@ module _ (parts : List (List ℕ)) (nodes : List Node) (at : ℕ) (node : Node) 
 
 -- the digest of a name up to the part below a node that is read
 pub front-row : (parts : List (List ℕ)) (nodes : List Node) (parent : ℕ) (node : Node) → parent ≢ 0 → parent < length nodes → node ≡ get_or nodes parent node
-    → front_digest (rows parts nodes) parent ≡ taken_in node.digest 46
+    → front_digest (rows parts nodes) parent ≡ node.digest
 front-row parts nodes zero node some inside read = absurd (some refl)
 front-row parts nodes (suc k) node some inside read =
-    ap (λ found. taken_in (option_map_or key_of found (as_key 0 0 [])).digest 46) (row-some parts nodes (suc k) node inside read).1
+    ap (λ found. (option_map_or key_of found (as_key 0 0 [])).digest) (row-some parts nodes (suc k) node inside read).1
 
 -- one more of both is one more
 pub rows-push : (parts : List (List ℕ)) (nodes : List Node) (part : List ℕ) (node : Node) → length parts ≡ length nodes

@@ -1,11 +1,12 @@
 -- A trie stays well formed where a branch is inserted behind all others, and where the last is removed.
 use Rattle.std.proofs.Common.{◌≡◌, ◌≢◌, ◌<◌, ◌-◌, ℕ, zero, suc, List, [], ◌∷◌, ◌++◌, map, Option, None, Some, length, refl, ap, sym, ◌∙◌, subst, inl, inr, ◌⊎◌, get_or, arith}
 use Rattle.std.specs.List.{slice_get}
+use Rattle.std.specs.Prelude.{slice_index}
 use Rattle.std.specs.Option.{option_map, option_and_then, option_map_or}
 use Rattle.std.proofs.lemmas.Bool.{cases_eq}
 use Rattle.std.proofs.lemmas.List.{length_push, map_push, nil_from_length}
 use Rattle.std.proofs.lemmas.Option.{none-some, same_Some, slice_get-map, slice_get_within, option_and_then_some}
-use Rattle.name_tables.specs.Nodes.{Row, row, rows, branches_of, branch_of, child_at, child_of, child_by, Key, as_key, key_of, key_at, child_key, child_digest, slot_at, IsFoundFrom, here, past, IsFound, IsLeaf, KeepsNodes, WithChild, IsTrie, IsSlotOf}
+use Rattle.name_tables.specs.Nodes.{Row, row, rows, branches_of, branch_of, child_at, child_of, child_by, Key, as_key, key_of, key_at, child_key, child_digest, slot_at, IsFoundFrom, here, past, IsFound, IsLeaf, IsPushed, KeepsNodes, WithChild, IsTrie, IsSlotOf, AreTrie}
 use Rattle.name_tables.specs.declared.nodes.Slot.{Slot}
 use Rattle.name_tables.specs.declared.nodes.Node.{Node}
 use Rattle.name_tables.proofs.Children.{slots_eq}
@@ -214,6 +215,28 @@ trie-none = record {
   where
     nothing : (slot : Slot) (k : ℕ) → child_at [] slot ≡ Some k → ⊥
     nothing slot k is = let inside = child_at-inside [] slot k is in omega arith
+
+-- a node without children is one
+module _ (node : Row) (childless : (digit : ℕ) → slice_index node.children digit ≡ 0) where
+  childless-none : (slot : Slot) → child_at (node ∷ []) slot ≡ None
+  childless-none slot =
+      elim slot.node as (λ n. option_and_then (child_by slot.digit) (slice_get (node ∷ []) n) ≡ None) [ zero ↦ ap child_of (childless slot.digit) | suc n ↦ refl ]
+
+  trie-one : IsTrie (node ∷ [])
+  trie-one = record {
+    rising = λ slot k is. absurd (none-some k (sym (childless-none slot) ∙ is));
+    single = λ slot other k is also. absurd (none-some k (sym (childless-none slot) ∙ is));
+    parents = λ k above inside. absurd (omega arith);
+    digests = λ k above inside. absurd (omega arith);
+    found = λ k above inside. absurd (omega arith);
+  }
+
+-- the root alone is one
+pub trie-root : (parts : List (List ℕ)) (nodes : List Node) (old : List Row) (key : Key) → old ≡ [] → length parts ≡ length nodes → IsPushed old (rows parts nodes) key → AreTrie parts nodes
+trie-root parts nodes old key none even pushed = record {
+  even = even;
+  trie = subst IsTrie (sym (pushed.behind ∙ ap (λ rs. rs ++ pushed.node ∷ []) none)) (trie-one pushed.node pushed.leaf.childless);
+}
 
 -- nodes as they were, of which there is one, or of which the last is the child of none
 abbrev pub IsUnlinked : List Row → List Row → Type 0

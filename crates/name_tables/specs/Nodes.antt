@@ -1,11 +1,13 @@
 -- How branches are found: as nodes of a trie with sixteen children each, by the digits of a key. A
 -- key has the digest of the branch's name, the number of its parent, and its part.
-use Rattle.std.specs.Prelude.{◌≡◌, ◌≢◌, ◌<◌, ◌++◌, ◌-◌, ◌*◌, ◌/◌, ◌%◌, ◌^◌, bit_xor, ℕ, zero, suc}
+use Rattle.std.specs.Prelude.{◌≡◌, ◌≢◌, ◌<◌, ◌++◌, ◌-◌, ◌*◌, ◌/◌, ◌%◌, ◌^◌, ℕ, zero, suc}
 use Rattle.std.specs.Prelude.{List, [], ◌∷◌, map, length, if◌then◌else◌, nat_lt, slice_index}
 use Rattle.std.specs.List.{slice_get}
 use Rattle.std.specs.Option.{option_and_then, option_map_or}
 use Rattle.std.specs.declared.option.Option.{Option}
 use Rattle.std.specs.declared.option.Option.TheVariants.{None, Some}
+use Rattle.plain_data.specs.Digests.{digest_after}
+use Rattle.name_tables.specs.Parts.{parts}
 use Rattle.name_tables.specs.Tree.{Branch, branch, IsChild}
 use Rattle.name_tables.specs.declared.nodes.Node.{Node}
 use Rattle.name_tables.specs.declared.nodes.Slot.{Slot}
@@ -67,31 +69,27 @@ key_of node = as_key node.digest node.parent node.part
 abbrev pub key_at : List Row → ℕ → Key
 key_at nodes k = option_map_or key_of (slice_get nodes k) (as_key 0 0 [])
 
--- a digest with one byte more: each is taken in by a product below 2 ^ 64
-abbrev pub taken_in : ℕ → ℕ → ℕ
-taken_in digest byte = bit_xor digest byte * 1099511628211 % 2 ^ 64
-
--- the digest of no bytes
+-- the digest of no parts
 abbrev pub first_digest : ℕ
-first_digest = 14695981039346656037
+first_digest = 0
 
--- the digest of bytes behind others
-abbrev pub digest_from : ℕ → List ℕ → ℕ
-digest_from digest [] = digest
-digest_from digest (byte ∷ bytes) = digest_from (taken_in digest byte) bytes
+-- the digest of parts behind others, each behind those before it
+abbrev pub digest_along : ℕ → List (List ℕ) → ℕ
+digest_along digest [] = digest
+digest_along digest (part ∷ parts) = digest_along (digest_after digest part) parts
 
--- the digest of a text
+-- the digest of a name, by its parts
 abbrev pub digest_of : List ℕ → ℕ
-digest_of text = digest_from first_digest text
+digest_of name = digest_along first_digest (parts name)
 
 -- the digest of what stands before the part in the name of a child
 abbrev pub front_digest : List Row → ℕ → ℕ
 front_digest nodes zero = first_digest
-front_digest nodes (suc k) = taken_in (key_at nodes (suc k)).digest 46
+front_digest nodes (suc k) = (key_at nodes (suc k)).digest
 
 -- the digest of the name of a child
 abbrev pub child_digest : List Row → ℕ → List ℕ → ℕ
-child_digest nodes parent part = digest_from (front_digest nodes parent) part
+child_digest nodes parent part = digest_after (front_digest nodes parent) part
 
 -- the key of a child
 abbrev pub child_key : List Row → ℕ → List ℕ → Key
@@ -101,10 +99,14 @@ child_key nodes parent part = as_key (child_digest nodes parent part) parent par
 abbrev pub digit_of : ℕ → ℕ → ℕ
 digit_of number position = number / 2 ^ (4 * position) % 16
 
+-- the digit of a digest at a level: from the highest on, which all bits below decide too
+abbrev pub digest_digit : ℕ → ℕ → ℕ
+digest_digit digest level = digit_of digest (15 - level)
+
 -- the digit of a key at a level: first those of its digest, then of the parent, then of the part
 abbrev pub digit_at : Key → ℕ → ℕ
 digit_at key level =
-    if nat_lt level 16 then digit_of key.digest level else
+    if nat_lt level 16 then digest_digit key.digest level else
     if nat_lt level 24 then digit_of key.parent (level - 16) else
     option_map_or (λ byte. digit_of byte ((level - 24) % 2))
     (slice_get key.part ((level - 24) / 2)) 0

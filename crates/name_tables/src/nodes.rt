@@ -3,10 +3,11 @@ ghost use Rattle.std.specs.Prelude.{OnErr, IfOk, None, Some};
 ghost use Rattle.name_tables.specs.Tree.{Branch, branch, IsTree, path};
 ghost use Rattle.name_tables.specs.Parts.{name_of};
 ghost use Rattle.name_tables.specs.Nodes.{rows, branches_of, child_at, child_of, as_key, digit_at};
-ghost use Rattle.name_tables.specs.Nodes.{digit_of, child_digest, digest_from, taken_in, AreTrie};
+ghost use Rattle.name_tables.specs.Nodes.{child_digest, digest_digit, digit_of, AreTrie};
 ghost use Rattle.name_tables.specs.Nodes.{IsFree, IsPushed, IsSlotOf, WithChild};
 
 use crate::part_texts::PartTexts;
+use plain_data::digest_after;
 use std::alloc::{AllocError, Global};
 
 /// A branch but for its part, as a node of a trie. Each node has up to sixteen children, by a digit
@@ -40,8 +41,8 @@ pub(crate) struct Key<'a> {
     pub part: &'a [u8],
 }
 
-/// The digest of the empty text.
-pub(crate) const FIRST_DIGEST: u64 = 14695981039346656037;
+/// The digest of no parts.
+pub(crate) const FIRST_DIGEST: u64 = 0;
 
 impl Node {
     ghost use Rattle.name_tables.specs.Nodes.{row, IsLeaf};
@@ -229,7 +230,7 @@ fn digit_at(key: Key, level: u32) -> usize
     ensures small { result < 16 }
 {
     if level < 16 {
-        return digit_of(key.digest, level);
+        return digest_digit(key.digest, level);
     }
     if level < 24 {
         return digit_of(key.parent as u64, level - 16);
@@ -241,8 +242,17 @@ fn digit_at(key: Key, level: u32) -> usize
     }
 }
 
+/// The digit of a digest at a level, from the highest on.
+pub(crate) fn digest_digit(digest: u64, level: u32) -> usize
+    requires { level < 16 }
+    ensures same { result ≡ digest_digit digest level }
+    ensures small { result < 16 }
+{
+    digit_of(digest, 15 - level)
+}
+
 /// A digit of a number, from the lowest.
-pub(crate) fn digit_of(number: u64, position: u32) -> usize
+fn digit_of(number: u64, position: u32) -> usize
     requires { position < 16 }
     ensures same { result ≡ digit_of number position }
     ensures small { result < 16 }
@@ -258,26 +268,7 @@ pub(crate) fn child_digest(nodes: &[Node], parent: u32, part: &[u8]) -> u64
 {
     let front = match parent {
         0 => FIRST_DIGEST,
-        _ => taken_in(nodes[parent as usize].digest, b'.'),
+        _ => nodes[parent as usize].digest,
     };
-    digest_from(front, part)
-}
-
-/// The digest of a text behind another, by that of the other: a number by which texts are told
-/// apart at first sight.
-pub(crate) fn digest_from(front: u64, text: &[u8]) -> u64
-    ensures { result ≡ digest_from front text.now }
-{
-    let mut digest = front;
-    for byte in text {
-        digest = taken_in(digest, *byte);
-    }
-    digest
-}
-
-/// A digest with one byte more.
-fn taken_in(digest: u64, byte: u8) -> u64
-    ensures { result ≡ taken_in digest byte }
-{
-    (digest ^ byte as u64).wrapping_mul(1099511628211)
+    digest_after(front, part)
 }

@@ -1,4 +1,4 @@
-ghost use Rattle.std.specs.Prelude.{◌≡◌, ◌∷◌, [], IsTrue};
+ghost use Rattle.std.specs.Prelude.{◌≡◌, ◌==◌, ◌∷◌, [], IsTrue, position};
 ghost use Rattle.std.specs.Iterator.{YieldsFirstRef, item_count};
 ghost use Rattle.name_tables.specs.Parts.{parts, parts_left};
 
@@ -49,13 +49,17 @@ impl<'a> Iterator for Parts<'a> {
 fn first_and_rest(name: &str) -> (&str, Option<&str>)
     ensures { parts name.now ≡ result.0.now ∷ parts_left result.1 }
 {
-    if is_part(name) {
-        return (name, None);
-    }
-    match name.split_once('.') {
-        Some((part, rest)) => (part, Some(rest)),
+    match first_dot(name.as_bytes()) {
+        Some(dot) => (&name[..dot], Some(&name[dot + 1..])),
         None => (name, None),
     }
+}
+
+/// Where the first dot of a name stands, if it has one.
+fn first_dot(name: &[u8]) -> Option<usize>
+    ensures { result ≡ position (λ byte. byte == 46) name.now }
+{
+    name.iter().position(|byte| *byte == b'.')
 }
 
 /// Whether a name has no dot.

@@ -2,14 +2,16 @@ ghost use Rattle.std.specs.Prelude.{◌≡◌, ◌<◌, ◌++◌, ◌∷◌, [],
 ghost use Rattle.std.specs.Prelude.{IfSome, None};
 ghost use Rattle.name_tables.specs.Tree.{Branch, HasParent, HasPart, InsertsChild, IsChild};
 ghost use Rattle.name_tables.specs.Tree.{IsDescendant, IsTree, with_root};
+ghost use Rattle.name_tables.specs.Nodes.{digest_of};
 ghost use Rattle.name_tables.specs.Parts.{parts};
 
 use crate::nodes::{
-    FIRST_DIGEST, Key, Node, Slot, child, child_digest, digest_from, digit_of, find_slot, has_name,
-    insert, push_leaf, remove_last,
+    FIRST_DIGEST, Key, Node, Slot, child, child_digest, digest_digit, find_slot, has_name, insert,
+    push_leaf, remove_last,
 };
 use crate::part_texts::PartTexts;
 use crate::parts::Parts;
+use plain_data::digest_after;
 use std::alloc::{AllocError, Global};
 use std::marker::Model;
 
@@ -98,10 +100,10 @@ impl NameTree {
         if self.nodes.is_empty() {
             return None;
         }
-        let digest = digest_from(FIRST_DIGEST, name.as_bytes());
+        let digest = digest_of(name);
         let mut at = 0;
         for level in 0..16 {
-            let digit = digit_of(digest, level);
+            let digit = digest_digit(digest, level);
             at = child(&self.nodes, Slot { node: at, digit })?;
             if self.nodes[at as usize].digest == digest
                 && has_name(&self.nodes, &self.texts, at, name)
@@ -210,4 +212,15 @@ impl NameTree {
         let nodes = self.nodes.clone()?;
         Ok(NameTree { texts, nodes })
     }
+}
+
+/// The digest of a name, by its parts.
+fn digest_of(name: &str) -> u64
+    ensures { result ≡ digest_of name.now }
+{
+    let mut digest = FIRST_DIGEST;
+    for part in Parts::new(name) {
+        digest = digest_after(digest, part.as_bytes());
+    }
+    digest
 }

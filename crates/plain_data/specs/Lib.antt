@@ -5,6 +5,7 @@ pub mod Each
 pub mod Lists
 pub mod WholeNumbers
 pub mod TruthValues
+pub mod Digests
 pub mod TextRows
 pub mod NumberRows
 pub mod Numbers

@@ -1,10 +1,9 @@
 -- Rows that say where a text stands in a list of bytes, each with a number.
-use Rattle.std.specs.Prelude.{◌≡◌, ◌≢◌, ℕ, zero, suc, ◌+◌, ◌-◌, ◌*◌, ◌/◌, ◌%◌, ◌^◌, bit_xor, ◌<◌}
-use Rattle.std.specs.Prelude.{◌≤◌, List, [], ◌∷◌, map as each, length, take, drop, nat_lt}
-use Rattle.std.specs.Prelude.{if◌then◌else◌, slice_range, slice_index_or}
+use Rattle.std.specs.Prelude.{◌≡◌, ◌≢◌, ℕ, zero, suc, ◌+◌, ◌-◌, ◌*◌, ◌/◌, ◌%◌, ◌^◌, ◌<◌}
+use Rattle.std.specs.Prelude.{◌≤◌, List, [], ◌∷◌, map as each, length, take, drop}
+use Rattle.std.specs.Prelude.{slice_range, slice_index_or}
 use Rattle.std.specs.Cmp.Lexicographic.{slice_cmp}
 use Rattle.std.specs.FinMap as map
-use Rattle.std.specs.Int.{w64, from_le_bytes}
 use Rattle.std.specs.List.{IsDistinct}
 use Rattle.std.specs.Map.{keys_of, lookup}
 use Rattle.std.specs.Ordering.{nat_cmp, ordering_then}
@@ -12,6 +11,7 @@ use Rattle.std.specs.Str.{bytes_eq}
 use Rattle.std.specs.declared.cmp.Ordering.{Ordering}
 use Rattle.std.specs.declared.cmp.Ordering.TheVariants.{Less}
 use Rattle.std.specs.declared.option.Option.TheVariants.{Some}
+use Rattle.plain_data.specs.Digests.{digest_after}
 use Rattle.plain_data.specs.Maps.{ByText}
 use Rattle.plain_data.specs.declared.text_map.Row.{Row}
 
@@ -35,32 +35,10 @@ no_row = record { start = 0; end = 0; number = 0; hash = 0 }
 abbrev pub text_at : List ℕ → List Row → ℕ → List ℕ
 text_at bytes rows at = text_of bytes (slice_index_or rows at no_row)
 
--- a digest with one number more
-abbrev pub taken_in : ℕ → ℕ → ℕ
-taken_in digest number =
-    let product = bit_xor digest number * 11400714819323198485 % 2 ^ 64 in
-    bit_xor product (product / 2 ^ 32)
-
--- a digest with further bytes, one at a time
-abbrev pub digest_from : ℕ → List ℕ → ℕ
-digest_from digest [] = digest
-digest_from digest (byte ∷ bytes) = digest_from (taken_in digest byte) bytes
-
--- a digest with the first words of a text, each of eight bytes
-abbrev pub with_words : ℕ → ℕ → List ℕ → ℕ
-with_words zero digest text = digest
-with_words (suc words) digest text =
-    with_words words (taken_in digest (from_le_bytes w64 (take 8 text))) (drop 8 text)
-
--- a digest with the last eight bytes of a text, or with each byte of a text that has fewer
-abbrev pub with_ending : ℕ → List ℕ → ℕ
-with_ending digest text = if nat_lt (length text) 8 then digest_from digest text
-    else taken_in digest (from_le_bytes w64 (drop (length text - 8) text))
-
--- the digest of a text, by which texts are told apart at first sight: the high half of what its
--- length, its words and its ending make
+-- the digest of a text, by which texts are told apart at first sight: the high half of it behind no
+-- other
 abbrev pub digest_of : List ℕ → ℕ
-digest_of text = with_ending (with_words (length text / 8) (length text) text) text / 2 ^ 32
+digest_of text = digest_after 0 text / 2 ^ 32
 
 -- texts by that number, and those of one number by their bytes
 abbrev pub text_order : List ℕ → List ℕ → Ordering

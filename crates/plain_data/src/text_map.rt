@@ -5,12 +5,13 @@ ghost use Rattle.std.specs.FinMap as map;
 ghost use Rattle.std.specs.List.Sorted.{IsPermutation};
 ghost use Rattle.std.specs.Map.{lookup};
 ghost use Rattle.std.specs.Str.{bytes_eq};
-ghost use Rattle.plain_data.specs.TextRows.{digest_of, IsDigested, AreDigested, AreApart, taken_in};
-ghost use Rattle.plain_data.specs.TextRows.{with_ending, text_order, made_of, text_of, entries_of};
+ghost use Rattle.plain_data.specs.TextRows.{digest_of, IsDigested, AreDigested, AreApart};
+ghost use Rattle.plain_data.specs.TextRows.{text_order, made_of, text_of, entries_of};
 ghost use Rattle.plain_data.specs.TextRows.{IsRow, IsSound, AreWithin, bound, IsRun, AreRuns};
 ghost use Rattle.plain_data.specs.TextRows.{Holds, Lacks, LacksFrom, Covers};
 
 use crate::Duplicate;
+use crate::digests::digest_after;
 use std::alloc::{AllocError, Global};
 use std::cmp::Ordering;
 use std::fmt;
@@ -402,40 +403,11 @@ fn order(bytes: &[u8], row: &Row, hash: u32, key: &[u8]) -> Ordering
     }
 }
 
-/// A number by which texts are told apart at first sight: their length, and eight bytes at a time,
-/// of which the last eight are taken in once more. Of a text that has fewer, each byte is.
+/// A number by which texts are told apart at first sight.
 fn digest(text: &[u8]) -> u32
     ensures { result ≡ digest_of text.now }
 {
-    let mut digest = text.len() as u64;
-    let mut rest = text;
-    while let Some((word, behind)) = rest.split_first_chunk::<8>() {
-        digest = taken_in(digest, u64::from_le_bytes(*word));
-        rest = behind;
-    }
-    (with_ending(digest, text) / 0x1_0000_0000) as u32
-}
-
-/// A digest with the last eight bytes of a text, or with each byte of a text that has fewer.
-fn with_ending(digest: u64, text: &[u8]) -> u64
-    ensures { result ≡ with_ending digest text.now }
-{
-    if let Some(word) = text.last_chunk::<8>() {
-        return taken_in(digest, u64::from_le_bytes(*word));
-    }
-    let mut digest = digest;
-    for byte in text {
-        digest = taken_in(digest, *byte as u64);
-    }
-    digest
-}
-
-/// A digest with one number more.
-fn taken_in(digest: u64, number: u64) -> u64
-    ensures { result ≡ taken_in digest number }
-{
-    let product = (digest ^ number).wrapping_mul(11400714819323198485);
-    product ^ product / 0x1_0000_0000
+    (digest_after(0, text) / 0x1_0000_0000) as u32
 }
 
 /// The first row of a text from a position on, if there is one.

@@ -1,6 +1,7 @@
 use Rattle.std.proofs.Common.{[], None, Some, sym}
 use Rattle.name_tables.specs.Parts.{parts}
-use Rattle.name_tables.proofs.NameParts.{part-between, parts-split}
+use Rattle.name_tables.proofs.NameParts.{part-between}
+use Rattle.name_resolution.proofs.FirstParts.{parts-split}
 use Rattle.name_resolution.proofs.resolution.first_part.Goals as goal
 
 pub returns-in-Some-clause-one : goal.returns-in-Some-clause-one

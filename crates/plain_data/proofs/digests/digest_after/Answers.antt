@@ -1,7 +1,7 @@
 use Rattle.std.proofs.Common.{◌≡◌, ◌∙◌, ◌+◌, ◌/◌, ℕ, suc, List, length, take, drop, w64, ap, sym, arith}
 use Rattle.std.specs.Int.{from_le_bytes}
-use Rattle.plain_data.specs.TextRows.{with_words, taken_in}
-use Rattle.plain_data.proofs.text_map.digest.Goals as goal
+use Rattle.plain_data.specs.Digests.{with_ending, with_words, taken_in}
+use Rattle.plain_data.proofs.digests.digest_after.Goals as goal
 
 -- eight bytes less are one word less
 word_less : (rest behind : List ℕ) → length behind + 8 ≡ length rest → length rest / 8 ≡ suc (length behind / 8)
@@ -17,3 +17,10 @@ loop-word-preserved c =
     let is = c.in-Some.ensures.cases in
     let fewer : length (drop 8 c.loop-word.rest.now) + 8 ≡ length c.loop-word.rest.now = rw (← is.1) is.2 in
     rw (c.taken_in-digest.ensures, c.from_le_bytes.ensures, is.0, is.1) (step c.loop-word.digest c.loop-word.rest.now fewer ∙ c.loop-word.invariant)
+
+pub returns : goal.returns
+returns c =
+    let none : length c.loop-word.rest.now / 8 ≡ 0 = omega (arith, c.in_default.ensures.cases) in
+    c.with_ending.ensures
+    ∙ ap (λ words. with_ending (with_words words c.loop-word.digest c.loop-word.rest.now) c.args.text.now) (sym none)
+    ∙ ap (λ digest. with_ending digest c.args.text.now) c.loop-word.invariant

@@ -1,6 +1,6 @@
 use Rattle.std.proofs.Common.{◌≡◌, drop}
-use Rattle.plain_data.specs.TextRows.{digest_from}
-use Rattle.plain_data.proofs.text_map.with_ending.Given as goal
+use Rattle.plain_data.specs.Digests.{digest_from}
+use Rattle.plain_data.proofs.digests.with_ending.Given as goal
 
 -- the bytes that are left make the digest of the whole
 abbrev pub invariant-loop-byte : goal.invariant-loop-byte
