@@ -1,4 +1,5 @@
-ghost use Rattle.std.specs.Prelude.{◌≡◌, ◌+◌, ◌<◌, ◌≤◌, ◌^◌, ℕ, List, true, [], IfOk, IfSome};
+ghost use Rattle.std.specs.Prelude.{◌≡◌, ◌+◌, ◌<◌, ◌≤◌, ◌^◌, ◌∷◌, ℕ, List, true, [], IfOk};
+ghost use Rattle.std.specs.Prelude.{IfSome};
 ghost use Rattle.std.specs.Prelude.{MatchOption, OnOk};
 ghost use Rattle.std.specs.Prelude.{length, take, get_or};
 ghost use Rattle.std.specs.FinMap as finite;
@@ -78,8 +79,8 @@ impl FieldMaps {
     {
         let field = &owner.message.field.as_slice()[position];
         let number = field.number();
-        check_number(faults, owner.place, &self.numbers, position, number)?;
-        self.numbers.insert(item_number(number), position as u32)?;
+        let first = self.numbers.replace(item_number(number), position as u32)?;
+        check_number(faults, owner.place, first, position, number)?;
         match &mut self.earlier {
             Some(earlier) => enter_json_name(faults, owner.place, earlier, position, field),
             None => Ok(()),
@@ -101,6 +102,7 @@ fn earlier_names(alloc: Global, json_names: &TextMap, given: usize) -> Option<Te
 
 /// Enters the JSON name of a field, if it has one. That an earlier field has it is appended to
 /// `faults`.
+#[inline(never)]
 fn enter_json_name(
     faults: &mut Faults,
     owner: Place,
@@ -126,26 +128,44 @@ fn enter_json_name(
     json_names.insert(name.as_str(), position as u32)
 }
 
-/// Appends to `faults` that of a number that an earlier field has, by the map of numbers.
+/// Appends to `faults` that the number of a field is that of an earlier one, if there is one, which
+/// stands first.
 fn check_number(
     faults: &mut Faults,
     owner: Place,
-    numbers: &NumberMap,
+    first: Option<u32>,
     position: usize,
     number: i32,
 ) -> Result<(), AllocError>
     requires short { position < 2 ^ 31 }
-    requires holders_short { IfSome (finite.get numbers.now (item_number number)) (λ first.
-        first < 2 ^ 31) }
+    requires first_short { IfSome first (λ first. first < 2 ^ 31) }
     ensures { OnOk result (Tells faults.old faults.new
         (listed (option_map (λ first. same_number (named_files faults.old) owner.entry.file
-        owner.entry.path.now number first position)
-        (finite.get numbers.now (item_number number))))) }
+        owner.entry.path.now number first position) first))) }
 {
-    let Some(first) = numbers.get(item_number(number)) else {
-        return Ok(());
-    };
-    let fault = same_number(faults, owner, number, first as usize, position)?;
+    match first {
+        Some(first) => tell_same_number(faults, owner, first as usize, position, number),
+        None => Ok(()),
+    }
+}
+
+/// Appends to `faults` that two fields have one number, the earlier first.
+// Not inlined, as the one below isn't, since few fields come to it.
+#[inline(never)]
+fn tell_same_number(
+    faults: &mut Faults,
+    owner: Place,
+    first: usize,
+    second: usize,
+    number: i32,
+) -> Result<(), AllocError>
+    requires first_short { first < 2 ^ 31 }
+    requires second_short { second < 2 ^ 31 }
+    ensures { OnOk result (Tells faults.old faults.new
+        (same_number (named_files faults.old) owner.entry.file owner.entry.path.now
+        number first second ∷ [])) }
+{
+    let fault = same_number(faults, owner, number, first, second)?;
     faults.push(fault)
 }
 

@@ -12,7 +12,7 @@ use std::alloc::{AllocError, Global};
 pub fn join(alloc: Global, scope: &str, name: &str) -> Result<String, AllocError>
     ensures { IfOk result (λ full. string_bytes full ≡ join scope.now name.now) }
 {
-    let mut full = String::with_capacity(alloc, scope.len() + 1 + name.len())?;
+    let mut full = String::with_capacity(alloc, joined_len(scope, name))?;
     write_joined(&mut full, scope, name)?;
     Ok(full)
 }
