@@ -1,15 +1,18 @@
 -- How a walk shows the parts of a row where they stand.
-use Rattle.std.proofs.Common.{◌≡◌, ◌<◌, ◌≤◌, ℕ, suc, ◌+◌, ℤ, pos, true, IsTrue, Option, None, Some, List, [], ◌∷◌, ◌++◌, length, length-append, map, take, string_bytes, refl, ap, sym, subst, ◌∙◌, arith}
+use Rattle.std.proofs.Common.{◌≡◌, ◌<◌, ℕ, suc, ℤ, pos, true, Option, None, Some, List, [], ◌∷◌, ◌++◌, length, length-append, map, take, drop, string_bytes, refl, ap, sym, subst, ◌∙◌, append_assoc, arith}
+use Rattle.std.proofs.Math.Seq.{take-append_seam}
+use Rattle.std.proofs.lemmas.List.{take-append-drop}
+use Rattle.std.proofs.lemmas.Str.{IsCharBoundary-at_seam}
 use Rattle.std.proofs.lemmas.Option.{MatchOption-at_none, MatchOption-at_some}
 use Rattle.std.specs.Option.{MatchOption}
+use Rattle.std.specs.Prelude.{slice_set}
+use Rattle.std.specs.Str.{IsUtf8, IsCharBoundary}
 use Rattle.std.specs.String.Boundary.{IsSplitPoint}
 use Rattle.proto_types.specs.Names.{join}
 use Rattle.proto_types.specs.Paths.{entry_path}
 use Rattle.record_walk.specs.declared.counts.Counts.{Counts}
 use Rattle.record_walk.specs.declared.walking.cursor.Cursor.{Cursor}
-use Rattle.record_walk.specs.declared.walking.located.Located.{Located}
 use Rattle.record_walk.specs.declared.walking.part.Part.{Part}
-use Rattle.record_walk.specs.declared.walking.row.EntryPosition.{EntryPosition}
 use Rattle.record_walk.specs.declared.walking.row.Row.{Row}
 use Rattle.record_walk.specs.declared.walking.rows.Rows.{Rows}
 use Rattle.record_walk.specs.declared.walking.site.Site.{Site}
@@ -20,7 +23,7 @@ use Rattle.record_walk.specs.Protos.{Proto, name_of, of_file, of_message, of_fie
 use Rattle.record_walk.specs.Shown.{Shown, Surrounding, row, shown, shown_as}
 use Rattle.record_walk.specs.Walking.{Room, located, parent_in, parent_of, proto_of, protos_in}
 use Rattle.record_walk.proofs.Counted.{counted-append}
-use Rattle.record_walk.proofs.Cursors.{cut-front, cut-joined, length-front, length-join, nested-renamed, nested-wider, rests-same, take-front, take-scope}
+use Rattle.record_walk.proofs.Cursors.{cut-front, cut-joined, length-front, length-join, nested-renamed, nested-wider, rests-same, take-front, take-scope, take-whole}
 use Rattle.record_walk.proofs.Listings.{room-back}
 use Rattle.record_walk.proofs.Passing.{walk-parts}
 
@@ -37,54 +40,100 @@ parts-are here tag i c (of_service s ∷ ps) are = absurd (cc)
 parts-are here tag i c (of_enum e ∷ ps) are = absurd (cc)
 parts-are here tag i c (of_extension x ∷ ps) are = absurd (cc)
 
--- a site has gone to the record at a position of a row that stands at another
+-- the last of a list is another
+pub set-last : {X : Type 0} (front : List X) (last next : X) → slice_set (front ++ last ∷ []) (length front) next ≡ front ++ next ∷ []
+set-last [] last next = refl
+set-last (x ∷ xs) last next = ap (λ ys. x ∷ ys) (set-last xs last next)
+
+join-open : (scope name : List ℕ) → join scope [] ++ name ≡ join scope name
+join-open [] name = refl
+join-open (c ∷ cs) name = append_assoc (c ∷ cs) (46 ∷ []) name
+
+-- a site stands in the list of a row that stands at another, where names begin behind so many bytes
+pub record Inside (was now : Site) (r : Row) (start : ℕ) : Type 0 where
+  pub file : now.file ≡ was.file
+  pub path : (last : ℤ) × (now.path.items ≡ take r.at.depth.path was.path.items ++ r.at.tag ∷ last ∷ [])
+  pub name : take start (string_bytes now.name) ≡ join (surrounding was r).scope []
+  pub cut : IsSplitPoint (string_bytes now.name) start
+
+-- it has gone to the record at a position there
 pub record Entered (was now : Site) (r : Row) (i : ℕ) (name : List ℕ) : Type 0 where
   pub file : now.file ≡ was.file
   pub path : now.path.items ≡ entry_path (surrounding was r).path r.at.tag i
   pub full_name : string_bytes now.name ≡ join (surrounding was r).scope name
 
-pub entered : (was before cut now : Site) (r : Row) (at : EntryPosition) (given name : List ℕ) → KeepsFront r.at.depth was before → at.tag ≡ r.at.tag → at.depth ≡ r.at.depth
-    → cut.file ≡ before.file → cut.path.items ≡ take at.depth.path before.path.items → string_bytes cut.name ≡ take at.depth.scope (string_bytes before.name)
-    → now.file ≡ cut.file → now.path.items ≡ entry_path cut.path.items at.tag at.position → string_bytes now.name ≡ join (string_bytes cut.name) given → given ≡ name
-    → Entered was now r at.position name
-entered was before cut now r at given name keeps tags depths file path scope file' path' scope' names =
-    let cut-path : cut.path.items ≡ take r.at.depth.path was.path.items = path ∙ (λ j. take (depths j).path before.path.items) ∙ keeps.path in
-    let cut-name : string_bytes cut.name ≡ take r.at.depth.scope (string_bytes was.name) = scope ∙ (λ j. take (depths j).scope (string_bytes before.name)) ∙ keeps.name in
+-- where it has gone to, of a record without a name, it stands in the list
+pub inside : (was cut now : Site) (r : Row) (start : ℕ) → cut.file ≡ was.file → cut.path.items ≡ take r.at.depth.path was.path.items → string_bytes cut.name ≡ take r.at.depth.scope (string_bytes was.name)
+    → now.file ≡ cut.file → now.path.items ≡ entry_path cut.path.items r.at.tag r.at.position → string_bytes now.name ≡ join (string_bytes cut.name) [] → start ≡ length (string_bytes now.name)
+    → Inside was now r start
+inside was cut now r start file path name file' path' name' start_is =
+    let whole : take start (string_bytes now.name) ≡ string_bytes now.name = ap (λ k. take k (string_bytes now.name)) start_is ∙ take-whole (string_bytes now.name) in
     record {
-      file = file' ∙ file ∙ keeps.file;
-      path = path' ∙ (λ j. entry_path (cut-path j) (tags j) at.position);
-      full_name = scope' ∙ (λ j. join (cut-name j) (names j));
+      file = file' ∙ file;
+      path = (pos r.at.position, path' ∙ ap (λ p. p ++ r.at.tag ∷ pos r.at.position ∷ []) path);
+      name = whole ∙ name' ∙ ap (λ scope. join scope []) name;
+      cut = (omega (arith, start_is), λ from inner high. absurd (omega (arith, start_is, inner)));
     }
 
--- it can be cut to where the row stands
-pub can-cut : (was before : Site) (r : Row) (at : EntryPosition) → StandsAt was r → KeepsFront r.at.depth was before → at.depth ≡ r.at.depth → IsSplitPoint (string_bytes before.name) at.depth.scope
-can-cut was before r at stands keeps depths =
-    subst (λ k. IsSplitPoint (string_bytes before.name) k) (sym (λ j. (depths j).scope)) (keeps.cut r.at.depth.scope (omega arith) stands.cut)
+pub has-path : (was now : Site) (r : Row) (start : ℕ) → Inside was now r start → 0 < length now.path.items
+has-path was now r start at =
+    let long = ap length at.path.1 ∙ length-append (take r.at.depth.path was.path.items) (r.at.tag ∷ at.path.0 ∷ []) in
+    omega (arith, long)
+
+pub entered : (was before now : Site) (r : Row) (start i : ℕ) (given name : List ℕ) → Inside was before r start → now.file ≡ before.file
+    → ((front : List ℤ) (last : ℤ) → before.path.items ≡ front ++ last ∷ [] → now.path.items ≡ front ++ pos i ∷ [])
+    → string_bytes now.name ≡ take start (string_bytes before.name) ++ given → given ≡ name → Entered was now r i name
+entered was before now r start i given name at file path full_name names =
+    let front = take r.at.depth.path was.path.items in
+    let tag = r.at.tag in
+    record {
+      file = file ∙ at.file;
+      path = path (front ++ tag ∷ []) at.path.0 (at.path.1 ∙ sym (append_assoc front (tag ∷ []) (at.path.0 ∷ []))) ∙ append_assoc front (tag ∷ []) (pos i ∷ []);
+      full_name = full_name ∙ (λ j. at.name j ++ names j) ∙ join-open (surrounding was r).scope name;
+    }
+
+-- and stands in the list still
+pub inside-next : (was before now : Site) (r : Row) (start i : ℕ) (given name : List ℕ) → IsUtf8 given → Inside was before r start → string_bytes now.name ≡ take start (string_bytes before.name) ++ given
+    → Entered was now r i name → Inside was now r start
+inside-next was before now r start i given name utf8 at full_name went =
+    let front = take start (string_bytes before.name) in
+    let long : length front ≡ start = length-front start (string_bytes before.name) at.cut.0 in
+    let seam : IsCharBoundary (string_bytes now.name) start = subst (IsCharBoundary (string_bytes now.name)) long (IsCharBoundary-at_seam (string_bytes now.name) front given full_name utf8) in
+    record {
+      file = went.file;
+      path = (pos i, went.path);
+      name = ap (take start) full_name ∙ ap (λ k. take k (front ++ given)) (sym long) ∙ take-append_seam front given ∙ at.name;
+      cut = (seam.0, λ from inner. seam.1 inner);
+    }
 
 -- it begins as before
-pub keeps-all : (s : Site) (r : Row) → StandsAt s r → KeepsFront r.at.depth s s
-keeps-all s r stands = record { file = refl; path = refl; name = refl; long_path = stands.path; long_name = stands.scope; cut = λ k less at. at }
-
-pub keeps-next : (was now : Site) (r : Row) (i : ℕ) (last : List ℕ) → StandsAt was r → Entered was now r i last → KeepsFront r.at.depth was now
-keeps-next was now r i last stands went =
+pub keeps-inside : (was now : Site) (r : Row) (start : ℕ) → StandsAt was r → Inside was now r start → KeepsFront r.at.depth was now
+keeps-inside was now r start stands at =
     let a = r.at.depth.path in
     let b = r.at.depth.scope in
     let path = was.path.items in
     let name = string_bytes was.name in
+    let last = drop start (string_bytes now.name) in
+    let full_name : string_bytes now.name ≡ join (take b name) last =
+    sym (take-append-drop start (string_bytes now.name)) ∙ ap (λ front. front ++ last) at.name ∙ join-open (take b name) last in
     let path-long = length-front a path stands.path in
-    let path-more = ap length went.path ∙ length-append (take a path) (r.at.tag ∷ pos i ∷ []) in
+    let path-more = ap length at.path.1 ∙ length-append (take a path) (r.at.tag ∷ at.path.0 ∷ []) in
     let name-long = length-front b name stands.scope in
     let name-more = length-join (take b name) last in
-    let name-is = ap length went.full_name in
+    let name-is = ap length full_name in
     record {
-      file = went.file;
-      path = ap (take a) went.path ∙ take-front a path (r.at.tag ∷ pos i ∷ []) stands.path;
-      name = ap (take b) went.full_name ∙ take-scope b name last stands.scope;
+      file = at.file;
+      path = ap (take a) at.path.1 ∙ take-front a path (r.at.tag ∷ at.path.0 ∷ []) stands.path;
+      name = ap (take b) full_name ∙ take-scope b name last stands.scope;
       long_path = omega (arith, path-long, path-more);
       long_name = omega (arith, name-long, name-more, name-is);
-      cut = λ k less at. subst (λ t. IsSplitPoint t k) (sym went.full_name)
-          (cut-joined (take b name) last k (omega (arith, name-long, less)) (cut-front name b k less stands.scope at));
+      cut = λ k less can. subst (λ t. IsSplitPoint t k) (sym full_name)
+          (cut-joined (take b name) last k (omega (arith, name-long, less)) (cut-front name b k less stands.scope can));
     }
+
+-- a site begins as it does
+pub keeps-all : (s : Site) (r : Row) → StandsAt s r → KeepsFront r.at.depth s s
+keeps-all s r stands = record { file = refl; path = refl; name = refl; long_path = stands.path; long_name = stands.scope; cut = λ k less at. at }
 
 -- the first of a row is the record there
 pub part-next : (was now : Site) (r : Row) (part : Part) (records-parent : Option ℕ) (i index : ℕ) (ps rest : List Proto) → Entered was now r i (name_of (proto_of part))

@@ -44,15 +44,17 @@ fn walk_row<V: Visitor>(site: &mut Site, row: Row, visitor: &mut V) -> Result<()
     ensures kept { V.kept visitor.new ≡ V.kept visitor.old }
     ensures borrows { V.borrows visitor.new ≡ V.borrows visitor.old }
 {
+    site.cut(row.at.depth);
+    site.enter(row.at, "")?;
+    let start = site.name.len();
     let mut records = row.records;
-    let mut at = row.at;
+    let mut position = row.at.position;
     while let Some((part, rest)) = records.split_first() {
-        site.cut(at.depth);
-        site.enter(at, part.name())?;
-        let index = at.position as u32;
+        site.go_on(start, position, part.name())?;
+        let index = position as u32;
         Located { index, part }.show(site, visitor)?;
         records = rest;
-        at = at.next();
+        position += 1;
     }
     Ok(())
 }

@@ -1,4 +1,5 @@
-ghost use Rattle.std.specs.Prelude.{◌≡◌, ◌<◌, ◌^◌, [], OnOk, length, take, string_bytes};
+ghost use Rattle.std.specs.Prelude.{◌≡◌, ◌<◌, ◌^◌, ◌++◌, ◌∷◌, ℤ, List, [], pos, OnOk, length, take};
+ghost use Rattle.std.specs.Prelude.{string_bytes};
 ghost use Rattle.std.specs.String.Boundary.{IsSplitPoint};
 ghost use Rattle.proto_types.specs.Names.{join};
 ghost use Rattle.proto_types.specs.Paths.{entry_path};
@@ -80,6 +81,31 @@ impl Site {
         if !self.name.is_empty() {
             self.name.push('.')?;
         }
+        self.name.push_str(name)
+    }
+
+    /// Goes on to the record at a position of the list in which it stands, whose names begin behind
+    /// so many bytes.
+    // Inlined, as `enter` is.
+    #[inline(always)]
+    pub(crate) fn go_on(
+        &mut self,
+        start: usize,
+        position: usize,
+        name: &str,
+    ) -> Result<(), AllocError>
+        requires position { position < 2 ^ 31 }
+        requires start { IsSplitPoint (string_bytes self.old.name) start }
+        requires path { 0 < length self.old.path.items }
+        ensures file { self.new.file ≡ self.old.file }
+        ensures path { (front : List ℤ) (last : ℤ) → self.old.path.items ≡ front ++ last ∷ []
+            → self.new.path.items ≡ front ++ pos position ∷ [] }
+        ensures name { OnOk result (string_bytes self.new.name
+            ≡ take start (string_bytes self.old.name) ++ name.now) }
+    {
+        let last = self.path.len() - 1;
+        self.path[last] = position as i32;
+        self.name.truncate(start);
         self.name.push_str(name)
     }
 }

@@ -1,23 +1,25 @@
-use Rattle.std.proofs.Common.{◌≡◌, suc, ◌+◌, ◌≤◌, length, [], ◌∷◌, refl, ap, ◌∙◌, arith}
+use Rattle.std.proofs.Common.{◌≡◌, suc, ◌+◌, ◌≤◌, length, string_bytes, [], ◌∷◌, refl, ap, ◌∙◌, arith, rules}
 use Rattle.std.proofs.lemmas.Option.{MatchOption-at_none}
-use Rattle.record_walk.specs.declared.walking.row.EntryPosition.{EntryPosition}
 use Rattle.record_walk.specs.Counts.{list_limit}
-use Rattle.record_walk.specs.Parts.{row_parts, surrounding}
+use Rattle.record_walk.specs.Parts.{surrounding}
 use Rattle.record_walk.specs.Protos.{name_of}
 use Rattle.record_walk.specs.Shown.{row}
 use Rattle.record_walk.specs.Walking.{located, parent_in, proto_of, protos_in}
-use Rattle.record_walk.proofs.InPlace.{can-cut, entered, keeps-all, keeps-next, part-next}
+use Rattle.record_walk.proofs.InPlace.{entered, has-path, inside, inside-next, keeps-inside, part-next}
 use Rattle.record_walk.proofs.Showing.{ready-first, remains-all, remains-as, remains-fewer, remains-none}
 use Rattle.record_walk.proofs.walking.parts.walk_row.Goals as goal
+
+pub cut-requires : goal.cut-requires
+cut-requires g c = c.requires.stands.cut
 
 pub loop-part-init : goal.loop-part-init
 loop-part-init g c =
     let r = c.args.row in
     let short : r.at.position + length (protos_in r.records) ≤ list_limit = c.requires.stands.short in
+    let start : c.len-start.result ≡ length (string_bytes c.enter.new.self.name) = search rules in
     record {
-      keeps = keeps-all c.args.site.now r c.requires.stands;
-      tag = refl;
-      depth = refl;
+      inside = inside c.args.site.now c.cut.new.self c.enter.new.self r c.len-start.result c.cut.ensures.file c.cut.ensures.path c.cut.ensures.name
+          c.enter.ensures.file c.in_ok-enter.ensures.path c.in_ok-enter.ensures.name start;
       parent = refl;
       short = short;
       within = omega (arith, short);
@@ -26,10 +28,11 @@ loop-part-init g c =
       borrows = refl;
     }
 
-pub cut-requires : goal.cut-requires
-cut-requires g c =
-    let L = c.loop-part in
-    can-cut c.args.site.now L.site c.args.row L.at c.requires.stands L.invariant.keeps L.invariant.depth
+pub go_on-requires-clause-start : goal.go_on-requires-clause-start
+go_on-requires-clause-start g c = c.loop-part.invariant.inside.cut
+
+pub go_on-requires-clause-path : goal.go_on-requires-clause-path
+go_on-requires-clause-path g c = has-path c.args.site.now c.loop-part.site c.args.row c.len-start.result c.loop-part.invariant.inside
 
 pub show-requires : goal.show-requires
 show-requires g c =
@@ -39,11 +42,10 @@ show-requires g c =
     let part = c.in-Some.part in
     let split = c.in-Some.ensures in
     let name = name_of (proto_of part) in
-    let went = entered was L.site c.cut.new.self c.enter.new.self r L.at c.name.result.now name L.invariant.keeps L.invariant.tag L.invariant.depth
-    c.cut.ensures.file c.cut.ensures.path c.cut.ensures.name c.enter.ensures.file c.in_ok-enter.ensures.path c.in_ok-enter.ensures.name c.name.ensures in
-    let rest = row (λ p. p) (surrounding was r) r.at.tag (suc L.at.position) (suc L.at.position) (protos_in c.in-Some.rest) in
-    let first = part-next was c.enter.new.self r part (parent_in L.records) L.at.position L.at.position (protos_in L.records) (protos_in c.in-Some.rest) went split.first L.invariant.parent refl split.records in
-    let d = located c.enter.new.self (record { index = L.at.position; part = part }) in
+    let went = entered was L.site c.go_on.new.self r c.len-start.result L.position c.name.result.now name L.invariant.inside c.go_on.ensures.file c.go_on.ensures.path c.in_ok-go_on.ensures.name c.name.ensures in
+    let rest = row (λ p. p) (surrounding was r) r.at.tag (suc L.position) (suc L.position) (protos_in c.in-Some.rest) in
+    let first = part-next was c.go_on.new.self r part (parent_in L.records) L.position L.position (protos_in L.records) (protos_in c.in-Some.rest) went split.first L.invariant.parent refl split.records in
+    let d = located c.go_on.new.self (record { index = L.position; part = part }) in
     ready-first (d ∷ []) rest (remains-as first L.invariant.remains) c.requires.ready (g.met.V.Visitor.front_ready L.visitor)
 
 pub loop-part-preserved : goal.loop-part-preserved
@@ -54,21 +56,16 @@ loop-part-preserved g c =
     let part = c.in-Some.part in
     let split = c.in-Some.ensures in
     let name = name_of (proto_of part) in
-    let went = entered was L.site c.cut.new.self c.enter.new.self r L.at c.name.result.now name L.invariant.keeps L.invariant.tag L.invariant.depth
-    c.cut.ensures.file c.cut.ensures.path c.cut.ensures.name c.enter.ensures.file c.in_ok-enter.ensures.path c.in_ok-enter.ensures.name c.name.ensures in
-    let rest = row (λ p. p) (surrounding was r) r.at.tag (suc L.at.position) (suc L.at.position) (protos_in c.in-Some.rest) in
-    let first = part-next was c.enter.new.self r part (parent_in L.records) L.at.position L.at.position (protos_in L.records) (protos_in c.in-Some.rest) went split.first L.invariant.parent refl split.records in
-    let d = located c.enter.new.self (record { index = L.at.position; part = part }) in
-    let moved = c.next-at.ensures in
-    let i = L.at.position in
-    let position : c.next-at.result.position ≡ i + 1 = ap (λ (a : EntryPosition). a.position) moved in
-    let one : suc i ≡ c.next-at.result.position = omega (arith, position) in
+    let went = entered was L.site c.go_on.new.self r c.len-start.result L.position c.name.result.now name L.invariant.inside c.go_on.ensures.file c.go_on.ensures.path c.in_ok-go_on.ensures.name c.name.ensures in
+    let rest = row (λ p. p) (surrounding was r) r.at.tag (suc L.position) (suc L.position) (protos_in c.in-Some.rest) in
+    let first = part-next was c.go_on.new.self r part (parent_in L.records) L.position L.position (protos_in L.records) (protos_in c.in-Some.rest) went split.first L.invariant.parent refl split.records in
+    let d = located c.go_on.new.self (record { index = L.position; part = part }) in
+    let i = L.position in
+    let one : suc i ≡ i + 1 = omega arith in
     let long : length (protos_in L.records) ≡ suc (length (protos_in c.in-Some.rest)) = ap length split.records in
-    let short : c.next-at.result.position + length (protos_in c.in-Some.rest) ≤ list_limit = omega (arith, position, long, L.invariant.short) in
+    let short : i + 1 + length (protos_in c.in-Some.rest) ≤ list_limit = omega (arith, long, L.invariant.short) in
     record {
-      keeps = keeps-next was c.enter.new.self r i name c.requires.stands went;
-      tag = ap (λ (a : EntryPosition). a.tag) moved ∙ L.invariant.tag;
-      depth = ap (λ (a : EntryPosition). a.depth) moved ∙ L.invariant.depth;
+      inside = inside-next was L.site c.go_on.new.self r c.len-start.result i c.name.result.now name c.name.utf8 L.invariant.inside c.in_ok-go_on.ensures.name went;
       parent = split.rest ∙ L.invariant.parent;
       short = short;
       within = omega (arith, short);
@@ -89,8 +86,8 @@ returns g c =
     let r = c.args.row in
     let none : protos_in L.records ≡ [] = MatchOption-at_none _ _ c.in_default.is c.split_first.ensures.records in
     record {
-      ok = remains-none (ap (row (λ p. p) (surrounding c.args.site.now r) r.at.tag L.at.position L.at.position) none) L.invariant.remains;
-      site = L.invariant.keeps;
+      ok = remains-none (ap (row (λ p. p) (surrounding c.args.site.now r) r.at.tag L.position L.position) none) L.invariant.remains;
+      site = keeps-inside c.args.site.now L.site r c.len-start.result c.requires.stands L.invariant.inside;
       kept = L.invariant.kept;
       borrows = L.invariant.borrows;
     }
