@@ -248,6 +248,7 @@ fn pad<T: Drop>(values: &mut Vec<Option<T>>, number: usize) -> Result<(), AllocE
 ///
 /// # Errors
 /// `AllocError` where memory was refused.
+// Inlined, and with room made first, so that a value is made where it stays.
 #[inline(always)]
 fn set<T: Drop>(values: &mut Vec<Option<T>>, number: usize, value: T) -> Result<(), AllocError>
     requires { number ≤ length values.old.items }
@@ -257,7 +258,8 @@ fn set<T: Drop>(values: &mut Vec<Option<T>>, number: usize, value: T) -> Result<
         → length values.new.items ≤ n }
 {
     if number == values.len() {
-        values.push(Some(value))?;
+        values.reserve(1)?;
+        values.push_reserved(Some(value));
     } else {
         values[number] = Some(value);
     }

@@ -191,6 +191,8 @@ impl Telling<'_> {
     }
 
     /// Appends what changes of it at json: its JSON name, its form, and whether it is repeated.
+    // Not inlined, since little changes of most that is compared.
+    #[inline(never)]
     pub(crate) fn tell_part_json(
         self,
         told: &mut Items<ToldFault>,
@@ -275,6 +277,8 @@ impl Telling<'_> {
 
     /// Appends what changes of it at source: its name, its type, its presence, its oneof, and its
     /// default value.
+    // Not inlined, since little changes of most that is compared.
+    #[inline(never)]
     pub(crate) fn tell_part_source(
         self,
         told: &mut Items<ToldFault>,

@@ -227,6 +227,8 @@ fn file_named<'a>(pool: &'a DescriptorPool, name: &str) -> Option<&'a FileDescri
 impl Telling<'_> {
     /// Appends that a reader's message lacks a field or an extension with a number, if that is not
     /// among the changes of the message at wire.
+    // Not inlined, since little changes of most that is compared.
+    #[inline(never)]
     pub(crate) fn tell_field_removed(
         self,
         told: &mut Items<ToldFault>,
@@ -247,6 +249,8 @@ impl Telling<'_> {
     }
 
     /// Appends that the name of a value has lost its number, by the first value that has it.
+    // Not inlined, since little changes of most that is compared.
+    #[inline(never)]
     fn tell_value_lost(
         self,
         told: &mut Items<ToldFault>,
@@ -382,6 +386,8 @@ impl Telling<'_> {
     }
 
     /// Appends that the reader lacks a message, unless it is an entry of a map.
+    // Not inlined, since little changes of most that is compared.
+    #[inline(never)]
     pub(crate) fn tell_message_removed(
         self,
         told: &mut Items<ToldFault>,

@@ -133,13 +133,16 @@ impl<'f> Reading<'f> {
     }
 }
 
+/// How few fields write so few names that the way to the package would be the longer one.
+const FEW: usize = 4;
+
 /// The package from which the names that a file writes are looked for; the empty one where it has
-/// one message, for which the way to the package would be the longer one.
+/// one message at most, of few fields.
 fn package_of(file: &FileDescriptorProto) -> &str {
-    if file.message_type.as_slice().len() > 1 {
-        file.package()
-    } else {
-        ""
+    match file.message_type.as_slice() {
+        [] => "",
+        [only] if only.field.as_slice().len() <= FEW => "",
+        _ => file.package(),
     }
 }
 

@@ -50,11 +50,16 @@ pub(crate) fn type_and_default(
         ++ field_default_faults (setting_of reading.old)
         (shown_at place.entry (of_field field.now)) field.now)) }
 {
-    if field.type_name().is_empty() {
-        written_type(&mut reading.faults, place, field)
-    } else {
-        named_type(reading, place, field)
+    let written = field.type_name();
+    if written.is_empty() {
+        return written_type(&mut reading.faults, place, field);
     }
+    if field.default_value.is_none()
+        && let Some(def) = reading.find(place, ResolveNameFilter::FieldType, written)
+    {
+        return Ok((named_kind(field.field_type(), def.kind), None));
+    }
+    named_type(reading, place, field)
 }
 
 /// The kind of a type that a field names by its number, and the default value.
@@ -99,7 +104,8 @@ fn tell_missing_type(faults: &mut Faults, place: Place) -> Result<(), AllocError
 }
 
 /// The kind of the definition that the type name of a field means, and the default value.
-#[inline(always)]
+// Not inlined, since most types are found at once.
+#[inline(never)]
 fn named_type(
     reading: &mut Reading,
     place: Place,
@@ -129,13 +135,7 @@ fn named_type(
         (shown_at place.entry (of_field field.now)) field.now))) [])) }
 {
     let (tag, filter) = (tag::field::TYPE_NAME, ResolveNameFilter::FieldType);
-    let written = field.type_name();
-    if field.default_value.is_none()
-        && let Some(def) = reading.find(place, filter, written)
-    {
-        return Ok((named_kind(field.field_type(), def.kind), None));
-    }
-    let meaning = reading.resolve_checked(place, tag, filter, written)?;
+    let meaning = reading.resolve_checked(place, tag, filter, field.type_name())?;
     let kind = kind_by_meaning(field.field_type(), &meaning);
     let default = named_default(reading, place, kind, &meaning, &field.default_value)?;
     Ok((kind, default))
