@@ -1,5 +1,5 @@
 -- Where both sides of each change are told alike, nothing is told.
-use Rattle.std.proofs.Common.{◌≡◌, ℕ, Bool, true, false, not, ◌&&◌, ◌||◌, if◌then◌else◌, List, [], ◌∷◌, ◌++◌, None, option_and_then, is_some, refl, ap, cond, subst, sym, ◌∙◌}
+use Rattle.std.proofs.Common.{◌≡◌, ℕ, Bool, true, false, not, ◌&&◌, ◌||◌, if◌then◌else◌, List, [], ◌∷◌, ◌++◌, None, Some, codes, option_and_then, is_some, refl, ap, cond, subst, sym, ◌∙◌}
 use Rattle.std.proofs.lemmas.Bool.{and_from, or_left, or_right}
 use Rattle.std.proofs.lemmas.Slice.Eq.{bytes_eq-Decides}
 use Rattle.std.specs.Str.{bytes_eq}
@@ -7,6 +7,7 @@ use Rattle.proto_types.specs.Readers.{text_of}
 use Rattle.pool_types.specs.declared.contents.file.FileDescriptorInner.{FileDescriptorInner}
 use Rattle.pool_types.specs.declared.contents.service.MethodDescriptorInner.{MethodDescriptorInner}
 use Rattle.pool_types.specs.declared.contents.message.MessageDescriptorInner.{MessageDescriptorInner}
+use Rattle.pool_types.specs.declared.contents.oneof.OneofDescriptorInner.{OneofDescriptorInner}
 use Rattle.proto_types.specs.declared.records.field.FieldDescriptorProto.{FieldDescriptorProto}
 use Rattle.pool_types.specs.declared.kinds.KindIndex.TheVariants as kind
 use Rattle.schema_changes.specs.MapEntries.{map_entry_at}
@@ -67,11 +68,18 @@ presence_alike f g same set =
 
 -- ---- oneofs and default values
 
-pub oneof_none : (v : Versions) (x y : MessageDescriptorInner) (f g : Part) → f.entry.oneof ≡ None → g.entry.oneof ≡ None
+pub oneof_neither : (v : Versions) (x y : MessageDescriptorInner) (f g : Part) → option_and_then (oneof_at (writer v) x) f.entry.oneof ≡ None → option_and_then (oneof_at (reader v) y) g.entry.oneof ≡ None
     → are_alike (oneof_side (writer v) x f) (oneof_side (reader v) y g) ≡ true
-oneof_none v x y f g out outside =
-    subst (λ got. are_alike (given_oneof f (option_and_then (oneof_at (writer v) x) got)) (oneof_side (reader v) y g) ≡ true) (sym out)
-    (subst (λ got. are_alike (given_oneof f None) (given_oneof g (option_and_then (oneof_at (reader v) y) got)) ≡ true) (sym outside) refl)
+oneof_neither v x y f g out outside =
+    subst (λ got. are_alike (given_oneof f got) (oneof_side (reader v) y g) ≡ true) (sym out)
+    (subst (λ got. are_alike (given_oneof f None) (given_oneof g got) ≡ true) (sym outside) refl)
+
+pub oneof_both : (v : Versions) (x y : MessageDescriptorInner) (f g : Part) (o p : OneofDescriptorInner) → option_and_then (oneof_at (writer v) x) f.entry.oneof ≡ Some o
+    → option_and_then (oneof_at (reader v) y) g.entry.oneof ≡ Some p → bytes_eq o.id.full_name p.id.full_name ≡ true → are_alike (oneof_side (writer v) x f) (oneof_side (reader v) y g) ≡ true
+oneof_both v x y f g o p first second names =
+    subst (λ got. are_alike (given_oneof f got) (oneof_side (reader v) y g) ≡ true) (sym first)
+    (subst (λ got. are_alike (given_oneof f (Some o)) (given_oneof g got) ≡ true) (sym second)
+    (and_from (bytes_eq (codes "part of ") (codes "part of ")) (bytes_eq o.id.full_name p.id.full_name) (same-text (codes "part of ")) names))
 
 pub default_none : (v : Versions) (f g : Part) → option_and_then (λ (r : FieldDescriptorProto). r.default_value) (field_record (writer v) f.id) ≡ None
     → option_and_then (λ (r : FieldDescriptorProto). r.default_value) (field_record (reader v) g.id) ≡ None

@@ -8,7 +8,7 @@ ghost use Rattle.pool_changes.specs.FieldParts.{part, json_side, name_side, repe
 ghost use Rattle.pool_changes.specs.FieldParts.{presence_side, oneof_side, default_side, is_named};
 ghost use Rattle.pool_changes.specs.Sides.{are_alike, versions, writer, reader};
 
-use crate::fields::{Part, is_map_entry};
+use crate::fields::{Part, is_map_entry, oneof_in};
 use crate::kept_fields::KeptPart;
 use crate::pools::parts_of;
 use crate::sides::Telling;
@@ -103,7 +103,7 @@ impl Telling<'_> {
     }
 
     /// Whether two fields are in oneofs of one name, or in none.
-    #[tactic(auto, using(crate::proofs::Same::oneof_none))]
+    #[tactic(auto, using(crate::proofs::Same::oneof_both, crate::proofs::Same::oneof_neither))]
     fn has_oneof_of(self, pair: KeptPart<'_>) -> bool
         ensures { IsTrue result → are_alike
             (oneof_side (writer (versions self.entry)) pair.entry.messages.before.now
@@ -111,12 +111,18 @@ impl Telling<'_> {
             (oneof_side (reader (versions self.entry)) pair.entry.messages.after.now
             (part pair.entry.after)) ≡ true }
     {
-        if pair.before.entry.oneof.is_none() && pair.after.entry.oneof.is_none() {
-            return true;
+        let KeptPart {
+            messages,
+            before,
+            after,
+        } = pair;
+        let before = oneof_in(self.writer(), messages.before, before.entry.oneof);
+        let after = oneof_in(self.reader(), messages.after, after.entry.oneof);
+        match (before, after) {
+            (Some(before), Some(after)) => before.id.full_name() == after.id.full_name(),
+            (None, None) => true,
+            _ => false,
         }
-        let before = pair.before.oneof(self.writer(), pair.messages.before);
-        let after = pair.after.oneof(self.reader(), pair.messages.after);
-        before.is_like(after)
     }
 
     /// Whether the records of two fields give no default value.

@@ -287,7 +287,7 @@ pub(crate) fn oneof_at<'a>(
 }
 
 /// The oneof of a message at a position, if there is one.
-fn oneof_in<'a>(
+pub(crate) fn oneof_in<'a>(
     pool: &DescriptorPool,
     message: &'a MessageDescriptorInner,
     position: Option<u32>,
