@@ -5,4 +5,5 @@ pub mod Texts
 pub mod WholeNumbers
 pub mod Positions
 pub mod Rows
+pub mod TextEntries
 pub mod Enumerated

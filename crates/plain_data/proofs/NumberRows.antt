@@ -16,14 +16,14 @@ use Rattle.std.proofs.lemmas.Bool.{cases_eq, cases_lt}
 use Rattle.std.proofs.lemmas.Bool.Decides.{nat_tests}
 use Rattle.std.proofs.lemmas.List.{append_assoc, append-nil, get_or-take, get_or_default, length-append, length-take-le, set_split, take-append-drop, length-set, get_or-set_same, get_or-set_other}
 use Rattle.std.proofs.lemmas.List.Edits.{length-insert, get_or-insert_below, get_or-insert_at, get_or-insert_above, length-remove, get_or-remove_below, get_or-remove_above}
-use Rattle.std.proofs.lemmas.List.Elements.{All-head, All-tail, All-nil, All-cons, All-append, All-take, All-drop}
+use Rattle.std.proofs.lemmas.List.Elements.{All-append, All-take, All-drop}
 use Rattle.std.proofs.lemmas.Map.Keys.{IsDistinct-cons, IsDistinct-from_sorted}
 use Rattle.std.proofs.lemmas.Map.Lookups.{btree_map_from_get, exact_unsigned}
 use Rattle.std.proofs.lemmas.Map.Made.{update_all_none}
 use Rattle.std.proofs.Math.Seq.{drop-cons, take-append_seam, drop-append_seam}
-use Rattle.plain_data.specs.Maps.{ByNumber}
-use Rattle.plain_data.specs.NumberRows.{key_at, Rise, HasKey, FitsAt, joined, AreApart, IsWithin, HasAll}
-use Rattle.plain_data.proofs.Entries.{absent, find-lookup, len-from_entries}
+use Rattle.plain_data.specs.Maps.{ByNumber, HasAll, IsWithin}
+use Rattle.plain_data.specs.NumberRows.{key_at, Rise, HasKey, FitsAt, joined, AreApart}
+use Rattle.plain_data.proofs.Entries.{all-from_within, find-lookup, IsIn, len-from_entries, within-from_all}
 
 -- what a search by halves answers
 pub placed : (es : List (ℕ × ℕ)) (key : ℕ) (r : Result ℕ ℕ) → Rise es → IsSearchInRange r (length es) → IsBinarySearchResult (λ e. nat_cmp e.0 key) es r → MatchResult r (HasKey es key) (FitsAt es key)
@@ -350,58 +350,15 @@ len-joined es os are ordered =
     len-from_entries nat_cmp (eq_by_cmp nat_cmp) (λ x y. refl) nat_cmp_total (es ++ os.entries) (distinct-joined es os are ordered)
     ∙ length-append es os.entries
 
-abbrev IsIn : ByNumber ℕ → ℕ × ℕ → Type 0
-IsIn m e = map.get m e.0 ≡ Some e.1
-
--- all of some entries in another map
-all-has : (m : ByNumber ℕ) (es : List (ℕ × ℕ)) → HasAll es m → (key number : ℕ) → find nat_cmp key es ≡ Some number → map.get m key ≡ Some number
-all-has m [] all key number is = absurd (cc)
-all-has m (e ∷ es) all key number is = next (eq_by_cmp nat_cmp key e.0) refl is (all-has m es (All-tail (IsIn m) e es all) key number)
-  where
-    next : (b : Bool) → eq_by_cmp nat_cmp key e.0 ≡ b → cond b (Some e.1) (find nat_cmp key es) ≡ Some number
-        → (find nat_cmp key es ≡ Some number → map.get m key ≡ Some number) → map.get m key ≡ Some number
-    next true same is rest = ap (map.get m) ((same-key key e.0).0 same) ∙ All-head (IsIn m) e es all ∙ is
-    next false other is rest = rest is
-
-all-within : (m : ByNumber ℕ) (es : List (ℕ × ℕ)) → IsDistinct (eq_by_cmp nat_cmp) (keys_of es) → ((key number : ℕ) → find nat_cmp key es ≡ Some number → map.get m key ≡ Some number) → HasAll es m
-unfolding IsDistinct
-all-within m [] distinct within = All-nil (IsIn m)
-all-within m (e ∷ es) distinct within =
-    All-cons (IsIn m) e es (within e.0 e.1 (ap (λ b. cond b (Some e.1) (find nat_cmp e.0 es)) ((same-key e.0 e.0).1 refl)))
-    (all-within m es distinct.1 (λ key number is. within key number (later key number is (eq_by_cmp nat_cmp key e.0) refl)))
-  where
-    later : (key number : ℕ) → find nat_cmp key es ≡ Some number → (b : Bool) → eq_by_cmp nat_cmp key e.0 ≡ b → cond (eq_by_cmp nat_cmp key e.0) (Some e.1) (find nat_cmp key es) ≡ Some number
-    later key number is true same =
-        let none : find nat_cmp key es ≡ None = ap (λ k. find nat_cmp k es) ((same-key key e.0).0 same) ∙ find-lookup nat_cmp (eq_by_cmp nat_cmp) (λ x y. refl) es e.0 ∙ absent (eq_by_cmp nat_cmp e.0) es distinct.0 in absurd (cc)
-    later key number is false other = rw other is
-
--- two maps, each of which has the entries of the other
-within-same : (m n : ByNumber ℕ) → IsWithin m n → IsWithin n m → m ≡ n
-within-same m n there back = same_numbers m n (λ key. next key (map.get m key) (map.get n key) refl refl)
-  where
-    next : (key : ℕ) (a b : Option ℕ) → map.get m key ≡ a → map.get n key ≡ b → map.get m key ≡ map.get n key
-    next key (Some a) b is has = is ∙ sym (there key a is)
-    next key None (Some b) is has = back key b has ∙ sym has
-    next key None None is has = is ∙ sym has
-
-pub within-decides : (m n : ByNumber ℕ) (r : Bool) → IsWithin m n → IsTrue r ↔ IsWithin n m → Decides r (m ≡ n)
-within-decides m n r there back =
-    (λ yes. within-same m n there (back.0 yes), λ same. back.1 (subst (λ x. IsWithin n x) (sym same) (λ key number is. is)))
-
-pub never-same : (m n : ByNumber ℕ) (r : Bool) → r ≡ false → IsTrue r ↔ IsWithin m n → Decides r (m ≡ n)
-never-same m n r untrue there = (λ yes. absurd (cc), λ same. there.1 (subst (λ x. IsWithin m x) same (λ key number is. is)))
-
 -- whether a map has all entries
 module _ (es : List (ℕ × ℕ)) (os : BTreeMap ℕ ℕ) (m : ByNumber ℕ) where
   pub within-both : HasAll es m → HasAll os.entries m → IsWithin (joined es os) m
-  within-both first others key number is =
-      all-has m (es ++ os.entries) (All-append (IsIn m) es os.entries first others) key number
-      (sym (get-from_entries nat_cmp_total (es ++ os.entries) key) ∙ is)
+  within-both first others =
+      within-from_all nat_cmp nat_cmp_total (eq_by_cmp nat_cmp) (λ x y. refl) same-key m (es ++ os.entries) (All-append (IsIn m) es os.entries first others)
 
   both-within : AreApart es os → tree.IsOrdered nat_cmp os → IsWithin (joined es os) m → HasAll (es ++ os.entries) m
   both-within are ordered within =
-      all-within m (es ++ os.entries) (distinct-joined es os are ordered)
-      (λ key number is. within key number (get-from_entries nat_cmp_total (es ++ os.entries) key ∙ is))
+      all-from_within nat_cmp nat_cmp_total (eq_by_cmp nat_cmp) (λ x y. refl) same-key m (es ++ os.entries) (distinct-joined es os are ordered) within
 
   pub first-within : AreApart es os → tree.IsOrdered nat_cmp os → IsWithin (joined es os) m → HasAll es m
   first-within are ordered within =

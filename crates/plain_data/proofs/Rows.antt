@@ -1,76 +1,69 @@
 -- Rows with texts in a list of bytes, and the finite map that they are seen as.
-use Rattle.std.proofs.Common.{◌≡◌, ◌≢◌, ℕ, zero, suc, ◌+◌, ◌<◌, ◌≤◌, ◌-◌, Bool, true, false, cond, List, [], ◌∷◌, ◌++◌, None, Some, refl, ap, sym, ◌∙◌, subst, inl, inr, ◌⊎◌, Decides, length, take, drop, map as each, set, slice_index_or, arith}
-use Rattle.std.specs.Prelude.{slice_get}
+use Rattle.std.proofs.Common.{◌≡◌, ◌≢◌, ℕ, zero, suc, ◌+◌, ◌<◌, ◌≤◌, ◌-◌, Bool, List, [], ◌∷◌, ◌++◌, None, Some, refl, ap, sym, ◌∙◌, subst, inl, inr, ◌⊎◌, length, take, drop, set, slice_index_or, arith}
 use Rattle.std.specs.Cmp.{IsTotalOrder, tied_itself, nat_cmp_total, then_total, on_total}
-use Rattle.std.specs.Cmp.Lexicographic.{slice_cmp, nat_list_cmp_total, nat_list_eq_equiv, texts_ties, bytes_decides}
+use Rattle.std.specs.Cmp.Lexicographic.{slice_cmp, nat_list_cmp_total, nat_list_eq_equiv}
 use Rattle.std.specs.FinMap as map
-use Rattle.std.specs.FinMap.{find, from_entries_push, get-from_entries, get-insert, slice_cmp-IsAntisymmetric, nat_cmp-IsAntisymmetric}
-use Rattle.std.specs.List.{IsDistinct, list_any, AllByRecursion}
+use Rattle.std.specs.FinMap.{slice_cmp-IsAntisymmetric, nat_cmp-IsAntisymmetric}
+use Rattle.std.specs.List.{IsDistinct}
 use Rattle.std.specs.List.Sorted.{IsPermutation}
-use Rattle.std.specs.Map.{lookup, keys_of, set_value}
-use Rattle.std.specs.Option.{IsSome}
-use Rattle.std.specs.Ordering.{nat_cmp, eq_by_cmp, ordering_reverse, ordering_then}
+use Rattle.std.specs.Map.{lookup, keys_of}
+use Rattle.std.specs.Ordering.{nat_cmp, ordering_reverse, ordering_then}
 use Rattle.std.specs.Result.{OnOk, OnErr}
 use Rattle.std.specs.Str.{bytes_eq}
 use Rattle.std.specs.declared.result.Result.{Result}
 use Rattle.std.specs.declared.result.Result.TheVariants.{Ok, Err}
 use Rattle.std.specs.declared.cmp.Ordering.{Ordering}
 use Rattle.std.specs.declared.cmp.Ordering.TheVariants.{Less, Equal, Greater}
-use Rattle.std.specs.declared.option.Option.{Option}
-use Rattle.std.proofs.lemmas.List.{append_assoc, take_at, take-append-drop, length-map, length-set, length-append, take-append-le, drop-append-le, drop_at, take_all, length-take-le, length_push, get_or_push, get_or-take, get_or_append_left, map-append, length-drop, get_or-set_same, get_or-set_other}
+use Rattle.std.proofs.lemmas.List.{append_assoc, take_at, take-append-drop, length-map, length-set, map-set, length-append, take-append-le, drop-append-le, drop_at, take_all, length-take-le, length_push, get_or_push, get_or-take, get_or_append_left, map-append, length-drop, get_or-set_same, get_or-set_other}
 use Rattle.std.proofs.Math.Seq.{map-set_same}
 use Rattle.std.proofs.lemmas.Bool.{cases_eq, cases_lt}
-use Rattle.std.proofs.lemmas.Map.{lookup-set_value, keys-set_value}
 use Rattle.std.proofs.lemmas.Grind.{get_or_moved}
 use Rattle.std.proofs.lemmas.List.Sorted.{IsPermutation-map, IsPermutation-sym, IsPermutation-append_right, length_permutation}
-use Rattle.std.proofs.lemmas.Map.Keys.{IsDistinct-push, IsDistinct-IsPermutation}
-use Rattle.std.proofs.lemmas.Map.Entries.{lookup_from_place}
-use Rattle.plain_data.specs.declared.text_map.Row.{Row}
-use Rattle.plain_data.specs.TextRows.{AreApart, digest_of, IsDigested, AreDigested, text_order, made_of, text_of, text_at, entries_of, no_row, IsRow, AreWithin, Holds, Lacks, bound, IsRun, AreRuns, IsSound, Covers}
-use Rattle.plain_data.proofs.Entries.{get-lookup, len-from_entries}
-use Rattle.plain_data.proofs.Texts.{same_texts}
-use Rattle.plain_data.specs.Maps.{inserted}
-use Rattle.std.proofs.lemmas.List.Sums.{fold-append}
-use Rattle.std.specs.List.{fold}
-use Rattle.std.proofs.lemmas.List.{append-nil}
+use Rattle.std.proofs.lemmas.Map.Keys.{IsDistinct-IsPermutation}
+use Rattle.plain_data.specs.declared.text_rows.Row.{Row}
+use Rattle.plain_data.specs.TextEntries as looked
+use Rattle.plain_data.proofs.TextEntries as plain
+use Rattle.plain_data.specs.TextRows.{digest_of, IsDigested, AreDigested, text_order, made_of, text_of, text_at, entries_of, no_row, IsRow, AreWithin, Holds, Lacks, bound, IsRun, AreRuns, IsSound, Covers}
+use Rattle.plain_data.proofs.Entries.{IsIn, within-same}
+use Rattle.std.proofs.lemmas.List.Elements.{All-head, All-tail, All-nil, All-cons}
+use Rattle.std.proofs.lemmas.Map.Views.{All-map-IsPermutation}
+use Rattle.std.specs.Prelude.{IsTrue, ◌↔◌}
+use Rattle.plain_data.specs.Maps.{ByText, HasAll, inserted, IsWithin}
 
 -- it has as many entries as there are rows
 pub len-made_of : (bytes : List ℕ) (rows : List Row) → IsDistinct bytes_eq (keys_of (entries_of bytes rows)) → map.len (made_of bytes rows) ≡ length rows
-len-made_of bytes rows distinct = len-from_entries (slice_cmp nat_cmp) bytes_eq texts_ties nat_list_cmp_total (entries_of bytes rows) distinct ∙ length-map rows _
+len-made_of bytes rows distinct = plain.len-entries (entries_of bytes rows) distinct ∙ length-map rows _
 
 -- under a text it has what the first row of it has
 pub get-made_of : (bytes : List ℕ) (rows : List Row) (key : List ℕ) → map.get (made_of bytes rows) key ≡ lookup (bytes_eq key) (entries_of bytes rows)
-get-made_of bytes rows key = get-lookup (slice_cmp nat_cmp) bytes_eq texts_ties nat_list_cmp_total (entries_of bytes rows) key
+get-made_of bytes rows key = plain.get-entries (entries_of bytes rows) key
 
-differs : (a b : List ℕ) → a ≢ b → bytes_eq a b ≡ false
-differs a b apart = next (bytes_eq a b) refl
-  where
-    next : (r : Bool) → bytes_eq a b ≡ r → r ≡ false
-    next true is = absurd (apart ((bytes_decides a b).0 is))
-    next false is = refl
+-- the entry of the row at a position
+entry-at : (bytes : List ℕ) (rows : List Row) (at : ℕ) → slice_index_or (entries_of bytes rows) at ([], 0) ≡ (text_at bytes rows at, (slice_index_or rows at no_row).number)
+entry-at bytes [] at = refl
+entry-at bytes (r ∷ rs) zero = refl
+entry-at bytes (r ∷ rs) (suc at) = entry-at bytes rs at
 
-place : (bytes : List ℕ) (rows : List Row) (at : ℕ) → at < length rows → slice_get (entries_of bytes rows) at ≡ Some (text_at bytes rows at, (slice_index_or rows at no_row).number)
-place bytes [] at below = absurd (omega arith)
-place bytes (r ∷ rs) zero below = refl
-place bytes (r ∷ rs) (suc at) below = place bytes rs at (omega arith)
+text-entry : (bytes : List ℕ) (rows : List Row) (at : ℕ) → looked.text_at (entries_of bytes rows) at ≡ text_at bytes rows at
+text-entry bytes rows at = ap (λ e. e.0) (entry-at bytes rows at)
 
+-- what is said of rows is said of their entries
 module _ (bytes : List ℕ) (rows : List Row) (key : List ℕ) where
+  holds-entry : (at : ℕ) → Holds bytes rows key at → looked.Holds (entries_of bytes rows) key at
+  holds-entry at holds = (subst (λ n. at < n) (sym (length-map rows _)) holds.0, text-entry bytes rows at ∙ holds.1)
+
+  lacks-entry : Lacks bytes rows key → looked.Lacks (entries_of bytes rows) key
+  lacks-entry lacks at from below same = lacks at from (subst (λ n. at < n) (length-map rows _) below) (sym (text-entry bytes rows at) ∙ same)
+
   -- a row that has a text says its number
   pub lookup-holds : (at : ℕ) → IsDistinct bytes_eq (keys_of (entries_of bytes rows)) → Holds bytes rows key at → lookup (bytes_eq key) (entries_of bytes rows) ≡ Some (slice_index_or rows at no_row).number
   lookup-holds at distinct holds =
-      lookup_from_place nat_list_eq_equiv (entries_of bytes rows) at key _ distinct
-      (place bytes rows at holds.0 ∙ ap (λ k. Some (k, (slice_index_or rows at no_row).number)) holds.1)
+      plain.lookup-holds (entries_of bytes rows) key at distinct (holds-entry at holds)
+      ∙ ap (λ e. Some e.1) (entry-at bytes rows at)
 
--- without such a row there is none
-pub lookup-lacks : (bytes : List ℕ) (rows : List Row) (key : List ℕ) → Lacks bytes rows key → lookup (bytes_eq key) (entries_of bytes rows) ≡ None
-lookup-lacks bytes [] key lacks = refl
-lookup-lacks bytes (r ∷ rs) key lacks =
-    ap (λ b. cond b (Some r.number) (lookup (bytes_eq key) (entries_of bytes rs))) (differs key (text_of bytes r) (λ same. lacks 0 (omega arith) (omega arith) (sym same)))
-    ∙ lookup-lacks bytes rs key (λ at from below. lacks (suc at) (omega arith) (omega arith))
-
-unlisted : (bytes : List ℕ) (rows : List Row) (key : List ℕ) → Lacks bytes rows key → list_any (bytes_eq key) (keys_of (entries_of bytes rows)) ≡ false
-unlisted bytes [] key lacks = refl
-unlisted bytes (r ∷ rs) key lacks = rw (differs key (text_of bytes r) (λ same. lacks 0 (omega arith) (omega arith) (sym same))) (unlisted bytes rs key (λ at from below. lacks (suc at) (omega arith) (omega arith)))
+  -- without such a row there is none
+  pub lookup-lacks : Lacks bytes rows key → lookup (bytes_eq key) (entries_of bytes rows) ≡ None
+  lookup-lacks lacks = plain.lookup-lacks (entries_of bytes rows) key (lacks-entry lacks)
 
 pub bound-next : (runs : List ℕ) (k : ℕ) → bound runs (k + 1) ≡ slice_index_or runs k 0
 bound-next runs k = let more : k + 1 ≡ suc k = omega arith in ap (bound runs) more
@@ -185,43 +178,17 @@ sound-empty bytes rows runs none no-runs =
 abbrev pub numbered : Row → ℕ → Row
 numbered row number = record row { number = number }
 
--- the text of no other row is that of one with a row
-other_text : (bytes : List ℕ) (r : Row) (rs : List Row) (key : List ℕ) (at : ℕ) → IsDistinct bytes_eq (keys_of (entries_of bytes (r ∷ rs))) → Holds bytes rs key at → bytes_eq key (text_of bytes r) ≡ false
-unfolding IsDistinct
-other_text bytes r rs key at distinct holds =
-    nat_list_eq_equiv.symm key (text_of bytes r)
-    ∙ subst (λ k. bytes_eq (text_of bytes r) k ≡ false) holds.1 (apart rs at distinct.0 holds.0)
-  where
-    apart : (others : List Row) (i : ℕ) → AllByRecursion (λ y. bytes_eq (text_of bytes r) y ≡ false) (keys_of (entries_of bytes others)) → i < length others → bytes_eq (text_of bytes r) (text_at bytes others i) ≡ false
-    apart [] i all below = absurd (omega arith)
-    apart (o ∷ others) zero all below = all.0
-    apart (o ∷ others) (suc i) all below = apart others i all.1 (omega arith)
-
--- a number in place of another is the value set
-set-value : (bytes : List ℕ) (rows : List Row) (key : List ℕ) (number at : ℕ) → IsDistinct bytes_eq (keys_of (entries_of bytes rows)) → Holds bytes rows key at
-    → entries_of bytes (set rows at (numbered (slice_index_or rows at no_row) number)) ≡ set_value (bytes_eq key) (entries_of bytes rows) number
-unfolding IsDistinct
-set-value bytes [] key number at distinct holds = absurd (omega arith)
-set-value bytes (r ∷ rs) key number zero distinct holds =
-    ap (λ b. cond b ((text_of bytes r, number) ∷ entries_of bytes rs) ((text_of bytes r, r.number) ∷ set_value (bytes_eq key) (entries_of bytes rs) number)) (sym ((bytes_decides key (text_of bytes r)).1 (sym holds.1)))
-set-value bytes (r ∷ rs) key number (suc at) distinct holds =
-    let there : Holds bytes rs key at = (omega arith, holds.1) in
-    ap (λ es. (text_of bytes r, r.number) ∷ es) (set-value bytes rs key number at distinct.1 there)
-    ∙ ap (λ b. cond b ((text_of bytes r, number) ∷ entries_of bytes rs) ((text_of bytes r, r.number) ∷ set_value (bytes_eq key) (entries_of bytes rs) number)) (sym (other_text bytes r rs key at distinct there))
-
-IsSome-Some : {X : Type 0} (o : Option X) (x : X) → o ≡ Some x → IsSome o
-IsSome-Some o x is = subst IsSome (sym is) refl
+-- a row with another number is an entry with it
+entries-set : (bytes : List ℕ) (rows : List Row) (number at : ℕ) → entries_of bytes (set rows at (numbered (slice_index_or rows at no_row) number)) ≡ set (entries_of bytes rows) at (looked.text_at (entries_of bytes rows) at, number)
+entries-set bytes rows number at =
+    map-set _ rows at (numbered (slice_index_or rows at no_row) number)
+    ∙ ap (λ text. set (entries_of bytes rows) at (text, number)) (sym (text-entry bytes rows at))
 
 pub made-set : (bytes : List ℕ) (rows : List Row) (key : List ℕ) (number at : ℕ) → IsDistinct bytes_eq (keys_of (entries_of bytes rows)) → Holds bytes rows key at
     → made_of bytes (set rows at (numbered (slice_index_or rows at no_row) number)) ≡ map.insert (made_of bytes rows) key number
 made-set bytes rows key number at distinct holds =
-    same_texts (made_of bytes (set rows at (numbered (slice_index_or rows at no_row) number))) _ (λ q.
-    get-made_of bytes _ q
-    ∙ ap (lookup (bytes_eq q)) (set-value bytes rows key number at distinct holds)
-    ∙ lookup-set_value nat_list_eq_equiv (bytes_eq key) (λ x y is. ap (λ k. bytes_eq k y) ((bytes_decides key x).0 is)) q number (entries_of bytes rows) (IsSome-Some _ _ (lookup-holds bytes rows key at distinct holds))
-    ∙ ap (λ b. cond b (Some number) (lookup (bytes_eq q) (entries_of bytes rows))) (nat_list_eq_equiv.symm key q ∙ texts_ties q key)
-    ∙ ap (cond (eq_by_cmp (slice_cmp nat_cmp) q key) (Some number)) (sym (get-made_of bytes rows q))
-    ∙ sym (get-insert nat_list_cmp_total (made_of bytes rows) key number q))
+    ap map.from_entries (entries-set bytes rows number at)
+    ∙ plain.entries-set (entries_of bytes rows) key number at distinct (holds-entry bytes rows key at holds)
 
 -- rows with the same places in the bytes
 text-set : (bytes : List ℕ) (rows : List Row) (number at k : ℕ) → text_at bytes (set rows at (numbered (slice_index_or rows at no_row) number)) k ≡ text_at bytes rows k
@@ -249,7 +216,7 @@ pub sound-set : (bytes : List ℕ) (rows : List Row) (runs : List ℕ) (key : Li
     → IsSound bytes (set rows at (numbered (slice_index_or rows at no_row) number)) runs
 sound-set bytes rows runs key number at sound holds = record {
   within = λ k below. row-set bytes rows number at k (sound.within k (subst (λ n. k < n) (length-set rows at _) below));
-  distinct = subst (IsDistinct bytes_eq) (sym (ap keys_of (set-value bytes rows key number at sound.distinct holds) ∙ keys-set_value (bytes_eq key) (entries_of bytes rows) number)) sound.distinct;
+  distinct = subst (λ es. IsDistinct bytes_eq (keys_of es)) (sym (entries-set bytes rows number at)) (plain.distinct-set (entries_of bytes rows) key number at sound.distinct (holds-entry bytes rows key at holds));
   sorted = runs-agree bytes rows bytes _ runs sound.sorted (λ i below. text-set bytes rows number at i) (rw (length-set rows at (numbered (slice_index_or rows at no_row) number)) (omega arith)) (λ i below. digest-set bytes rows number at i);
 }
 
@@ -277,12 +244,7 @@ module _ (bytes key : List ℕ) (number : ℕ) where
 
   pub made-push : (rows : List Row) → AreWithin bytes rows → Lacks bytes rows key → made_of (bytes ++ key) (rows ++ last_row ∷ []) ≡ map.insert (made_of bytes rows) key number
   made-push rows within lacks =
-      ap map.from_entries (entries-push rows within)
-      ∙ from_entries_push nat_list_cmp_total (slice_cmp-IsAntisymmetric nat_cmp-IsAntisymmetric) (entries_of bytes rows) key number
-      (sym (get-from_entries nat_list_cmp_total (entries_of bytes rows) key) ∙ get-made_of bytes rows key ∙ lookup-lacks bytes rows key lacks)
-
-  keys-push : (rows : List Row) → AreWithin bytes rows → keys_of (entries_of (bytes ++ key) (rows ++ last_row ∷ [])) ≡ keys_of (entries_of bytes rows) ++ key ∷ []
-  keys-push rows within = ap keys_of (entries-push rows within) ∙ map-append _ (entries_of bytes rows) ((key, number) ∷ [])
+      ap map.from_entries (entries-push rows within) ∙ plain.entries-push (entries_of bytes rows) key number (lacks-entry bytes rows key lacks)
 
   pub row-push : (rows : List Row) (at : ℕ) → AreWithin bytes rows → at < length (rows ++ last_row ∷ []) → IsRow (bytes ++ key) (slice_index_or (rows ++ last_row ∷ []) at no_row)
   row-push [] zero within below = (omega arith, rw (length-append bytes key) (omega arith))
@@ -303,7 +265,7 @@ module _ (bytes key : List ℕ) (number : ℕ) where
   pub sound-push : (rows : List Row) (runs : List ℕ) → IsSound bytes rows runs → Lacks bytes rows key → IsSound (bytes ++ key) (rows ++ last_row ∷ []) runs
   sound-push rows runs sound lacks = record {
     within = λ at below. row-push rows at sound.within below;
-    distinct = subst (IsDistinct bytes_eq) (sym (keys-push rows sound.within)) (IsDistinct-push nat_list_eq_equiv (keys_of (entries_of bytes rows)) key sound.distinct (unlisted bytes rows key lacks));
+    distinct = subst (λ es. IsDistinct bytes_eq (keys_of es)) (sym (entries-push rows sound.within)) (plain.distinct-push (entries_of bytes rows) key number (lacks-entry bytes rows key lacks) sound.distinct);
     sorted = runs-agree bytes rows (bytes ++ key) (rows ++ last_row ∷ []) runs sound.sorted (λ i below. text-push rows i sound.within below) (rw (length-append rows (last_row ∷ [])) (omega arith)) (λ i below. digest-push rows i sound.within below);
   }
 
@@ -316,56 +278,20 @@ pub either_way : {T E A B C D P : Type 0} (r : Result T E) → OnOk r A → OnOk
 either_way (Ok x) a b c d f g = f a b
 either_way (Err e) a b c d f g = g c d
 
--- whether a row has a text
-sought : (bytes : List ℕ) (rows : List Row) (key : List ℕ) → Lacks bytes rows key ⊎ ((at : ℕ) × Holds bytes rows key at)
-sought bytes [] key = inl (λ at from below. absurd (omega arith))
-sought bytes (r ∷ rs) key = first (bytes_eq (text_of bytes r) key) refl (sought bytes rs key)
-  where
-    lacks-more : text_of bytes r ≢ key → Lacks bytes rs key → Lacks bytes (r ∷ rs) key
-    lacks-more apart lacks zero from below = apart
-    lacks-more apart lacks (suc at) from below = lacks at (omega arith) (omega arith)
+-- whether a finite map has the entries of rows
+module _ (bytes : List ℕ) (rows : List Row) (m : ByText ℕ) where
+  covers-all : (rs : List Row) → Covers bytes rs (length rs) m → HasAll (entries_of bytes rs) m
+  covers-all [] covers = All-nil (IsIn m)
+  covers-all (r ∷ rs) covers = All-cons (IsIn m) _ (entries_of bytes rs) (covers 0 (omega arith)) (covers-all rs (λ at below. covers (suc at) (omega arith)))
 
-    first : (b : Bool) → bytes_eq (text_of bytes r) key ≡ b → Lacks bytes rs key ⊎ ((at : ℕ) × Holds bytes rs key at) → Lacks bytes (r ∷ rs) key ⊎ ((at : ℕ) × Holds bytes (r ∷ rs) key at)
-    first true is others = inr (0, (omega arith, (bytes_decides (text_of bytes r) key).0 is))
-    first false is (inl lacks) = inl (lacks-more (λ same. let yes = (bytes_decides (text_of bytes r) key).1 same in absurd (cc)) lacks)
-    first false is (inr there) = inr (suc there.0, (omega arith, there.1.1))
+  all-covers : (rs : List Row) → HasAll (entries_of bytes rs) m → Covers bytes rs (length rs) m
+  all-covers [] all at below = absurd (omega arith)
+  all-covers (r ∷ rs) all zero below = All-head (IsIn m) _ (entries_of bytes rs) all
+  all-covers (r ∷ rs) all (suc at) below = all-covers rs (All-tail (IsIn m) _ (entries_of bytes rs) all) at (omega arith)
 
-module _ (bytes : List ℕ) (rows : List Row) (other_bytes : List ℕ) (other_rows : List Row) where
-  abbrev pub All_in : Type 0
-  All_in = Covers bytes rows (length rows) (entries_of other_bytes other_rows)
-
-  found-in : All_in → IsDistinct bytes_eq (keys_of (entries_of bytes rows)) → (key : List ℕ) (at : ℕ) → Holds bytes rows key at → lookup (bytes_eq key) (entries_of bytes rows) ≡ lookup (bytes_eq key) (entries_of other_bytes other_rows)
-  found-in all distinct key at holds =
-      lookup-holds bytes rows key at distinct holds
-      ∙ sym (all at holds.0)
-      ∙ ap (λ k. lookup (bytes_eq k) (entries_of other_bytes other_rows)) holds.1
-
-  pub all-from-same : IsDistinct bytes_eq (keys_of (entries_of bytes rows)) → made_of bytes rows ≡ made_of other_bytes other_rows → All_in
-  all-from-same distinct same at below =
-      sym (get-made_of other_bytes other_rows (text_at bytes rows at))
-      ∙ ap (λ made. map.get made (text_at bytes rows at)) (sym same)
-      ∙ get-made_of bytes rows (text_at bytes rows at)
-      ∙ lookup-holds bytes rows (text_at bytes rows at) at distinct (below, refl)
-
--- rows that have one another's texts and numbers are one map
-module _ (bytes : List ℕ) (rows : List Row) (other_bytes : List ℕ) (other_rows : List Row) where
-  pub same-from-all : IsDistinct bytes_eq (keys_of (entries_of bytes rows)) → IsDistinct bytes_eq (keys_of (entries_of other_bytes other_rows))
-      → All_in bytes rows other_bytes other_rows → All_in other_bytes other_rows bytes rows → made_of bytes rows ≡ made_of other_bytes other_rows
-  same-from-all distinct also all back = same_texts (made_of bytes rows) (made_of other_bytes other_rows) (λ key.
-      get-made_of bytes rows key ∙ next key (sought bytes rows key) (sought other_bytes other_rows key) ∙ sym (get-made_of other_bytes other_rows key))
-    where
-      next : (key : List ℕ) → Lacks bytes rows key ⊎ ((at : ℕ) × Holds bytes rows key at) → Lacks other_bytes other_rows key ⊎ ((at : ℕ) × Holds other_bytes other_rows key at)
-          → lookup (bytes_eq key) (entries_of bytes rows) ≡ lookup (bytes_eq key) (entries_of other_bytes other_rows)
-      next key (inr there) other = found-in bytes rows other_bytes other_rows all distinct key there.0 there.1
-      next key (inl lacks) (inr there) = sym (found-in other_bytes other_rows bytes rows back also key there.0 there.1)
-      next key (inl lacks) (inl none) = lookup-lacks bytes rows key lacks ∙ sym (lookup-lacks other_bytes other_rows key none)
-
--- two looks tell whether they are one
-pub both-decide : {P Q R : Type 0} (a b : Bool) → a ≡ true → Decides a P → Decides b Q → (P → Q → R) → (R → Q) → Decides b R
-both-decide a b first p q together back = (λ is. together (p.0 first) (q.0 is), λ r. q.1 (back r))
-
-pub one-decides : {P R : Type 0} (a : Bool) → a ≡ false → Decides a P → (R → P) → Decides a R
-one-decides a is p back = (λ yes. absurd (cc), λ r. p.1 (back r))
+  pub told-by-rows : (r : Bool) → IsDistinct bytes_eq (keys_of (entries_of bytes rows)) → IsTrue r ↔ Covers bytes rows (length rows) m → IsTrue r ↔ IsWithin (made_of bytes rows) m
+  told-by-rows r distinct covers =
+      plain.told-by-all (entries_of bytes rows) m r distinct (λ yes. covers-all rows (covers.0 yes), λ all. covers.1 (all-covers rows all))
 
 -- rows in another order
 module _ (bytes : List ℕ) (rows new_rows : List Row) (moved : IsPermutation rows new_rows) where
@@ -388,18 +314,18 @@ module _ (bytes : List ℕ) (rows new_rows : List Row) (moved : IsPermutation ro
   distinct-moved = IsDistinct-IsPermutation bytes_eq nat_list_eq_equiv.symm _ _
       (IsPermutation-map _ _ _ (IsPermutation-map _ _ _ moved))
 
-  all-moved : IsDistinct bytes_eq (keys_of (entries_of bytes rows)) → All_in bytes new_rows bytes rows
-  all-moved distinct at below =
-      let there = moved-rows at below in
-      lookup-holds bytes rows (text_at bytes new_rows at) there.0 distinct (there.1.0, sym (ap (text_of bytes) there.1.1))
-      ∙ ap (λ row. Some row.number) (sym there.1.1)
+  within-made : IsDistinct bytes_eq (keys_of (entries_of bytes rows)) → IsWithin (made_of bytes new_rows) (made_of bytes rows)
+  within-made distinct =
+      plain.within-entries (entries_of bytes new_rows) (made_of bytes rows)
+      (All-map-IsPermutation (λ row. (text_of bytes row, row.number)) (IsIn (made_of bytes rows)) rows new_rows moved
+      (plain.all-entries (entries_of bytes rows) (made_of bytes rows) distinct (λ key number is. is)))
 
 module _ (bytes : List ℕ) (rows new_rows : List Row) (moved : IsPermutation rows new_rows) where
   pub made-moved : IsDistinct bytes_eq (keys_of (entries_of bytes rows)) → made_of bytes new_rows ≡ made_of bytes rows
   made-moved distinct =
       let also = distinct-moved bytes rows new_rows moved distinct in
-      same-from-all bytes new_rows bytes rows also distinct
-      (all-moved bytes rows new_rows moved distinct) (all-moved bytes new_rows rows (IsPermutation-sym rows new_rows moved) also)
+      within-same (slice_cmp nat_cmp) nat_list_cmp_total (slice_cmp-IsAntisymmetric nat_cmp-IsAntisymmetric) (made_of bytes new_rows) (made_of bytes rows)
+      (within-made bytes rows new_rows moved distinct) (within-made bytes new_rows rows (IsPermutation-sym rows new_rows moved) also)
 
   -- behind some runs, which stay as they are
   pub sound-moved : (runs : List ℕ) (kept : ℕ) → kept ≤ length runs → IsSound bytes rows runs → AreDigested bytes rows (length rows)
@@ -456,11 +382,6 @@ module _ (bytes : List ℕ) (rows : List Row) (at : ℕ) where
       next (inl low) = subst (IsDigested bytes) (sym (get_or-set_other rows at k _ no_row (λ same. let e : k ≡ at = same in omega arith))) (digested k low)
       next (inr high) = let same : k ≡ at = omega arith in subst (IsDigested bytes) (sym (ap (λ n. slice_index_or with_digest n no_row) same ∙ get_or-set_same rows at _ no_row there)) refl
 
--- the text of an entry that may be missing
-abbrev named : Option (List ℕ × ℕ) → List ℕ
-named None = []
-named (Some entry) = entry.0
-
 -- rows whose digests alone are new
 module _ (bytes : List ℕ) (rows new_rows : List Row) (same : entries_of bytes new_rows ≡ entries_of bytes rows) where
   pub as-many : length new_rows ≡ length rows
@@ -468,8 +389,7 @@ module _ (bytes : List ℕ) (rows new_rows : List Row) (same : entries_of bytes 
 
   same-texts : (i : ℕ) → i < length rows → text_at bytes new_rows i ≡ text_at bytes rows i
   same-texts i below =
-      ap named (sym (place bytes new_rows i (subst (λ n. i < n) (sym as-many) below))
-      ∙ ap (λ es. slice_get es i) same ∙ place bytes rows i below)
+      sym (text-entry bytes new_rows i) ∙ ap (λ es. looked.text_at es i) same ∙ text-entry bytes rows i
 
   pub sound-digested : (runs : List ℕ) → AreWithin bytes new_rows → AreDigested bytes new_rows (length new_rows) → IsSound bytes rows runs → IsSound bytes new_rows runs
   sound-digested runs within digested sound = record {
@@ -501,52 +421,14 @@ put-back xs ys post rest from n is within moved =
     subst (IsPermutation xs) (sym whole)
     (subst (λ l. IsPermutation l (take from xs ++ ys)) (take-append-drop from xs) (IsPermutation-append_right (take from xs) (drop from xs) ys moved))
 
--- rows of which no two have one text
-distinct-apart : (bytes : List ℕ) (rows : List Row) → ((i j : ℕ) → i < j → j < length rows → text_at bytes rows i ≢ text_at bytes rows j) → IsDistinct bytes_eq (keys_of (entries_of bytes rows))
-unfolding IsDistinct
-distinct-apart bytes [] apart = tt
-distinct-apart bytes (r ∷ rs) apart =
-    (others rs (λ j below. apart 0 (suc j) (omega arith) (omega arith)), distinct-apart bytes rs (λ i j rise below. apart (suc i) (suc j) (omega arith) (omega arith)))
-  where
-    others : (xs : List Row) → ((j : ℕ) → j < length xs → text_of bytes r ≢ text_at bytes xs j) → AllByRecursion (λ y. bytes_eq (text_of bytes r) y ≡ false) (keys_of (entries_of bytes xs))
-    others [] each = tt
-    others (x ∷ xs) each = (differs (text_of bytes r) (text_of bytes x) (each 0 (omega arith)), others xs (λ j below. each (suc j) (omega arith)))
-
-pub distinct-looked : (bytes : List ℕ) (rows : List Row) → AreApart bytes rows (length rows) → IsDistinct bytes_eq (keys_of (entries_of bytes rows))
-distinct-looked bytes rows apart = distinct-apart bytes rows (λ i j rise below same. apart i (omega arith) j (omega arith) below (sym same))
-
 distinct-run : (bytes : List ℕ) (rows : List Row) → IsRun bytes rows 0 (length rows) → IsDistinct bytes_eq (keys_of (entries_of bytes rows))
-distinct-run bytes rows run = distinct-apart bytes rows (λ i j rise below. not-less _ _ (run i j (omega arith) rise below))
+distinct-run bytes rows run =
+    plain.distinct-apart (entries_of bytes rows) (λ i j rise below same.
+    not-less _ _ (run i j (omega arith) rise (subst (λ n. j < n) (length-map rows _) below))
+    (sym (text-entry bytes rows i) ∙ same ∙ text-entry bytes rows j))
 
-middle : (x : List ℕ) (xs : List (List ℕ × ℕ)) (e : List ℕ × ℕ) (es : List (List ℕ × ℕ)) → AllByRecursion (λ y. bytes_eq x y ≡ false) (keys_of (xs ++ e ∷ es)) → bytes_eq x e.0 ≡ false
-middle x [] e es all = all.0
-middle x (f ∷ xs) e es all = middle x xs e es all.1
-
-missing : (xs : List (List ℕ × ℕ)) (e : List ℕ × ℕ) (es : List (List ℕ × ℕ)) → IsDistinct bytes_eq (keys_of (xs ++ e ∷ es)) → find (slice_cmp nat_cmp) e.0 xs ≡ None
-unfolding IsDistinct
-missing [] e es distinct = refl
-missing (x ∷ xs) e es distinct =
-    ap (λ b. cond b (Some x.1) (find (slice_cmp nat_cmp) e.0 xs)) (sym (texts_ties e.0 x.0) ∙ nat_list_eq_equiv.symm e.0 x.0 ∙ middle x.0 xs e es distinct.0)
-    ∙ missing xs e es distinct.1
-
--- entries put in one after another are those of a map, where no two have one key
-put-in : (pre es : List (List ℕ × ℕ)) → IsDistinct bytes_eq (keys_of (pre ++ es)) → map.from_entries {R = slice_cmp nat_cmp} (pre ++ es) ≡ fold (λ m e. map.insert m e.0 e.1) (map.from_entries {R = slice_cmp nat_cmp} pre) es
-put-in pre [] distinct = ap map.from_entries (append-nil pre)
-put-in pre (e ∷ es) distinct =
-    let more : pre ++ e ∷ es ≡ (pre ++ e ∷ []) ++ es = sym (append_assoc pre (e ∷ []) es) in
-    ap map.from_entries more
-    ∙ put-in (pre ++ e ∷ []) es (subst (λ xs. IsDistinct bytes_eq (keys_of xs)) more distinct)
-    ∙ ap (λ m. fold (λ m e. map.insert m e.0 e.1) m es)
-    (from_entries_push nat_list_cmp_total (slice_cmp-IsAntisymmetric nat_cmp-IsAntisymmetric) pre e.0 e.1 (missing pre e es distinct))
-
-pub made-inserted : (bytes : List ℕ) (rows : List Row) → IsDistinct bytes_eq (keys_of (entries_of bytes rows)) → made_of bytes rows ≡ inserted (entries_of bytes rows)
-made-inserted bytes rows distinct = put-in [] (entries_of bytes rows) distinct
-
-pub inserted-next : (es : List (List ℕ × ℕ)) (k : List ℕ) (x : ℕ) → inserted {R = slice_cmp nat_cmp} (es ++ (k, x) ∷ []) ≡ map.insert (inserted {R = slice_cmp nat_cmp} es) k x
-inserted-next es k x = fold-append (λ m e. map.insert m e.0 e.1) map.empty es ((k, x) ∷ [])
-
--- rows one behind another in order
-pub sound-few : (bytes : List ℕ) (rows : List Row) (runs : List ℕ) → AreWithin bytes rows → IsDistinct bytes_eq (keys_of (entries_of bytes rows)) → runs ≡ [] → IsSound bytes rows runs
+-- rows behind no run
+sound-few : (bytes : List ℕ) (rows : List Row) (runs : List ℕ) → AreWithin bytes rows → IsDistinct bytes_eq (keys_of (entries_of bytes rows)) → runs ≡ [] → IsSound bytes rows runs
 sound-few bytes rows runs within distinct none = record { within = within; distinct = distinct; sorted = subst (AreRuns bytes rows) (sym none) (no-runs bytes rows) }
   where
     no-runs : (bs : List ℕ) (rs : List Row) → AreRuns bs rs []
@@ -561,4 +443,4 @@ pub made-sorted : (bytes : List ℕ) (rows sorted : List Row) → IsPermutation 
 made-sorted bytes rows sorted moved run =
     let distinct : IsDistinct bytes_eq (keys_of (entries_of bytes rows)) =
     IsDistinct-IsPermutation bytes_eq nat_list_eq_equiv.symm _ _ (IsPermutation-map _ _ _ (IsPermutation-map _ _ _ (IsPermutation-sym _ _ moved))) (distinct-run bytes sorted run) in
-    made-moved bytes rows sorted moved distinct ∙ made-inserted bytes rows distinct
+    made-moved bytes rows sorted moved distinct ∙ plain.entries-inserted (entries_of bytes rows) distinct

@@ -6,6 +6,8 @@ pub mod Lists
 pub mod WholeNumbers
 pub mod TruthValues
 pub mod Digests
+pub mod TextEntries
+pub mod TextMaps
 pub mod TextRows
 pub mod NumberRows
 pub mod Numbers

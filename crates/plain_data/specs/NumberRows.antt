@@ -2,9 +2,8 @@
 use Rattle.std.specs.Prelude.{◌≡◌, ℕ, ◌<◌, ◌≤◌, List, ◌++◌, length, slice_index_or}
 use Rattle.std.specs.BTreeMap.{BTreeMap, get}
 use Rattle.std.specs.FinMap as map
-use Rattle.std.specs.List.{All}
 use Rattle.std.specs.Ordering.{nat_cmp}
-use Rattle.std.specs.declared.option.Option.TheVariants.{None, Some}
+use Rattle.std.specs.declared.option.Option.TheVariants.{None}
 use Rattle.plain_data.specs.Maps.{ByNumber}
 
 -- the key of the entry at a position
@@ -33,11 +32,3 @@ joined entries others = map.from_entries (entries ++ others.entries)
 pub record AreApart (entries : List (ℕ × ℕ)) (others : BTreeMap ℕ ℕ) : Type 0 where
   pub rising : Rise entries
   pub apart : (at : ℕ) → at < length entries → get nat_cmp others (key_at entries at) ≡ None
-
--- a finite map has each entry of another
-abbrev pub IsWithin : ByNumber ℕ → ByNumber ℕ → Type 0
-IsWithin m n = (key number : ℕ) → map.get m key ≡ Some number → map.get n key ≡ Some number
-
--- a finite map has each of these entries
-abbrev pub HasAll : List (ℕ × ℕ) → ByNumber ℕ → Type 0
-HasAll entries m = All (λ e. map.get m e.0 ≡ Some e.1) entries

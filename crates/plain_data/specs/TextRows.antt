@@ -1,11 +1,11 @@
 -- Rows that say where a text stands in a list of bytes, each with a number.
-use Rattle.std.specs.Prelude.{◌≡◌, ◌≢◌, ℕ, zero, suc, ◌+◌, ◌-◌, ◌*◌, ◌/◌, ◌%◌, ◌^◌, ◌<◌}
-use Rattle.std.specs.Prelude.{◌≤◌, List, [], ◌∷◌, map as each, length, take, drop}
+use Rattle.std.specs.Prelude.{◌≡◌, ◌≢◌, ℕ, ◌+◌, ◌/◌, ◌^◌, ◌<◌}
+use Rattle.std.specs.Prelude.{◌≤◌, List, ◌∷◌, map as each, length}
 use Rattle.std.specs.Prelude.{slice_range, slice_index_or}
 use Rattle.std.specs.Cmp.Lexicographic.{slice_cmp}
 use Rattle.std.specs.FinMap as map
 use Rattle.std.specs.List.{IsDistinct}
-use Rattle.std.specs.Map.{keys_of, lookup}
+use Rattle.std.specs.Map.{keys_of}
 use Rattle.std.specs.Ordering.{nat_cmp, ordering_then}
 use Rattle.std.specs.Str.{bytes_eq}
 use Rattle.std.specs.declared.cmp.Ordering.{Ordering}
@@ -13,7 +13,7 @@ use Rattle.std.specs.declared.cmp.Ordering.TheVariants.{Less}
 use Rattle.std.specs.declared.option.Option.TheVariants.{Some}
 use Rattle.plain_data.specs.Digests.{digest_after}
 use Rattle.plain_data.specs.Maps.{ByText}
-use Rattle.plain_data.specs.declared.text_map.Row.{Row}
+use Rattle.plain_data.specs.declared.text_rows.Row.{Row}
 
 -- the text of a row
 abbrev pub text_of : List ℕ → Row → List ℕ
@@ -95,14 +95,8 @@ pub record IsSound (bytes : List ℕ) (rows : List Row) (runs : List ℕ) : Type
   pub distinct : IsDistinct bytes_eq (keys_of (entries_of bytes rows))
   pub sorted : AreRuns bytes rows runs
 
--- entries have the text of each row up to a position, with its number
-abbrev pub Covers : List ℕ → List Row → ℕ → List (List ℕ × ℕ) → Type 0
-Covers bytes rows to entries =
+-- a finite map has the text of each row up to a position, with its number
+abbrev pub Covers : List ℕ → List Row → ℕ → ByText ℕ → Type 0
+Covers bytes rows to m =
     (at : ℕ) → at < to
-    → lookup (bytes_eq (text_at bytes rows at)) entries
-    ≡ Some (slice_index_or rows at no_row).number
-
--- no row up to a position has the text of a later one
-abbrev pub AreApart : List ℕ → List Row → ℕ → Type 0
-AreApart bytes rows to =
-    (at : ℕ) → at < to → LacksFrom bytes rows (text_at bytes rows at) (at + 1) (length rows)
+    → map.get m (text_at bytes rows at) ≡ Some (slice_index_or rows at no_row).number

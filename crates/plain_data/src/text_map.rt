@@ -1,45 +1,32 @@
-ghost use Rattle.plain_data.specs.Maps.{inserted};
-ghost use Rattle.std.specs.Prelude.{◌≡◌, ◌∷◌, [], ◌++◌, ◌+◌, ◌<◌, ◌≤◌, length, take, IsTrue, ◌↔◌};
+ghost use Rattle.plain_data.specs.Maps.{inserted, HasAll, IsWithin};
+ghost use Rattle.std.specs.Prelude.{◌≡◌, ◌∷◌, [], ◌++◌, length, IsTrue, ◌↔◌};
 ghost use Rattle.std.specs.Prelude.{MatchOption, IfOk, OnOk, OnErr, ◌⊎◌};
 ghost use Rattle.std.specs.FinMap as map;
-ghost use Rattle.std.specs.List.Sorted.{IsPermutation};
-ghost use Rattle.std.specs.Map.{lookup};
+ghost use Rattle.std.specs.List.{IsDistinct};
+ghost use Rattle.std.specs.Map.{keys_of, lookup};
 ghost use Rattle.std.specs.Str.{bytes_eq};
-ghost use Rattle.plain_data.specs.TextRows.{digest_of, IsDigested, AreDigested, AreApart};
-ghost use Rattle.plain_data.specs.TextRows.{text_order, made_of, text_of, entries_of};
-ghost use Rattle.plain_data.specs.TextRows.{IsRow, IsSound, AreWithin, bound, IsRun, AreRuns};
-ghost use Rattle.plain_data.specs.TextRows.{Holds, Lacks, LacksFrom, Covers};
+ghost use Rattle.plain_data.specs.TextEntries.{AreApart, Holds, Lacks, LacksFrom};
 
-use crate::Duplicate;
-use crate::digests::digest_after;
+use crate::text_rows::{FEW, RowList, TextRows, digest};
+use crate::{Duplicate, Text};
 use std::alloc::{AllocError, Global};
-use std::cmp::Ordering;
 use std::fmt;
 use std::marker::Model;
-use std::ops::Range;
 
-/// A map from texts to numbers. All texts stand in one list of bytes. Contracts see it as the
-/// finite map.
+/// A map from texts to numbers. Contracts see it as the finite map.
 ///
 /// Only a call that answers a `Result` takes memory.
 #[derive(Drop)]
 pub struct TextMap {
-    /// The texts, one behind another, in the order in which they came.
-    bytes: Vec<u8>,
-    rows: Vec<Row>,
-    /// Where each run of rows in the order of their digests ends; the rows behind the last one are
-    /// in no order. There are none where there are few rows.
-    runs: Vec<usize>,
+    held: Held,
 }
 
-/// An entry: where its text begins and ends in the bytes, and its number.
-#[derive(Clone, Copy, PartialEq)]
-struct Row {
-    start: u32,
-    end: u32,
-    number: u32,
-    /// The digest of its text, where the row stands in a run.
-    hash: u32,
+/// Where the entries of a map stand.
+#[derive(Drop)]
+enum Held {
+    /// Few entries, no two of which have one text.
+    Few(Vec<(Text, u32)>),
+    Many(TextRows),
 }
 
 impl Model for TextMap {
@@ -47,15 +34,15 @@ impl Model for TextMap {
     ghost use Rattle.std.specs.Coded.{coded_list, coded_ℕ};
     ghost use Rattle.std.specs.FinMap as map;
     ghost use Rattle.plain_data.specs.Maps.{ByText};
-    ghost use Rattle.plain_data.specs.TextRows.{entries_of, IsSound};
+    ghost use Rattle.plain_data.specs.TextMaps.{map_of, AreSound};
 
     ghost Value = { ByText ℕ };
 
     ghost coded = { map.code (coded_list coded_ℕ) coded_ℕ };
 
-    ghost view = { λ m. map.from_entries (entries_of m.bytes.items m.rows.items) };
+    ghost view = { λ m. map_of m.held };
 
-    ghost invariant = { λ m. IsSound m.bytes.items m.rows.items m.runs.items };
+    ghost invariant = { λ m. AreSound m.held };
 }
 
 impl TextMap {
@@ -64,9 +51,7 @@ impl TextMap {
         ensures { result ≡ map.empty }
     {
         TextMap {
-            bytes: Vec::new(alloc),
-            rows: Vec::new(alloc),
-            runs: Vec::new(alloc),
+            held: Held::Few(Vec::new(alloc)),
         }
     }
 
@@ -74,15 +59,27 @@ impl TextMap {
     pub fn len(&self) -> usize
         ensures { result ≡ map.len self.now }
     {
-        self.rows.len()
+        match &self.held {
+            Held::Few(entries) => entries.len(),
+            Held::Many(rows) => rows.len(),
+        }
     }
 
     /// The number of a text, or none where the text has no entry.
     pub fn get(&self, key: &str) -> Option<u32>
         ensures { result ≡ map.get self.now key.now }
     {
-        let (bytes, rows) = (self.bytes.as_slice(), self.rows.as_slice());
-        number_of(bytes, rows, self.runs.as_slice(), key.as_bytes())
+        self.get_bytes(key.as_bytes())
+    }
+
+    /// The number of the bytes of a text, or none where the text has no entry.
+    pub(crate) fn get_bytes(&self, key: &[u8]) -> Option<u32>
+        ensures { result ≡ map.get self.now key.now }
+    {
+        match &self.held {
+            Held::Few(entries) => number_of(entries.as_slice(), key),
+            Held::Many(rows) => rows.get_bytes(key),
+        }
     }
 
     /// Enters a number for a text. It takes the place of the number that the text may have.
@@ -94,25 +91,23 @@ impl TextMap {
         ensures ok { OnOk result (self.new ≡ map.insert self.old key.now number) }
         ensures err { OnErr result (self.new ≡ self.old) }
     {
-        self.insert_bytes(key.as_bytes(), number)
-    }
-
-    /// Enters a number for the bytes of a text.
-    fn insert_bytes(&mut self, key: &[u8], number: u32) -> Result<(), AllocError>
-        ensures ok { OnOk result (self.new ≡ map.insert self.old key.now number) }
-        ensures err { OnErr result (self.new ≡ self.old) }
-    {
-        let (bytes, rows) = (self.bytes.as_slice(), self.rows.as_slice());
-        match find(bytes, rows, self.runs.as_slice(), key) {
-            Some(at) => {
-                self.rows[at].number = number;
-                Ok(())
-            }
-            None => {
-                push(&mut self.bytes, &mut self.rows, key, number)?;
-                arrange(self.bytes.as_slice(), &mut self.rows, &mut self.runs);
-                Ok(())
-            }
+        match &mut self.held {
+            Held::Few(entries) => match find(entries.as_slice(), key.as_bytes()) {
+                Some(at) => {
+                    entries[at].1 = number;
+                    Ok(())
+                }
+                None => {
+                    if entries.len() < FEW {
+                        return push(entries, key, number);
+                    }
+                    let mut rows = rows_of(*entries.allocator(), entries.as_slice())?;
+                    rows.insert(key, number)?;
+                    self.held = Held::Many(rows);
+                    Ok(())
+                }
+            },
+            Held::Many(rows) => rows.insert(key, number),
         }
     }
 
@@ -123,11 +118,21 @@ impl TextMap {
     pub fn clone(&self, alloc: Global) -> Result<TextMap, AllocError>
         ensures { IfOk result (λ copy. copy ≡ self.now) }
     {
-        Ok(TextMap {
-            bytes: Vec::from_slice(alloc, self.bytes.as_slice())?,
-            rows: Vec::from_slice(alloc, self.rows.as_slice())?,
-            runs: Vec::from_slice(alloc, self.runs.as_slice())?,
-        })
+        let held = match &self.held {
+            Held::Few(entries) => Held::Few(copied(alloc, entries.as_slice())?),
+            Held::Many(rows) => Held::Many(rows.clone(alloc)?),
+        };
+        Ok(TextMap { held })
+    }
+
+    /// Whether another map has each entry.
+    fn is_within(&self, other: &TextMap) -> bool
+        ensures { IsTrue result ↔ IsWithin self.now other.now }
+    {
+        match &self.held {
+            Held::Few(entries) => has_all(entries.as_slice(), other),
+            Held::Many(rows) => rows.is_within(other),
+        }
     }
 }
 
@@ -135,19 +140,23 @@ impl TextMap {
 /// see it as the list of them.
 #[derive(Drop)]
 pub struct NameList {
-    bytes: Vec<u8>,
-    rows: Vec<Row>,
+    held: Listed,
+}
+
+/// Where the entries of a list stand.
+#[derive(Drop)]
+enum Listed {
+    Few(Vec<(Text, u32)>),
+    Many(RowList),
 }
 
 impl Model for NameList {
     ghost use Rattle.std.specs.Prelude.{ℕ, List};
-    ghost use Rattle.plain_data.specs.TextRows.{entries_of, AreWithin};
+    ghost use Rattle.plain_data.specs.TextMaps.{listed};
 
     ghost Value = { List (List ℕ × ℕ) };
 
-    ghost view = { λ m. entries_of m.bytes.items m.rows.items };
-
-    ghost invariant = { λ m. AreWithin m.bytes.items m.rows.items };
+    ghost view = { λ m. listed m.held };
 }
 
 impl NameList {
@@ -162,17 +171,22 @@ impl NameList {
     ) -> Result<NameList, AllocError>
         ensures { IfOk result (λ made. made ≡ []) }
     {
-        Ok(NameList {
-            bytes: Vec::with_capacity(alloc, bytes)?,
-            rows: Vec::with_capacity(alloc, entries)?,
-        })
+        let held = if entries <= FEW {
+            Listed::Few(Vec::with_capacity(alloc, entries)?)
+        } else {
+            Listed::Many(RowList::with_capacity(alloc, entries, bytes)?)
+        };
+        Ok(NameList { held })
     }
 
     /// How many entries there are.
     pub fn len(&self) -> usize
         ensures { result ≡ length self.now }
     {
-        self.rows.len()
+        match &self.held {
+            Listed::Few(entries) => entries.len(),
+            Listed::Many(rows) => rows.len(),
+        }
     }
 
     /// Puts a text and its number behind the others.
@@ -185,7 +199,10 @@ impl NameList {
         ensures ok { OnOk result (self.new ≡ self.old ++ (key.now, number) ∷ []) }
         ensures err { OnErr result (self.new ≡ self.old) }
     {
-        push(&mut self.bytes, &mut self.rows, key.as_bytes(), number)
+        match &mut self.held {
+            Listed::Few(entries) => push(entries, key, number),
+            Listed::Many(rows) => rows.push(key, number),
+        }
     }
 
     /// The map of them. Of entries of one text the last stands.
@@ -195,73 +212,147 @@ impl NameList {
     pub fn into_map(self) -> Result<TextMap, AllocError>
         ensures { IfOk result (λ made. made ≡ inserted self) }
     {
-        let alloc = *self.rows.allocator();
-        let (bytes, rows) = (self.bytes.as_slice(), self.rows.as_slice());
-        if rows.len() <= FEW {
-            if !are_apart(bytes, rows) {
-                return one_by_one(alloc, bytes, rows);
-            }
-            return Ok(TextMap {
-                bytes: self.bytes,
-                rows: self.rows,
-                runs: Vec::new(alloc),
-            });
+        match self.held {
+            Listed::Few(entries) => map_of(entries),
+            Listed::Many(rows) => Ok(TextMap {
+                held: Held::Many(rows.into_map()?),
+            }),
         }
-        let mut sorted = Vec::from_slice(alloc, rows)?;
-        digest_behind(bytes, &mut sorted, 0);
-        sort_behind(bytes, &mut sorted, 0);
-        if !ascends(bytes, sorted.as_slice(), 0) {
-            return one_by_one(alloc, bytes, rows);
-        }
-        let mut runs = Vec::new(alloc);
-        runs.push(sorted.len())?;
-        Ok(TextMap {
-            bytes: self.bytes,
-            rows: sorted,
-            runs,
-        })
     }
 }
 
-/// How many rows may be in no order: so few are looked through one after another.
-const FEW: usize = 64;
-
-/// Whether no two rows have one text.
-fn are_apart(bytes: &[u8], rows: &[Row]) -> bool
-    requires { AreWithin bytes.now rows.now }
-    ensures { IsTrue result → AreApart bytes.now rows.now (length rows.now) }
+/// The map of entries of which some may have one text: of those the last stands. Where they are few
+/// and no two have one, they stay where they are.
+fn map_of(entries: Vec<(Text, u32)>) -> Result<TextMap, AllocError>
+    ensures { IfOk result (λ made. made ≡ inserted entries.items) }
 {
-    if rows.len() <= 3 {
-        differ_by_pairs(bytes, rows)
+    if entries.len() > FEW || !are_apart(entries.as_slice()) {
+        return one_by_one(*entries.allocator(), entries.as_slice());
+    }
+    Ok(TextMap {
+        held: Held::Few(entries),
+    })
+}
+
+/// The map of entries that are put in one after another.
+fn one_by_one(alloc: Global, entries: &[(Text, u32)]) -> Result<TextMap, AllocError>
+    ensures { IfOk result (λ made. made ≡ inserted entries.now) }
+{
+    let mut made = TextMap::new(alloc);
+    for entry in entries {
+        made.insert(entry.0.as_str(), entry.1)?;
+    }
+    Ok(made)
+}
+
+/// The rows of entries that are put in one after another.
+fn rows_of(alloc: Global, entries: &[(Text, u32)]) -> Result<TextRows, AllocError>
+    ensures { IfOk result (λ made. made ≡ inserted entries.now) }
+{
+    let mut made = TextRows::new(alloc);
+    for entry in entries {
+        made.insert(entry.0.as_str(), entry.1)?;
+    }
+    Ok(made)
+}
+
+/// Puts an entry behind the others.
+// With room made first, so that the text is made where it stays.
+#[inline]
+fn push(entries: &mut Vec<(Text, u32)>, key: &str, number: u32) -> Result<(), AllocError>
+    ensures ok { OnOk result (entries.new.items ≡ entries.old.items ++ (key.now, number) ∷ []) }
+    ensures err { OnErr result (entries.new.items ≡ entries.old.items) }
+{
+    let text = Text::from_str(*entries.allocator(), key)?;
+    entries.reserve(1)?;
+    entries.push_reserved((text, number));
+    Ok(())
+}
+
+/// A copy of the entries.
+fn copied(alloc: Global, entries: &[(Text, u32)]) -> Result<Vec<(Text, u32)>, AllocError>
+    ensures { IfOk result (λ copies. copies.items ≡ entries.now) }
+{
+    let mut copies = Vec::with_capacity(alloc, entries.len())?;
+    for entry in entries {
+        copies.push((entry.0.clone(alloc)?, entry.1))?;
+    }
+    Ok(copies)
+}
+
+/// Whether a map has each of some entries.
+fn has_all(entries: &[(Text, u32)], map: &TextMap) -> bool
+    ensures { IsTrue result ↔ HasAll entries.now map.now }
+{
+    entries
+        .iter()
+        .all(|entry| map.get(entry.0.as_str()) == Some(entry.1))
+}
+
+/// The number of a text, if it has one, among entries of which no two have one text.
+fn number_of(entries: &[(Text, u32)], key: &[u8]) -> Option<u32>
+    requires { IsDistinct bytes_eq (keys_of entries.now) }
+    ensures { result ≡ lookup (bytes_eq key.now) entries.now }
+{
+    match find(entries, key) {
+        Some(at) => Some(entries[at].1),
+        None => None,
+    }
+}
+
+/// Where the first entry of a text stands, if it has one.
+fn find(entries: &[(Text, u32)], key: &[u8]) -> Option<usize>
+    ensures { MatchOption result (Lacks entries.now key.now) (λ at. Holds entries.now key.now at) }
+{
+    find_from(entries, 0, key)
+}
+
+/// Where the first entry of a text from a position on stands, if there is one.
+fn find_from(entries: &[(Text, u32)], from: usize, key: &[u8]) -> Option<usize>
+    ensures { MatchOption result (LacksFrom entries.now key.now from (length entries.now))
+        (λ at. Holds entries.now key.now at) }
+{
+    for at in from..entries.len() {
+        if entries[at].0.as_str().as_bytes() == key {
+            return Some(at);
+        }
+    }
+    None
+}
+
+/// Whether no two entries have one text.
+fn are_apart(entries: &[(Text, u32)]) -> bool
+    ensures { IsTrue result → AreApart entries.now (length entries.now) }
+{
+    if entries.len() <= 3 {
+        differ_by_pairs(entries)
     } else {
-        differ_by_digests(bytes, rows)
+        differ_by_digests(entries)
     }
 }
 
-/// Whether no two rows have one text, as each is compared with each.
-fn differ_by_pairs(bytes: &[u8], rows: &[Row]) -> bool
-    requires { AreWithin bytes.now rows.now }
-    ensures { IsTrue result → AreApart bytes.now rows.now (length rows.now) }
+/// Whether no two entries have one text, as each is compared with each.
+fn differ_by_pairs(entries: &[(Text, u32)]) -> bool
+    ensures { IsTrue result → AreApart entries.now (length entries.now) }
 {
-    for at in 0..rows.len() {
-        if find_from(bytes, rows, at + 1, rows[at].text(bytes)).is_some() {
+    for at in 0..entries.len() {
+        if find_from(entries, at + 1, entries[at].0.as_str().as_bytes()).is_some() {
             return false;
         }
     }
     true
 }
 
-/// Whether no two rows have one text, as a text is compared with those before it where one of them
-/// has the same high bits of the digest.
-fn differ_by_digests(bytes: &[u8], rows: &[Row]) -> bool
-    requires { AreWithin bytes.now rows.now }
-    ensures { IsTrue result → AreApart bytes.now rows.now (length rows.now) }
+/// Whether no two entries have one text, as a text is compared with those before it where one of
+/// them has the same high bits of the digest.
+fn differ_by_digests(entries: &[(Text, u32)]) -> bool
+    ensures { IsTrue result → AreApart entries.now (length entries.now) }
 {
     let mut seen = [false; 512];
-    for at in 0..rows.len() {
-        let text = rows[at].text(bytes);
+    for at in 0..entries.len() {
+        let text = entries[at].0.as_str().as_bytes();
         let bits = (digest(text) / 0x80_0000 % 512) as usize;
-        if seen[bits] && is_among(bytes, &rows[..at], text) {
+        if seen[bits] && is_among(&entries[..at], text) {
             return false;
         }
         seen[bits] = true;
@@ -269,307 +360,11 @@ fn differ_by_digests(bytes: &[u8], rows: &[Row]) -> bool
     true
 }
 
-/// Whether one of the rows has a text.
-fn is_among(bytes: &[u8], rows: &[Row], key: &[u8]) -> bool
-    requires { AreWithin bytes.now rows.now }
-    ensures { IsTrue result ⊎ Lacks bytes.now rows.now key.now }
+/// Whether one of the entries has a text.
+fn is_among(entries: &[(Text, u32)], key: &[u8]) -> bool
+    ensures { IsTrue result ⊎ Lacks entries.now key.now }
 {
-    find_from(bytes, rows, 0, key).is_some()
-}
-
-/// The map of rows of which some may have one text: of those the last stands.
-fn one_by_one(alloc: Global, bytes: &[u8], rows: &[Row]) -> Result<TextMap, AllocError>
-    requires { AreWithin bytes.now rows.now }
-    ensures { IfOk result (λ made. made ≡ inserted (entries_of bytes.now rows.now)) }
-{
-    let mut made = TextMap::new(alloc);
-    for at in 0..rows.len() {
-        made.insert_bytes(rows[at].text(bytes), rows[at].number)?;
-    }
-    Ok(made)
-}
-
-impl Row {
-    /// Its text.
-    fn text<'a>(&self, bytes: &'a [u8]) -> &'a [u8]
-        requires { IsRow bytes.now self.now }
-        ensures { result.now ≡ text_of bytes.now self.now }
-    {
-        &bytes[self.start as usize..self.end as usize]
-    }
-
-    /// Its text, where the row stands in the bytes.
-    fn text_in<'a>(&self, bytes: &'a [u8]) -> &'a [u8] {
-        bytes
-            .get(self.start as usize..self.end as usize)
-            .unwrap_or(&[])
-    }
-}
-
-/// The number of a text, if it has one.
-fn number_of(bytes: &[u8], rows: &[Row], runs: &[usize], key: &[u8]) -> Option<u32>
-    requires { IsSound bytes.now rows.now runs.now }
-    ensures { result ≡ lookup (bytes_eq key.now) (entries_of bytes.now rows.now) }
-{
-    match find(bytes, rows, runs, key) {
-        Some(at) => Some(rows[at].number),
-        None => None,
-    }
-}
-
-/// Whether other rows have the text of each row, with its number.
-fn covers(
-    bytes: &[u8],
-    rows: &[Row],
-    other_bytes: &[u8],
-    other_rows: &[Row],
-    other_runs: &[usize],
-) -> bool
-    requires within { AreWithin bytes.now rows.now }
-    requires sound { IsSound other_bytes.now other_rows.now other_runs.now }
-    ensures { IsTrue result ↔ Covers bytes.now rows.now (length rows.now)
-        (entries_of other_bytes.now other_rows.now) }
-{
-    for at in 0..rows.len() {
-        let found = number_of(other_bytes, other_rows, other_runs, rows[at].text(bytes));
-        if found != Some(rows[at].number) {
-            return false;
-        }
-    }
-    true
-}
-
-/// The row of a text, if it has one.
-fn find(bytes: &[u8], rows: &[Row], runs: &[usize], key: &[u8]) -> Option<usize>
-    requires within { AreWithin bytes.now rows.now }
-    requires sorted { AreRuns bytes.now rows.now runs.now }
-    ensures { MatchOption result (Lacks bytes.now rows.now key.now)
-        (λ at. Holds bytes.now rows.now key.now at) }
-{
-    if runs.is_empty() {
-        return find_from(bytes, rows, 0, key);
-    }
-    let hash = digest(key);
-    let mut from = 0;
-    for to in runs {
-        let at = find_in_run(bytes, rows, from..*to, hash, key);
-        if at.is_some() {
-            return at;
-        }
-        from = *to;
-    }
-    find_from(bytes, rows, from, key)
-}
-
-/// The row of a text in a run of rows, if there is one.
-fn find_in_run(
-    bytes: &[u8],
-    rows: &[Row],
-    run: Range<usize>,
-    hash: u32,
-    key: &[u8],
-) -> Option<usize>
-    requires digest { hash ≡ digest_of key.now }
-    requires within { AreWithin bytes.now rows.now }
-    requires digested { AreDigested bytes.now rows.now run.end }
-    requires order { run.start ≤ run.end }
-    requires end { run.end ≤ length rows.now }
-    requires run { IsRun bytes.now rows.now run.start run.end }
-    ensures { MatchOption result (LacksFrom bytes.now rows.now key.now run.start run.end)
-        (λ at. Holds bytes.now rows.now key.now at) }
-{
-    let (mut low, mut high) = (run.start, run.end);
-    while low < high {
-        let middle = low + (high - low) / 2;
-        match order(bytes, &rows[middle], hash, key) {
-            Ordering::Less => low = middle + 1,
-            Ordering::Equal => return Some(middle),
-            Ordering::Greater => high = middle,
-        }
-    }
-    None
-}
-
-/// How the text of a row stands to one with a digest.
-fn order(bytes: &[u8], row: &Row, hash: u32, key: &[u8]) -> Ordering
-    requires row { IsRow bytes.now row.now }
-    requires digested { IsDigested bytes.now row.now }
-    requires digest { hash ≡ digest_of key.now }
-    ensures { result ≡ text_order (text_of bytes.now row.now) key.now }
-{
-    match row.hash.cmp(&hash) {
-        Ordering::Equal => row.text(bytes).cmp(key),
-        other => other,
-    }
-}
-
-/// A number by which texts are told apart at first sight.
-fn digest(text: &[u8]) -> u32
-    ensures { result ≡ digest_of text.now }
-{
-    (digest_after(0, text) / 0x1_0000_0000) as u32
-}
-
-/// The first row of a text from a position on, if there is one.
-fn find_from(bytes: &[u8], rows: &[Row], from: usize, key: &[u8]) -> Option<usize>
-    requires within { AreWithin bytes.now rows.now }
-    ensures { MatchOption result (LacksFrom bytes.now rows.now key.now from (length rows.now))
-        (λ at. Holds bytes.now rows.now key.now at) }
-{
-    for at in from..rows.len() {
-        if rows[at].text(bytes) == key {
-            return Some(at);
-        }
-    }
-    None
-}
-
-/// Puts a row with a text of its own behind the others.
-#[inline]
-fn push(bytes: &mut Vec<u8>, rows: &mut Vec<Row>, key: &[u8], number: u32) -> Result<(), AllocError>
-    ensures bytes { OnOk result (bytes.new.items ≡ bytes.old.items ++ key.now) }
-    ensures rows { OnOk result (rows.new.items ≡ rows.old.items
-        ++ record {
-          start = length bytes.old.items;
-          end = length bytes.old.items + length key.now;
-          number = number;
-          hash = 0;
-        } ∷ []) }
-    ensures bytes_stay { OnErr result (bytes.new.items ≡ bytes.old.items) }
-    ensures rows_stay { OnErr result (rows.new.items ≡ rows.old.items) }
-{
-    let start = bytes.len();
-    let end = start.saturating_add(key.len());
-    if end > u32::MAX as usize {
-        // No number is left for its end, so this asks for more room than can be granted.
-        bytes.reserve(usize::MAX)?;
-        return Err(AllocError);
-    }
-    rows.reserve(1)?;
-    bytes.extend_from_slice(key)?;
-    rows.push_reserved(Row {
-        start: start as u32,
-        end: end as u32,
-        number,
-        hash: 0,
-    });
-    Ok(())
-}
-
-/// Puts the rows behind the runs in order, where there are many: they become a run, with the rows
-/// of the runs before them that are no longer. Where memory is refused they stay in no order.
-fn arrange(bytes: &[u8], rows: &mut Vec<Row>, runs: &mut Vec<usize>)
-    requires { IsSound bytes.now rows.old.items runs.old.items }
-    ensures sound { IsSound bytes.now rows.new.items runs.new.items }
-    ensures same { made_of bytes.now rows.new.items ≡ made_of bytes.now rows.old.items }
-{
-    let ends = runs.as_slice();
-    if rows.len().saturating_sub(start_of(ends, ends.len())) < FEW {
-        return;
-    }
-    let kept = kept_runs(ends, rows.len());
-    let from = start_of(ends, kept);
-    digest_behind(bytes, rows, from);
-    sort_behind(bytes, rows, from);
-    runs.truncate(kept);
-    add_run(bytes, rows.as_slice(), runs);
-}
-
-/// Where the run with an index begins, or the rows behind them.
-fn start_of(runs: &[usize], index: usize) -> usize
-    requires { index ≤ length runs.now }
-    ensures { result ≡ bound runs.now index }
-{
-    if index == 0 { 0 } else { runs[index - 1] }
-}
-
-/// How many of the runs stay as they are: without those at the end that are no longer than what
-/// stands behind them.
-fn kept_runs(runs: &[usize], end: usize) -> usize
-    ensures { result ≤ length runs.now }
-{
-    let mut kept = runs.len();
-    while kept > 0 {
-        let (start, middle) = (start_of(runs, kept - 1), runs[kept - 1]);
-        if middle.saturating_sub(start) > end.saturating_sub(middle) {
-            break;
-        }
-        kept -= 1;
-    }
-    kept
-}
-
-/// Enters the digests of the rows from a position on.
-fn digest_behind(bytes: &[u8], rows: &mut Vec<Row>, from: usize)
-    requires within { AreWithin bytes.now rows.old.items }
-    requires before { AreDigested bytes.now rows.old.items from }
-    ensures within { AreWithin bytes.now rows.new.items }
-    ensures digested { AreDigested bytes.now rows.new.items (length rows.new.items) }
-    ensures same { entries_of bytes.now rows.new.items ≡ entries_of bytes.now rows.old.items }
-    ensures before { take from rows.new.items ≡ take from rows.old.items }
-{
-    for at in from..rows.len() {
-        rows[at].hash = digest(rows[at].text(bytes));
-    }
-}
-
-/// Puts the rows from a position on in the order of their digests, and those of one digest in the
-/// order of their texts.
-fn sort_behind(bytes: &[u8], rows: &mut Vec<Row>, from: usize)
-    requires { from ≤ length rows.old.items }
-    ensures moved { IsPermutation rows.old.items rows.new.items }
-    ensures before { take from rows.new.items ≡ take from rows.old.items }
-{
-    let alloc = *rows.allocator();
-    sort_rows(alloc, bytes, &mut rows[from..]);
-}
-
-/// Puts rows in the order of their digests, and those of one digest in the order of their texts.
-/// Few have one, so texts are looked at where some do. Where memory is refused those may stand in
-/// any order.
-fn sort_rows(alloc: Global, bytes: &[u8], rows: &mut [Row])
-    ensures { IsPermutation rows.old rows.new }
-{
-    rows.sort_unstable_by_key(|row| row.hash);
-    if have_ties(rows) {
-        let _ = rows.sort_by(alloc, |a, b| match a.hash.cmp(&b.hash) {
-            Ordering::Equal => a.text_in(bytes).cmp(b.text_in(bytes)),
-            other => other,
-        });
-    }
-}
-
-/// Whether two rows that stand side by side have one digest.
-fn have_ties(rows: &[Row]) -> bool {
-    rows.windows(2).any(|pair| pair[0].hash == pair[1].hash)
-}
-
-/// Makes a run of the rows behind the runs, where they are in order.
-fn add_run(bytes: &[u8], rows: &[Row], runs: &mut Vec<usize>)
-    requires sound { IsSound bytes.now rows.now runs.old.items }
-    requires digested { AreDigested bytes.now rows.now (length rows.now) }
-    ensures { IsSound bytes.now rows.now runs.new.items }
-{
-    let ends = runs.as_slice();
-    let from = start_of(ends, ends.len());
-    if ascends(bytes, rows, from) {
-        let _ = runs.push(rows.len());
-    }
-}
-
-/// Whether the rows from a position on rise in that order.
-fn ascends(bytes: &[u8], rows: &[Row], from: usize) -> bool
-    requires within { AreWithin bytes.now rows.now }
-    requires digested { AreDigested bytes.now rows.now (length rows.now) }
-    ensures { IsTrue result → IsRun bytes.now rows.now from (length rows.now) }
-{
-    for at in from.saturating_add(1)..rows.len() {
-        match order(bytes, &rows[at - 1], rows[at].hash, rows[at].text(bytes)) {
-            Ordering::Less => {}
-            _ => return false,
-        }
-    }
-    true
+    find(entries, key).is_some()
 }
 
 impl Duplicate for TextMap {
@@ -589,11 +384,7 @@ impl PartialEq for TextMap {
     ghost laws = { maps_per nat_list_eq_equiv nat_eq_equiv };
 
     fn eq(&self, other: &TextMap) -> bool {
-        let (bytes, rows) = (self.bytes.as_slice(), self.rows.as_slice());
-        let (other_bytes, other_rows) = (other.bytes.as_slice(), other.rows.as_slice());
-        let (runs, other_runs) = (self.runs.as_slice(), other.runs.as_slice());
-        covers(bytes, rows, other_bytes, other_rows, other_runs)
-            && covers(other_bytes, other_rows, bytes, rows, runs)
+        self.is_within(other) && other.is_within(self)
     }
 }
 

@@ -1,6 +1,6 @@
 use Rattle.std.proofs.Common.{subst}
 use Rattle.std.specs.Prelude.{IsTrue, ◌↔◌}
-use Rattle.plain_data.specs.NumberRows.{IsWithin, HasAll}
+use Rattle.plain_data.specs.Maps.{IsWithin, HasAll}
 use Rattle.plain_data.proofs.NumberRows.{told-by-first, told-by-others}
 use Rattle.plain_data.proofs.number_map.NumberMap.is_within.Goals as goal
 
