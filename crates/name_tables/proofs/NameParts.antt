@@ -31,7 +31,7 @@ pub parts-some : (name : List ℕ) → parts name ≢ []
 parts-some name none = absurd (omega (arith, length-slice_split is_dot name, ap length none))
 
 -- a text in which no dot was found
-undotted : (text : List ℕ) → ((i : ℕ) → i < length text → get_or text i 0 ≢ 46) → All (λ c. is_dot c ≡ false) text
+pub undotted : (text : List ℕ) → ((i : ℕ) → i < length text → get_or text i 0 ≢ 46) → All (λ c. is_dot c ≡ false) text
 undotted [] none = All-nil (λ c. is_dot c ≡ false)
 undotted (c ∷ cs) none =
     All-cons (λ c. is_dot c ≡ false) c cs (no_dot c (none 0 (omega arith))) (undotted cs (λ i below. none (suc i) (omega arith)))

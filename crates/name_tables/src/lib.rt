@@ -4,6 +4,7 @@
 #![tactic(auto)]
 
 mod branches;
+mod dots;
 mod entered;
 mod file_names;
 mod hashed_names;

@@ -2,6 +2,7 @@ ghost use Rattle.std.specs.Prelude.{◌≡◌, ◌==◌, ◌∷◌, [], IsTrue, 
 ghost use Rattle.std.specs.Iterator.{YieldsFirstRef, item_count};
 ghost use Rattle.name_tables.specs.Parts.{parts, parts_left};
 
+use crate::dots::has_no_dot;
 use std::marker::Model;
 
 /// The parts of a name, between its dots, from the first to the last. A name without a dot is one
@@ -66,5 +67,5 @@ fn first_dot(name: &[u8]) -> Option<usize>
 pub(crate) fn is_part(name: &str) -> bool
     ensures { IsTrue result → parts name.now ≡ name.now ∷ [] }
 {
-    !name.as_bytes().contains(&b'.')
+    has_no_dot(name.as_bytes())
 }
